@@ -1,0 +1,2 @@
+pub mod KeysLemmas
+pub mod PatternLemmas

@@ -1,0 +1,43 @@
+-- What a text denotes as a channel (Aeron wiki, channel configuration).
+use Rattle.std.specs.Prelude.{ℕ, Bool, true, false, not, ◌&&◌, List, [], Result, Ok, Err, is_ok, is_some, nat_lt, length, codes, if◌then◌else◌}
+use Rattle.std.specs.Str.{bytes_eq}
+use Rattle.channel_uri.specs.declared.error.UriError.{UriError}
+use Rattle.channel_uri.specs.declared.error.UriError.TheVariants.{TooLong, BadMedia}
+use Rattle.channel_uri.specs.declared.media.Media.{Media}
+use Rattle.channel_uri.specs.declared.media.Media.TheVariants.{Udp, Ipc, Counter}
+use Rattle.channel_uri.specs.Keys.{Pair}
+use Rattle.channel_uri.specs.Syntax.{◌>>=◌, unspied, behind_scheme, halves, keys_of}
+
+-- a channel: whether it asks for a spy, its medium, and its keys with their values in the byte order of the keys
+pub record Shape : Type 0 where
+  pub spy : Bool
+  pub media : Media
+  pub keys : List Pair
+
+-- the medium of a channel's text; there is no spy of `ipc`
+abbrev pub media_of : Bool → List ℕ → Result Media UriError
+media_of spy word =
+    if bytes_eq word (codes "udp") then Ok Udp
+    else if spy then Err BadMedia
+    else if bytes_eq word (codes "ipc") then Ok Ipc
+    else Err BadMedia
+
+-- the channel that the text is, or its first fault from the left
+unfoldable pub denotes : List ℕ → Result Shape UriError
+denotes text =
+    if nat_lt 1024 (length text) then Err TooLong
+    else behind_scheme (unspied text).1 >>= λ rest.
+    media_of (unspied text).0 (halves rest).0 >>= λ media.
+    keys_of (halves rest).1 >>= λ keys.
+    Ok (record { spy = (unspied text).0; media = media; keys = keys })
+
+-- the text has a scheme and a medium that are served, and then pairs to keep; no other text takes memory
+abbrev pub takes_memory : List ℕ → Bool
+takes_memory text =
+    is_ok (behind_scheme (unspied text).1 >>= λ rest.
+    media_of (unspied text).0 (halves rest).0 >>= λ media.
+    if is_some (halves rest).1 then Ok media else Err BadMedia)
+
+-- the subject of a rule on counters
+abbrev pub counter_shape : Shape
+counter_shape = record { spy = false; media = Counter; keys = [] }

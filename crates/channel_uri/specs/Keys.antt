@@ -1,0 +1,33 @@
+use Rattle.std.specs.Prelude.{ℕ, List, [], ◌∷◌, Option, String}
+use Rattle.std.specs.Ordering.{nat_cmp}
+use Rattle.std.specs.Cmp.Lexicographic.{slice_cmp}
+use Rattle.std.specs.declared.cmp.Ordering.{Ordering}
+use Rattle.std.specs.BTreeMap.{insert_entry}
+use Rattle.std.specs.Map.{lookup}
+use Rattle.std.specs.Str.{bytes_eq}
+use Rattle.std.specs.String.{string_bytes}
+
+-- a key and its value
+abbrev pub Pair : Type 0
+Pair = List ℕ × List ℕ
+
+-- an entry of the table, by its bytes
+abbrev pub texts : {A : Type 0} → String A × String A → Pair
+texts entry = (string_bytes entry.0, string_bytes entry.1)
+
+-- the order of bytes, in which keys stand
+abbrev pub bytes_cmp : List ℕ → List ℕ → Ordering
+bytes_cmp = slice_cmp nat_cmp
+
+-- the value of a key
+abbrev pub value_at : List ℕ → List Pair → Option (List ℕ)
+value_at key keys = lookup (bytes_eq key) keys
+
+-- the keys with this value for that key, in byte order
+abbrev pub put : List Pair → Pair → List Pair
+put keys pair = insert_entry bytes_cmp keys pair.0 pair.1
+
+-- each later pair takes the place of an earlier one of its key
+abbrev pub kept : List Pair → List Pair → List Pair
+kept keys [] = keys
+kept keys (pair ∷ pairs) = kept (put keys pair) pairs

@@ -1,0 +1,39 @@
+-- Where the log of a channel is: publications, spies and images of one place and stream meet.
+use Rattle.std.specs.Prelude.{ℕ, Bool, List, Option, Some, None, codes, if◌then◌else◌, true, false}
+use Rattle.std.specs.Option.{option_map}
+use Rattle.std.specs.Str.{bytes_eq}
+use Rattle.channel_uri.specs.declared.media.Media.{Media}
+use Rattle.channel_uri.specs.declared.media.Media.TheVariants.{Udp, Ipc, Counter}
+use Rattle.channel_uri.specs.declared.place.Place.{Place}
+use Rattle.channel_uri.specs.declared.place.Place.TheVariants.{Ipc as IpcOf, Manual as ManualOf, Endpoint as EndpointOf}
+use Rattle.channel_uri.specs.Channel.{Shape}
+use Rattle.channel_uri.specs.Keys.{value_at}
+
+-- a place with the text of its endpoint
+pub data Spot : Type 0 where
+  AtIpc : Spot
+  AtManual : Spot
+  AtEndpoint : List ℕ → Spot
+
+-- the value is this text
+abbrev pub is_text : List ℕ → Option (List ℕ) → Bool
+is_text text None = false
+is_text text (Some value) = bytes_eq text value
+
+-- the first that fits: shared memory; destinations that a publisher names by hand; an endpoint
+abbrev pub spot_from : Media → Bool → Option (List ℕ) → Option Spot
+spot_from Ipc manual endpoint = Some AtIpc
+spot_from Udp manual endpoint = if manual then Some AtManual else option_map AtEndpoint endpoint
+spot_from Counter manual endpoint = None
+
+unfoldable pub spot_of : Shape → Option Spot
+spot_of channel =
+    spot_from channel.media
+    (is_text (codes "manual") (value_at (codes "control-mode") channel.keys))
+    (value_at (codes "endpoint") channel.keys)
+
+-- what a `Place` shows
+abbrev pub spot_at : Place → Spot
+spot_at IpcOf = AtIpc
+spot_at ManualOf = AtManual
+spot_at (EndpointOf text) = AtEndpoint text.now

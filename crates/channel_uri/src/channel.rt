@@ -1,0 +1,184 @@
+ghost use Rattle.channel_uri.specs.Fault.{Equals, Gives};
+ghost use Rattle.channel_uri.specs.Channel.{media_of};
+ghost use Rattle.channel_uri.specs.Canonical.{mark_of, pairs_text};
+ghost use Rattle.channel_uri.specs.Keys.{value_at};
+ghost use Rattle.std.specs.Option.{option_map};
+ghost use Rattle.std.specs.Prelude.{◌≡◌, ◌++◌, IfOk, OnOk, false, true, codes, option_copied};
+ghost use Rattle.std.specs.String.{string_bytes};
+
+use crate::error::UriError;
+use crate::keys::Keys;
+use crate::media::Media;
+use crate::place::Place;
+use crate::syntax;
+use byte_strings::Text;
+use std::alloc::{AllocError, Global};
+use std::marker::Model;
+
+/// What a publication or a subscription names: a medium with its keys, and whether a spy is asked for.
+#[derive(Debug, Drop)]
+pub struct Channel {
+    spy: bool,
+    media: Media,
+    keys: Keys,
+}
+
+impl Model for Channel {
+    ghost use Rattle.channel_uri.specs.Channel.{Shape};
+
+    ghost Value = { Shape };
+
+    ghost view = { λ channel. record { spy = channel.spy; media = channel.media; keys = channel.keys } };
+}
+
+/// The medium of a channel's text; there is no spy of `ipc`.
+fn media_of(spy: bool, word: &str) -> Result<Media, UriError>
+    ensures { Equals (λ media. media) result (media_of spy word.now) }
+{
+    if word == "udp" {
+        return Ok(Media::Udp);
+    }
+    if spy {
+        return Err(UriError::BadMedia);
+    }
+    if word == "ipc" {
+        return Ok(Media::Ipc);
+    }
+    Err(UriError::BadMedia)
+}
+
+impl Channel {
+    ghost use Rattle.channel_uri.specs.Canonical.{canonical_of};
+    ghost use Rattle.channel_uri.specs.Channel.{denotes, takes_memory, counter_shape};
+    ghost use Rattle.channel_uri.specs.Place.{spot_of, spot_at, is_text};
+
+    /// Reads a channel's text: `aeron:udp` or `aeron:ipc`, for a spy of `udp` behind `aeron-spy:`, and then perhaps a
+    /// `?` and pairs `key=value` with `|` between them. A repeated key keeps its last value.
+    ///
+    /// # Errors
+    /// The first fault of the text, from the left; [`UriError::TooLong`] is looked at first.
+    #[tactic(auto, unfolding(crate::specs::Channel::denotes))]
+    pub fn parse(alloc: Global, text: &str) -> Result<Channel, UriError>
+        ensures exact { Gives (λ channel. channel) result (denotes text.now) }
+        ensures without_memory { takes_memory text.now ≡ false → Equals (λ channel. channel) result (denotes text.now) }
+    {
+        if text.len() > 1024 {
+            return Err(UriError::TooLong);
+        }
+        let (spy, unspied) = syntax::unspied(text);
+        let rest = syntax::behind_scheme(unspied)?;
+        let (word, pairs) = syntax::halves(rest);
+        let media = media_of(spy, word)?;
+        let keys = syntax::keys_of(alloc, pairs)?;
+        Ok(Channel { spy, media, keys })
+    }
+
+    /// The subject of a rule on counters. No text of a channel denotes it. It takes no memory.
+    pub fn counter(alloc: Global) -> Channel
+        ensures { result ≡ counter_shape }
+    {
+        Channel {
+            spy: false,
+            media: Media::Counter,
+            keys: Keys::new(alloc),
+        }
+    }
+
+    /// Whether the text had the prefix `aeron-spy:`.
+    pub fn is_spy(&self) -> bool
+        ensures { result ≡ self.now.spy }
+    {
+        self.spy
+    }
+
+    pub fn media(&self) -> Media
+        ensures { result ≡ self.now.media }
+    {
+        self.media
+    }
+
+    /// The value of `key`, as it stands in the text.
+    pub fn get(&self, key: &str) -> Option<&str>
+        ensures { option_copied result ≡ value_at key.now self.now.keys }
+    {
+        self.keys.get(key)
+    }
+
+    pub(crate) fn keys(&self) -> &Keys
+        ensures { result.now ≡ self.now.keys }
+    {
+        &self.keys
+    }
+
+    /// Where the log of the channel is; `None` for a channel that names no such place.
+    #[tactic(auto, unfolding(crate::specs::Place::spot_of))]
+    pub fn place(&self) -> Option<Place<'_>>
+        ensures { option_map spot_at result ≡ spot_of self.now }
+    {
+        match self.media {
+            Media::Ipc => Some(Place::Ipc),
+            Media::Udp if self.is_manual() => Some(Place::Manual),
+            Media::Udp => self.keys.get("endpoint").map(Place::Endpoint),
+            Media::Counter => None,
+        }
+    }
+
+    /// Whether the destinations are named by hand.
+    fn is_manual(&self) -> bool
+        ensures { result ≡ is_text (codes "manual") (value_at (codes "control-mode") self.now.keys) }
+    {
+        match self.keys.get("control-mode") {
+            Some(mode) => mode == "manual",
+            None => false,
+        }
+    }
+
+    /// The one text of the channel: its keys in byte order.
+    #[tactic(auto, unfolding(crate::specs::Canonical::canonical_of))]
+    pub fn canonical(&self, alloc: Global) -> Result<Text, AllocError>
+        ensures { IfOk result (λ text. text ≡ canonical_of self.now) }
+    {
+        let mut text = String::new(alloc);
+        text.push_str(if self.spy {
+            "aeron-spy:aeron:"
+        } else {
+            "aeron:"
+        })?;
+        text.push_str(self.media.name())?;
+        push_pairs(&mut text, &self.keys)?;
+        Ok(Text::from(text))
+    }
+
+    /// Another channel, equal to this one.
+    pub fn copy(&self) -> Result<Channel, AllocError>
+        ensures { IfOk result (λ channel. channel ≡ self.now) }
+    {
+        Ok(Channel {
+            spy: self.spy,
+            media: self.media,
+            keys: self.keys.copy()?,
+        })
+    }
+}
+
+/// The mark before a pair.
+fn mark_of(first: bool) -> &'static str
+    ensures { result.now ≡ mark_of first }
+{
+    if first { "?" } else { "|" }
+}
+
+/// Appends each pair behind its mark.
+fn push_pairs(text: &mut String, keys: &Keys) -> Result<(), AllocError>
+    ensures { OnOk result (string_bytes text.new ≡ string_bytes text.old ++ pairs_text true keys.now) }
+{
+    let mut first = true;
+    for (key, value) in keys.iter() {
+        text.push_str(mark_of(first))?;
+        text.push_str(key.as_str())?;
+        text.push_str("=")?;
+        text.push_str(value.as_str())?;
+        first = false;
+    }
+    Ok(())
+}

@@ -1,0 +1,59 @@
+ghost use Rattle.channel_uri.specs.Fault.{fault_text};
+ghost use Rattle.channel_uri.specs.declared.error.UriError.TheVariants.{NoMemory};
+ghost use Rattle.std.specs.Prelude.{◌≡◌, Some};
+
+use std::alloc::{AllocError, AllocFailed};
+use std::error::Error;
+use std::fmt;
+
+/// Why a text is no channel, or no pattern.
+///
+/// The length is looked at first; then the first fault from the left is named.
+#[derive(Clone, Copy, Debug, PartialEq, Eq)]
+pub enum UriError {
+    /// The text has more than 1,024 bytes.
+    TooLong,
+    /// The text does not begin with `aeron:`, or with `aeron-spy:aeron:`.
+    NoScheme,
+    /// What follows the scheme is no medium that is served here, or a spy is asked for over `ipc`.
+    BadMedia,
+    /// A pair has no key before its `=`, or is empty.
+    EmptyKey,
+    /// A pair has no `=`.
+    KeyWithoutValue,
+    /// There is no memory for the parts of the text.
+    NoMemory,
+}
+
+impl From<AllocError> for UriError {
+    ghost from_gives = { λ _ error. error ≡ NoMemory };
+
+    fn from(_error: AllocError) -> UriError {
+        UriError::NoMemory
+    }
+}
+
+impl<T: Drop> From<AllocFailed<T>> for UriError {
+    ghost from_gives = { λ _ error. error ≡ NoMemory };
+
+    fn from(_error: AllocFailed<T>) -> UriError {
+        UriError::NoMemory
+    }
+}
+
+impl fmt::Display for UriError {
+    ghost output = { λ error. Some (fault_text error) };
+
+    fn fmt<W: fmt::Write>(&self, f: &mut fmt::Formatter<W>) -> fmt::Result {
+        match self {
+            UriError::TooLong => f.write_str("longer than 1,024 bytes"),
+            UriError::NoScheme => f.write_str("no scheme aeron:"),
+            UriError::BadMedia => f.write_str("bad media"),
+            UriError::EmptyKey => f.write_str("empty key"),
+            UriError::KeyWithoutValue => f.write_str("key without value"),
+            UriError::NoMemory => f.write_str("no memory"),
+        }
+    }
+}
+
+impl Error for UriError {}
