@@ -1,13 +1,15 @@
-//! Owned byte strings that contracts see as the list of their bytes.
+//! Owned texts, bytes and rows of values that contracts see as plain lists.
 //!
-//! A `String` or a `Vec` also shows its capacity to a contract, so two that hold the same bytes may differ. The types
-//! here show the bytes alone: a record, a command or a reply that holds them can be compared with a definition's value.
+//! A `String` or a `Vec` also shows its capacity to a contract, so two that hold the same items may differ. The types
+//! here show the items alone: a record, a command or a reply that holds them can be compared with a definition's value.
 #![tactic(auto)]
 
 mod bytes;
+mod items;
 mod text;
 
 pub use bytes::Bytes;
+pub use items::Items;
 pub use text::Text;
 
 #[cfg(test)]

@@ -25,3 +25,15 @@ fn bytes_show_themselves(rt: HostRuntime) -> Result<(), Fail> {
     assert!(rt; Bytes::new(rt.alloc(), &[])?.is_empty());
     Ok(())
 }
+
+#[test]
+fn items_stand_in_their_order(rt: HostRuntime) -> Result<(), Fail> {
+    let mut items = Items::new(rt.alloc());
+    assert!(rt; items.is_empty());
+    items.push(7u64)?;
+    items.push(9)?;
+    assert_eq!(rt; items.as_slice(), [7, 9].as_slice());
+    assert_eq!(rt; items.len(), 2);
+    assert!(rt; items == Items::from(vec![in rt.alloc(); 7, 9]?));
+    Ok(())
+}

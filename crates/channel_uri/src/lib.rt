@@ -18,3 +18,6 @@ pub use keys::Keys;
 pub use media::Media;
 pub use pattern::Pattern;
 pub use place::Place;
+
+#[cfg(test)]
+mod tests;
