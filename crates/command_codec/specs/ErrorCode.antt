@@ -1,5 +1,5 @@
 -- The codes of ON_ERROR, with their numbers and their texts. (Numbers and texts are this project's own.)
-use Rattle.std.specs.Prelude.{ℕ, ℤ, pos, if◌then◌else◌, List, Option, Some, None, codes}
+use Rattle.std.specs.Prelude.{ℕ, ℤ, pos, List, [], ◌∷◌, find, Option, Some, None, codes}
 use Rattle.std.specs.Ordering.{int_eq}
 use Rattle.command_codec.specs.declared.error_code.ErrorCode.{ErrorCode}
 use Rattle.command_codec.specs.declared.error_code.ErrorCode.TheVariants.{InvalidChannel, UnknownSubscription, UnknownPublication, UnknownCounter, UnknownCommandType, MalformedCommand, Denied, NoMemory, Full, WrongClient, Conflict, NoRoom}
@@ -19,22 +19,14 @@ code_number WrongClient = pos 1004
 code_number Conflict = pos 1005
 code_number NoRoom = pos 1006
 
+abbrev pub all_codes : List ErrorCode
+all_codes =
+    InvalidChannel ∷ UnknownSubscription ∷ UnknownPublication ∷ UnknownCounter ∷ UnknownCommandType ∷ MalformedCommand
+    ∷ Denied ∷ NoMemory ∷ Full ∷ WrongClient ∷ Conflict ∷ NoRoom ∷ []
+
 -- the code that has this number
 unfoldable pub code_of : ℤ → Option ErrorCode
-code_of z =
-    if int_eq z (pos 1) then Some InvalidChannel
-    else if int_eq z (pos 2) then Some UnknownSubscription
-    else if int_eq z (pos 3) then Some UnknownPublication
-    else if int_eq z (pos 5) then Some UnknownCounter
-    else if int_eq z (pos 6) then Some UnknownCommandType
-    else if int_eq z (pos 7) then Some MalformedCommand
-    else if int_eq z (pos 1001) then Some Denied
-    else if int_eq z (pos 1002) then Some NoMemory
-    else if int_eq z (pos 1003) then Some Full
-    else if int_eq z (pos 1004) then Some WrongClient
-    else if int_eq z (pos 1005) then Some Conflict
-    else if int_eq z (pos 1006) then Some NoRoom
-    else None
+code_of number = find (λ code. int_eq number (code_number code)) all_codes
 
 -- the text of a code; a denial has the verdict's
 unfoldable pub code_text : ErrorCode → Option (List ℕ)

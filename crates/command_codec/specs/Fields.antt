@@ -1,6 +1,6 @@
 -- The fields of commands and replies: numbers with the lowest byte first, and texts behind their length.
 -- (The layouts are this project's own.)
-use Rattle.std.specs.Prelude.{ℕ, ℤ, ◌^◌, ◌<◌, ◌≡◌, true, not, nat_lt, if◌then◌else◌, List, ◌++◌, length, take, drop, Result, Ok, Err}
+use Rattle.std.specs.Prelude.{ℕ, ℤ, ◌^◌, ◌<◌, ◌≡◌, true, not, nat_lt, if◌then◌else◌, List, ◌++◌, length, take, drop, slice_index, Result, Ok, Err}
 use Rattle.std.specs.Char.{is_ascii}
 use Rattle.std.specs.Int.{w32, cast_signed, cast_unsigned}
 use Rattle.std.specs.List.{list_all}
@@ -55,3 +55,8 @@ text_bytes text = number_bytes 4 (length text) ++ text
 pub record IsText (text : List ℕ) : Type 0 where
   pub ascii : list_all is_ascii text ≡ true
   pub length_fits : length text < 2 ^ 31
+
+-- ---- bytes
+
+abbrev pub IsBytes : List ℕ → Type 0
+IsBytes bytes = (i : ℕ) → slice_index bytes i < 256

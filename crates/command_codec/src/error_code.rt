@@ -46,7 +46,7 @@ impl ErrorCode {
     }
 
     /// The code that has this number, if one has.
-    #[tactic(auto, unfolding(crate::specs::ErrorCode::code_of))]
+    #[tactic(auto, unfolding(crate::specs::ErrorCode::code_of, crate::specs::ErrorCode::code_number))]
     pub fn from_number(number: i32) -> Option<ErrorCode>
         ensures { result ≡ code_of number }
     {
