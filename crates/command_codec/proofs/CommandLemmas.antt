@@ -1,0 +1,129 @@
+-- Commands are read as they were written, and written as they were read.
+use Rattle.std.proofs.Common.{◌≡◌, ℕ, ◌^◌, ◌<◌, ◌≤◌, false, eqb, ltb, List, ◌++◌, length, drop, Ok, refl, sym, ap, subst, ◌∙◌, append_assoc, arith}
+use Rattle.std.proofs.lemmas.Bool.{eqb-true, ltb-false, le-ltb}
+use Rattle.std.proofs.lemmas.List.{drop-drop, length-drop}
+use Rattle.command_codec.specs.declared.fault.CommandFault.TheVariants.{Unknown, Malformed}
+use Rattle.command_codec.specs.declared.command.Command.{Command}
+use Rattle.command_codec.specs.declared.command.Body.{Body}
+use Rattle.command_codec.specs.declared.command.Body.TheVariants as bodies
+use Rattle.command_codec.specs.declared.command.Kind.{Kind}
+use Rattle.command_codec.specs.declared.command.Kind.TheVariants as kinds
+use Rattle.command_codec.specs.Gives.{◌>>=◌}
+use Rattle.command_codec.specs.Fields.{number_in, number_at, number_bytes, IsBytes}
+use Rattle.command_codec.specs.AddSubscription.{add_subscription_of}
+use Rattle.command_codec.specs.Command.{kind_of, fields_of, type_number, fields_bytes, AreFields, command_of, command_bytes, correlation_of, IsCommand}
+use Rattle.command_codec.proofs.FieldLemmas.{bind_ok, step, guard_ok, wanted_ok, ok_is, Takes, Takes-then, number_takes, number_again}
+use Rattle.command_codec.proofs.AddSubscriptionLemmas.{add_subscription_takes, add_subscription_again}
+
+-- ---- a line for each kind of command
+
+-- the kind whose body it is
+kind_in : Body → Kind
+kind_in (bodies.AddSubscription fields) = kinds.AddSubscription
+
+kind_again : (body : Body) → kind_of (type_number body) ≡ Ok (kind_in body)
+unfolding kind_in
+kind_again (bodies.AddSubscription fields) = refl
+
+fields_again : (body : Body) → AreFields body → fields_of (kind_in body) (fields_bytes body) ≡ Ok body
+unfolding kind_in
+fields_again (bodies.AddSubscription fields) h = rw (add_subscription_again fields h) refl
+
+number_fits : (body : Body) → type_number body < 256 ^ 4
+number_fits (bodies.AddSubscription fields) = omega arith
+
+fields_take : (number : ℕ) (kind : Kind) (bytes : List ℕ) (body : Body) → IsBytes bytes → kind_of number ≡ Ok kind → fields_of kind bytes ≡ Ok body → (number ≡ type_number body) × (bytes ≡ fields_bytes body) × AreFields body
+fields_take number kinds.AddSubscription bytes body fits known e =
+    let n = wanted_ok (eqb number 4) Unknown (Ok kinds.AddSubscription) kinds.AddSubscription known in
+    elim (bind_ok (add_subscription_of bytes) (λ fields. Ok (bodies.AddSubscription fields)) body e) [
+      | step fields is made ↦
+          let t = add_subscription_takes bytes fields fits is in
+          subst (λ (b : Body). (number ≡ type_number b) × (bytes ≡ fields_bytes b) × AreFields b) (ok_is (bodies.AddSubscription fields) body made) (eqb-true number 4 n.0, t.0, t.1)
+    ]
+
+-- ---- commands
+
+-- the head and the fields that were read, and what each took
+taken : (c : Command) (number : ℕ) (bytes after_number after_client after : List ℕ) → Takes bytes (number_bytes 4 number) after_number → Takes after_number (number_bytes 8 c.client) after_client → Takes after_client (number_bytes 8 c.correlation) after → number ≡ type_number c.body → after ≡ fields_bytes c.body → command_bytes c ≡ bytes
+unfolding command_bytes
+taken c number bytes after_number after_client after p q r number_is after_is =
+    let two = Takes-then bytes (number_bytes 4 number) after_number (number_bytes 8 c.client) after_client p q in
+    let three = Takes-then bytes (number_bytes 4 number ++ number_bytes 8 c.client) after_client (number_bytes 8 c.correlation) after two r in
+    let spelt = three.parts ∙ ap (λ (n : ℕ). number_bytes 4 n ++ number_bytes 8 c.client ++ number_bytes 8 c.correlation ++ after) number_is in
+    sym (spelt ∙ ap (λ (w : List ℕ). number_bytes 4 (type_number c.body) ++ number_bytes 8 c.client ++ number_bytes 8 c.correlation ++ w) after_is)
+
+pub command_takes : (bytes : List ℕ) (c : Command) → IsBytes bytes → command_of bytes ≡ Ok c → (command_bytes c ≡ bytes) × IsCommand c
+unfolding command_of
+command_takes bytes c fits e =
+    elim (bind_ok (number_at 4 bytes) (λ number. kind_of number.0 >>= λ kind. number_at 8 number.1 >>= λ client. number_at 8 client.1 >>= λ correlation. fields_of kind correlation.1 >>= λ body. Ok (record { client = client.0; correlation = correlation.0; body = body })) c e) [
+      | step n n_is after_n ↦
+          elim (bind_ok (kind_of n.0) (λ kind. number_at 8 n.1 >>= λ client. number_at 8 client.1 >>= λ correlation. fields_of kind correlation.1 >>= λ body. Ok (record { client = client.0; correlation = correlation.0; body = body })) c after_n) [
+            | step kind kind_is after_kind ↦
+                elim (bind_ok (number_at 8 n.1) (λ client. number_at 8 client.1 >>= λ correlation. fields_of kind correlation.1 >>= λ body. Ok (record { client = client.0; correlation = correlation.0; body = body })) c after_kind) [
+                  | step l l_is after_l ↦
+                      elim (bind_ok (number_at 8 l.1) (λ correlation. fields_of kind correlation.1 >>= λ body. Ok (record { client = l.0; correlation = correlation.0; body = body })) c after_l) [
+                        | step r r_is after_r ↦
+                            elim (bind_ok (fields_of kind r.1) (λ body. Ok (record { client = l.0; correlation = r.0; body = body })) c after_r) [
+                              | step body body_is made_is ↦
+                                  let made : Command = record { client = l.0; correlation = r.0; body = body } in
+                                  let t0 = number_takes 4 bytes n fits n_is in
+                                  let t1 = number_takes 8 n.1 l t0.0.rest_fits l_is in
+                                  let t2 = number_takes 8 l.1 r t1.0.rest_fits r_is in
+                                  let t3 = fields_take n.0 kind r.1 body t2.0.rest_fits kind_is body_is in
+                                  subst (λ (x : Command). (command_bytes x ≡ bytes) × IsCommand x) (ok_is made c made_is) (taken made n.0 bytes n.1 l.1 r.1 t0.0 t1.0 t2.0 t3.0 t3.1, record { client = t1.1; correlation = t2.1; body = t3.2 })
+                            ]
+                      ]
+                ]
+          ]
+    ]
+
+pub command_again : (c : Command) → IsCommand c → command_of (command_bytes c) ≡ Ok c
+unfolding command_of command_bytes
+command_again c fits =
+    let number = number_bytes 4 (type_number c.body) in
+    let client = number_bytes 8 c.client in
+    let correlation = number_bytes 8 c.correlation in
+    let fields = fields_bytes c.body in
+    let regrouped : command_bytes c ≡ number ++ (client ++ (correlation ++ fields)) = append_assoc (number ++ client) correlation fields ∙ append_assoc number client (correlation ++ fields) in
+    ap command_of regrouped ∙ rw (number_again 4 (type_number c.body) (client ++ (correlation ++ fields)) (number_fits c.body), kind_again c.body, number_again 8 c.client (correlation ++ fields) fits.client, number_again 8 c.correlation fields fits.correlation, fields_again c.body fits.body) refl
+
+-- ---- where the correlation id stands
+
+-- a number that was read, and the bytes after it
+number_is : (n : ℕ) (bytes : List ℕ) (x : ℕ × List ℕ) → number_at n bytes ≡ Ok x → (n ≤ length bytes) × (number_in n bytes ≡ x.0) × (drop n bytes ≡ x.1)
+number_is n bytes x e =
+    let made : ℕ × List ℕ = (number_in n bytes, drop n bytes) in
+    let g = guard_ok (ltb (length bytes) n) Malformed (Ok made) x e in
+    let same : made ≡ x = ok_is made x g.1 in
+    (ltb-false _ _ g.0, ap (λ (y : ℕ × List ℕ). y.0) same, ap (λ (y : ℕ × List ℕ). y.1) same)
+
+third : (bytes : List ℕ) (n l r : ℕ × List ℕ) → number_at 4 bytes ≡ Ok n → number_at 8 n.1 ≡ Ok l → number_at 8 l.1 ≡ Ok r → correlation_of bytes ≡ r.0
+unfolding correlation_of
+third bytes n l r p q s =
+    let a = number_is 4 bytes n p in
+    let b = number_is 8 n.1 l q in
+    let c = number_is 8 l.1 r s in
+    let rest : drop 12 bytes ≡ l.1 = sym (drop-drop 8 4 bytes) ∙ ap (drop 8) a.2 ∙ b.2 in
+    let long : ltb (length bytes) 20 ≡ false = le-ltb _ _ (omega (arith, a.0, b.0, c.0, ap length a.2, ap length b.2, length-drop 4 bytes, length-drop 8 n.1)) in
+    rw (long, rest) c.1
+
+pub correlation_in_place : (bytes : List ℕ) (c : Command) → command_of bytes ≡ Ok c → correlation_of bytes ≡ c.correlation
+unfolding command_of
+correlation_in_place bytes c e =
+    elim (bind_ok (number_at 4 bytes) (λ number. kind_of number.0 >>= λ kind. number_at 8 number.1 >>= λ client. number_at 8 client.1 >>= λ correlation. fields_of kind correlation.1 >>= λ body. Ok (record { client = client.0; correlation = correlation.0; body = body })) c e) [
+      | step n n_is after_n ↦
+          elim (bind_ok (kind_of n.0) (λ kind. number_at 8 n.1 >>= λ client. number_at 8 client.1 >>= λ correlation. fields_of kind correlation.1 >>= λ body. Ok (record { client = client.0; correlation = correlation.0; body = body })) c after_n) [
+            | step kind kind_is after_kind ↦
+                elim (bind_ok (number_at 8 n.1) (λ client. number_at 8 client.1 >>= λ correlation. fields_of kind correlation.1 >>= λ body. Ok (record { client = client.0; correlation = correlation.0; body = body })) c after_kind) [
+                  | step l l_is after_l ↦
+                      elim (bind_ok (number_at 8 l.1) (λ correlation. fields_of kind correlation.1 >>= λ body. Ok (record { client = l.0; correlation = correlation.0; body = body })) c after_l) [
+                        | step r r_is after_r ↦
+                            elim (bind_ok (fields_of kind r.1) (λ body. Ok (record { client = l.0; correlation = r.0; body = body })) c after_r) [
+                              | step body body_is made_is ↦
+                                  let made : Command = record { client = l.0; correlation = r.0; body = body } in
+                                  third bytes n l r n_is l_is r_is ∙ ap (λ (x : Command). x.correlation) (ok_is made c made_is)
+                            ]
+                      ]
+                ]
+          ]
+    ]

@@ -1,0 +1,9 @@
+pub mod Ascii
+pub mod Numbers
+pub mod FieldLemmas
+pub mod CodeLemmas
+pub mod AddSubscriptionLemmas
+pub mod CommandLemmas
+pub mod ErrorReplyLemmas
+pub mod SubscriptionReadyLemmas
+pub mod ReplyLemmas

@@ -1,0 +1,147 @@
+ghost use Rattle.std.specs.Prelude.{◌≡◌, ◌++◌, false, true, IfOk, OnOk};
+ghost use Rattle.command_codec.specs.Gives.{Equals, Gives, takes_memory};
+
+use crate::add_subscription::AddSubscription;
+use crate::fault::CommandFault;
+use crate::fields;
+use byte_strings::Bytes;
+use byteorder::{ByteOrder, LittleEndian};
+use std::alloc::{AllocError, Global};
+
+/// A command of a client.
+#[derive(Debug, PartialEq, Eq, Drop)]
+pub struct Command {
+    /// The id of the client that sends it.
+    pub client: u64,
+    /// A number of the client's own, by which replies name the command.
+    pub correlation: u64,
+    pub body: Body,
+}
+
+/// What a command asks for.
+#[derive(Debug, PartialEq, Eq, Drop)]
+pub enum Body {
+    AddSubscription(AddSubscription),
+}
+
+/// The types of commands that have a number here.
+#[derive(Clone, Copy)]
+enum Kind {
+    AddSubscription,
+}
+
+impl Kind {
+    ghost use Rattle.command_codec.specs.Command.{fields_of, has_text, kind_of};
+
+    fn from_number(number: u32) -> Result<Kind, CommandFault>
+        ensures { Equals (λ kind. kind) result (kind_of number) }
+    {
+        match number {
+            4 => Ok(Kind::AddSubscription),
+            _ => Err(CommandFault::Unknown),
+        }
+    }
+
+    fn read(self, alloc: Global, bytes: &[u8]) -> Result<Body, CommandFault>
+        ensures exact { Gives result (fields_of self bytes.now) }
+        ensures without_memory { takes_memory has_text (fields_of self bytes.now) ≡ false
+            → result ≡ fields_of self bytes.now }
+    {
+        match self {
+            Kind::AddSubscription => {
+                let fields = AddSubscription::read(alloc, bytes)?;
+                Ok(Body::AddSubscription(fields))
+            }
+        }
+    }
+}
+
+impl Body {
+    ghost use Rattle.command_codec.specs.Command.{fields_bytes, type_number};
+
+    fn type_number(&self) -> u32
+        ensures { result ≡ type_number self.now }
+    {
+        match self {
+            Body::AddSubscription(_) => 4,
+        }
+    }
+
+    fn put(&self, out: &mut Vec<u8>) -> Result<(), AllocError>
+        ensures { OnOk result (out.new.items ≡ out.old.items ++ fields_bytes self.now) }
+    {
+        match self {
+            Body::AddSubscription(fields) => fields.put(out),
+        }
+    }
+
+    fn copy(&self, alloc: Global) -> Result<Body, AllocError>
+        ensures { IfOk result (λ copy. copy ≡ self.now) }
+    {
+        match self {
+            Body::AddSubscription(fields) => Ok(Body::AddSubscription(fields.copy(alloc)?)),
+        }
+    }
+}
+
+impl Command {
+    ghost use Rattle.command_codec.specs.Command.{command_bytes, command_of, correlation_of, has_text};
+
+    /// The command that the bytes are. Its type is looked at first, so a type that is not known is `Unknown` whatever
+    /// follows it. Memory is taken for a text, and only once all of the bytes are found sound.
+    #[tactic(auto, unfolding(crate::specs::Command::command_of))]
+    pub fn read(alloc: Global, bytes: &[u8]) -> Result<Command, CommandFault>
+        ensures exact { Gives result (command_of bytes.now) }
+        ensures without_memory { takes_memory (λ command. has_text command.body) (command_of bytes.now) ≡ false
+            → result ≡ command_of bytes.now }
+    {
+        let (number, rest) = fields::u32_at(bytes)?;
+        let kind = Kind::from_number(number)?;
+        let (client, rest) = fields::u64_at(rest)?;
+        let (correlation, rest) = fields::u64_at(rest)?;
+        let body = kind.read(alloc, rest)?;
+        Ok(Command {
+            client,
+            correlation,
+            body,
+        })
+    }
+
+    /// The bytes of the command. They are read again as the same command if its texts are ASCII and shorter than
+    /// 2^31 bytes. (Of a longer text's length the lowest four bytes are written.)
+    #[tactic(auto, unfolding(crate::specs::Command::command_bytes))]
+    pub fn write(&self, alloc: Global) -> Result<Bytes, AllocError>
+        ensures { IfOk result (λ bytes. bytes ≡ command_bytes self.now) }
+    {
+        let mut out = Vec::new(alloc);
+        fields::put_u32(&mut out, self.body.type_number())?;
+        fields::put_u64(&mut out, self.client)?;
+        fields::put_u64(&mut out, self.correlation)?;
+        self.body.put(&mut out)?;
+        Ok(Bytes::from(out))
+    }
+
+    /// The correlation id that an error about these bytes tells of, also where they are no command: what stands in
+    /// its place, or 0 where the bytes end before it does.
+    #[tactic(auto, unfolding(crate::specs::Command::correlation_of, crate::specs::Fields::number_in))]
+    pub fn correlation_of(bytes: &[u8]) -> u64
+        ensures { result ≡ correlation_of bytes.now }
+    {
+        if bytes.len() < 20 {
+            0
+        } else {
+            LittleEndian::read_u64(&bytes[12..])
+        }
+    }
+
+    /// Another command that is the same.
+    pub fn copy(&self, alloc: Global) -> Result<Command, AllocError>
+        ensures { IfOk result (λ copy. copy ≡ self.now) }
+    {
+        Ok(Command {
+            client: self.client,
+            correlation: self.correlation,
+            body: self.body.copy(alloc)?,
+        })
+    }
+}

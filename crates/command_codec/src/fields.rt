@@ -1,0 +1,136 @@
+//! The fields that commands and replies are made of.
+
+ghost use Rattle.std.specs.Prelude.{◌≡◌, ◌++◌, OnOk, if◌then◌else◌, Option, Some, None};
+ghost use Rattle.std.specs.Char.{is_ascii};
+ghost use Rattle.std.specs.List.{list_all};
+ghost use Rattle.std.specs.Option.{option_copied};
+ghost use Rattle.command_codec.specs.Gives.{Equals};
+ghost use Rattle.command_codec.specs.Fields.{ended, number_at, number_bytes, signed_at, signed_bytes, text_at, text_bytes};
+
+use crate::fault::CommandFault;
+use byte_strings::Text;
+use byteorder::{ByteOrder, LittleEndian};
+use std::alloc::AllocError;
+use std::str;
+
+/// An unsigned number of 32 bits, and the bytes after it.
+#[tactic(auto, unfolding(crate::specs::Fields::number_in))]
+pub fn u32_at(bytes: &[u8]) -> Result<(u32, &[u8]), CommandFault>
+    ensures { Equals (λ x. (x.0, x.1.now)) result (number_at 4 bytes.now) }
+{
+    if bytes.len() < 4 {
+        return Err(CommandFault::Malformed);
+    }
+    let (_, rest) = bytes.split_at(4);
+    Ok((LittleEndian::read_u32(bytes), rest))
+}
+
+/// An unsigned number of 64 bits, and the bytes after it.
+#[tactic(auto, unfolding(crate::specs::Fields::number_in))]
+pub fn u64_at(bytes: &[u8]) -> Result<(u64, &[u8]), CommandFault>
+    ensures { Equals (λ x. (x.0, x.1.now)) result (number_at 8 bytes.now) }
+{
+    if bytes.len() < 8 {
+        return Err(CommandFault::Malformed);
+    }
+    let (_, rest) = bytes.split_at(8);
+    Ok((LittleEndian::read_u64(bytes), rest))
+}
+
+/// A signed number of 32 bits, and the bytes after it.
+pub fn i32_at(bytes: &[u8]) -> Result<(i32, &[u8]), CommandFault>
+    ensures { Equals (λ x. (x.0, x.1.now)) result (signed_at bytes.now) }
+{
+    let (number, rest) = u32_at(bytes)?;
+    Ok((number.cast_signed(), rest))
+}
+
+fn is_ascii(bytes: &[u8]) -> bool
+    ensures { result ≡ list_all is_ascii bytes.now }
+{
+    bytes.iter().all(u8::is_ascii)
+}
+
+/// The bytes as a text, if all of them are ASCII.
+#[tactic(auto, using(crate::proofs::Ascii::is_utf8_if_ascii))]
+fn ascii_text(bytes: &[u8]) -> Option<&str>
+    ensures { option_copied result ≡ (if list_all is_ascii bytes.now then Some bytes.now else None) }
+{
+    if !is_ascii(bytes) {
+        return None;
+    }
+    match str::from_utf8(bytes) {
+        Ok(text) => Some(text),
+        Err(_) => None,
+    }
+}
+
+/// A text of ASCII behind its length, and the bytes after it.
+#[tactic(auto, unfolding(crate::specs::Fields::text_at))]
+pub fn text_at(bytes: &[u8]) -> Result<(&str, &[u8]), CommandFault>
+    ensures { Equals (λ x. (x.0.now, x.1.now)) result (text_at bytes.now) }
+{
+    let (size, rest) = u32_at(bytes)?;
+    // The length is a signed number: from here on it is negative.
+    if size >= 1 << 31 {
+        return Err(CommandFault::Malformed);
+    }
+    let size = size as usize;
+    if rest.len() < size {
+        return Err(CommandFault::Malformed);
+    }
+    let (front, rest) = rest.split_at(size);
+    match ascii_text(front) {
+        Some(text) => Ok((text, rest)),
+        None => Err(CommandFault::Malformed),
+    }
+}
+
+/// Refuses bytes after the last field.
+pub fn end(bytes: &[u8]) -> Result<(), CommandFault>
+    ensures { Equals (λ x. x) result (ended record {} bytes.now) }
+{
+    if bytes.is_empty() {
+        Ok(())
+    } else {
+        Err(CommandFault::Malformed)
+    }
+}
+
+/// Writes an unsigned number of 32 bits at the end.
+#[tactic(auto, unfolding(crate::specs::Fields::number_bytes))]
+pub fn put_u32(out: &mut Vec<u8>, number: u32) -> Result<(), AllocError>
+    ensures { OnOk result (out.new.items ≡ out.old.items ++ number_bytes 4 number) }
+{
+    let mut bytes = [0; 4];
+    LittleEndian::write_u32(&mut bytes, number);
+    out.extend_from_slice(&bytes)
+}
+
+/// Writes an unsigned number of 64 bits at the end.
+#[tactic(auto, unfolding(crate::specs::Fields::number_bytes))]
+pub fn put_u64(out: &mut Vec<u8>, number: u64) -> Result<(), AllocError>
+    ensures { OnOk result (out.new.items ≡ out.old.items ++ number_bytes 8 number) }
+{
+    let mut bytes = [0; 8];
+    LittleEndian::write_u64(&mut bytes, number);
+    out.extend_from_slice(&bytes)
+}
+
+/// Writes a signed number of 32 bits at the end.
+pub fn put_i32(out: &mut Vec<u8>, number: i32) -> Result<(), AllocError>
+    ensures { OnOk result (out.new.items ≡ out.old.items ++ signed_bytes number) }
+{
+    put_u32(out, number.cast_unsigned())
+}
+
+/// Writes a text behind its length at the end.
+#[tactic(auto, unfolding(crate::specs::Fields::number_bytes))]
+pub fn put_text(out: &mut Vec<u8>, text: &Text) -> Result<(), AllocError>
+    ensures { OnOk result (out.new.items ≡ out.old.items ++ text_bytes text.now) }
+{
+    let mut size = [0; 8];
+    LittleEndian::write_u64(&mut size, text.as_str().len() as u64);
+    out.extend_from_slice(&size[..4])?;
+    out.extend_from_slice(text.as_str().as_bytes())
+}

@@ -1,0 +1,28 @@
+//! The commands that clients send to the driver and the replies that it gives, as values and as bytes.
+//!
+//! Bytes are read to what the definitions `command_of` and `reply_of` say of them, faults too, and values are written
+//! as `command_bytes` and `reply_bytes` say. The laws in this crate tie the two: what is written is read again, and
+//! what was read is written as the same bytes.
+#![tactic(auto)]
+
+mod add_subscription;
+mod command;
+mod error_code;
+mod error_reply;
+mod fault;
+mod fields;
+mod laws;
+mod reply;
+mod subscription_ready;
+
+pub use add_subscription::AddSubscription;
+pub use command::{Body, Command};
+pub use error_code::ErrorCode;
+pub use error_reply::ErrorReply;
+pub use fault::CommandFault;
+pub use laws::{
+    codes_are_told_by_their_numbers, commands_read_back, commands_write_back,
+    correlation_is_in_place, replies_read_back, replies_write_back,
+};
+pub use reply::Reply;
+pub use subscription_ready::SubscriptionReady;

@@ -1,0 +1,42 @@
+ghost use Rattle.std.specs.Prelude.{◌≡◌, ◌++◌, OnOk};
+ghost use Rattle.command_codec.specs.Gives.{Equals};
+
+use crate::fault::CommandFault;
+use crate::fields;
+use std::alloc::AllocError;
+
+/// A subscription was added (ON_SUBSCRIPTION_READY).
+#[derive(Clone, Copy, Debug, PartialEq, Eq)]
+pub struct SubscriptionReady {
+    /// The correlation id of the command that asked for it.
+    pub correlation: u64,
+    /// The number by which later commands name the subscription.
+    pub registration: u64,
+}
+
+impl SubscriptionReady {
+    ghost use Rattle.command_codec.specs.SubscriptionReady.{subscription_ready_bytes, subscription_ready_of};
+
+    /// The fields behind a reply's type.
+    #[tactic(auto, unfolding(crate::specs::SubscriptionReady::subscription_ready_of))]
+    pub fn read(bytes: &[u8]) -> Result<SubscriptionReady, CommandFault>
+        ensures { result ≡ subscription_ready_of bytes.now }
+    {
+        let (correlation, rest) = fields::u64_at(bytes)?;
+        let (registration, rest) = fields::u64_at(rest)?;
+        fields::end(rest)?;
+        Ok(SubscriptionReady {
+            correlation,
+            registration,
+        })
+    }
+
+    /// Writes the fields at the end.
+    #[tactic(auto, unfolding(crate::specs::SubscriptionReady::subscription_ready_bytes))]
+    pub fn put(&self, out: &mut Vec<u8>) -> Result<(), AllocError>
+        ensures { OnOk result (out.new.items ≡ out.old.items ++ subscription_ready_bytes self.now) }
+    {
+        fields::put_u64(out, self.correlation)?;
+        fields::put_u64(out, self.registration)
+    }
+}
