@@ -1,0 +1,88 @@
+-- Runs are put together of steps.
+use Rattle.std.proofs.Common.{◌≡◌, List, [], ◌∷◌, ◌++◌, refl, sym, subst}
+use Rattle.driver_core.specs.declared.answer.Answer.{Answer}
+use Rattle.driver_core.specs.declared.answer.Answer.TheVariants.{NoMemory, Attached, Full, Replies}
+use Rattle.driver_core.specs.declared.event.Event.{Event}
+use Rattle.driver_core.specs.declared.outcome.Outcome.{Outcome}
+use Rattle.driver_core.specs.declared.outcome.Response.{Response}
+use Rattle.driver_core.specs.declared.outcome.Response.TheVariants as response
+use Rattle.driver_core.specs.declared.replies.Message.{Message}
+use Rattle.driver_core.specs.declared.step.Step.{Step}
+use Rattle.driver_core.specs.declared.step.Step.TheVariants.{Conductor}
+use Rattle.driver_core.specs.Conduct.{outcome_of, state_after}
+use Rattle.driver_core.specs.State.{State}
+use Rattle.driver_core.specs.Runs.{RunEnd, StandsFor, Serves, Runs, Continues, IsAnswer, AreAnswers, after, end_of, moved, no_inputs, answered_by, answer_of}
+
+-- what an event is answered is never want of memory, so it is the step's answer and leaves what the step leaves
+told : (e : RunEnd) (step : Step) (r : Response) (replies : List Message) → answered_by r replies ≡ (moved e step).answer →
+    IsAnswer e step (answered_by r replies) × (after e step (answered_by r replies) ≡ (moved e step).after)
+told e step response.Nothing replies is = (is, refl)
+told e step (response.Attached number) replies is = (is, refl)
+told e step response.Full replies is = (is, refl)
+
+-- an event that was taken serves the conductor's step
+pub event_served : (old new : RunEnd) (event : Event) (outcome : Outcome) →
+    outcome ≡ outcome_of old.registry event no_inputs → new.registry ≡ state_after old.registry event no_inputs →
+    Serves old new (Conductor event) (answer_of outcome)
+unfolding answer_of
+event_served old new event outcome answer state =
+    record {
+      on = λ e stands.
+          let same : outcome ≡ outcome_of e.registry event no_inputs = rw (← stands.registry) answer in
+          let told' = told e (Conductor event) outcome.response outcome.replies (rw same refl) in
+          (told'.0, record { registry = rw (told'.1, ← stands.registry) state });
+    }
+
+-- a step that is refused memory leaves all as it was
+pub refusal_served : (old new : RunEnd) (step : Step) → new.registry ≡ old.registry → Serves old new step NoMemory
+refusal_served old new step same =
+    record { on = λ e stands. (tt, record { registry = rw same stands.registry }) }
+
+-- one list of answers behind another
+pub answers_append : (e : RunEnd) (steps more : List Step) (answers given : List Answer) →
+    AreAnswers e steps answers → AreAnswers (end_of e steps answers) more given →
+    AreAnswers e (steps ++ more) (answers ++ given)
+answers_append e [] more [] given are next = next
+answers_append e [] more (answer ∷ answers) given are next = absurd are
+answers_append e (step ∷ steps) more [] given are next = absurd are
+answers_append e (step ∷ steps) more (answer ∷ answers) given are next =
+    (are.0, answers_append (after e step answer) steps more answers given are.1 next)
+
+pub end_append : (e : RunEnd) (steps more : List Step) (answers given : List Answer) →
+    AreAnswers e steps answers →
+    end_of e (steps ++ more) (answers ++ given) ≡ end_of (end_of e steps answers) more given
+end_append e [] more [] given are = refl
+end_append e [] more (answer ∷ answers) given are = absurd are
+end_append e (step ∷ steps) more [] given are = absurd are
+end_append e (step ∷ steps) more (answer ∷ answers) given are =
+    end_append (after e step answer) steps more answers given are.1
+
+-- no step
+pub runs_none : (held : RunEnd) → Runs held held [] []
+runs_none held = record { on = λ e stands. (tt, stands) }
+
+-- one more step
+pub runs_more : (old middle new : RunEnd) (steps : List Step) (step : Step) (answers : List Answer) (answer : Answer) →
+    Runs old middle steps answers → Serves middle new step answer →
+    Runs old new (steps ++ step ∷ []) (answers ++ answer ∷ [])
+runs_more old middle new steps step answers answer ran served =
+    record {
+      on = λ e stands.
+          let so_far = ran.on e stands in
+          let last = served.on (end_of e steps answers) so_far.1 in (
+            answers_append e steps (step ∷ []) answers (answer ∷ []) so_far.0 (last.0, tt),
+            rw (end_append e steps (step ∷ []) answers (answer ∷ []) so_far.0) last.1,
+          );
+    }
+
+-- steps that run from each end continue each run
+pub runs_continue : (old new : RunEnd) (steps : List Step) (answers : List Answer) →
+    Runs old new steps answers → Continues old new steps answers
+runs_continue old new steps answers ran =
+    record {
+      on = λ settings policy peers before earlier are stands.
+          let next = ran.on _ stands in (
+            answers_append _ before steps earlier answers are next.0,
+            rw (end_append _ before steps earlier answers are) next.1,
+          );
+    }

@@ -1,0 +1,60 @@
+-- The bytes of a command come over a client's handle.
+use Rattle.std.specs.Prelude.{ℕ, ◌==◌, List, [], map, find, Option, Some, None, Result, Ok, Err, if◌then◌else◌}
+use Rattle.driver_core.specs.declared.change.Change.{Change}
+use Rattle.driver_core.specs.declared.refusal.Refusal.{Refusal}
+use Rattle.driver_core.specs.declared.refusal.Refusal.TheVariants.{UnknownCommandType, MalformedCommand, WrongClient}
+use Rattle.driver_core.specs.declared.rows.Client.{Client}
+use Rattle.driver_core.specs.Change.{refused}
+use Rattle.driver_core.specs.State.{State}
+use Rattle.driver_core.specs.Subscribing.{add_subscription}
+use Rattle.command_codec.specs.declared.command.Command.{Command}
+use Rattle.command_codec.specs.declared.command.Body.{Body}
+use Rattle.command_codec.specs.declared.command.Body.TheVariants.{AddSubscription}
+use Rattle.command_codec.specs.declared.fault.CommandFault.{CommandFault}
+use Rattle.command_codec.specs.declared.fault.CommandFault.TheVariants.{Unknown, Malformed, NoMemory}
+use Rattle.command_codec.specs.Command.{command_of, correlation_of}
+
+-- the client of this id, if it is there
+abbrev pub client_at : List Client → ℕ → Option Client
+client_at clients number = find (λ client. client.number == number) clients
+
+-- the client of this id was heard of at this moment
+abbrev pub heard_one : ℕ → ℕ → Client → Client
+heard_one number moment client = if client.number == number then record client { heard = moment } else client
+
+abbrev pub heard_by : ℕ → ℕ → List Client → List Client
+heard_by number moment clients = map (heard_one number moment) clients
+
+unfoldable pub heard : State → ℕ → State
+heard s number = record s { clients = heard_by number s.moment s.clients }
+
+-- what is asked for by a client that is there
+abbrev pub body_change : State → Client → ℕ → Body → Change
+body_change s client correlation (AddSubscription fields) = add_subscription s client correlation fields
+
+unfoldable pub requested : State → Client → Command → Change
+requested s client command = body_change s client command.correlation command.body
+
+-- the handle's own client has to be named, and be there; then it was heard of
+abbrev pub asked_by : State → ℕ → Command → Option Client → Change
+asked_by s handle command None = refused s [] handle command.correlation WrongClient
+asked_by s handle command (Some client) = requested (heard s handle) client command
+
+unfoldable pub asked : State → ℕ → Command → Change
+asked s handle command =
+    if command.client == handle
+    then asked_by s handle command (client_at s.clients handle)
+    else refused s [] handle command.correlation WrongClient
+
+-- the refusal of bytes that are no command
+abbrev pub refusal_for : CommandFault → Refusal
+refusal_for Unknown = UnknownCommandType
+refusal_for Malformed = MalformedCommand
+refusal_for NoMemory = MalformedCommand
+
+abbrev pub command_from : State → ℕ → List ℕ → Result Command CommandFault → Change
+command_from s handle bytes (Ok command) = asked s handle command
+command_from s handle bytes (Err fault) = refused s [] handle (correlation_of bytes) (refusal_for fault)
+
+unfoldable pub command : State → ℕ → List ℕ → Change
+command s handle bytes = command_from s handle bytes (command_of bytes)

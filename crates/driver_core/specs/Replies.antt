@@ -1,0 +1,32 @@
+-- How a reply is laid out.
+use Rattle.std.specs.Prelude.{ℕ, List, [], unwrap_or}
+use Rattle.driver_core.specs.declared.refusal.Refusal.{Refusal}
+use Rattle.driver_core.specs.declared.refusal.Refusal.TheVariants.{UnknownCommandType, MalformedCommand, WrongClient, InvalidChannel, Denied, Full}
+use Rattle.driver_core.specs.declared.replies.Reply.{Reply}
+use Rattle.driver_core.specs.declared.replies.Reply.TheVariants.{Error, SubscriptionReady}
+use Rattle.command_codec.specs.declared.error_code.ErrorCode.{ErrorCode}
+use Rattle.command_codec.specs.declared.error_code.ErrorCode.TheVariants as code
+use Rattle.command_codec.specs.declared.reply.Reply.{Reply as Layout}
+use Rattle.command_codec.specs.declared.reply.Reply.TheVariants as layout
+use Rattle.command_codec.specs.ErrorCode.{code_text}
+use Rattle.policy_core.specs.Verdict.{verdict_text}
+
+-- the code by which clients know a refusal
+unfoldable pub code_for : Refusal → ErrorCode
+code_for UnknownCommandType = code.UnknownCommandType
+code_for MalformedCommand = code.MalformedCommand
+code_for WrongClient = code.WrongClient
+code_for InvalidChannel = code.InvalidChannel
+code_for (Denied verdict) = code.Denied
+code_for Full = code.Full
+
+-- the code's text, or for a denial the verdict's
+unfoldable pub refusal_text : Refusal → List ℕ
+refusal_text (Denied verdict) = verdict_text verdict
+refusal_text refusal = unwrap_or (code_text (code_for refusal)) []
+
+unfoldable pub layout_of : Reply → Layout
+layout_of (Error correlation refusal) =
+    layout.Error (record { correlation = correlation; code = code_for refusal; text = refusal_text refusal })
+layout_of (SubscriptionReady correlation registration) =
+    layout.SubscriptionReady (record { correlation = correlation; registration = registration })

@@ -1,0 +1,85 @@
+-- ADD_SUBSCRIPTION.
+use Rattle.std.specs.Prelude.{ℕ, ◌+◌, ℤ, Bool, true, false, not, ◌&&◌, nat_lt, length, List, [], ◌∷◌, ◌++◌, is_some, is_none, Result, Ok, Err, codes, if◌then◌else◌}
+use Rattle.driver_core.specs.declared.change.Change.{Change}
+use Rattle.driver_core.specs.declared.refusal.Refusal.TheVariants.{InvalidChannel, Denied, Full}
+use Rattle.driver_core.specs.declared.replies.Reply.TheVariants.{SubscriptionReady}
+use Rattle.driver_core.specs.declared.rows.Client.{Client}
+use Rattle.driver_core.specs.Change.{replied, refused}
+use Rattle.driver_core.specs.State.{State}
+use Rattle.channel_uri.specs.declared.error.UriError.{UriError}
+use Rattle.channel_uri.specs.declared.media.Media.{Media}
+use Rattle.channel_uri.specs.declared.media.Media.TheVariants.{Udp, Ipc, Counter}
+use Rattle.channel_uri.specs.Channel.{Shape, denotes}
+use Rattle.channel_uri.specs.Keys.{value_at}
+use Rattle.channel_uri.specs.Place.{spot_of}
+use Rattle.command_codec.specs.declared.add_subscription.AddSubscription.{AddSubscription}
+use Rattle.policy_core.specs.declared.act.Act.{Act}
+use Rattle.policy_core.specs.declared.act.Act.TheVariants.{Subscribe, Spy}
+use Rattle.policy_core.specs.declared.decision.Decision.{Decision}
+use Rattle.policy_core.specs.Question.{Question}
+use Rattle.policy_core.specs.Rules.{verdict_of}
+
+-- without the prefix, any `ipc`, and `udp` with an endpoint and no control mode
+abbrev pub is_plainly_subscribable : Media → Shape → Bool
+is_plainly_subscribable Ipc channel = true
+is_plainly_subscribable Udp channel =
+    is_some (value_at (codes "endpoint") channel.keys) && is_none (value_at (codes "control-mode") channel.keys)
+is_plainly_subscribable Counter channel = false
+
+-- the channels that the command takes; a spy needs a place
+unfoldable pub is_subscribable : Shape → Bool
+is_subscribable channel =
+    if channel.spy then is_some (spot_of channel) else is_plainly_subscribable channel.media channel
+
+abbrev pub act_of : Shape → Act
+act_of channel = if channel.spy then Spy else Subscribe
+
+-- what the policy is asked
+abbrev pub question_for : Client → Shape → ℤ → Question
+question_for client channel stream =
+    record { principal = client.principal; act = act_of channel; channel = channel; stream = stream }
+
+-- what the policy in force decides
+unfoldable pub decision_of : State → Client → Shape → ℤ → Decision
+decision_of s client channel stream = record {
+  principal = client.principal;
+  act = act_of channel;
+  subject = 0;
+  stream = stream;
+  verdict = verdict_of s.policy s.epoch (question_for client channel stream);
+}
+
+-- the subscription stands, under the next number
+unfoldable pub subscribed : State → Client → ℕ → Shape → ℤ → Change
+subscribed s client correlation channel stream =
+    replied (record s {
+      subscriptions = s.subscriptions
+          ++ record { number = s.last_number + 1; client = client.number; channel = channel; stream = stream } ∷ [];
+      last_number = s.last_number + 1;
+    }) (decision_of s client channel stream ∷ []) client.number (SubscriptionReady correlation (s.last_number + 1))
+
+-- there are at most 512 subscriptions, and no number is used again
+abbrev pub has_room_for_subscription : State → Bool
+has_room_for_subscription s = nat_lt (length s.subscriptions) 512 && nat_lt s.last_number 18446744073709551615
+
+-- denied, full, or done
+unfoldable pub subscribe : State → Client → ℕ → Shape → ℤ → Change
+subscribe s client correlation channel stream =
+    if not (decision_of s client channel stream).verdict.allow
+    then refused s (decision_of s client channel stream ∷ []) client.number correlation
+    (Denied (decision_of s client channel stream).verdict)
+    else if has_room_for_subscription s
+    then subscribed s client correlation channel stream
+    else refused s (decision_of s client channel stream ∷ []) client.number correlation Full
+
+-- the text has to be a channel that the command takes
+abbrev pub subscribe_on : State → Client → ℕ → Result Shape UriError → ℤ → Change
+subscribe_on s client correlation (Err fault) stream = refused s [] client.number correlation InvalidChannel
+subscribe_on s client correlation (Ok channel) stream =
+    if is_subscribable channel
+    then subscribe s client correlation channel stream
+    else refused s [] client.number correlation InvalidChannel
+
+unfoldable pub add_subscription : State → Client → ℕ → AddSubscription → Change
+add_subscription s client correlation fields =
+    subscribe_on s client correlation (denotes fields.channel) fields.stream

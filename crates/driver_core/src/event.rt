@@ -1,0 +1,44 @@
+ghost use Rattle.std.specs.Prelude.{◌≡◌, []};
+
+use byte_strings::{Bytes, Items};
+use std::alloc::Global;
+
+/// What happens to the conductor, with its moment in nanoseconds. A moment before one that was seen already counts as
+/// the one seen.
+#[derive(Debug, PartialEq, Eq, Drop)]
+pub enum Event {
+    /// A client comes, which acts for this principal.
+    Attach { now: u64, principal: u32 },
+    /// The bytes of a command come over the handle of a client.
+    Command { now: u64, client: u64, bytes: Bytes },
+}
+
+/// How far a log reaches.
+#[derive(Clone, Copy, Debug, PartialEq, Eq)]
+pub struct End {
+    /// The log's source number.
+    pub source: u64,
+    /// The tail of a publication, or the contiguous position of an image.
+    pub position: u64,
+}
+
+/// What the logs tell the conductor at an event.
+#[derive(Debug, PartialEq, Eq, Drop)]
+pub struct Inputs {
+    /// The images of which nothing was heard for too long.
+    pub silent: Items<u64>,
+    /// How far each live log reaches.
+    pub ends: Items<End>,
+}
+
+impl Inputs {
+    /// What is told where there are no logs. It takes no memory.
+    pub fn none(alloc: Global) -> Inputs
+        ensures { result ≡ record { silent = []; ends = [] } }
+    {
+        Inputs {
+            silent: Items::new(alloc),
+            ends: Items::new(alloc),
+        }
+    }
+}

@@ -1,0 +1,34 @@
+//! The registry of a driver, and what each event makes of it.
+//!
+//! `Registry::step` is one event of the conductor: a client that attaches, or a command of one. What it answers is
+//! `outcome_of`, and what it leaves is `state_after`, two total functions on the registry as plain data. `World::run`
+//! takes any list of steps, and its answers continue the run that came before.
+#![tactic(auto)]
+
+mod answer;
+mod attaching;
+mod change;
+mod commands;
+mod event;
+mod outcome;
+mod peer;
+mod refusal;
+mod registry;
+mod replies;
+mod rows;
+mod settings;
+mod step;
+mod subscribing;
+mod world;
+
+pub use answer::Answer;
+pub use event::{End, Event, Inputs};
+pub use outcome::{Opening, Outcome, Pair, Response};
+pub use peer::{Address, Peer};
+pub use refusal::Refusal;
+pub use registry::Registry;
+pub use replies::{Message, Reply};
+pub use rows::{Client, Subscription};
+pub use settings::Settings;
+pub use step::Step;
+pub use world::World;

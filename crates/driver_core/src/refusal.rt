@@ -1,0 +1,18 @@
+use policy_core::Verdict;
+
+/// Why a command is refused. Where several reasons hold, the first in this order is told.
+#[derive(Clone, Copy, Debug, PartialEq, Eq)]
+pub enum Refusal {
+    /// The type number is of no command.
+    UnknownCommandType,
+    /// The bytes are not laid out as a command of their type.
+    MalformedCommand,
+    /// The command names another client than the one over whose handle it came, or that client is gone.
+    WrongClient,
+    /// The channel's text is no channel, or not one that such a command takes.
+    InvalidChannel,
+    /// The policy denies the request, by this verdict.
+    Denied(Verdict),
+    /// The command would break a limit of the driver.
+    Full,
+}

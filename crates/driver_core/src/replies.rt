@@ -1,0 +1,88 @@
+ghost use Rattle.command_codec.specs.Reply.{reply_bytes};
+ghost use Rattle.driver_core.specs.Replies.{code_for, refusal_text, layout_of};
+ghost use Rattle.std.specs.Prelude.{◌≡◌, IfOk};
+
+use crate::refusal::Refusal;
+use byte_strings::{Bytes, Text};
+use command_codec::{ErrorCode, ErrorReply, SubscriptionReady};
+use std::alloc::{AllocError, Global};
+
+/// What a client is told. A denial keeps its verdict: it becomes a text only where the reply is written.
+#[derive(Clone, Copy, Debug, PartialEq, Eq)]
+pub enum Reply {
+    /// The command of this correlation id is refused.
+    Error { correlation: u64, refusal: Refusal },
+    /// The subscription stands, under this registration id.
+    SubscriptionReady { correlation: u64, registration: u64 },
+}
+
+/// A reply with the client over whose handle it goes.
+#[derive(Clone, Copy, Debug, PartialEq, Eq)]
+pub struct Message {
+    pub client: u64,
+    pub reply: Reply,
+}
+
+impl Refusal {
+    /// The code by which clients know the refusal.
+    #[tactic(auto, unfolding(crate::specs::Replies::code_for))]
+    pub fn code(&self) -> ErrorCode
+        ensures { result ≡ code_for self.now }
+    {
+        match self {
+            Refusal::UnknownCommandType => ErrorCode::UnknownCommandType,
+            Refusal::MalformedCommand => ErrorCode::MalformedCommand,
+            Refusal::WrongClient => ErrorCode::WrongClient,
+            Refusal::InvalidChannel => ErrorCode::InvalidChannel,
+            Refusal::Denied(_) => ErrorCode::Denied,
+            Refusal::Full => ErrorCode::Full,
+        }
+    }
+
+    /// The refusal in words: the code's, or for a denial the verdict's.
+    #[tactic(auto, unfolding(crate::specs::Replies::refusal_text))]
+    pub fn text(&self, alloc: Global) -> Result<Text, AllocError>
+        ensures { IfOk result (λ text. text ≡ refusal_text self.now) }
+    {
+        match self {
+            Refusal::Denied(verdict) => verdict.text(alloc),
+            _ => Text::new(alloc, self.code().text().unwrap_or("")),
+        }
+    }
+}
+
+impl Reply {
+    /// The reply as it is laid out.
+    #[tactic(auto, unfolding(crate::specs::Replies::layout_of))]
+    fn layout(&self, alloc: Global) -> Result<command_codec::Reply, AllocError>
+        ensures { IfOk result (λ reply. reply ≡ layout_of self.now) }
+    {
+        match self {
+            Reply::Error {
+                correlation,
+                refusal,
+            } => {
+                let text = refusal.text(alloc)?;
+                Ok(command_codec::Reply::Error(ErrorReply {
+                    correlation: *correlation,
+                    code: refusal.code(),
+                    text,
+                }))
+            }
+            Reply::SubscriptionReady {
+                correlation,
+                registration,
+            } => Ok(command_codec::Reply::SubscriptionReady(SubscriptionReady {
+                correlation: *correlation,
+                registration: *registration,
+            })),
+        }
+    }
+
+    /// The bytes that the client gets.
+    pub fn bytes(&self, alloc: Global) -> Result<Bytes, AllocError>
+        ensures { IfOk result (λ bytes. bytes ≡ reply_bytes (layout_of self.now)) }
+    {
+        self.layout(alloc)?.write(alloc)
+    }
+}
