@@ -1,0 +1,18 @@
+use crate::act::Act;
+use crate::verdict::Verdict;
+
+/// What was asked of a policy, and what it decided.
+#[derive(Clone, Copy, Debug, PartialEq, Eq)]
+pub struct Decision {
+    /// Who asked.
+    pub principal: u32,
+    /// What was to be done.
+    pub act: Act,
+    /// The number of what it was to be done to: a registration, a subscription, a log's source or a destination, by the
+    /// act; 0 for a command.
+    pub subject: u64,
+    /// On which stream.
+    pub stream: i32,
+    /// What the policy decided, and by what.
+    pub verdict: Verdict,
+}

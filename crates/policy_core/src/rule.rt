@@ -1,0 +1,78 @@
+ghost use Rattle.policy_core.specs.Question.{question_of};
+ghost use Rattle.policy_core.specs.Rule.{matches, speaks_of};
+ghost use Rattle.std.specs.Prelude.{◌≡◌, IfOk};
+
+use crate::act::Act;
+use crate::acts::Acts;
+use crate::request::Request;
+use byte_strings::Text;
+use channel_uri::Pattern;
+use std::alloc::{AllocError, Global};
+
+/// Whom a rule speaks of.
+#[derive(Clone, Copy, Debug)]
+pub enum Principals {
+    /// Everybody.
+    Any,
+    /// The principal of this number.
+    One(u32),
+}
+
+impl Principals {
+    fn include(self, principal: u32) -> bool
+        ensures { result ≡ speaks_of self principal }
+    {
+        match self {
+            Principals::Any => true,
+            Principals::One(one) => one == principal,
+        }
+    }
+}
+
+/// One rule of a policy. It matches a request that each of its parts fits.
+#[derive(Debug, Drop)]
+pub struct Rule {
+    /// What readers call the rule; it decides nothing.
+    pub name: Text,
+    /// Whom the rule speaks of.
+    pub principals: Principals,
+    /// Of which acts.
+    pub acts: Acts,
+    /// On which channels.
+    pub channel: Pattern,
+    /// The lowest stream id that the rule speaks of.
+    pub low: i32,
+    /// The highest stream id that the rule speaks of.
+    pub high: i32,
+    /// Whether what the rule speaks of is allowed.
+    pub allow: bool,
+}
+
+impl Rule {
+    /// Whether the rule speaks of `request`.
+    #[tactic(auto, unfolding(crate::specs::Rule::matches))]
+    pub fn matches(&self, request: &Request<'_>) -> bool
+        ensures { result ≡ matches self.now (question_of request.now) }
+    {
+        self.principals.include(request.principal)
+            && self.acts.hold(request.act)
+            && self.channel.covers(request.channel)
+            && self.low <= request.stream
+            && request.stream <= self.high
+    }
+
+    /// Another rule, equal to this one.
+    pub fn copy(&self, alloc: Global) -> Result<Rule, AllocError>
+        ensures { IfOk result (λ rule. rule ≡ self.now) }
+    {
+        Ok(Rule {
+            name: self.name.copy(alloc)?,
+            principals: self.principals,
+            acts: self.acts,
+            channel: self.channel.copy()?,
+            low: self.low,
+            high: self.high,
+            allow: self.allow,
+        })
+    }
+}
