@@ -1,2 +1,3 @@
 pub mod KeysLemmas
+pub mod LastValue
 pub mod PatternLemmas

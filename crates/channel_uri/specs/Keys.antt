@@ -1,4 +1,4 @@
-use Rattle.std.specs.Prelude.{ℕ, List, [], ◌∷◌, Option, String}
+use Rattle.std.specs.Prelude.{◌≡◌, ℕ, List, [], ◌∷◌, Option, String, reverse}
 use Rattle.std.specs.Ordering.{nat_cmp}
 use Rattle.std.specs.Cmp.Lexicographic.{slice_cmp}
 use Rattle.std.specs.declared.cmp.Ordering.{Ordering}
@@ -31,3 +31,7 @@ put keys pair = insert_entry bytes_cmp keys pair.0 pair.1
 abbrev pub kept : List Pair → List Pair → List Pair
 kept keys [] = keys
 kept keys (pair ∷ pairs) = kept (put keys pair) pairs
+
+-- the look-ups among the kept keys are those among the pairs from the last one on
+abbrev pub LastValueStands : Type 0
+LastValueStands = (key : List ℕ) (pairs : List Pair) → value_at key (kept [] pairs) ≡ value_at key (reverse pairs)

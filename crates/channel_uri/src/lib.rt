@@ -7,6 +7,7 @@
 mod channel;
 mod error;
 mod keys;
+mod laws;
 mod media;
 mod pattern;
 mod place;
@@ -15,6 +16,7 @@ mod syntax;
 pub use channel::Channel;
 pub use error::UriError;
 pub use keys::Keys;
+pub use laws::last_value_stands;
 pub use media::Media;
 pub use pattern::Pattern;
 pub use place::Place;
