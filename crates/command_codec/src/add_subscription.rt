@@ -21,7 +21,7 @@ impl AddSubscription {
 
     /// The fields behind a command's head.
     #[tactic(auto, unfolding(crate::specs::AddSubscription::add_subscription_of))]
-    pub fn read(alloc: Global, bytes: &[u8]) -> Result<AddSubscription, CommandFault>
+    pub(crate) fn read(alloc: Global, bytes: &[u8]) -> Result<AddSubscription, CommandFault>
         ensures exact { Gives result (add_subscription_of bytes.now) }
         ensures without_memory { takes_memory (λ _. true) (add_subscription_of bytes.now) ≡ false
             → result ≡ add_subscription_of bytes.now }
@@ -39,7 +39,7 @@ impl AddSubscription {
 
     /// Writes the fields at the end.
     #[tactic(auto, unfolding(crate::specs::AddSubscription::add_subscription_bytes))]
-    pub fn put(&self, out: &mut Vec<u8>) -> Result<(), AllocError>
+    pub(crate) fn put(&self, out: &mut Vec<u8>) -> Result<(), AllocError>
         ensures { OnOk result (out.new.items ≡ out.old.items ++ add_subscription_bytes self.now) }
     {
         fields::put_u64(out, self.registration_correlation)?;
@@ -48,7 +48,7 @@ impl AddSubscription {
     }
 
     /// Another command with the same fields.
-    pub fn copy(&self, alloc: Global) -> Result<AddSubscription, AllocError>
+    pub(crate) fn copy(&self, alloc: Global) -> Result<AddSubscription, AllocError>
         ensures { IfOk result (λ copy. copy ≡ self.now) }
     {
         Ok(AddSubscription {

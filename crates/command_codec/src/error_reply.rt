@@ -22,7 +22,7 @@ impl ErrorReply {
 
     /// The fields behind a reply's type.
     #[tactic(auto, unfolding(crate::specs::ErrorReply::error_of))]
-    pub fn read(alloc: Global, bytes: &[u8]) -> Result<ErrorReply, CommandFault>
+    pub(crate) fn read(alloc: Global, bytes: &[u8]) -> Result<ErrorReply, CommandFault>
         ensures exact { Gives result (error_of bytes.now) }
         ensures without_memory { takes_memory (λ _. true) (error_of bytes.now) ≡ false
             → result ≡ error_of bytes.now }
@@ -43,7 +43,7 @@ impl ErrorReply {
 
     /// Writes the fields at the end.
     #[tactic(auto, unfolding(crate::specs::ErrorReply::error_bytes))]
-    pub fn put(&self, out: &mut Vec<u8>) -> Result<(), AllocError>
+    pub(crate) fn put(&self, out: &mut Vec<u8>) -> Result<(), AllocError>
         ensures { OnOk result (out.new.items ≡ out.old.items ++ error_bytes self.now) }
     {
         fields::put_u64(out, self.correlation)?;
@@ -52,7 +52,7 @@ impl ErrorReply {
     }
 
     /// Another reply with the same fields.
-    pub fn copy(&self, alloc: Global) -> Result<ErrorReply, AllocError>
+    pub(crate) fn copy(&self, alloc: Global) -> Result<ErrorReply, AllocError>
         ensures { IfOk result (λ copy. copy ≡ self.now) }
     {
         Ok(ErrorReply {

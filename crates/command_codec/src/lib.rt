@@ -26,3 +26,6 @@ pub use laws::{
 };
 pub use reply::Reply;
 pub use subscription_ready::SubscriptionReady;
+
+#[cfg(test)]
+mod tests;

@@ -19,7 +19,7 @@ impl SubscriptionReady {
 
     /// The fields behind a reply's type.
     #[tactic(auto, unfolding(crate::specs::SubscriptionReady::subscription_ready_of))]
-    pub fn read(bytes: &[u8]) -> Result<SubscriptionReady, CommandFault>
+    pub(crate) fn read(bytes: &[u8]) -> Result<SubscriptionReady, CommandFault>
         ensures { result ≡ subscription_ready_of bytes.now }
     {
         let (correlation, rest) = fields::u64_at(bytes)?;
@@ -33,7 +33,7 @@ impl SubscriptionReady {
 
     /// Writes the fields at the end.
     #[tactic(auto, unfolding(crate::specs::SubscriptionReady::subscription_ready_bytes))]
-    pub fn put(&self, out: &mut Vec<u8>) -> Result<(), AllocError>
+    pub(crate) fn put(&self, out: &mut Vec<u8>) -> Result<(), AllocError>
         ensures { OnOk result (out.new.items ≡ out.old.items ++ subscription_ready_bytes self.now) }
     {
         fields::put_u64(out, self.correlation)?;
