@@ -57,9 +57,8 @@ impl Keys {
     pub fn copy(&self) -> Result<Keys, AllocError>
         ensures { IfOk result (λ keys. keys ≡ self.now) }
     {
-        Ok(Keys {
-            table: self.table.clone()?,
-        })
+        let table = self.table.clone()?;
+        Ok(Keys { table })
     }
 
     /// The keys with their values, in byte order.
