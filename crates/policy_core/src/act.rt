@@ -51,8 +51,10 @@ impl Act {
     ];
 
     /// The word that stands for the act in a policy's text.
+    #[tactic(auto, unfolding(crate::specs::Act::act_named))]
     pub fn name(self) -> &'static str
-        ensures { result.now ≡ name_of self }
+        ensures name { result.now ≡ name_of self }
+        ensures read_back { act_named result.now ≡ Some self }
     {
         match self {
             Act::Publish => "publish",

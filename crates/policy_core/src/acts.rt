@@ -1,5 +1,6 @@
+ghost use Rattle.policy_core.specs.Act.{act_number};
 ghost use Rattle.policy_core.specs.Acts.{every_act_held, no_act_held, with_act, holds};
-ghost use Rattle.std.specs.Prelude.{◌≡◌};
+ghost use Rattle.std.specs.Prelude.{◌≡◌, ◌==◌, ◌||◌, true, false};
 
 use crate::act::Act;
 
@@ -13,21 +14,24 @@ pub struct Acts {
 impl Acts {
     /// Every act.
     pub fn every() -> Acts
-        ensures { result ≡ every_act_held }
+        ensures exact { result ≡ every_act_held }
+        ensures all { (act : Act) → holds result act ≡ true }
     {
         Acts { held: [true; 13] }
     }
 
     /// No act.
     pub fn none() -> Acts
-        ensures { result ≡ no_act_held }
+        ensures exact { result ≡ no_act_held }
+        ensures all { (act : Act) → holds result act ≡ false }
     {
         Acts { held: [false; 13] }
     }
 
     /// These acts and `act`.
     pub fn with(self, act: Act) -> Acts
-        ensures { result ≡ with_act self act }
+        ensures exact { result ≡ with_act self act }
+        ensures all { (other : Act) → holds result other ≡ (holds self other || (act_number act == act_number other)) }
     {
         let mut held = self.held;
         held[act.number()] = true;

@@ -1,0 +1,5 @@
+pub mod Document
+pub mod Fault
+pub mod Fields
+pub mod Members
+pub mod Names

@@ -1,0 +1,140 @@
+ghost use Rattle.policy_text.specs.Document.{is_version_1, default_of, rule_at, rules_from, listed_rules, rules_of, policy_from, policy_of};
+ghost use Rattle.policy_text.specs.Fault.{Equals, Gives};
+ghost use Rattle.std.specs.Prelude.{◌≡◌, ◌≤◌, IfOk, length};
+ghost use Rattle.toml.specs.View.{array_view, table_view, view};
+
+use crate::fault::{Field, PolicyFault};
+use crate::fields::rule_of;
+use crate::members::{all_known, all_tables, integer_at, len_of, member, text_at};
+use crate::names::Names;
+use policy_core::{Policy, Rule};
+use std::alloc::Global;
+use toml::value::Array;
+use toml::{Table, Value};
+
+/// Whether the document is of this language's version.
+fn is_version_1(table: &Table) -> bool
+    ensures { result ≡ is_version_1 (table_view table.now) }
+{
+    match integer_at(table, "version") {
+        Some(1) => true,
+        _ => false,
+    }
+}
+
+/// Whether what no rule speaks of is allowed.
+fn default_of(table: &Table) -> Result<bool, PolicyFault>
+    ensures { Equals (λ allow. allow) result (default_of (table_view table.now)) }
+{
+    let bad = PolicyFault::BadField {
+        rule: 0,
+        field: Field::Default,
+    };
+    let Some(word) = text_at(table, "default") else {
+        return Err(bad);
+    };
+    if word == "allow" {
+        return Ok(true);
+    }
+    if word == "deny" {
+        return Ok(false);
+    }
+    Err(bad)
+}
+
+/// The rule of this number that a value is.
+fn rule_at(alloc: Global, number: u32, value: &Value, names: &Names) -> Result<Rule, PolicyFault>
+    ensures { Gives (λ rule. rule) result (rule_at names.now number (view value.now)) }
+{
+    match value.as_table() {
+        Some(table) => rule_of(alloc, number, table, names),
+        None => Err(PolicyFault::BadField {
+            rule: 0,
+            field: Field::Rule,
+        }),
+    }
+}
+
+/// The rules of an array, counted from 1.
+fn rules_from(alloc: Global, items: &Array, names: &Names) -> Result<Vec<Rule>, PolicyFault>
+    requires { length items.now.items ≤ 1024 }
+    ensures exact { Gives (λ rules. rules.items) result (rules_from names.now 1 (array_view items.now)) }
+    ensures few { IfOk result (λ rules. length rules.items ≤ 1024) }
+{
+    let mut rules = Vec::new(alloc);
+    let mut number = 1;
+    for value in items {
+        rules.push(rule_at(alloc, number, value, names)?)?;
+        number += 1;
+    }
+    Ok(rules)
+}
+
+/// The rules of an array of tables that is not too long.
+fn listed_rules(alloc: Global, items: &Array, names: &Names) -> Result<Vec<Rule>, PolicyFault>
+    ensures exact { Gives (λ rules. rules.items) result (listed_rules names.now (array_view items.now)) }
+    ensures few { IfOk result (λ rules. length rules.items ≤ 1024) }
+{
+    if !all_tables(items) {
+        return Err(PolicyFault::BadField {
+            rule: 0,
+            field: Field::Rule,
+        });
+    }
+    if len_of(items) > 1024 {
+        return Err(PolicyFault::TooManyRules);
+    }
+    rules_from(alloc, items, names)
+}
+
+/// The rules of a document; none where it has no array of them.
+fn rules_of(alloc: Global, table: &Table, names: &Names) -> Result<Vec<Rule>, PolicyFault>
+    ensures exact { Gives (λ rules. rules.items) result (rules_of names.now (table_view table.now)) }
+    ensures few { IfOk result (λ rules. length rules.items ≤ 1024) }
+{
+    let Some(value) = member(table, "rule") else {
+        return Ok(Vec::new(alloc));
+    };
+    match value.as_array() {
+        Some(items) => listed_rules(alloc, items, names),
+        None => Err(PolicyFault::BadField {
+            rule: 0,
+            field: Field::Rule,
+        }),
+    }
+}
+
+/// The policy that a document is.
+#[tactic(auto, unfolding(crate::specs::Document::policy_from))]
+fn policy_from(alloc: Global, table: &Table, names: &Names) -> Result<Policy, PolicyFault>
+    ensures { Gives (λ policy. policy) result (policy_from names.now (table_view table.now)) }
+{
+    if !is_version_1(table) {
+        return Err(PolicyFault::BadVersion);
+    }
+    if !all_known(table, &["version", "default", "rule"]) {
+        return Err(PolicyFault::BadField {
+            rule: 0,
+            field: Field::Unknown,
+        });
+    }
+    let default = default_of(table)?;
+    let rules = rules_of(alloc, table, names)?;
+    Ok(Policy::new(rules, default))
+}
+
+/// Reads a policy's text: a TOML document whose principals are among `names`.
+///
+/// # Errors
+/// The first fault of the text, in the order of [`PolicyFault`]; rules are looked at one by one, and each field by
+/// field.
+#[tactic(auto, unfolding(crate::specs::Document::policy_of))]
+pub fn read(alloc: Global, text: &str, names: &Names) -> Result<Policy, PolicyFault>
+    ensures { Gives (λ policy. policy) result (policy_of names.now text.now) }
+{
+    match toml::table_from_str(alloc, text) {
+        Ok(table) => policy_from(alloc, &table, names),
+        Err(error) if error.is_memory() => Err(PolicyFault::NoMemory),
+        Err(_) => Err(PolicyFault::NotToml),
+    }
+}

@@ -1,0 +1,15 @@
+//! Policies as TOML texts.
+//!
+//! `read` gives the policy that a text denotes, or the text's first fault in a fixed order. The names of principals are
+//! not the text's: they are handed in as `Names`.
+#![tactic(auto)]
+
+mod document;
+mod fault;
+mod fields;
+mod members;
+mod names;
+
+pub use document::read;
+pub use fault::{Field, PolicyFault};
+pub use names::Names;
