@@ -4,5 +4,6 @@ pub mod Commands
 pub mod Conduct
 pub mod Replies
 pub mod Runs
+pub mod Settings
 pub mod State
 pub mod Subscribing

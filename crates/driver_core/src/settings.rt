@@ -40,6 +40,11 @@ pub struct Settings {
 }
 
 impl Default for Settings {
+    ghost use Rattle.driver_core.specs.Settings.{default_settings};
+    ghost use Rattle.std.specs.Prelude.{◌≡◌};
+
+    ghost is_default = { λ settings. settings ≡ default_settings };
+
     fn default() -> Settings {
         Settings {
             client_liveness: 10_000_000_000,

@@ -1,0 +1,12 @@
+pub mod Answers
+pub mod Fault
+pub mod Hex
+pub mod Left
+pub mod Line
+pub mod LineFault
+pub mod Number
+pub mod Output
+pub mod Pieces
+pub mod Statements
+pub mod Script
+pub mod Turns

@@ -1,0 +1,120 @@
+-- The run of a script, statement by statement: what has been written so far goes before whatever is written from there on.
+use Rattle.std.specs.Prelude.{◌≡◌, ℕ, List, [], ◌∷◌, ◌++◌, Option, Some, None}
+use Rattle.std.specs.Io.KnownBytes.{Appends}
+use Rattle.driver_core.specs.declared.event.Event.{Event}
+use Rattle.driver_core.specs.Runs.{RunEnd, StandsFor, opening_end}
+use Rattle.driver_core.specs.Settings.{default_settings}
+use Rattle.policy_core.specs.RuleList.{Rules}
+use Rattle.policy_text.specs.Names.{Known}
+use Rattle.driver_script.specs.declared.script.Ended.{Ended}
+use Rattle.driver_script.specs.declared.script.Head.{Head}
+use Rattle.driver_script.specs.declared.script.Head.TheVariants as head
+use Rattle.driver_script.specs.declared.fault.RunFault.{RunFault}
+use Rattle.driver_script.specs.declared.fault.RunFault.TheVariants as fault
+use Rattle.driver_script.specs.declared.statements.Said.TheVariants.{Does}
+use Rattle.driver_script.specs.declared.statements.Statement.{Statement}
+use Rattle.driver_script.specs.Output.{AppendsFront}
+use Rattle.driver_script.specs.Script.{Opening, Ends, Refuses, Opens, opening_of, Writes, IsScriptText}
+
+-- ---- the head
+
+-- the world stands at the opening under that policy
+abbrev pub IsWorldOf : Rules → Head → Type 0
+IsWorldOf policy (head.Opened world) = StandsFor world (opening_end default_settings policy [])
+IsWorldOf policy (head.Refused line) = ⊥
+IsWorldOf policy head.Ended = ⊥
+
+-- the head is what the statements open, and these are left
+abbrev pub IsHead : Opening → List Statement → Head → Type 0
+IsHead Ends left h = h ≡ head.Ended
+IsHead (Refuses line) left h = h ≡ head.Refused line
+IsHead (Opens policy rest) left h = (rest ≡ left) × IsWorldOf policy h
+
+-- one statement of the head: it adds to the names, or it decides the head
+pub record NamesOne (old new : Known) (statement : Statement) : Type 0 where
+  pub on : (rest : List Statement) → opening_of old (statement ∷ rest) ≡ opening_of new rest
+
+pub record DecidesHead (old : Known) (statement : Statement) (h : Head) : Type 0 where
+  pub on : (rest : List Statement) → IsHead (opening_of old (statement ∷ rest)) rest h
+
+abbrev pub TakesHead : Known → Known → Statement → Option Head → Type 0
+TakesHead old new statement None = NamesOne old new statement
+TakesHead old new statement (Some h) = DecidesHead old statement h
+
+-- ---- the steps
+
+-- a step was taken, and the text of its answer goes before what the others write from there on
+pub record Turns (e next : RunEnd) (statement : Statement) (front : List ℕ) : Type 0 where
+  pub on : (rest : List Statement) (ended : Ended) (text : List ℕ) →
+      Writes next rest ended text → Writes e (statement ∷ rest) ended (front ++ text)
+
+-- the same of a world, with what reached the writer
+pub record Goes (old new : RunEnd) (statement : Statement) (before after : Option (List ℕ)) : Type 0 where
+  pub front : List ℕ
+  pub appended : Appends before after front
+  pub on : (e : RunEnd) → StandsFor old e → (next : RunEnd) × StandsFor new next × Turns e next statement front
+
+-- the same of an event, on whatever line it stands
+pub record Steps (old new : RunEnd) (event : Event) (before after : Option (List ℕ)) : Type 0 where
+  pub on : (line : ℕ) → Goes old new (record { line = line; said = Does event }) before after
+
+-- the statement is bad here, and its text ends the run
+pub record Stops (statement : Statement) (ended : Ended) (before after : Option (List ℕ)) : Type 0 where
+  pub text : List ℕ
+  pub appended : Appends before after text
+  pub on : (e : RunEnd) (rest : List Statement) → Writes e (statement ∷ rest) ended text
+
+abbrev pub TakesStep : RunEnd → RunEnd → Statement → Option Ended → Option (List ℕ) → Option (List ℕ) → Type 0
+TakesStep old new statement None before after = Goes old new statement before after
+TakesStep old new statement (Some ended) before after = Stops statement ended before after
+
+-- a front of a text that the statements write from there on was written
+pub record WritesFront (held : RunEnd) (statements : List Statement) (before after : Option (List ℕ)) : Type 0 where
+  pub on : (e : RunEnd) → StandsFor held e →
+      (ended : Ended) × (text : List ℕ) × Writes e statements ended text × AppendsFront before after text
+
+pub record GivesUp (held : RunEnd) (statement : Statement) (before after : Option (List ℕ)) : Type 0 where
+  pub on : (rest : List Statement) → WritesFront held (statement ∷ rest) before after
+
+pub record GivesUpStep (held : RunEnd) (event : Event) (before after : Option (List ℕ)) : Type 0 where
+  pub on : (line : ℕ) → GivesUp held (record { line = line; said = Does event }) before after
+
+-- the text that the statements write from there on was written
+pub record WritesWhole (held : RunEnd) (statements : List Statement) (ended : Ended) (before after : Option (List ℕ)) : Type 0 where
+  pub on : (e : RunEnd) → StandsFor held e → (text : List ℕ) × Writes e statements ended text × Appends before after text
+
+-- in the middle of a run: what was written goes before what the others write
+pub record SoFar (start : RunEnd) (all : List Statement) (held : RunEnd) (left : List Statement) (before after : Option (List ℕ)) : Type 0 where
+  pub front : List ℕ
+  pub appended : Appends before after front
+  pub on : (e : RunEnd) → StandsFor start e → (next : RunEnd) × StandsFor held next
+      × ((ended : Ended) (text : List ℕ) → Writes next left ended text → Writes e all ended (front ++ text))
+
+-- ---- a whole script
+
+-- the text of the script was written, and nothing else
+pub record WritesScript (statements : List Statement) (ended : Ended) (before after : Option (List ℕ)) : Type 0 where
+  pub text : List ℕ
+  pub is : IsScriptText statements ended text
+  pub appended : Appends before after text
+
+-- a front of a text of the script was written, and nothing else
+pub record BeginsScript (statements : List Statement) (before after : Option (List ℕ)) : Type 0 where
+  pub ended : Ended
+  pub text : List ℕ
+  pub is : IsScriptText statements ended text
+  pub appended : AppendsFront before after text
+
+-- the script was read, and the run was begun
+abbrev pub IsBegun : RunFault → Type 0
+IsBegun fault.Read = ⊥
+IsBegun fault.TooLong = ⊥
+IsBegun fault.Write = Unit {0}
+IsBegun fault.NoMemory = Unit {0}
+
+-- the script was not read
+abbrev pub IsUnread : RunFault → Type 0
+IsUnread fault.Read = Unit {0}
+IsUnread fault.TooLong = Unit {0}
+IsUnread fault.Write = ⊥
+IsUnread fault.NoMemory = ⊥

@@ -1,0 +1,256 @@
+ghost use Rattle.driver_core.specs.Replies.{layout_of};
+ghost use Rattle.command_codec.specs.Reply.{reply_bytes};
+ghost use Rattle.driver_script.specs.Output.{AppendsFront};
+ghost use Rattle.driver_script.specs.Script.{message_text, answer_text, ended_text};
+ghost use Rattle.std.specs.Io.KnownBytes.{Appends};
+ghost use Rattle.std.specs.List.{flat_map};
+ghost use Rattle.driver_script.specs.declared.script.Ended.TheVariants.{BadLine};
+ghost use Rattle.driver_script.specs.declared.fault.RunFault.TheVariants.{TooLong};
+ghost use Rattle.driver_script.specs.declared.input.TheConstants.{LIMIT};
+ghost use Rattle.driver_script.specs.Statements.{statements_of};
+ghost use Rattle.driver_script.specs.Left.{left};
+ghost use Rattle.driver_script.specs.Script.{opening_of};
+ghost use Rattle.driver_script.specs.Turns.{TakesHead, IsHead, Steps, GivesUpStep, TakesStep, GivesUp, WritesWhole, WritesFront, WritesScript, BeginsScript, IsBegun, IsUnread};
+ghost use Rattle.std.specs.Prelude.{◌≡◌, ◌<◌, ◌≤◌, ◌++◌, [], Err, IfOk, IfErr, IfSome, OnOk, OnErr, length};
+ghost use Rattle.std.specs.String.{string_bytes};
+
+use crate::answers::AnswerLine;
+use crate::fault::RunFault;
+use crate::input::{LIMIT, read_input};
+use crate::output::write_whole;
+use crate::statements::{Said, Statement, Statements};
+use driver_core::{Answer, Event, Message, Settings, Step, World};
+use policy_text::{Names, PolicyFault};
+use std::alloc::{AllocError, Global};
+use std::io::{Read, Write};
+
+/// How the run of a script ended.
+#[derive(Clone, Copy, Debug, PartialEq, Eq)]
+pub enum Ended {
+    /// All its lines were taken.
+    Done,
+    /// The line of this number, counted from 1, is no line of a script, or stands out of its order.
+    BadLine(u64),
+}
+
+/// Appends the line of a reply.
+#[tactic(auto, unfolding(crate::specs::Answers::line_text))]
+fn push_message(text: &mut String, alloc: Global, message: &Message) -> Result<(), AllocError>
+    ensures { OnOk result (string_bytes text.new ≡ string_bytes text.old ++ message_text message.now) }
+{
+    let bytes = message.reply.bytes(alloc)?;
+    let line = AnswerLine::Reply {
+        client: message.client,
+        bytes: bytes.as_slice(),
+    };
+    write!(text, "{line}")
+}
+
+/// Appends the line of each reply.
+fn push_messages(text: &mut String, alloc: Global, messages: &[Message]) -> Result<(), AllocError>
+    ensures { OnOk result (string_bytes text.new ≡ string_bytes text.old ++ flat_map message_text messages.now) }
+{
+    for message in messages {
+        push_message(text, alloc, message)?;
+    }
+    Ok(())
+}
+
+/// The text of an answer.
+#[tactic(auto, unfolding(crate::specs::Script::answer_text, crate::specs::Answers::line_text))]
+fn text_of(alloc: Global, answer: &Answer) -> Result<String, AllocError>
+    ensures { IfOk result (λ text. string_bytes text ≡ answer_text answer.now) }
+{
+    match answer {
+        Answer::NoMemory => format!(in alloc; "{}", AnswerLine::NoMemory),
+        Answer::Attached(client) => {
+            let line = AnswerLine::Attached(*client);
+            format!(in alloc; "{line}")
+        }
+        Answer::Full => format!(in alloc; "{}", AnswerLine::Full),
+        Answer::Replies(messages) => {
+            let mut text = String::new(alloc);
+            push_messages(&mut text, alloc, messages.as_slice())?;
+            Ok(text)
+        }
+    }
+}
+
+/// What the head of a script comes to.
+#[derive(Drop)]
+enum Head {
+    /// The script ends before a policy.
+    Ended,
+    /// The line of this number is bad.
+    Refused(u64),
+    /// The world is open.
+    Opened(World),
+}
+
+/// Takes one statement of the head: it gives a name, or it decides what the head comes to.
+fn take_head(
+    alloc: Global,
+    names: &mut Names,
+    statement: Statement,
+) -> Result<Option<Head>, AllocError>
+    ensures { IfOk result (λ head. TakesHead names.old names.new statement head) }
+{
+    let Statement { line, said } = statement;
+    match said {
+        Said::Principal { name, number } => {
+            if names.number_of(name.as_str()).is_some() {
+                return Ok(Some(Head::Refused(line)));
+            }
+            names.add(name, number)?;
+            Ok(None)
+        }
+        Said::Policy(text) => match policy_text::read(alloc, text.as_str(), names) {
+            Ok(policy) => Ok(Some(Head::Opened(World::new(
+                alloc,
+                Settings::default(),
+                policy,
+                &[],
+            )?))),
+            Err(PolicyFault::NoMemory) => Err(AllocError),
+            Err(_) => Ok(Some(Head::Refused(line))),
+        },
+        Said::Does(_) => Ok(Some(Head::Refused(line))),
+        Said::Bad => Ok(Some(Head::Refused(line))),
+    }
+}
+
+/// Takes the statements up to the policy.
+fn take_heads(alloc: Global, statements: &mut Statements<'_>) -> Result<Head, AllocError>
+    ensures { IfOk result (λ head. IsHead (opening_of [] (left statements.old)) (left statements.new) head) }
+{
+    let mut names = Names::new(alloc);
+    'statements: while let Some(statement) = statements.next(alloc)? {
+        if let Some(head) = take_head(alloc, &mut names, statement)? {
+            return Ok(head);
+        }
+    }
+    Ok(Head::Ended)
+}
+
+/// Writes the line that ends a script which is bad at a line.
+#[tactic(auto, unfolding(crate::specs::Answers::line_text))]
+fn write_bad_line<W: Write>(alloc: Global, line: u64, writer: &mut W) -> Result<Ended, RunFault>
+    ensures ended { IfOk result (λ ended. ended ≡ BadLine line) }
+    ensures ok { OnOk result (Appends (W.contents writer.old) (W.contents writer.new) (ended_text (BadLine line))) }
+    ensures err { OnErr result (AppendsFront (W.contents writer.old) (W.contents writer.new) (ended_text (BadLine line))) }
+    ensures begun { IfErr result IsBegun }
+{
+    let bad = AnswerLine::BadLine(line);
+    let text = format!(in alloc; "{bad}")?;
+    write_whole(writer, text.as_bytes())?;
+    Ok(Ended::BadLine(line))
+}
+
+/// Writes the text of an answer.
+fn write_answer<W: Write>(alloc: Global, answer: &Answer, writer: &mut W) -> Result<(), RunFault>
+    ensures ok { OnOk result (Appends (W.contents writer.old) (W.contents writer.new) (answer_text answer.now)) }
+    ensures err { OnErr result (AppendsFront (W.contents writer.old) (W.contents writer.new) (answer_text answer.now)) }
+    ensures begun { IfErr result IsBegun }
+{
+    let text = text_of(alloc, answer)?;
+    write_whole(writer, text.as_bytes())
+}
+
+/// Takes an event, and writes its answer.
+fn take_event<W: Write>(
+    alloc: Global,
+    world: &mut World,
+    event: Event,
+    writer: &mut W,
+) -> Result<(), RunFault>
+    ensures ok { OnOk result (Steps world.old world.new event (W.contents writer.old) (W.contents writer.new)) }
+    ensures err { OnErr result (GivesUpStep world.old event (W.contents writer.old) (W.contents writer.new)) }
+    ensures begun { IfErr result IsBegun }
+{
+    let step = Step::Conductor(event);
+    let answer = world.step(alloc, &step);
+    write_answer(alloc, &answer, writer)
+}
+
+/// Takes one statement behind the head: a step, or what is bad there.
+fn take_step<W: Write>(
+    alloc: Global,
+    world: &mut World,
+    statement: Statement,
+    writer: &mut W,
+) -> Result<Option<Ended>, RunFault>
+    ensures ok { IfOk result (λ ended. TakesStep world.old world.new statement ended (W.contents writer.old) (W.contents writer.new)) }
+    ensures err { OnErr result (GivesUp world.old statement (W.contents writer.old) (W.contents writer.new)) }
+    ensures begun { IfErr result IsBegun }
+{
+    let Statement { line, said } = statement;
+    match said {
+        Said::Does(event) => {
+            take_event(alloc, world, event, writer)?;
+            Ok(None)
+        }
+        Said::Principal { .. } => Ok(Some(write_bad_line(alloc, line, writer)?)),
+        Said::Policy(_) => Ok(Some(write_bad_line(alloc, line, writer)?)),
+        Said::Bad => Ok(Some(write_bad_line(alloc, line, writer)?)),
+    }
+}
+
+/// Takes the statements behind the head.
+fn take_steps<W: Write>(
+    alloc: Global,
+    statements: &mut Statements<'_>,
+    world: World,
+    writer: &mut W,
+) -> Result<Ended, RunFault>
+    ensures whole { IfOk result (λ ended. WritesWhole world (left statements.old) ended (W.contents writer.old) (W.contents writer.new)) }
+    ensures front { OnErr result (WritesFront world (left statements.old) (W.contents writer.old) (W.contents writer.new)) }
+    ensures begun { IfErr result IsBegun }
+{
+    let mut world = world;
+    'statements: loop {
+        let statement = match statements.next(alloc)? {
+            Some(statement) => statement,
+            None => return Ok(Ended::Done),
+        };
+        match take_step(alloc, &mut world, statement, writer)? {
+            Some(ended) => return Ok(ended),
+            None => {}
+        }
+    }
+}
+
+/// Runs a script that was read.
+fn run_script<W: Write>(alloc: Global, script: &[u8], writer: &mut W) -> Result<Ended, RunFault>
+    requires { length script.now ≤ LIMIT }
+    ensures whole { IfOk result (λ ended. WritesScript (statements_of script.now) ended (W.contents writer.old) (W.contents writer.new)) }
+    ensures front { OnErr result (BeginsScript (statements_of script.now) (W.contents writer.old) (W.contents writer.new)) }
+    ensures begun { IfErr result IsBegun }
+{
+    let mut statements = Statements::new(script);
+    match take_heads(alloc, &mut statements)? {
+        Head::Ended => Ok(Ended::Done),
+        Head::Refused(line) => write_bad_line(alloc, line, writer),
+        Head::Opened(world) => take_steps(alloc, &mut statements, world, writer),
+    }
+}
+
+/// Runs the script that `reader` gives, and writes the answers to `writer`. What it writes is the text of the script,
+/// which the script's bytes determine, but for the steps that are refused memory: these are answered `no memory`.
+///
+/// # Errors
+/// Where it gives up, what it wrote is a front of such a text; nothing at all, where the reader failed or gave more
+/// than [`LIMIT`] bytes.
+pub fn run<R: Read, W: Write>(
+    alloc: Global,
+    reader: &mut R,
+    writer: &mut W,
+) -> Result<Ended, RunFault>
+    ensures whole { IfOk result (λ ended. IfSome (R.remaining reader.old) (λ script. WritesScript (statements_of script) ended (W.contents writer.old) (W.contents writer.new))) }
+    ensures front { IfErr result (λ fault. IsBegun fault → IfSome (R.remaining reader.old) (λ script. BeginsScript (statements_of script) (W.contents writer.old) (W.contents writer.new))) }
+    ensures nothing { IfErr result (λ fault. IsUnread fault → W.contents writer.new ≡ W.contents writer.old) }
+    ensures bound { IfOk result (λ _. IfSome (R.remaining reader.old) (λ script. length script ≤ LIMIT)) }
+    ensures too_long { result ≡ Err TooLong → IfSome (R.remaining reader.old) (λ script. LIMIT < length script) }
+{
+    let script = read_input(alloc, reader)?;
+    run_script(alloc, script.as_slice(), writer)
+}
