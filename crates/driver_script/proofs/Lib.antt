@@ -1,0 +1,5 @@
+pub mod HexLemmas
+pub mod LineLemmas
+pub mod NumberLemmas
+pub mod OutputLemmas
+pub mod PiecesLemmas

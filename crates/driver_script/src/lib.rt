@@ -1,0 +1,16 @@
+//! The script language of the driver: what a script's lines say, and the text of the answers.
+//!
+//! A script names principals, opens a world with a policy, and then gives the steps of a run. `docs/SCRIPT.md` has the
+//! language.
+#![tactic(auto)]
+
+mod fault;
+mod hex;
+mod input;
+mod line;
+mod number;
+mod output;
+mod pieces;
+mod step;
+
+pub use fault::RunFault;

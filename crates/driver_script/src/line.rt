@@ -1,0 +1,187 @@
+ghost use Rattle.driver_script.specs.Line.{is_plain, line_of, or_bad, said_by, two, three, name_of, principal_of, policy_of, attach_of, command_of};
+ghost use Rattle.driver_script.specs.LineFault.{Gives};
+ghost use Rattle.driver_script.specs.Pieces.{pieces, pieces_behind};
+ghost use Rattle.driver_script.specs.declared.line.LineFault.TheVariants.{NoMemory};
+ghost use Rattle.std.specs.Option.{option_map};
+ghost use Rattle.std.specs.Prelude.{◌≡◌, Some, None, IfOk, option_copied, if◌then◌else◌};
+
+use crate::hex;
+use crate::number::{number, small_number};
+use crate::pieces::first_piece;
+use crate::step::Step;
+use byte_strings::Text;
+use std::alloc::{AllocError, AllocFailed, Global};
+
+/// What a line of a script says.
+#[derive(Debug, Drop)]
+pub enum Line {
+    /// Nothing: it is empty, or a comment.
+    Skipped,
+    /// `principal NAME NUMBER`: rules of the policy may name this principal.
+    Principal { name: Text, number: u32 },
+    /// `policy`: the lines up to one that is `.` are the text of a policy.
+    Policy,
+    /// A step of the run.
+    Does(Step),
+    /// It is no line of a script.
+    Bad,
+}
+
+/// Why words are no line.
+#[derive(Clone, Copy, Debug, PartialEq, Eq)]
+pub(crate) enum LineFault {
+    Bad,
+    NoMemory,
+}
+
+impl From<AllocError> for LineFault {
+    ghost from_gives = { λ _ fault. fault ≡ NoMemory };
+
+    fn from(_error: AllocError) -> LineFault {
+        LineFault::NoMemory
+    }
+}
+
+impl<T: Drop> From<AllocFailed<T>> for LineFault {
+    ghost from_gives = { λ _ fault. fault ≡ NoMemory };
+
+    fn from(_error: AllocFailed<T>) -> LineFault {
+        LineFault::NoMemory
+    }
+}
+
+/// Whether all bytes are ASCII.
+fn is_plain(line: &[u8]) -> bool
+    ensures { result ≡ is_plain line.now }
+{
+    line.iter().all(|b| b.is_ascii())
+}
+
+/// The line as a text, where all its bytes are ASCII.
+pub(crate) fn plain_text(line: &[u8]) -> Option<&str>
+    ensures { option_copied result ≡ (if is_plain line.now then Some line.now else None) }
+{
+    if !is_plain(line) {
+        return None;
+    }
+    match str::from_utf8(line) {
+        Ok(text) => Some(text),
+        Err(_) => None,
+    }
+}
+
+/// The two words behind the first one.
+fn two_words(fields: Option<&str>) -> Option<(&str, &str)>
+    ensures { option_map (λ words. (words.0.now, words.1.now)) result ≡ two (pieces_behind 32 (option_copied fields.entry)) }
+{
+    let (first, fields) = first_piece(fields?, ' ');
+    let (second, fields) = first_piece(fields?, ' ');
+    match fields {
+        None => Some((first, second)),
+        Some(_) => None,
+    }
+}
+
+/// The three words behind the first one.
+fn three_words(fields: Option<&str>) -> Option<(&str, &str, &str)>
+    ensures { option_map (λ words. (words.0.now, words.1.now, words.2.now)) result ≡ three (pieces_behind 32 (option_copied fields.entry)) }
+{
+    let (first, fields) = first_piece(fields?, ' ');
+    let (second, fields) = first_piece(fields?, ' ');
+    let (third, fields) = first_piece(fields?, ' ');
+    match fields {
+        None => Some((first, second, third)),
+        Some(_) => None,
+    }
+}
+
+/// A word as a name.
+fn name_of(alloc: Global, word: &str) -> Result<Text, LineFault>
+    ensures { Gives result (name_of word.now) }
+{
+    if word.is_empty() {
+        return Err(LineFault::Bad);
+    }
+    Ok(Text::new(alloc, word)?)
+}
+
+#[tactic(auto, unfolding(crate::specs::Line::principal_of))]
+fn principal_of(alloc: Global, fields: Option<&str>) -> Result<Line, LineFault>
+    ensures { Gives result (principal_of (pieces_behind 32 (option_copied fields.entry))) }
+{
+    let (name, number) = two_words(fields).ok_or(LineFault::Bad)?;
+    let name = name_of(alloc, name)?;
+    let number = small_number(number).ok_or(LineFault::Bad)?;
+    Ok(Line::Principal { name, number })
+}
+
+fn policy_of(fields: Option<&str>) -> Option<Line>
+    ensures { result ≡ policy_of (pieces_behind 32 (option_copied fields.entry)) }
+{
+    match fields {
+        None => Some(Line::Policy),
+        Some(_) => None,
+    }
+}
+
+#[tactic(auto, unfolding(crate::specs::Line::attach_of))]
+fn attach_of(fields: Option<&str>) -> Option<Line>
+    ensures { result ≡ attach_of (pieces_behind 32 (option_copied fields.entry)) }
+{
+    let (now, principal) = two_words(fields)?;
+    let now = number(now)?;
+    let principal = small_number(principal)?;
+    Some(Line::Does(Step::Attach { now, principal }))
+}
+
+#[tactic(auto, unfolding(crate::specs::Line::command_of))]
+fn command_of(alloc: Global, fields: Option<&str>) -> Result<Line, LineFault>
+    ensures { Gives result (command_of (pieces_behind 32 (option_copied fields.entry))) }
+{
+    let (now, client, bytes) = three_words(fields).ok_or(LineFault::Bad)?;
+    let now = number(now).ok_or(LineFault::Bad)?;
+    let client = number(client).ok_or(LineFault::Bad)?;
+    let bytes = hex::read_hex(alloc, bytes)?;
+    Ok(Line::Does(Step::Command { now, client, bytes }))
+}
+
+#[tactic(auto, unfolding(crate::specs::Line::said_by))]
+fn said_by(alloc: Global, word: &str, fields: Option<&str>) -> Result<Line, LineFault>
+    ensures { Gives result (said_by word.now (pieces_behind 32 (option_copied fields.entry))) }
+{
+    if word == "principal" {
+        return principal_of(alloc, fields);
+    }
+    if word == "policy" {
+        return policy_of(fields).ok_or(LineFault::Bad);
+    }
+    if word == "attach" {
+        return attach_of(fields).ok_or(LineFault::Bad);
+    }
+    if word == "cmd" {
+        return command_of(alloc, fields);
+    }
+    Err(LineFault::Bad)
+}
+
+/// Reads a line, without the line feed at its end.
+#[tactic(auto, unfolding(crate::specs::Line::line_of))]
+pub fn read_line(alloc: Global, line: &[u8]) -> Result<Line, AllocError>
+    ensures { IfOk result (λ said. said ≡ line_of line.now) }
+{
+    let Some(text) = plain_text(line) else {
+        return Ok(Line::Bad);
+    };
+    if line.is_empty() {
+        return Ok(Line::Skipped);
+    }
+    if line[0] == b'#' {
+        return Ok(Line::Skipped);
+    }
+    let (word, fields) = first_piece(text, ' ');
+    match said_by(alloc, word, fields) {
+        Ok(said) => Ok(said),
+        Err(LineFault::Bad) => Ok(Line::Bad),
+        Err(LineFault::NoMemory) => Err(AllocError),
+    }
+}
