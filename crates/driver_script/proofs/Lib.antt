@@ -1,3 +1,4 @@
+pub mod AnswersLemmas
 pub mod HexLemmas
 pub mod LineLemmas
 pub mod NumberLemmas

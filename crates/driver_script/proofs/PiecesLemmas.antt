@@ -1,9 +1,9 @@
 -- The first piece of a text.
-use Rattle.std.proofs.Common.{◌≡◌, ℕ, ◌+◌, ◌<◌, ◌==◌, nat_lt, Bool, true, false, cond, not, List, [], ◌∷◌, Some, None, length, take, drop, refl, arith}
+use Rattle.std.proofs.Common.{◌≡◌, ℕ, ◌+◌, ◌<◌, ◌≤◌, ◌==◌, nat_lt, Bool, true, false, cond, not, List, [], ◌∷◌, Some, None, length, take, drop, refl, arith}
 use Rattle.std.specs.List.{onto_first, position_or_len, position, before_first, after_first}
 use Rattle.std.proofs.lemmas.Bool.Decides.{nat_tests}
-use Rattle.std.proofs.lemmas.List.Splits.{slice_split_first, slice_split_none}
-use Rattle.std.proofs.lemmas.List.Sums.{fails_before_first, prefix_len-le-length}
+use Rattle.std.proofs.lemmas.List.Splits.{slice_split_first, slice_split_none, length-slice_split}
+use Rattle.std.proofs.lemmas.List.Sums.{fails_before_first, prefix_len-le-length, count_by-le-length}
 use Rattle.std.proofs.lemmas.Option.{cond_some}
 use Rattle.driver_script.specs.Pieces.{pieces}
 
@@ -55,3 +55,10 @@ pub HasFirst-pieces : (mark : ℕ) (text : List ℕ) → HasFirst (pieces mark t
 HasFirst-pieces mark [] = record { first = []; rest = []; is = refl }
 HasFirst-pieces mark (x ∷ xs) =
     HasFirst-cond (x == mark) _ _ (record { first = []; rest = pieces mark xs; is = refl }) (HasFirst-onto x (pieces mark xs))
+
+-- there is one piece more than there are marks
+pub length-pieces-le : (mark : ℕ) (text : List ℕ) → length (pieces mark text) ≤ length text + 1
+length-pieces-le mark text =
+    let counted = length-slice_split (λ b. b == mark) text in
+    let most = count_by-le-length (λ b. b == mark) text in
+    omega arith

@@ -1,7 +1,10 @@
+pub mod Answers
 pub mod Fault
 pub mod Hex
+pub mod Left
 pub mod Line
 pub mod LineFault
 pub mod Number
 pub mod Output
 pub mod Pieces
+pub mod Statements

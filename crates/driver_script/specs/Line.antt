@@ -1,5 +1,5 @@
 -- What a line of a script says.
-use Rattle.std.specs.Prelude.{ℕ, ◌^◌, ◌==◌, Bool, List, [], ◌∷◌, Option, Some, None, length, slice_index, codes, if◌then◌else◌}
+use Rattle.std.specs.Prelude.{ℕ, ◌^◌, ◌==◌, Bool, false, ◌||◌, List, [], ◌∷◌, Option, Some, None, length, slice_index, codes, if◌then◌else◌}
 use Rattle.std.specs.Char.{is_ascii}
 use Rattle.std.specs.List.{list_all}
 use Rattle.std.specs.Str.{bytes_eq}
@@ -77,6 +77,11 @@ said_in (word ∷ fields) = said_by word fields
 abbrev pub or_bad : Option Line → Line
 or_bad None = Bad
 or_bad (Some line) = line
+
+-- a name or bytes are kept of a line that begins with one of these words; no other line takes memory
+abbrev pub keeps_fields : List (List ℕ) → Bool
+keeps_fields [] = false
+keeps_fields (word ∷ fields) = bytes_eq word (codes "principal") || bytes_eq word (codes "cmd")
 
 -- whether all bytes are ASCII
 abbrev pub is_plain : List ℕ → Bool

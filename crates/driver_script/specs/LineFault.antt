@@ -17,3 +17,9 @@ Gives (Err fault) meaning = Fails fault meaning
 abbrev pub Leaves : {M : Type 0} → Result (Unit {0}) LineFault → M → Option M → Type 0
 Leaves (Ok done) value meaning = meaning ≡ Some value
 Leaves (Err fault) value meaning = Fails fault meaning
+
+-- there was memory for it
+abbrev pub HasMemory : {T : Type 0} → Result T LineFault → Type 0
+HasMemory (Ok value) = Unit {0}
+HasMemory (Err Bad) = Unit {0}
+HasMemory (Err NoMemory) = ⊥

@@ -4,6 +4,7 @@
 //! language.
 #![tactic(auto)]
 
+mod answers;
 mod fault;
 mod hex;
 mod input;
@@ -11,6 +12,7 @@ mod line;
 mod number;
 mod output;
 mod pieces;
+mod statements;
 mod step;
 
 pub use fault::RunFault;

@@ -1,9 +1,9 @@
-ghost use Rattle.driver_script.specs.Line.{is_plain, line_of, or_bad, said_by, two, three, name_of, principal_of, policy_of, attach_of, command_of};
-ghost use Rattle.driver_script.specs.LineFault.{Gives};
+ghost use Rattle.driver_script.specs.Line.{is_plain, line_of, or_bad, said_by, two, three, name_of, principal_of, policy_of, attach_of, command_of, keeps_fields};
+ghost use Rattle.driver_script.specs.LineFault.{Gives, HasMemory};
 ghost use Rattle.driver_script.specs.Pieces.{pieces, pieces_behind};
 ghost use Rattle.driver_script.specs.declared.line.LineFault.TheVariants.{NoMemory};
 ghost use Rattle.std.specs.Option.{option_map};
-ghost use Rattle.std.specs.Prelude.{◌≡◌, Some, None, IfOk, option_copied, if◌then◌else◌};
+ghost use Rattle.std.specs.Prelude.{◌≡◌, Some, None, [], ◌∷◌, false, IfOk, IsOk, option_copied, if◌then◌else◌};
 
 use crate::hex;
 use crate::number::{number, small_number};
@@ -147,7 +147,8 @@ fn command_of(alloc: Global, fields: Option<&str>) -> Result<Line, LineFault>
 
 #[tactic(auto, unfolding(crate::specs::Line::said_by))]
 fn said_by(alloc: Global, word: &str, fields: Option<&str>) -> Result<Line, LineFault>
-    ensures { Gives result (said_by word.now (pieces_behind 32 (option_copied fields.entry))) }
+    ensures exact { Gives result (said_by word.now (pieces_behind 32 (option_copied fields.entry))) }
+    ensures without_memory { keeps_fields (word.now ∷ []) ≡ false → HasMemory result }
 {
     if word == "principal" {
         return principal_of(alloc, fields);
@@ -167,7 +168,8 @@ fn said_by(alloc: Global, word: &str, fields: Option<&str>) -> Result<Line, Line
 /// Reads a line, without the line feed at its end.
 #[tactic(auto, unfolding(crate::specs::Line::line_of))]
 pub fn read_line(alloc: Global, line: &[u8]) -> Result<Line, AllocError>
-    ensures { IfOk result (λ said. said ≡ line_of line.now) }
+    ensures exact { IfOk result (λ said. said ≡ line_of line.now) }
+    ensures without_memory { keeps_fields (pieces 32 line.now) ≡ false → IsOk result }
 {
     let Some(text) = plain_text(line) else {
         return Ok(Line::Bad);
