@@ -15,4 +15,12 @@ mod pieces;
 mod statements;
 mod step;
 
+pub use answers::AnswerLine;
 pub use fault::RunFault;
+pub use input::LIMIT;
+pub use line::{Line, read_line};
+pub use statements::{Said, Statement, Statements};
+pub use step::Step;
+
+#[cfg(test)]
+mod tests;

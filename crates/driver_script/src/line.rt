@@ -13,7 +13,7 @@ use byte_strings::Text;
 use std::alloc::{AllocError, AllocFailed, Global};
 
 /// What a line of a script says.
-#[derive(Debug, Drop)]
+#[derive(Debug, PartialEq, Eq, Drop)]
 pub enum Line {
     /// Nothing: it is empty, or a comment.
     Skipped,

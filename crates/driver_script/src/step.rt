@@ -1,7 +1,7 @@
 use byte_strings::Bytes;
 
 /// One step of a run.
-#[derive(Debug, Drop)]
+#[derive(Debug, PartialEq, Eq, Drop)]
 pub enum Step {
     /// A client of this principal attaches at this moment, in nanoseconds.
     Attach { now: u64, principal: u32 },
