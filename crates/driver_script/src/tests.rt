@@ -1,0 +1,324 @@
+use super::*;
+use crate::input::read_input;
+use crate::output::write_whole;
+use byte_strings::{Bytes, Text};
+use std::alloc::Global;
+use std::io;
+use std::io::{Read, Write};
+use std::process::Abort;
+use std::test::Fail;
+
+/// Gives this many line feeds, at most 3,000 at a time, and then fails or ends.
+#[derive(Drop)]
+struct LineFeeds {
+    left: usize,
+    fails: bool,
+}
+
+impl Read for LineFeeds {
+    fn read(&mut self, buf: &mut [u8]) -> io::Result<usize> {
+        if self.left == 0 && self.fails {
+            return Err(io::ErrorKind::Other.into());
+        }
+        let count = self.left.min(buf.len()).min(3000);
+        for byte in buf[..count].iter_mut() {
+            *byte = b'\n';
+        }
+        self.left -= count;
+        Ok(count)
+    }
+}
+
+/// Takes at most three bytes at a time, and none, or a failure, once it holds this many.
+#[derive(Drop)]
+struct Choppy {
+    taken: Vec<u8>,
+    room: usize,
+    fails: bool,
+}
+
+impl Choppy {
+    fn new(alloc: Global, room: usize, fails: bool) -> Choppy {
+        Choppy {
+            taken: Vec::new(alloc),
+            room,
+            fails,
+        }
+    }
+}
+
+impl Write for Choppy {
+    fn write(&mut self, buf: &[u8]) -> io::Result<usize> {
+        let count = buf.len().min(3).min(self.room);
+        if count == 0 && self.fails {
+            return Err(io::ErrorKind::Other.into());
+        }
+        self.taken.extend_from_slice(&buf[..count])?;
+        self.room -= count;
+        Ok(count)
+    }
+
+    fn flush(&mut self) -> io::Result<()> {
+        Ok(())
+    }
+}
+
+fn fault_of(rt: &HostRuntime, left: usize, fails: bool) -> Option<RunFault> {
+    read_input(rt.alloc(), &mut LineFeeds { left, fails }).err()
+}
+
+#[test]
+fn a_script_is_read_whole(rt: HostRuntime) -> Result<(), Fail> {
+    let mut bytes = b"attach 0 7\n".as_slice();
+    let input = read_input(rt.alloc(), &mut bytes)?;
+    assert_eq!(rt; input.as_slice(), b"attach 0 7\n".as_slice());
+    let mut none = b"".as_slice();
+    assert!(rt; read_input(rt.alloc(), &mut none)?.is_empty());
+    let mut most = LineFeeds {
+        left: 16_777_216,
+        fails: false,
+    };
+    assert_eq!(rt; read_input(rt.alloc(), &mut most)?.len(), 16_777_216);
+    Ok(())
+}
+
+#[test]
+fn reading_fails_by_name(rt: HostRuntime) {
+    assert_eq!(rt; fault_of(&rt, 0, true), Some(RunFault::Read));
+    assert_eq!(rt; fault_of(&rt, 10_000, true), Some(RunFault::Read));
+    assert_eq!(rt; fault_of(&rt, 16_777_217, false), Some(RunFault::TooLong));
+    assert_eq!(rt; fault_of(&rt, 16_777_217, true), Some(RunFault::TooLong));
+}
+
+#[test]
+fn a_text_is_written_whole_or_a_front_of_it(rt: HostRuntime) {
+    let mut ample = Choppy::new(rt.alloc(), 100, true);
+    assert_eq!(rt; write_whole(&mut ample, b"attached 1\n"), Ok(()));
+    assert_eq!(rt; write_whole(&mut ample, b""), Ok(()));
+    assert_eq!(rt; ample.taken.as_slice(), b"attached 1\n".as_slice());
+    for fails in [false, true] {
+        let mut short = Choppy::new(rt.alloc(), 7, fails);
+        assert_eq!(rt;
+            write_whole(&mut short, b"attached 1\n"),
+            Err(RunFault::Write)
+        );
+        assert_eq!(rt; short.taken.as_slice(), b"attache".as_slice());
+    }
+}
+
+fn said(rt: &HostRuntime, line: &str) -> Result<Line, Fail> {
+    Ok(read_line(rt.alloc(), line.as_bytes())?)
+}
+
+#[test]
+fn lines_are_read(rt: HostRuntime) -> Result<(), Fail> {
+    for line in ["", "#", "# attach 0 7", "#attach"] {
+        assert_eq!(rt; said(&rt, line)?, Line::Skipped, "{line}");
+    }
+    assert_eq!(rt; said(&rt, "policy")?, Line::Policy);
+    let alice = Line::Principal {
+        name: Text::new(rt.alloc(), "alice")?,
+        number: 7,
+    };
+    assert_eq!(rt; said(&rt, "principal alice 7")?, alice);
+    assert_eq!(rt; said(&rt, "principal alice 0007")?, alice);
+    let star = Line::Principal {
+        name: Text::new(rt.alloc(), "*#\t")?,
+        number: 4_294_967_295,
+    };
+    assert_eq!(rt; said(&rt, "principal *#\t 4294967295")?, star);
+    let attach = Line::Does(Step::Attach {
+        now: 18_446_744_073_709_551_615,
+        principal: 0,
+    });
+    assert_eq!(rt; said(&rt, "attach 18446744073709551615 0")?, attach);
+    Ok(())
+}
+
+fn command(rt: &HostRuntime, bytes: &[u8]) -> Result<Line, Fail> {
+    Ok(Line::Does(Step::Command {
+        now: 10,
+        client: 1,
+        bytes: Bytes::new(rt.alloc(), bytes)?,
+    }))
+}
+
+#[test]
+fn hex_is_read(rt: HostRuntime) -> Result<(), Fail> {
+    assert_eq!(rt; said(&rt, "cmd 10 1 -")?, command(&rt, b"")?);
+    for line in ["cmd 10 1 00ff6a", "cmd 10 1 00_ff_6a", "cmd 10 1 00__ff6a"] {
+        assert_eq!(rt; said(&rt, line)?, command(&rt, b"\x00\xff\x6a")?, "{line}");
+    }
+    for word in [
+        "", "0", "000", "0g", "0A", "_00", "00_", "0_0", "00_0_00", "-00", "--", "00-", "_", "+0",
+    ] {
+        let line = format!(in rt.alloc(); "cmd 10 1 {word}")?;
+        assert_eq!(rt; said(&rt, line.as_str())?, Line::Bad, "{word}");
+    }
+    Ok(())
+}
+
+#[test]
+fn other_lines_are_bad(rt: HostRuntime) -> Result<(), Fail> {
+    for line in [
+        " ",
+        ".",
+        "policy ",
+        "policy x",
+        " policy",
+        "Policy",
+        "principal",
+        "principal alice",
+        "principal  7",
+        "principal alice 4294967296",
+        "principal alice -7",
+        "principal alice 7 ",
+        "principal alice 7 8",
+        "attach",
+        "attach 0",
+        "attach 0 ",
+        "attach  0 7",
+        "attach 0  7",
+        "attach 0 7 ",
+        "attach 0 7 8",
+        "attach\t0 7",
+        "attach 0 7\r",
+        "attach +0 7",
+        "attach 0 +7",
+        "attach 0x0 7",
+        "attach 18446744073709551616 7",
+        "attach 0 4294967296",
+        "cmd 0 1",
+        "cmd 0 1 - -",
+        "cmd 0 -1 -",
+        "cmd 18446744073709551616 1 -",
+        "tick 0",
+        "set mtu 1408",
+        "peer 127.0.0.1:50001 1",
+    ] {
+        assert_eq!(rt; said(&rt, line)?, Line::Bad, "{line}");
+    }
+    assert_eq!(rt; read_line(rt.alloc(), b"# \xc3\xa9")?, Line::Bad);
+    assert_eq!(rt; read_line(rt.alloc(), b"principal \xff 1")?, Line::Bad);
+    Ok(())
+}
+
+fn statement(line: u64, said: Said) -> Option<Statement> {
+    Some(Statement { line, said })
+}
+
+#[test]
+fn a_script_is_principals_a_policy_and_steps(rt: HostRuntime) -> Result<(), Fail> {
+    let script =
+        b"# the first one\nprincipal alice 7\n\npolicy\n# open\nversion = 1\n\n.\nattach 0 7\n#\ncmd 0 1 -";
+    let mut statements = Statements::new(script);
+    let alice = Said::Principal {
+        name: Text::new(rt.alloc(), "alice")?,
+        number: 7,
+    };
+    assert_eq!(rt; statements.next(rt.alloc())?, statement(2, alice));
+    let policy = Said::Policy(Text::new(rt.alloc(), "# open\nversion = 1\n\n")?);
+    assert_eq!(rt; statements.next(rt.alloc())?, statement(4, policy));
+    let attach = Step::Attach {
+        now: 0,
+        principal: 7,
+    };
+    assert_eq!(rt;
+        statements.next(rt.alloc())?,
+        statement(9, Said::Does(attach))
+    );
+    let command = Step::Command {
+        now: 0,
+        client: 1,
+        bytes: Bytes::new(rt.alloc(), b"")?,
+    };
+    assert_eq!(rt;
+        statements.next(rt.alloc())?,
+        statement(11, Said::Does(command))
+    );
+    assert_eq!(rt; statements.next(rt.alloc())?, None);
+    assert_eq!(rt; statements.next(rt.alloc())?, None);
+    Ok(())
+}
+
+/// The number of the first bad line, where there is one.
+fn first_bad(rt: &(impl AllocGlobal + Abort), script: &str) -> Result<Option<u64>, Fail> {
+    assert!(rt; script.len() < 1000);
+    let mut statements = Statements::new(script.as_bytes());
+    for _ in 0..1000u64 {
+        let Some(statement) = statements.next(rt.alloc())? else {
+            return Ok(None);
+        };
+        if statement.said == Said::Bad {
+            assert_eq!(rt; statements.next(rt.alloc())?, None);
+            return Ok(Some(statement.line));
+        }
+    }
+    Ok(None)
+}
+
+#[test]
+fn a_bad_line_ends_the_script(rt: HostRuntime) -> Result<(), Fail> {
+    for (script, line) in [
+        ("", None),
+        ("\n\n", None),
+        ("principal alice 7", None),
+        ("policy\n.\n", None),
+        ("policy\n.\n\nattach 0 7\n", None),
+        // A step before the policy.
+        ("\nattach 0 7\n", Some(2)),
+        ("attach 0 7\nwhat\n", Some(1)),
+        // A policy without its last line.
+        ("\npolicy\nversion = 1\n", Some(2)),
+        ("policy\nversion = 1\n. \n..\n", Some(1)),
+        // Behind the policy.
+        ("policy\n.\nprincipal alice 7\n", Some(3)),
+        ("policy\n.\n.\n", Some(3)),
+        ("policy\n.\nattach 0 7\npolicy\n.\n", Some(4)),
+    ] {
+        assert_eq!(rt; first_bad(&rt, script)?, line, "{script:?}");
+    }
+    let mut statements = Statements::new(b"policy\n# \xc3\xa9\n.\n");
+    assert_eq!(rt; statements.next(rt.alloc())?, statement(2, Said::Bad));
+    assert_eq!(rt; statements.next(rt.alloc())?, None);
+    Ok(())
+}
+
+#[test]
+fn answers_are_written(rt: HostRuntime) -> Result<(), Fail> {
+    for (line, text) in [
+        (AnswerLine::Attached(1), "attached 1\n"),
+        (AnswerLine::Full, "full\n"),
+        (AnswerLine::Stopped, "stopped\n"),
+        (
+            AnswerLine::Reply {
+                client: 12,
+                bytes: b"\x00\x1f\xff",
+            },
+            "reply 12 001fff\n",
+        ),
+        (
+            AnswerLine::Reply {
+                client: 0,
+                bytes: b"",
+            },
+            "reply 0 -\n",
+        ),
+        (AnswerLine::NoMemory, "no memory\n"),
+        (
+            AnswerLine::BadLine(18_446_744_073_709_551_615),
+            "line 18446744073709551615: bad line\n",
+        ),
+    ] {
+        assert_eq!(rt; line.to_string(rt.alloc())?.as_str(), text);
+    }
+    for (fault, text) in [
+        (RunFault::Read, "read failed"),
+        (RunFault::TooLong, "too long"),
+        (RunFault::Write, "write failed"),
+        (RunFault::NoMemory, "no memory"),
+    ] {
+        assert_eq!(rt; fault.to_string(rt.alloc())?.as_str(), text);
+    }
+    Ok(())
+}
