@@ -12,9 +12,12 @@ mod line;
 mod number;
 mod output;
 mod pieces;
-mod script;
+pub mod script;
 mod statements;
 
 pub use fault::RunFault;
 pub use input::LIMIT;
-pub use script::{Ended, run};
+
+
+#[cfg(test)]
+mod tests;
