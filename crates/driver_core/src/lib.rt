@@ -37,3 +37,6 @@ pub use rows::{Client, Subscription};
 pub use settings::Settings;
 pub use step::Step;
 pub use world::World;
+
+#[cfg(test)]
+mod tests;
