@@ -1,1 +1,7 @@
+pub mod DenialLemmas
+pub mod EventCases
+pub mod LawLemmas
+pub mod RefusalLemmas
 pub mod RunLemmas
+pub mod TakenLemmas
+pub mod VerdictLemmas

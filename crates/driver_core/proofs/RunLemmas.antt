@@ -1,7 +1,7 @@
 -- Runs are put together of steps.
-use Rattle.std.proofs.Common.{◌≡◌, List, [], ◌∷◌, ◌++◌, refl, sym, subst}
+use Rattle.std.proofs.Common.{◌≡◌, List, [], ◌∷◌, ◌++◌, refl}
 use Rattle.driver_core.specs.declared.answer.Answer.{Answer}
-use Rattle.driver_core.specs.declared.answer.Answer.TheVariants.{NoMemory, Attached, Full, Replies}
+use Rattle.driver_core.specs.declared.answer.Answer.TheVariants.{NoMemory}
 use Rattle.driver_core.specs.declared.event.Event.{Event}
 use Rattle.driver_core.specs.declared.outcome.Outcome.{Outcome}
 use Rattle.driver_core.specs.declared.outcome.Response.{Response}
@@ -10,8 +10,7 @@ use Rattle.driver_core.specs.declared.replies.Message.{Message}
 use Rattle.driver_core.specs.declared.step.Step.{Step}
 use Rattle.driver_core.specs.declared.step.Step.TheVariants.{Conductor}
 use Rattle.driver_core.specs.Conduct.{outcome_of, state_after}
-use Rattle.driver_core.specs.State.{State}
-use Rattle.driver_core.specs.Runs.{RunEnd, StandsFor, Serves, Runs, Continues, IsAnswer, AreAnswers, after, end_of, moved, no_inputs, answered_by, answer_of}
+use Rattle.driver_core.specs.Runs.{RunEnd, Serves, Runs, Continues, IsAnswer, AreAnswers, after, end_of, moved, no_inputs, answered_by, answer_of}
 
 -- what an event is answered is never want of memory, so it is the step's answer and leaves what the step leaves
 told : (e : RunEnd) (step : Step) (r : Response) (replies : List Message) → answered_by r replies ≡ (moved e step).answer →

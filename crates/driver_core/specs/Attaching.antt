@@ -1,5 +1,5 @@
 -- A client comes.
-use Rattle.std.specs.Prelude.{ℕ, ◌+◌, Bool, ◌&&◌, nat_lt, length, List, [], ◌∷◌, ◌++◌, if◌then◌else◌}
+use Rattle.std.specs.Prelude.{ℕ, ◌+◌, Bool, ◌&&◌, nat_lt, length, [], ◌∷◌, ◌++◌, if◌then◌else◌}
 use Rattle.driver_core.specs.declared.change.Change.{Change}
 use Rattle.driver_core.specs.declared.outcome.Response.TheVariants.{Attached, Full}
 use Rattle.driver_core.specs.Change.{answered}

@@ -2,6 +2,7 @@ pub mod Attaching
 pub mod Change
 pub mod Commands
 pub mod Conduct
+pub mod Laws
 pub mod Replies
 pub mod Runs
 pub mod Settings

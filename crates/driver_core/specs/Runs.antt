@@ -1,8 +1,7 @@
 -- Runs: any list of steps with their answers, from an opened world.
-use Rattle.std.specs.Prelude.{◌≡◌, ℕ, List, [], ◌∷◌, ◌++◌}
+use Rattle.std.specs.Prelude.{◌≡◌, List, [], ◌∷◌, ◌++◌}
 use Rattle.driver_core.specs.declared.answer.Answer.{Answer}
 use Rattle.driver_core.specs.declared.answer.Answer.TheVariants.{NoMemory, Attached, Full, Replies}
-use Rattle.driver_core.specs.declared.event.Event.{Event}
 use Rattle.driver_core.specs.declared.event.Inputs.{Inputs}
 use Rattle.driver_core.specs.declared.outcome.Outcome.{Outcome}
 use Rattle.driver_core.specs.declared.outcome.Response.{Response}

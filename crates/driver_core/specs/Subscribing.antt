@@ -1,5 +1,5 @@
 -- ADD_SUBSCRIPTION.
-use Rattle.std.specs.Prelude.{ℕ, ◌+◌, ℤ, Bool, true, false, not, ◌&&◌, nat_lt, length, List, [], ◌∷◌, ◌++◌, is_some, is_none, Result, Ok, Err, codes, if◌then◌else◌}
+use Rattle.std.specs.Prelude.{ℕ, ◌+◌, ℤ, Bool, true, false, not, ◌&&◌, nat_lt, length, [], ◌∷◌, ◌++◌, is_some, is_none, Result, Ok, Err, codes, if◌then◌else◌}
 use Rattle.driver_core.specs.declared.change.Change.{Change}
 use Rattle.driver_core.specs.declared.refusal.Refusal.TheVariants.{InvalidChannel, Denied, Full}
 use Rattle.driver_core.specs.declared.replies.Reply.TheVariants.{SubscriptionReady}

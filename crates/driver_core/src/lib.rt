@@ -10,6 +10,7 @@ mod attaching;
 mod change;
 mod commands;
 mod event;
+mod laws;
 mod outcome;
 mod peer;
 mod refusal;
@@ -23,6 +24,10 @@ mod world;
 
 pub use answer::Answer;
 pub use event::{End, Event, Inputs};
+pub use laws::{
+    denials_are_named, refusals_change_no_more_than_moments, runs_take_events,
+    subscriptions_are_granted_exactly, subscriptions_are_granted_only,
+};
 pub use outcome::{Opening, Outcome, Pair, Response};
 pub use peer::{Address, Peer};
 pub use refusal::Refusal;
@@ -32,3 +37,6 @@ pub use rows::{Client, Subscription};
 pub use settings::Settings;
 pub use step::Step;
 pub use world::World;
+
+#[cfg(test)]
+mod tests;

@@ -1,4 +1,4 @@
-use Rattle.driver_core.proofs.RunLemmas.{event_served, refusal_served}
+use Rattle.driver_core.proofs.RunLemmas.{event_served}
 use Rattle.driver_core.proofs.world.World.conduct.Goals as goal
 
 pub returns-in-Ok : goal.returns-in-Ok

@@ -1,0 +1,234 @@
+-- The laws over every list of events, case by case.
+use Rattle.std.proofs.Common.{◌≡◌, ℕ, ℤ, ◌==◌, Bool, true, false, cond, List, [], ◌∷◌, Some, inl, inr, refl, sym, ap, ◌∙◌, ⊎_elim}
+use Rattle.std.proofs.lemmas.Bool.{eqb-true, eq-eqb}
+use Rattle.std.proofs.lemmas.List.Elements.{Contains-push, Contains-push_cases}
+use Rattle.driver_core.specs.declared.event.Event.{Event}
+use Rattle.driver_core.specs.declared.event.Event.TheVariants.{Attach, Command}
+use Rattle.driver_core.specs.declared.event.Inputs.{Inputs}
+use Rattle.driver_core.specs.declared.refusal.Refusal.{Refusal}
+use Rattle.driver_core.specs.declared.refusal.Refusal.TheVariants.{InvalidChannel, Denied, Full}
+use Rattle.driver_core.specs.declared.outcome.Response.{Response}
+use Rattle.driver_core.specs.declared.rows.Client.{Client}
+use Rattle.driver_core.specs.declared.rows.Subscription.{Subscription}
+use Rattle.driver_core.specs.Attaching.{attached}
+use Rattle.driver_core.specs.Change.{answered, replied, refused}
+use Rattle.driver_core.specs.Commands.{client_at, heard, requested, asked, command}
+use Rattle.driver_core.specs.Conduct.{conduct}
+use Rattle.driver_core.specs.Laws.{SubscriptionRequest, AsksToSubscribe, IsDecidedExactly, IsGranted, IsRefused, GrantsOnly, IsMadeBy, verdict_on, subscription_for}
+use Rattle.driver_core.specs.State.{State, at_moment}
+use Rattle.channel_uri.specs.Channel.{Shape}
+use Rattle.policy_core.specs.declared.decision.Decision.{Decision}
+use Rattle.policy_core.specs.declared.verdict.Verdict.{Verdict}
+use Rattle.driver_core.proofs.EventCases.{Cases, command_cases, subscribe_cases, attach_cases}
+use Rattle.driver_core.proofs.VerdictLemmas.{by_policy}
+use Rattle.driver_core.specs.Subscribing.{subscribe, add_subscription, subscribed, decision_of, has_room_for_subscription}
+
+-- ---- a client that is found has the id that was looked for
+
+found_in : (number : ℕ) (client row : Client) (rows : List Client) (b : Bool) → (row.number == number) ≡ b →
+    (client_at rows number ≡ Some client → client.number ≡ number) →
+    cond b (Some row) (client_at rows number) ≡ Some client → client.number ≡ number
+found_in number client row rows true same rest found =
+    let is : row ≡ client = cc in
+    ap (λ (c : Client). c.number) (sym is) ∙ eqb-true row.number number same
+found_in number client row rows false same rest found = rest found
+
+pub found_number : (clients : List Client) (number : ℕ) (client : Client) →
+    client_at clients number ≡ Some client → client.number ≡ number
+found_number [] number client found = absurd (cc)
+found_number (row ∷ rows) number client found =
+    found_in number client row rows (row.number == number) refl (found_number rows number client) found
+
+-- ---- a well-formed request comes to the policy
+
+pub request_is_decided : (s : State) (now handle : ℕ) (bytes : List ℕ) (inputs : Inputs) (request : SubscriptionRequest) →
+    AsksToSubscribe s handle bytes request →
+    conduct s (Command now handle bytes) inputs
+    ≡ subscribe (heard (at_moment s now) handle) request.client request.correlation request.channel request.fields.stream
+unfolding conduct command asked requested add_subscription at_moment
+request_is_decided s now handle bytes inputs request asks =
+    rw (asks.command, eq-eqb handle handle refl, asks.attached, asks.denotes_channel, asks.takes_channel) refl
+
+-- ---- the policy decides, and then the room
+
+-- the state at which a request is decided
+abbrev pub at_request : State → ℕ → ℕ → State
+at_request s now handle = heard (at_moment s now) handle
+
+subscribe_grants : (s : State) (client : Client) (correlation : ℕ) (channel : Shape) (stream : ℤ) →
+    (decision_of s client channel stream).verdict.allow ≡ true → has_room_for_subscription s ≡ true →
+    subscribe s client correlation channel stream ≡ subscribed s client correlation channel stream
+unfolding subscribe
+subscribe_grants s client correlation channel stream allows room = rw (allows, room) refl
+
+subscribe_is_full : (s : State) (client : Client) (correlation : ℕ) (channel : Shape) (stream : ℤ) →
+    (decision_of s client channel stream).verdict.allow ≡ true → has_room_for_subscription s ≡ false →
+    subscribe s client correlation channel stream
+    ≡ refused s (decision_of s client channel stream ∷ []) client.number correlation Full
+unfolding subscribe
+subscribe_is_full s client correlation channel stream allows room = rw (allows, room) refl
+
+subscribe_denies : (s : State) (client : Client) (correlation : ℕ) (channel : Shape) (stream : ℤ) →
+    (decision_of s client channel stream).verdict.allow ≡ false →
+    subscribe s client correlation channel stream
+    ≡ refused s (decision_of s client channel stream ∷ []) client.number correlation
+    (Denied (decision_of s client channel stream).verdict)
+unfolding subscribe
+subscribe_denies s client correlation channel stream denies = rw denies refl
+
+granted_change : (s : State) (now handle : ℕ) (request : SubscriptionRequest) → request.client.number ≡ handle →
+    IsGranted s now handle request (
+    subscribed (at_request s now handle) request.client request.correlation request.channel request.fields.stream)
+unfolding subscribed decision_of replied heard at_moment
+granted_change s now handle request own =
+    record { change_is = refl; stands = rw own refl; numbered = refl; told = rw own refl; decided = refl }
+
+refused_change : (s : State) (now handle : ℕ) (request : SubscriptionRequest) (refusal : Refusal) →
+    request.client.number ≡ handle →
+    IsRefused s now handle request refusal (
+    refused (at_request s now handle)
+    (decision_of (at_request s now handle) request.client request.channel request.fields.stream ∷ [])
+    request.client.number request.correlation refusal)
+unfolding decision_of refused replied heard at_moment
+refused_change s now handle request refusal own =
+    record { after_is = refl; stands = refl; numbered = refl; told = rw own refl; decided = refl }
+
+denied_change : (s : State) (now handle : ℕ) (request : SubscriptionRequest) → request.client.number ≡ handle →
+    IsRefused s now handle request (Denied (verdict_on s request)) (
+    refused (at_request s now handle)
+    (decision_of (at_request s now handle) request.client request.channel request.fields.stream ∷ [])
+    request.client.number request.correlation
+    (Denied (decision_of (at_request s now handle) request.client request.channel request.fields.stream).verdict))
+unfolding decision_of heard at_moment
+denied_change s now handle request own = refused_change s now handle request (Denied (verdict_on s request)) own
+
+-- what is decided of the request
+pub verdict_is : (s : State) (now handle : ℕ) (request : SubscriptionRequest) →
+    (decision_of (at_request s now handle) request.client request.channel request.fields.stream).verdict
+    ≡ verdict_on s request
+unfolding decision_of heard at_moment
+verdict_is s now handle request = refl
+
+pub room_is : (s : State) (now handle : ℕ) → has_room_for_subscription (at_request s now handle) ≡ has_room_for_subscription s
+unfolding heard at_moment
+room_is s now handle = refl
+
+by_verdict : (s : State) (now handle : ℕ) (request : SubscriptionRequest) → request.client.number ≡ handle →
+    IsDecidedExactly s now handle request (
+    subscribe (at_request s now handle) request.client request.correlation request.channel request.fields.stream)
+by_verdict s now handle request own =
+    let word = ap (λ (v : Verdict). v.allow) (verdict_is s now handle request) in
+    record {
+      by = by_policy s request;
+      granted = λ allows room.
+          rw (subscribe_grants (at_request s now handle) request.client request.correlation request.channel
+          request.fields.stream (word ∙ allows) (room_is s now handle ∙ room))
+          (granted_change s now handle request own);
+      full = λ allows room.
+          rw (subscribe_is_full (at_request s now handle) request.client request.correlation request.channel
+          request.fields.stream (word ∙ allows) (room_is s now handle ∙ room))
+          (refused_change s now handle request Full own);
+      denied = λ denies.
+          rw (subscribe_denies (at_request s now handle) request.client request.correlation request.channel
+          request.fields.stream (word ∙ denies))
+          (denied_change s now handle request own);
+    }
+
+-- ---- granted exactly
+
+pub decided_exactly : (s : State) (now handle : ℕ) (bytes : List ℕ) (inputs : Inputs) (request : SubscriptionRequest) →
+    AsksToSubscribe s handle bytes request →
+    IsDecidedExactly s now handle request (conduct s (Command now handle bytes) inputs)
+decided_exactly s now handle bytes inputs request asks =
+    rw (request_is_decided s now handle bytes inputs request asks)
+    (by_verdict s now handle request (found_number s.clients handle request.client asks.attached))
+
+-- ---- granted only
+
+-- the same client and channel, at the moment of the event
+pub asks_before : (s : State) (now handle : ℕ) (bytes : List ℕ) (request : SubscriptionRequest) →
+    AsksToSubscribe (at_moment s now) handle bytes request → AsksToSubscribe s handle bytes request
+unfolding at_moment
+asks_before s now handle bytes request asks = record {
+  command = asks.command;
+  attached = asks.attached;
+  denotes_channel = asks.denotes_channel;
+  takes_channel = asks.takes_channel;
+}
+
+refusal_grants_only : (s : State) (event : Event) (after : State) (decisions : List Decision) (client correlation : ℕ)
+    (refusal : Refusal) → after.subscriptions ≡ s.subscriptions →
+    GrantsOnly s event (refused after decisions client correlation refusal)
+unfolding refused replied
+refusal_grants_only s event after decisions client correlation refusal same = record {
+  told = (tt, tt);
+  stands = λ subscription stands. inl (rw same at stands);
+}
+
+answer_grants_only : (s : State) (event : Event) (after : State) (response : Response) →
+    after.subscriptions ≡ s.subscriptions → GrantsOnly s event (answered after response)
+unfolding answered
+answer_grants_only s event after response same =
+    record { told = tt; stands = λ subscription stands. inl (rw same at stands) }
+
+grant_grants_only : (s : State) (now handle : ℕ) (bytes : List ℕ) (request : SubscriptionRequest) →
+    AsksToSubscribe s handle bytes request → (verdict_on s request).allow ≡ true → has_room_for_subscription s ≡ true →
+    GrantsOnly s (Command now handle bytes) (
+    subscribed (at_request s now handle) request.client request.correlation request.channel request.fields.stream)
+unfolding subscribed replied heard at_moment
+grant_grants_only s now handle bytes request asks allows room =
+    let own : request.client.number ≡ handle = found_number s.clients handle request.client asks.attached in
+    let made : Subscription = subscription_for s handle request in
+    let by : IsMadeBy s (Command now handle bytes) request.correlation made = record {
+      moment = now;
+      bytes = bytes;
+      request = request;
+      event_is = refl;
+      asks = asks;
+      by = by_policy s request;
+      allowed = allows;
+      room = room;
+      correlation_is = refl;
+      made_is = refl;
+    } in
+    rw own (record {
+      told = ((made, refl, refl, Contains-push s.subscriptions made, by), tt);
+      stands = λ subscription stands.
+          ⊎_elim (λ before. inl before)
+          (λ is. inr (request.correlation, rw (← is) by))
+          (Contains-push_cases s.subscriptions made subscription stands);
+    })
+
+command_grants_only : (s : State) (now handle : ℕ) (bytes : List ℕ) →
+    Cases (GrantsOnly s (Command now handle bytes)) (at_moment s now) handle bytes
+unfolding at_moment heard
+command_grants_only s now handle bytes = record {
+  unheard = λ correlation refusal plain not_heard.
+      refusal_grants_only s (Command now handle bytes) (at_moment s now) [] handle correlation refusal refl;
+  no_channel = λ client correlation was_heard.
+      refusal_grants_only s (Command now handle bytes) (at_request s now handle) [] client.number correlation
+      InvalidChannel refl;
+  decided = λ request was_heard asks'.
+      let asks : AsksToSubscribe s handle bytes request = asks_before s now handle bytes request asks' in
+      let word = ap (λ (v : Verdict). v.allow) (verdict_is s now handle request) in
+      subscribe_cases (GrantsOnly s (Command now handle bytes)) (at_request s now handle) request.client
+      request.correlation request.channel request.fields.stream
+      (λ allows room.
+      grant_grants_only s now handle bytes request asks (sym word ∙ allows) (sym (room_is s now handle) ∙ room))
+      (λ allows room. refusal_grants_only s (Command now handle bytes) (at_request s now handle) _ _ _ Full refl)
+      (λ denies. refusal_grants_only s (Command now handle bytes) (at_request s now handle) _ _ _ _ refl);
+}
+
+attach_grants_only : (s : State) (now principal : ℕ) (inputs : Inputs) →
+    GrantsOnly s (Attach now principal) (conduct s (Attach now principal) inputs)
+unfolding conduct attached at_moment
+attach_grants_only s now principal inputs =
+    attach_cases (GrantsOnly s (Attach now principal)) (at_moment s now) principal
+    (answer_grants_only s (Attach now principal) _ _ refl)
+    (answer_grants_only s (Attach now principal) _ _ refl)
+
+pub grants_only : (s : State) (event : Event) (inputs : Inputs) → GrantsOnly s event (conduct s event inputs)
+grants_only s (Attach now principal) inputs = attach_grants_only s now principal inputs
+grants_only s (Command now handle bytes) inputs =
+    command_cases (GrantsOnly s (Command now handle bytes)) s now handle bytes inputs
+    (command_grants_only s now handle bytes)

@@ -1,0 +1,284 @@
+-- Laws over every list of events, from a registry in which nobody is.
+use Rattle.std.specs.Prelude.{◌≡◌, ℕ, ◌+◌, ◌==◌, ◌&&◌, max, Bool, true, false, List, [], ◌∷◌, ◌++◌, Contains, Option, Some, None, is_some, Result, Ok, Err, ◌⊎◌, codes, if◌then◌else◌}
+use Rattle.std.specs.Fmt.{decimal}
+use Rattle.std.specs.List.{AllByRecursion}
+use Rattle.driver_core.specs.declared.answer.Answer.{Answer}
+use Rattle.driver_core.specs.declared.answer.Answer.TheVariants.{NoMemory, Replies}
+use Rattle.driver_core.specs.declared.change.Change.{Change}
+use Rattle.driver_core.specs.declared.event.Event.{Event}
+use Rattle.driver_core.specs.declared.event.Event.TheVariants.{Attach, Command}
+use Rattle.driver_core.specs.declared.event.Inputs.{Inputs}
+use Rattle.driver_core.specs.declared.outcome.Outcome.{Outcome}
+use Rattle.driver_core.specs.declared.outcome.Response.{Response}
+use Rattle.driver_core.specs.declared.outcome.Response.TheVariants as response
+use Rattle.driver_core.specs.declared.peer.Peer.{Peer}
+use Rattle.driver_core.specs.declared.refusal.Refusal.{Refusal}
+use Rattle.driver_core.specs.declared.refusal.Refusal.TheVariants.{Denied, Full}
+use Rattle.driver_core.specs.declared.replies.Message.{Message}
+use Rattle.driver_core.specs.declared.replies.Reply.{Reply}
+use Rattle.driver_core.specs.declared.replies.Reply.TheVariants.{Error, SubscriptionReady}
+use Rattle.driver_core.specs.declared.rows.Client.{Client}
+use Rattle.driver_core.specs.declared.rows.Subscription.{Subscription}
+use Rattle.driver_core.specs.declared.settings.Settings.{Settings}
+use Rattle.driver_core.specs.declared.step.Step.{Step}
+use Rattle.driver_core.specs.declared.step.Step.TheVariants.{Conductor}
+use Rattle.driver_core.specs.Commands.{client_at, heard, heard_by}
+use Rattle.driver_core.specs.Conduct.{conduct, outcome_of, state_after}
+use Rattle.driver_core.specs.Replies.{refusal_text}
+use Rattle.driver_core.specs.Runs.{opening_end, no_inputs, end_of, IsAnswer}
+use Rattle.driver_core.specs.State.{State, opened, at_moment}
+use Rattle.driver_core.specs.Subscribing.{is_subscribable, act_of, question_for, subscribed, has_room_for_subscription}
+use Rattle.channel_uri.specs.Channel.{Shape, denotes}
+use Rattle.command_codec.specs.declared.add_subscription.AddSubscription.{AddSubscription}
+use Rattle.command_codec.specs.declared.command.Body.TheVariants.{AddSubscription as Adds}
+use Rattle.command_codec.specs.declared.command.Command.{Command as Read}
+use Rattle.command_codec.specs.declared.fault.CommandFault.{CommandFault}
+use Rattle.command_codec.specs.Command.{command_of}
+use Rattle.policy_core.specs.declared.decision.Decision.{Decision}
+use Rattle.policy_core.specs.declared.rule.Rule.{Rule}
+use Rattle.policy_core.specs.declared.verdict.Verdict.{Verdict}
+use Rattle.policy_core.specs.Question.{Question}
+use Rattle.policy_core.specs.RuleList.{Rules}
+use Rattle.policy_core.specs.Rules.{verdict_of, IsFirstMatch, NoRuleMatches}
+use Rattle.policy_core.specs.Verdict.{verdict_text}
+
+-- the registry after these events, each with what the logs said at it
+abbrev pub state_of : State → List (Event × Inputs) → State
+state_of s [] = s
+state_of s (event ∷ events) = state_of (state_after s event.0 event.1) events
+
+-- whatever happened since the registry was opened
+abbrev pub AfterAnyEvents : (State → Type 0) → Type 0
+AfterAnyEvents P =
+    (settings : Settings) (policy : Rules) (peers : List Peer) (events : List (Event × Inputs)) →
+    P (state_of (opened settings policy peers) events)
+
+-- ---- a request for a subscription
+
+-- who asks, under which correlation id, with which fields, and on which channel
+pub record SubscriptionRequest : Type 0 where
+  pub client : Client
+  pub correlation : ℕ
+  pub fields : AddSubscription
+  pub channel : Shape
+
+-- The bytes that come over a handle are this request: they are laid out as one and name the handle's own client, which is
+-- there, and their text is a channel that a subscription takes.
+pub record AsksToSubscribe (s : State) (handle : ℕ) (bytes : List ℕ) (request : SubscriptionRequest) : Type 0 where
+  pub command : command_of bytes ≡ Ok (record { client = handle; correlation = request.correlation; body = Adds request.fields })
+  pub attached : client_at s.clients handle ≡ Some request.client
+  pub denotes_channel : denotes request.fields.channel ≡ Ok request.channel
+  pub takes_channel : is_subscribable request.channel ≡ true
+
+-- what the policy in force is asked, and its verdict
+abbrev pub question_of : SubscriptionRequest → Question
+question_of request = question_for request.client request.channel request.fields.stream
+
+abbrev pub verdict_on : State → SubscriptionRequest → Verdict
+verdict_on s request = verdict_of s.policy s.epoch (question_of request)
+
+-- by the first rule that matches, whose word and number it has
+pub record IsByRule (policy : Rules) (epoch : ℕ) (question : Question) (verdict : Verdict) : Type 0 where
+  pub index : ℕ
+  pub rule : Rule
+  pub first : IsFirstMatch policy.rules question index rule
+  pub verdict_is : verdict ≡ record { allow = rule.allow; rule = Some (index + 1); epoch = epoch }
+
+-- by the default, where no rule matches
+pub record IsByDefault (policy : Rules) (epoch : ℕ) (question : Question) (verdict : Verdict) : Type 0 where
+  pub none_matches : NoRuleMatches policy.rules question
+  pub verdict_is : verdict ≡ record { allow = policy.default_allows; rule = None; epoch = epoch }
+
+abbrev pub IsByPolicy : State → SubscriptionRequest → Verdict → Type 0
+IsByPolicy s request verdict =
+    IsByRule s.policy s.epoch (question_of request) verdict ⊎ IsByDefault s.policy s.epoch (question_of request) verdict
+
+-- what is told of it to those who audit
+abbrev pub decision_on : State → SubscriptionRequest → Decision
+decision_on s request = record {
+  principal = request.client.principal;
+  act = act_of request.channel;
+  subject = 0;
+  stream = request.fields.stream;
+  verdict = verdict_on s request;
+}
+
+-- the subscription that is asked for, under the next number
+abbrev pub subscription_for : State → ℕ → SubscriptionRequest → Subscription
+subscription_for s handle request = record {
+  number = s.last_number + 1;
+  client = handle;
+  channel = request.channel;
+  stream = request.fields.stream;
+}
+
+-- ---- granted exactly
+
+-- the subscription stands behind the others, and the one reply names it
+pub record IsGranted (s : State) (now handle : ℕ) (request : SubscriptionRequest) (change : Change) : Type 0 where
+  pub change_is :
+      change
+      ≡ subscribed (heard (at_moment s now) handle) request.client request.correlation request.channel request.fields.stream
+  pub stands : change.after.subscriptions ≡ s.subscriptions ++ subscription_for s handle request ∷ []
+  pub numbered : change.after.last_number ≡ s.last_number + 1
+  pub told :
+      change.outcome.replies
+      ≡ record { client = handle; reply = SubscriptionReady request.correlation (s.last_number + 1) } ∷ []
+  pub decided : change.outcome.decisions ≡ decision_on s request ∷ []
+
+-- nothing is added, and the one reply says why
+pub record IsRefused (s : State) (now handle : ℕ) (request : SubscriptionRequest) (refusal : Refusal) (change : Change) : Type 0 where
+  pub after_is : change.after ≡ heard (at_moment s now) handle
+  pub stands : change.after.subscriptions ≡ s.subscriptions
+  pub numbered : change.after.last_number ≡ s.last_number
+  pub told :
+      change.outcome.replies ≡ record { client = handle; reply = Error request.correlation refusal } ∷ []
+  pub decided : change.outcome.decisions ≡ decision_on s request ∷ []
+
+-- the verdict decides, which is the first matching rule's or the default's, and then the room
+pub record IsDecidedExactly (s : State) (now handle : ℕ) (request : SubscriptionRequest) (change : Change) : Type 0 where
+  pub by : IsByPolicy s request (verdict_on s request)
+  pub granted :
+      (verdict_on s request).allow ≡ true → has_room_for_subscription s ≡ true → IsGranted s now handle request change
+  pub full :
+      (verdict_on s request).allow ≡ true → has_room_for_subscription s ≡ false → IsRefused s now handle request Full change
+  pub denied :
+      (verdict_on s request).allow ≡ false → IsRefused s now handle request (Denied (verdict_on s request)) change
+
+abbrev pub SubscriptionsAreGrantedExactly : Type 0
+SubscriptionsAreGrantedExactly =
+    AfterAnyEvents (λ s.
+    (now handle : ℕ) (bytes : List ℕ) (inputs : Inputs) (request : SubscriptionRequest) →
+    AsksToSubscribe s handle bytes request →
+    IsDecidedExactly s now handle request (conduct s (Command now handle bytes) inputs))
+
+-- ---- granted only
+
+-- the event is a request that the policy in force allows while there is room, and makes this subscription
+pub record IsMadeBy (s : State) (event : Event) (correlation : ℕ) (made : Subscription) : Type 0 where
+  pub moment : ℕ
+  pub bytes : List ℕ
+  pub request : SubscriptionRequest
+  pub event_is : event ≡ Command moment made.client bytes
+  pub asks : AsksToSubscribe s made.client bytes request
+  pub by : IsByPolicy s request (verdict_on s request)
+  pub allowed : (verdict_on s request).allow ≡ true
+  pub room : has_room_for_subscription s ≡ true
+  pub correlation_is : correlation ≡ request.correlation
+  pub made_is : made ≡ subscription_for s made.client request
+
+-- a reply that tells of a subscription tells of one that the event made, and that stands
+abbrev pub IsGrantTold : State → Event → State → ℕ → Reply → Type 0
+IsGrantTold s event after client (SubscriptionReady correlation registration) =
+    (made : Subscription)
+    × (made.client ≡ client)
+    × (made.number ≡ registration)
+    × Contains after.subscriptions made
+    × IsMadeBy s event correlation made
+IsGrantTold s event after client (Error correlation refusal) = Unit {0}
+
+pub record GrantsOnly (s : State) (event : Event) (change : Change) : Type 0 where
+  pub told :
+      AllByRecursion (λ message. IsGrantTold s event change.after message.client message.reply) change.outcome.replies
+  pub stands :
+      (subscription : Subscription) → Contains change.after.subscriptions subscription →
+      Contains s.subscriptions subscription ⊎ ((correlation : ℕ) × IsMadeBy s event correlation subscription)
+
+abbrev pub SubscriptionsAreGrantedOnly : Type 0
+SubscriptionsAreGrantedOnly =
+    AfterAnyEvents (λ s. (event : Event) (inputs : Inputs) → GrantsOnly s event (conduct s event inputs))
+
+-- ---- denials are named
+
+-- the text names the rule by its number, or the default
+abbrev pub denial_text : Option ℕ → ℕ → List ℕ
+denial_text (Some rule) epoch = codes "denied by rule " ++ (decimal rule ++ (codes " in policy " ++ decimal epoch))
+denial_text None epoch = codes "denied by default in policy " ++ decimal epoch
+
+-- the event is a request that the policy in force denies by this verdict
+pub record IsDeniedOn (s : State) (event : Event) (client correlation : ℕ) (verdict : Verdict) : Type 0 where
+  pub moment : ℕ
+  pub bytes : List ℕ
+  pub request : SubscriptionRequest
+  pub event_is : event ≡ Command moment client bytes
+  pub asks : AsksToSubscribe s client bytes request
+  pub correlation_is : correlation ≡ request.correlation
+  pub verdict_is : verdict ≡ verdict_on s request
+  pub by : IsByPolicy s request verdict
+  pub denies : verdict.allow ≡ false
+  pub words : refusal_text (Denied verdict) ≡ verdict_text verdict
+  pub text : refusal_text (Denied verdict) ≡ denial_text verdict.rule s.epoch
+
+abbrev pub IsNamedRefusal : State → Event → ℕ → ℕ → Refusal → Type 0
+IsNamedRefusal s event client correlation (Denied verdict) = IsDeniedOn s event client correlation verdict
+IsNamedRefusal s event client correlation refusal = Unit {0}
+
+abbrev pub IsDenialNamed : State → Event → ℕ → Reply → Type 0
+IsDenialNamed s event client (Error correlation refusal) = IsNamedRefusal s event client correlation refusal
+IsDenialNamed s event client (SubscriptionReady correlation registration) = Unit {0}
+
+abbrev pub DenialsAreNamed : Type 0
+DenialsAreNamed =
+    AfterAnyEvents (λ s. (event : Event) (inputs : Inputs) →
+    AllByRecursion (λ message. IsDenialNamed s event message.client message.reply) (outcome_of s event inputs).replies)
+
+-- ---- refusals
+
+-- each of the replies refuses
+abbrev pub IsRefusal : Reply → Type 0
+IsRefusal (Error correlation refusal) = Unit {0}
+IsRefusal (SubscriptionReady correlation registration) = ⊥
+
+abbrev pub IsNoGrant : Response → Type 0
+IsNoGrant response.Nothing = Unit {0}
+IsNoGrant (response.Attached number) = ⊥
+IsNoGrant response.Full = Unit {0}
+
+pub record GrantsNothing (outcome : Outcome) : Type 0 where
+  pub response : IsNoGrant outcome.response
+  pub replies : AllByRecursion (λ message. IsRefusal message.reply) outcome.replies
+
+-- a client is heard of by a command that is laid out as one and names it, over its own handle
+abbrev pub names : ℕ → Result Read CommandFault → Bool
+names handle (Ok command) = command.client == handle
+names handle (Err fault) = false
+
+abbrev pub is_heard : State → ℕ → List ℕ → Bool
+is_heard s handle bytes = names handle (command_of bytes) && is_some (client_at s.clients handle)
+
+-- the registry with no more than its moment and that of the client that was heard of set
+abbrev pub only_moments : State → Event → State
+only_moments s (Attach now principal) = record s { moment = max s.moment now }
+only_moments s (Command now handle bytes) = record s {
+  moment = max s.moment now;
+  clients = if is_heard s handle bytes then heard_by handle (max s.moment now) s.clients else s.clients;
+}
+
+abbrev pub RefusalsChangeNoMoreThanMoments : Type 0
+RefusalsChangeNoMoreThanMoments =
+    AfterAnyEvents (λ s. (event : Event) (inputs : Inputs) → GrantsNothing (outcome_of s event inputs) →
+    state_after s event inputs ≡ only_moments s event)
+
+-- ---- runs
+
+-- the events that a run took: those of the steps that were not refused memory
+abbrev pub taken : List Step → List Answer → List (Event × Inputs)
+taken [] answers = []
+taken (step ∷ steps) [] = []
+taken (step ∷ steps) (NoMemory ∷ answers) = taken steps answers
+taken (Conductor event ∷ steps) (answer ∷ answers) = (event, no_inputs) ∷ taken steps answers
+
+-- at its end stands the registry that those events leave, and the replies that a further step is answered are its event's
+pub record TakesEvents (settings : Settings) (policy : Rules) (peers : List Peer) (steps : List Step) (answers : List Answer) : Type 0 where
+  pub leaves :
+      (end_of (opening_end settings policy peers) steps answers).registry
+      ≡ state_of (opened settings policy peers) (taken steps answers)
+  pub tells :
+      (event : Event) (messages : List Message) →
+      IsAnswer (end_of (opening_end settings policy peers) steps answers) (Conductor event) (Replies messages) →
+      messages ≡ (outcome_of (state_of (opened settings policy peers) (taken steps answers)) event no_inputs).replies
+
+abbrev pub RunsTakeEvents : Type 0
+RunsTakeEvents =
+    (settings : Settings) (policy : Rules) (peers : List Peer) (steps : List Step) (answers : List Answer) →
+    TakesEvents settings policy peers steps answers
