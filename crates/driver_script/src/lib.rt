@@ -18,6 +18,5 @@ mod statements;
 pub use fault::RunFault;
 pub use input::LIMIT;
 
-
 #[cfg(test)]
 mod tests;

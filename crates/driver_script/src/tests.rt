@@ -1,7 +1,10 @@
 use super::*;
 use crate::input::read_input;
+use crate::line::{Line, read_line};
 use crate::output::write_whole;
+use crate::statements::{Said, Statement, Statements};
 use byte_strings::{Bytes, Text};
+use driver_core::Event;
 use std::alloc::Global;
 use std::io;
 use std::io::{Read, Write};
@@ -351,7 +354,8 @@ const HEAD: &str = "policy\nversion = 1\ndefault = \"deny\"\n.\n";
 const FIRST: &str = "principal alice 7\npolicy\nversion = 1\ndefault = \"deny\"\n.\nattach 0 7\n\
 cmd 0 1 04000000_0100000000000000_0b00000000000000_0000000000000000_0a000000_09000000_6165726f6e3a697063\n";
 
-const FIRST_ANSWERS: &str = "attached 1\nreply 1 010f00000b00000000000000e90300001d00000064656e696564206279206465\
+const FIRST_ANSWERS: &str =
+    "attached 1\nreply 1 010f00000b00000000000000e90300001d00000064656e696564206279206465\
 6661756c7420696e20706f6c6963792031\n";
 
 /// What a script writes to a writer that takes this many bytes.
@@ -426,7 +430,11 @@ fn what_was_answered_stands_before_a_bad_line(rt: HostRuntime) -> Result<(), Fai
         let script = format!(in rt.alloc(); "{HEAD}attach 0 7\n{text}\nattach 0 7\n")?;
         let (ended, written) = run_into(rt.alloc(), script.as_str(), 1000);
         assert_eq!(rt; ended, Ok(script::Ended::BadLine(6)), "at {text}");
-        assert_eq!(rt; written.as_slice(), b"attached 1\nline 6: bad line\n".as_slice(), "at {text}");
+        assert_eq!(rt;
+            written.as_slice(),
+            b"attached 1\nline 6: bad line\n".as_slice(),
+            "at {text}"
+        );
     }
     Ok(())
 }

@@ -1,2 +1,3 @@
+pub mod BlankLemmas
 pub mod ItemsLemmas
 pub mod RulesLemmas

@@ -62,6 +62,10 @@ rules_at names (Some value) = needed (BadField 0 RuleField) (as_array value) >>=
 abbrev pub rules_of : Known → Members → Result (List Rule) PolicyFault
 rules_of names table = rules_at names (get_member (codes "rule") table)
 
+-- the document has rules to keep; another one takes no memory
+abbrev pub has_rules : Members → Bool
+has_rules table = is_some (get_member (codes "rule") table)
+
 -- the policy that a document is, or its first fault
 unfoldable pub policy_from : Known → Members → Result Rules PolicyFault
 policy_from names table =

@@ -1,6 +1,7 @@
-ghost use Rattle.policy_text.specs.Document.{is_version_1, default_of, rule_at, rules_from, listed_rules, rules_of, policy_from, policy_of};
+ghost use Rattle.policy_text.specs.Document.{is_version_1, default_of, rule_at, rules_from, listed_rules, rules_of, policy_from, policy_of, has_rules};
 ghost use Rattle.policy_text.specs.Fault.{Equals, Gives};
-ghost use Rattle.std.specs.Prelude.{◌≡◌, ◌≤◌, IfOk, length};
+ghost use Rattle.std.specs.Prelude.{◌≡◌, ◌≤◌, IfOk, false, length};
+ghost use Rattle.toml.specs.Errors.{IsBlank};
 ghost use Rattle.toml.specs.View.{array_view, table_view, view};
 
 use crate::fault::{Field, PolicyFault};
@@ -90,6 +91,7 @@ fn listed_rules(alloc: Global, items: &Array, names: &Names) -> Result<Vec<Rule>
 /// The rules of a document; none where it has no array of them.
 fn rules_of(alloc: Global, table: &Table, names: &Names) -> Result<Vec<Rule>, PolicyFault>
     ensures exact { Gives (λ rules. rules.items) result (rules_of names.now (table_view table.now)) }
+    ensures without_memory { has_rules (table_view table.now) ≡ false → Equals (λ rules. rules.items) result (rules_of names.now (table_view table.now)) }
     ensures few { IfOk result (λ rules. length rules.items ≤ 1024) }
 {
     let Some(value) = member(table, "rule") else {
@@ -107,7 +109,8 @@ fn rules_of(alloc: Global, table: &Table, names: &Names) -> Result<Vec<Rule>, Po
 /// The policy that a document is.
 #[tactic(auto, unfolding(crate::specs::Document::policy_from))]
 fn policy_from(alloc: Global, table: &Table, names: &Names) -> Result<Policy, PolicyFault>
-    ensures { Gives (λ policy. policy) result (policy_from names.now (table_view table.now)) }
+    ensures exact { Gives (λ policy. policy) result (policy_from names.now (table_view table.now)) }
+    ensures without_memory { has_rules (table_view table.now) ≡ false → Equals (λ policy. policy) result (policy_from names.now (table_view table.now)) }
 {
     if !is_version_1(table) {
         return Err(PolicyFault::BadVersion);
@@ -130,7 +133,8 @@ fn policy_from(alloc: Global, table: &Table, names: &Names) -> Result<Policy, Po
 /// field.
 #[tactic(auto, unfolding(crate::specs::Document::policy_of))]
 pub fn read(alloc: Global, text: &str, names: &Names) -> Result<Policy, PolicyFault>
-    ensures { Gives (λ policy. policy) result (policy_of names.now text.now) }
+    ensures exact { Gives (λ policy. policy) result (policy_of names.now text.now) }
+    ensures blank { IsBlank text.now → result ≡ Err PolicyFault.BadVersion }
 {
     match toml::table_from_str(alloc, text) {
         Ok(table) => policy_from(alloc, &table, names),
