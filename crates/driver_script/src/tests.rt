@@ -1,4 +1,5 @@
 use super::*;
+use crate::answers::AnswerLine;
 use crate::input::read_input;
 use crate::line::{Line, read_line};
 use crate::output::write_whole;
