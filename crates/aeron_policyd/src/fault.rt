@@ -13,6 +13,7 @@ pub enum Fault {
 
 impl Fault {
     pub const NO_MEMORY: Fault = Fault::Run(RunFault::NoMemory);
+
     pub const WRITE: Fault = Fault::Run(RunFault::Write);
 }
 
