@@ -91,6 +91,58 @@ allow = true
     Ok(())
 }
 
+#[test]
+fn example_of_the_documents(rt: HostRuntime) -> Result<(), Fail> {
+    let text = "version = 1
+default = \"deny\"
+
+[[rule]]
+name = \"nobody on the house streams\"
+principal = \"*\"
+act = \"*\"
+channel = \"*\"
+stream = [10, 20]
+allow = false
+
+[[rule]]
+name = \"alice publishes and reads in this host\"
+principal = \"alice\"
+act = [\"publish\", \"offer\", \"subscribe\", \"image\", \"receive\"]
+channel = \"aeron:ipc\"
+allow = true
+
+[[rule]]
+name = \"bob reads what comes to port 40123\"
+principal = \"bob\"
+act = [\"subscribe\", \"spy\", \"image\", \"receive\"]
+channel = \"aeron:udp?endpoint=127.0.0.1:40123\"
+allow = true
+";
+    let policy = read(rt.alloc(), text, &known(rt.alloc())?)?;
+    for (principal, channel, stream, decided) in [
+        (7, "aeron:ipc", 9, "allowed by rule 2 in policy 1"),
+        (7, "aeron:ipc", 10, "denied by rule 1 in policy 1"),
+        (8, "aeron:ipc", 9, "denied by default in policy 1"),
+        (
+            8,
+            "aeron:udp?endpoint=127.0.0.1:40123",
+            9,
+            "allowed by rule 3 in policy 1",
+        ),
+    ] {
+        let channel = Channel::parse(rt.alloc(), channel)?;
+        let request = Request {
+            principal,
+            act: Act::Subscribe,
+            channel: &channel,
+            stream,
+        };
+        let verdict = policy.verdict(1, &request);
+        assert_eq!(rt; verdict.text(rt.alloc())?.as_str(), decided);
+    }
+    Ok(())
+}
+
 /// Whether the policy has one rule, and that allows `principal` the act on `aeron:ipc`, stream 5.
 fn is_allowed(alloc: Global, policy: &Policy, principal: u32, act: Act) -> Result<bool, Fail> {
     let channel = Channel::parse(alloc, "aeron:ipc")?;
@@ -187,6 +239,26 @@ fn faults_of_the_document(rt: HostRuntime) -> Result<(), Fail> {
     Ok(())
 }
 
+/// The lines of a good rule, with this value of `key` in place of its own.
+fn good_but(alloc: Global, key: &str, value: &str) -> Result<String, Fail> {
+    let mut lines = format!(in alloc; "{key} = {value}\n")?;
+    for (other, good) in [
+        ("name", "\"r\""),
+        ("principal", "\"alice\""),
+        ("act", "\"offer\""),
+        ("channel", "\"*\""),
+        ("allow", "true"),
+    ] {
+        if other != key {
+            lines.push_str(other)?;
+            lines.push_str(" = ")?;
+            lines.push_str(good)?;
+            lines.push_str("\n")?;
+        }
+    }
+    Ok(lines)
+}
+
 #[test]
 fn faults_of_a_rule(rt: HostRuntime) -> Result<(), Fail> {
     for (key, value, wanted) in [
@@ -226,18 +298,7 @@ fn faults_of_a_rule(rt: HostRuntime) -> Result<(), Fail> {
         ("allow", "\"true\"", "rule 1: bad field allow"),
         ("allow", "false", "ok"),
     ] {
-        let mut lines = format!(in rt.alloc(); "{key} = {value}\n")?;
-        for (other, good) in [
-            ("name", "\"r\""),
-            ("principal", "\"alice\""),
-            ("act", "\"offer\""),
-            ("channel", "\"*\""),
-            ("allow", "true"),
-        ] {
-            if other != key {
-                lines.push_str(format!(in rt.alloc(); "{other} = {good}\n")?.as_str())?;
-            }
-        }
+        let lines = good_but(rt.alloc(), key, value)?;
         let text = with_rule(rt.alloc(), lines.as_str())?;
         assert_eq!(rt;
             outcome(rt.alloc(), text.as_str())?.as_str(),
