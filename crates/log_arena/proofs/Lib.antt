@@ -1,0 +1,5 @@
+pub mod Crossing
+pub mod Deeds
+pub mod Lodgings
+pub mod Runs
+pub mod Steps
