@@ -10,7 +10,7 @@ use contract.Monad.{fact, fact_i, fact_use}
 use prog.Model.{Model}
 use types.Logic.{Logic, sem}
 use types.Kit.{‵, ◌$◌, ◌∵◌, !, qed, use1, fsplit, fjoin, feq_l, feq_i, done}
-use denote.RawPtr.{Ptr, block_ptr, null_ptr, ◌+ₚ◌}
+use denote.RawPtr.{InBlock, Ptr, block_ptr, null_ptr, ◌+ₚ◌}
 use denote.RawPtr.Bytes.{bytes, bytes_cut, bytes_glue, bytes_apart, bytes_whole, bytes-room}
 use Rattle.log_arena.specs.Ownership.{Apart, run_owns}
 
@@ -81,7 +81,7 @@ module _ {M : Type 1} {𝓤 : Ura M} (𝓛 : Logic 𝓤) where
 
     -- two runs that are owned share no byte
     pub run_apart : (p q : Ptr) (xs ys : List ℕ) → 0 < length xs → 0 < length ys
-        → ent 𝓤 (sep 𝓤 (sem 𝓛 (run_owns p xs)) (sem 𝓛 (run_owns q ys))) (fact 𝓤 (Apart p (length xs) q (length ys)))
+        → ent 𝓤 (sep 𝓤 (sem 𝓛 (run_owns p xs)) (sem 𝓛 (run_owns q ys))) (fact 𝓤 (InBlock p × Apart p (length xs) q (length ys)))
     run_apart null_ptr q xs ys some some' = via 𝓤 _ (fst∗ 𝓤 (never 𝓤) (sem 𝓛 (run_owns q ys))) (never_e 𝓤 _)
     run_apart (block_ptr b o) null_ptr xs ys some some' = via 𝓤 _ (snd∗ 𝓤 (sem 𝓛 (run_owns (block_ptr b o) xs)) (never 𝓤)) (never_e 𝓤 _)
     run_apart (block_ptr b o) (block_ptr b' o') xs ys some some' =
@@ -89,6 +89,6 @@ module _ {M : Type 1} {𝓤 : Ura M} (𝓛 : Logic 𝓤) where
         let Φ = (o + length xs ≤ o') ⊎ (o' + length ys ≤ o) in
         elim (cases_order b b') [
           | inl e ↦ via 𝓤 (fact 𝓤 Φ) (subst (λ (k : ℕ). ent 𝓤 (Both k) (fact 𝓤 Φ)) e (same_block b o o' xs ys some some'))
-              (fact_use 𝓤 Φ (id⊢ 𝓤 (fact 𝓤 Φ)) (λ told. fact_i 𝓤 _ (fact 𝓤 Φ) (λ _. told)))
-          | inr other ↦ fact_i 𝓤 _ (Both b') (λ same. absurd (elim other [ inl l ↦ omega arith | inr g ↦ omega arith ]))
+              (fact_use 𝓤 Φ (id⊢ 𝓤 (fact 𝓤 Φ)) (λ told. fact_i 𝓤 _ (fact 𝓤 Φ) (tt, λ _. told)))
+          | inr other ↦ fact_i 𝓤 _ (Both b') (tt, λ same. absurd (elim other [ inl l ↦ omega arith | inr g ↦ omega arith ]))
         ]

@@ -4,7 +4,7 @@
 ghost use Rattle.std.specs.Prelude.{◌≡◌, ℕ, ◌+◌, ◌^◌, ◌<◌, ◌≤◌, List, ◌++◌, length, take, drop};
 ghost use Rattle.std.specs.Vec.{with_items};
 ghost use base.Fml.{ftrue, fex, fall, fwand, fsep, feq};
-ghost use denote.RawPtr.{Ptr, ◌+ₚ◌};
+ghost use denote.RawPtr.{InBlock, Ptr, ◌+ₚ◌};
 ghost use Rattle.log_arena.specs.Ownership.{Apart, Extent, extent_code, run_owns};
 
 use std::marker::{Model, Move, Owns};
@@ -46,7 +46,7 @@ unsafe impl Send for Deed {}
 pub(crate) fn detach(vec: Vec<u8>) -> (Run, Deed)
     requires { 0 < vec.len }
     ensures { (result.0.ptr ≡ vec.ptr) × (result.0.items ≡ vec.items) × (result.1.ptr ≡ vec.ptr)
-        × (result.1.len ≡ vec.len) }
+        × (result.1.len ≡ vec.len) × InBlock vec.ptr }
 {
     (Run {}, Deed { vec })
 }
@@ -104,7 +104,7 @@ pub(crate) fn merge(front: Run, back: Run) -> Run
 pub(crate) fn apart(a: Run, b: Run) -> (Run, Run)
     requires { (0 < length a.items) × (0 < length b.items) }
     ensures { (result.0 ≡ a) × (result.1 ≡ b)
-        × Apart a.ptr (length a.items) b.ptr (length b.items) }
+        × InBlock a.ptr × Apart a.ptr (length a.items) b.ptr (length b.items) }
 {
     (a, b)
 }

@@ -1,29 +1,50 @@
 -- `apart`: bytes that two own are nobody's. Assumes `Logic`.
-use Rattle.std.proofs.Common.{◌<◌, List, [], ◌∷◌, ◌++◌, length, refl}
+use Rattle.std.proofs.Common.{◌≡◌, ℕ, ◌+◌, ◌^◌, ◌<◌, ◌≤◌, ◌⊎◌, List, [], ◌∷◌, ◌++◌, length, take, drop as dropped, refl, sym, ap, ◌∙◌, subst, Vec}
 use Rattle.std.proofs.raw_atomic.Walks.{proved_at}
 use Rattle.std.proofs.alloc.Calls.{Goes-blank}
-use mir.Val.{Val}
-use base.Logic.{SProp}
+use Rattle.std.proofs.lemmas.List.{length-take-le, with_items_is}
+use Rattle.std.proofs.VecSteps.Shapes.{after}
+use Rattle.std.specs.Vec.{with_items}
+use mir.Syntax.{w64}
+use mir.Val.{Val, vint, vptr}
+use base.Logic.{SProp, never, id⊢, apply∗, all_e}
+use base.Fml.{ftrue, fsep, feq, fwand}
 use prog.Wp.{WpFn}
 use contract.Monad.{fact}
 use contract.Running.{tables}
-use types.Kit.{‵, raw, ◌⊛◌, prop, ◌$◌, ◌∵◌, !, qed, move, drop, split, fsplit, fjoin, regoal, suffices, done}
-use types.Part.{agg}
-use types.Run.{enter, returns, and_then, no_more}
-use types.ByLocal.{alloc_all, pass_all, free_all, look_at, get, sets}
+use types.Logic.{sem}
+use types.Kit.{‵, raw, ◌⊛◌, prop, some, given, later, at_ret, ◌$◌, ◌∵◌, !, qed, move, drop, use1, use2, split, join, fsplit, fjoin, fpick, fpack, flt_l, feq_l, feq_i, pick, learn, await, rewrite, regoal, suffices, done}
+use types.Part.{agg, sub, whole}
+use types.Run.{enter, returns, and_then, no_more, of_opd, fld, stop, first, blocks, exec}
+use types.ByLocal.{alloc_all, pass_all, free_all, look_at, get, get_in, sets, lands_as, lands_last, env}
 use denote.Exit.{yes}
+use denote.Laws.{Typed}
 use denote.RattleType.{owns}
+use denote.Builtin.{RawPtr, u8, usize}
+use denote.Memory.{lone}
+use base.Fraction.{full_share}
+use denote.Array.{Array}
+use denote.RawPtr.{InBlock, lies_in_block, Ptr, ptr_val, rawptr_Lawful, in_a_block, ◌+ₚ◌}
 use denote.Signature.{plain, types_at}
-use denote.Steps.{nothing, heard}
+use denote.Steps.{nothing, heard, only}
+use denote.Struct.Struct.{Struct, as_fields}
+use denote.Triple.Call.{calls_at, calls_at_last}
 use denote.Triple.Entry.{alive}
+use denote.Triple.Table.{framed}
 use denote.Triple.Walked.{says, Stays, stay_dropped, walk_of, ends_at}
-use Rattle.log_arena.specs.Ownership.{Apart}
+use Rattle.std_alloc.specs.declared.vec.lodged.Lodged.{Lodged}
+use Rattle.std_alloc.proofs.vec.lodge.Met.{met as lodge_met}
+use Rattle.std_alloc.proofs.vec.lodged.Vec+T+Lodged.dislodge.Met.{met as dislodge_met}
+use Rattle.log_arena.specs.Ownership.{Apart, run_owns}
 use Rattle.log_arena.specs.contracts.memory.Run as run
+use Rattle.log_arena.specs.contracts.memory.Deed as deed
 use Rattle.log_arena.specs.contracts.memory.apart as f
 use Rattle.log_arena.proofs.memory.apart.Statement.{statement}
 use Rattle.log_arena.proofs.memory.apart.Code as code
-use Rattle.log_arena.proofs.Steps.{empty, packed, packs, run_opens, run_closes, learns}
-use Rattle.log_arena.proofs.Runs.{run_apart}
+use Rattle.log_arena.proofs.Steps.{empty, packed, packs, unpacks, unnamed, run_opens, run_closes, tells, learns, Suits}
+use Rattle.log_arena.proofs.Runs.{run_cut, run_joins, run_apart}
+use Rattle.log_arena.proofs.Deeds.{Held, held-laws, taken_out, byte_laws}
+use Rattle.log_arena.proofs.Lodgings.{Housed, housed-laws, Lodges, Dislodges, lodging, LiesThere, lodge_takes, lodge_gives, dislodging, dislodge_takes, dislodge_gives}
 
 abbrev stayed : Stays f.ended.signature.params f.ended.kept
 stayed = (stay_dropped (plain (λ _. run.the_row)) yes, (stay_dropped (plain (λ _. run.the_row)) yes, tt))
@@ -39,7 +60,7 @@ apart_spec 𝓤 𝓛 𝓜 𝓡 wired =
     let vss = z.0.4 in
     let r = z.0.3.0 in let s = z.0.3.1.0 in
     let Asked = (0 < length r.items) × (0 < length s.items) in
-    let Φ = Apart r.ptr (length r.items) s.ptr (length s.items) in
+    let Φ = InBlock r.ptr × Apart r.ptr (length r.items) s.ptr (length s.items) in
     qed 𝓛 ((raw (alive 𝓛 f.signature z.0.0 z.0.1) ⊛ ‵ (owns (types_at f.signature.params z.0.0) z.0.3 vss)) ∷ raw (fact 𝓤 Asked) ∷ []) ∵
     move ! (1 ∷ []) $ heard ! Asked (λ asked. split ! $ move ! (1 ∷ []) $
     fsplit ! $ run_opens ! r vss.0 (λ is₀. move ! (1 ∷ []) $ fsplit ! $ run_opens ! s vss.1.0 (λ is₁. move ! (1 ∷ []) $ drop ! $ move ! (1 ∷ []) $
@@ -51,5 +72,5 @@ apart_spec 𝓤 𝓛 𝓜 𝓡 wired =
     move ! (1 ∷ []) $ run_closes ! s $ nothing ! $ move ! (1 ∷ 0 ∷ []) $ fjoin ! $ move ! (1 ∷ []) $ run_closes ! r $ fjoin ! $
     packs ! (run.the_row ∷ run.the_row ∷ []) (r, (s, tt)) (empty ∷ [], (empty ∷ [], tt)) $
     returns ! (look_at ! 0 refl) $ free_all ! refl $
-    suffices ! _ (ends_at 𝓛 f.ended stayed c z (packed (empty ∷ empty ∷ [])) (r, s) (tt, (tt, tt)) (tt, (tt, tt))) $ says ! (refl, refl, told) $
+    suffices ! _ (ends_at 𝓛 f.ended stayed c z (packed (empty ∷ empty ∷ [])) (r, s) (tt, (tt, tt)) (tt, (tt, tt))) $ says ! (refl, refl, told.0, told.1) $
     nothing ! $ nothing ! $ fjoin ! $ nothing ! $ fjoin ! $ move ! (2 ∷ 0 ∷ 1 ∷ []) $ done !))))))
