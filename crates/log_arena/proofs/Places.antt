@@ -4,11 +4,10 @@ use Rattle.std.proofs.lemmas.List.{length-replicate, take_all}
 use Rattle.std.proofs.lemmas.List.Sums.{sum_by-append}
 use Rattle.std.proofs.lemmas.List.Folds.{sum_by-replicate}
 use Rattle.std.specs.List.{count_by}
-use borrow.Author.Tests.{eqb-false}
-use Rattle.log_arena.specs.Pages.{IsFree, IsLeastPlace, HasNoPlace, has_lease, prepended, runs_from, holes_of}
+use Rattle.log_arena.specs.Pages.{IsFree, IsLeastPlace, HasNoPlace, has_lease, prepended, runs_from}
 use Rattle.log_arena.specs.Spans.{Span, Spaced, table, total}
 use Rattle.log_arena.proofs.Marks.{free_behind, first_pages, all_leased, free_at}
-use Rattle.log_arena.proofs.Tables.{by_test, le_or, Clear, Before, split, length-table, table_here, at_place, spaced_before, before_end}
+use Rattle.log_arena.proofs.Tables.{by_test, le_or, Before, split, length-table, table_here, at_place, spaced_before, before_end}
 
 -- ---- the least place
 -- each of the holes has fewer than n pages

@@ -4,9 +4,9 @@ use Rattle.std.proofs.lemmas.List.{length-replicate, replicate-append-replicate,
 use Rattle.std.proofs.Math.Seq.{take-append_seam, drop-append_seam}
 use Rattle.std.specs.List.{insert, remove}
 use borrow.Author.Tests.{eqb-false}
-use Rattle.log_arena.specs.Pages.{marked, IsFree, has_lease}
+use Rattle.log_arena.specs.Pages.{marked}
 use Rattle.log_arena.specs.Spans.{Span, Spaced, table, closed, seamed, Remade}
-use Rattle.log_arena.proofs.Marks.{marked_at, free_behind, first_pages, all_leased, free_at}
+use Rattle.log_arena.proofs.Marks.{marked_at}
 
 -- by a test's answer
 pub by_test : {X : Type 0} (t : Bool) → (t ≡ true → X) → (t ≡ false → X) → X

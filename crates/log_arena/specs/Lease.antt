@@ -1,5 +1,5 @@
 -- A lease, and which region it is of.
-use Rattle.std.specs.Prelude.{◌≡◌, ℕ, ◌+◌, ◌*◌, ◌%◌, ◌<◌, ◌≤◌, List, length}
+use Rattle.std.specs.Prelude.{◌≡◌, ℕ, ◌+◌, ◌*◌, ◌%◌, ◌<◌, ◌≤◌, List}
 use Rattle.std.specs.Borrow.{MutBor, Lends, u8}
 use Rattle.std.specs.Vec.{with_items}
 use base.Fml.{Fml}

@@ -65,6 +65,7 @@ impl Arena {
         ensures zeros { IfOk result (λ l. lease_bytes l ≡ replicate len 0) }
         ensures taken { IfOk result (λ l. self.new
             ≡ record self.old { leased = marked true (lease_place l / 4096) (len / 4096) self.old.leased }) }
+        ensures home { (self.new.base ≡ self.old.base) × (self.new.pages ≡ self.old.pages) }
         ensures sized { length self.new.leased ≡ self.new.pages }
         ensures err { OnErr result (self.new ≡ self.old) }
     {

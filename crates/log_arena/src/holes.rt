@@ -1,5 +1,5 @@
 // The parts of the region that no lease has: what holds their bytes beside where they are.
-ghost use Rattle.std.specs.Prelude.{◌≡◌, ℕ, ◌+◌, ◌-◌, ◌*◌, ◌/◌, ◌%◌, ◌^◌, ◌<◌, ◌≤◌, ◌⊎◌, ◌↔◌, false, true, List, [], ◌∷◌, length, insert, remove, slice_index_or, IsTrue, IfOk, IfSome, min, vec_len, map};
+ghost use Rattle.std.specs.Prelude.{◌≡◌, ℕ, ◌+◌, ◌-◌, ◌*◌, ◌/◌, ◌%◌, ◌^◌, ◌<◌, ◌≤◌, ◌⊎◌, ◌↔◌, false, true, List, [], ◌∷◌, length, insert, remove, slice_index_or, IsTrue, IfOk, IfSome, IsSome, min, vec_len, map};
 ghost use Rattle.std.specs.Vec.{vec_capacity};
 ghost use denote.RawPtr.{InBlock, ◌+ₚ◌};
 ghost use Rattle.log_arena.specs.Pages.{marked};
@@ -72,8 +72,9 @@ impl Holes {
 
     // The run of all `size` bytes, if they are one hole.
     pub(crate) fn into_whole(self, size: usize) -> Option<Run>
-        requires { 0 < size }
-        ensures { IfSome result (λ r. (r.ptr ≡ self.base) × (length r.items ≡ size)) }
+        requires { (0 < size) × (size % 4096 ≡ 0) }
+        ensures exact { self.spans ≡ (0, size / 4096) ∷ [] → IsSome result }
+        ensures run { IfSome result (λ r. (r.ptr ≡ self.base) × (length r.items ≡ size)) }
     {
         let mut holes = self;
         if holes.len() != 1 {

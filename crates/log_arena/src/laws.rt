@@ -1,6 +1,7 @@
 //! What holds of any two leases, and of a lease that is out while others come and go.
-ghost use Rattle.std.specs.Prelude.{◌≡◌, ℕ, ◌%◌, ◌^◌, ◌<◌, length};
-ghost use Rattle.log_arena.specs.Lease.{IsOf, IsSame, ShareNoPage, lease_len};
+ghost use Rattle.std.specs.Prelude.{◌≡◌, ◌/◌, ◌%◌, ◌<◌, false, true, IfOk, OnErr};
+ghost use Rattle.log_arena.specs.Lease.{IsOf, IsSame, ShareNoPage, lease_len, lease_place};
+ghost use Rattle.log_arena.specs.Pages.{marked};
 
 use crate::arena::{Arena, NoRoom};
 use crate::lease::Lease;
@@ -35,7 +36,17 @@ pub fn others_leave_a_lease(
 ) -> Result<Lease, NoRoom>
     requires given { IsOf arena.old given }
     requires len { (0 < len) × (len % 4096 ≡ 0) }
-    ensures { held.new ≡ held.old }
+    ensures held { held.new ≡ held.old }
+    ensures here { IfOk result (λ l. IsOf arena.new l) }
+    ensures taken { IfOk result (λ l. arena.new ≡ record arena.old {
+      leased
+          = marked true (lease_place l / 4096) (len / 4096)
+          (marked false (lease_place given / 4096) (lease_len given / 4096) arena.old.leased);
+    }) }
+    ensures err { OnErr result (arena.new ≡ record arena.old {
+      leased
+          = marked false (lease_place given / 4096) (lease_len given / 4096) arena.old.leased;
+    }) }
 {
     arena.give(given);
     arena.lease(len)

@@ -1,5 +1,4 @@
-use Rattle.std.proofs.Common.{◌≡◌, ℕ, ◌+◌, ◌<◌, length, get_or, take, sym, ap, ◌∙◌, arith}
-use Rattle.log_arena.specs.Spans.{total}
+use Rattle.std.proofs.Common.{◌+◌, ◌<◌, length, get_or, sym, ap, ◌∙◌, arith}
 use Rattle.log_arena.proofs.Places.{total-take, total-take-le}
 use Rattle.log_arena.proofs.holes.sum_of.Goals as goal
 

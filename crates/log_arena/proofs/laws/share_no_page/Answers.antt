@@ -1,7 +1,6 @@
-use Rattle.std.proofs.Common.{◌≡◌, ℕ, ◌+◌, ◌*◌, ◌<◌, ◌≤◌, inl, inr, List, length, sym, ap, ◌∙◌, subst, arith}
+use Rattle.std.proofs.Common.{◌≡◌, ℕ, inl, inr, List, length, sym, ap, ◌∙◌, subst, arith}
 use denote.RawPtr.{InBlock, Ptr, ◌+ₚ◌}
 use Rattle.log_arena.specs.Lease.{ShareNoPage}
-use Rattle.log_arena.specs.Ownership.{Apart}
 use Rattle.log_arena.specs.declared.lease.Lease.{Lease}
 use Rattle.log_arena.proofs.Matches.{places_apart, placed_from}
 use Rattle.log_arena.proofs.laws.share_no_page.Goals as goal

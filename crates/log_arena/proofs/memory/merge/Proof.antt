@@ -1,50 +1,30 @@
 -- `merge`: the bytes of both, side by side. Assumes `Logic`.
-use Rattle.std.proofs.Common.{◌≡◌, ℕ, ◌+◌, ◌^◌, ◌<◌, ◌≤◌, ◌⊎◌, List, [], ◌∷◌, ◌++◌, length, take, drop as dropped, refl, sym, ap, ◌∙◌, subst, Vec}
+use Rattle.std.proofs.Common.{◌≡◌, List, [], ◌∷◌, ◌++◌, length, refl}
 use Rattle.std.proofs.raw_atomic.Walks.{proved_at}
 use Rattle.std.proofs.alloc.Calls.{Goes-blank}
-use Rattle.std.proofs.lemmas.List.{length-take-le, with_items_is}
-use Rattle.std.proofs.VecSteps.Shapes.{after}
-use Rattle.std.specs.Vec.{with_items}
-use mir.Syntax.{w64}
-use mir.Val.{Val, vint, vptr}
-use base.Logic.{SProp, never, id⊢, apply∗, all_e}
-use base.Fml.{ftrue, fsep, feq, fwand}
+use mir.Val.{Val}
+use base.Logic.{SProp}
 use prog.Wp.{WpFn}
 use contract.Monad.{fact}
 use contract.Running.{tables}
-use types.Logic.{sem}
-use types.Kit.{‵, raw, ◌⊛◌, prop, some, given, later, at_ret, ◌$◌, ◌∵◌, !, qed, move, drop, use1, use2, split, join, fsplit, fjoin, fpick, fpack, flt_l, feq_l, feq_i, pick, learn, await, rewrite, regoal, suffices, done}
-use types.Part.{agg, sub, whole}
-use types.Run.{enter, returns, and_then, no_more, of_opd, fld, stop, first, blocks, exec}
-use types.ByLocal.{alloc_all, pass_all, free_all, look_at, get, get_in, sets, lands_as, lands_last, env}
+use types.Kit.{‵, raw, ◌⊛◌, prop, ◌$◌, ◌∵◌, !, qed, move, drop, use2, split, fsplit, fjoin, rewrite, regoal, suffices, done}
+use types.Part.{agg}
+use types.Run.{enter, returns, no_more}
+use types.ByLocal.{alloc_all, pass_all, free_all, look_at, sets}
 use denote.Exit.{yes}
-use denote.Laws.{Typed}
 use denote.RattleType.{owns}
-use denote.Builtin.{RawPtr, u8, usize}
-use denote.Memory.{lone}
-use base.Fraction.{full_share}
-use denote.Array.{Array}
-use denote.RawPtr.{InBlock, lies_in_block, Ptr, ptr_val, rawptr_Lawful, in_a_block, ◌+ₚ◌}
+use denote.RawPtr.{Ptr, ◌+ₚ◌}
 use denote.Signature.{plain, types_at}
-use denote.Steps.{nothing, heard, only}
-use denote.Struct.Struct.{Struct, as_fields}
-use denote.Triple.Call.{calls_at, calls_at_last}
+use denote.Steps.{nothing, heard}
 use denote.Triple.Entry.{alive}
-use denote.Triple.Table.{framed}
 use denote.Triple.Walked.{says, Stays, stay_dropped, walk_of, ends_at}
-use Rattle.std_alloc.specs.declared.vec.lodged.Lodged.{Lodged}
-use Rattle.std_alloc.proofs.vec.lodge.Met.{met as lodge_met}
-use Rattle.std_alloc.proofs.vec.lodged.Vec+T+Lodged.dislodge.Met.{met as dislodge_met}
-use Rattle.log_arena.specs.Ownership.{Apart, run_owns}
+use Rattle.log_arena.specs.Ownership.{run_owns}
 use Rattle.log_arena.specs.contracts.memory.Run as run
-use Rattle.log_arena.specs.contracts.memory.Deed as deed
 use Rattle.log_arena.specs.contracts.memory.merge as f
 use Rattle.log_arena.proofs.memory.merge.Statement.{statement}
 use Rattle.log_arena.proofs.memory.merge.Code as code
-use Rattle.log_arena.proofs.Steps.{empty, packed, packs, unpacks, unnamed, run_opens, run_closes, tells, learns, Suits}
-use Rattle.log_arena.proofs.Runs.{run_cut, run_joins, run_apart}
-use Rattle.log_arena.proofs.Deeds.{Held, held-laws, taken_out, byte_laws}
-use Rattle.log_arena.proofs.Lodgings.{Housed, housed-laws, Lodges, Dislodges, lodging, LiesThere, lodge_takes, lodge_gives, dislodging, dislodge_takes, dislodge_gives}
+use Rattle.log_arena.proofs.Steps.{empty, run_opens, run_closes}
+use Rattle.log_arena.proofs.Runs.{run_joins}
 
 abbrev stayed : Stays f.ended.signature.params f.ended.kept
 stayed = (stay_dropped (plain (λ _. run.the_row)) yes, (stay_dropped (plain (λ _. run.the_row)) yes, tt))

@@ -1,4 +1,4 @@
-use Rattle.std.proofs.Common.{◌≡◌, ℕ, ◌*◌, sym, ap, ◌∙◌, arith}
+use Rattle.std.proofs.Common.{◌*◌, sym, ap, ◌∙◌, arith}
 use Rattle.log_arena.specs.Pages.{Region, free_bytes}
 use Rattle.log_arena.proofs.Places.{free_pages, total_within}
 use Rattle.log_arena.proofs.arena.Arena.free.Goals as goal

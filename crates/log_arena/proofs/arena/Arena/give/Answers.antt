@@ -1,4 +1,4 @@
-use Rattle.std.proofs.Common.{◌≡◌, ℕ, ◌+◌, ◌/◌, ◌≤◌, sym, ap, subst, arith}
+use Rattle.std.proofs.Common.{◌+◌, ◌/◌, ◌≤◌, sym, ap, subst, arith}
 use Rattle.log_arena.specs.Pages.{Region}
 use Rattle.log_arena.specs.Spans.{Span, paged}
 use Rattle.log_arena.proofs.Places.{table-sized}

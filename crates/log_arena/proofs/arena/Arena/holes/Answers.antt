@@ -1,4 +1,4 @@
-use Rattle.std.proofs.Common.{◌≡◌, ℕ, ◌*◌, List, map, sym, ap, ◌∙◌, arith}
+use Rattle.std.proofs.Common.{◌*◌, List, map, sym, ap, ◌∙◌, arith}
 use Rattle.log_arena.specs.Pages.{Region, holes_of}
 use Rattle.log_arena.specs.Spans.{Span}
 use Rattle.log_arena.proofs.Places.{runs-table}

@@ -1,6 +1,5 @@
-use Rattle.std.proofs.Common.{◌≡◌, ℕ, ◌+◌, ◌*◌, ◌/◌, ◌%◌, ◌<◌, ◌≤◌, length, get_or, sym, ap, ◌∙◌, subst, arith}
-use denote.RawPtr.{Ptr, ◌+ₚ◌}
-use Rattle.log_arena.specs.Layout.{Layout}
+use Rattle.std.proofs.Common.{◌≡◌, ◌/◌, ◌%◌, ◌<◌, length, get_or, sym, ap, ◌∙◌, subst, arith}
+use denote.RawPtr.{◌+ₚ◌}
 use Rattle.log_arena.specs.Pages.{Region, HasNoPlace, IsLeastPlace}
 use Rattle.log_arena.specs.Spans.{Span}
 use Rattle.log_arena.proofs.Matches.{div_some}

@@ -1,6 +1,6 @@
-use Rattle.std.proofs.Common.{◌≡◌, ℕ, ◌*◌, ◌+◌, not, sym, ap, ◌∙◌, subst, arith}
+use Rattle.std.proofs.Common.{◌≡◌, ◌+◌, not, sym, ap, ◌∙◌, arith}
 use Rattle.std.specs.List.{count_by}
-use Rattle.log_arena.specs.Pages.{Region, free_bytes, used_bytes}
+use Rattle.log_arena.specs.Pages.{Region}
 use Rattle.log_arena.proofs.Places.{pages_counted}
 use Rattle.log_arena.proofs.arena.Arena.used.Goals as goal
 

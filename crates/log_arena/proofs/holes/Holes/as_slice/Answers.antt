@@ -1,4 +1,4 @@
-use Rattle.std.proofs.Common.{◌≡◌, ℕ, ◌*◌, List, map, sym, ap, ◌∙◌}
+use Rattle.std.proofs.Common.{◌*◌, map, sym, ap, ◌∙◌}
 use Rattle.log_arena.specs.Layout.{Layout}
 use Rattle.log_arena.specs.Spans.{Span}
 use Rattle.log_arena.proofs.Matches.{bytes_of}

@@ -1,6 +1,5 @@
-use Rattle.std.proofs.Common.{◌≡◌, ℕ, ◌+◌, ◌/◌, ◌<◌, ◌≤◌, ◌⊎◌, inl, inr, List, length, get_or, refl, sym, ap, ap₂, ◌∙◌, subst, arith}
+use Rattle.std.proofs.Common.{◌+◌, ◌<◌, ◌≤◌, ◌⊎◌, inl, inr, List, length, ap, ◌∙◌, subst, arith}
 use Rattle.std.specs.List.{insert, remove}
-use denote.RawPtr.{Ptr}
 use Rattle.log_arena.specs.Layout.{Layout}
 use Rattle.log_arena.specs.Ownership.{Apart}
 use Rattle.log_arena.specs.Spans.{Span, paged}

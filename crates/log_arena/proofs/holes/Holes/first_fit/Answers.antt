@@ -1,4 +1,4 @@
-use Rattle.std.proofs.Common.{◌≡◌, ℕ, ◌<◌, ◌/◌, List, length, get_or, sym, ap, subst, arith}
+use Rattle.std.proofs.Common.{◌<◌, ◌/◌, List, length, get_or, sym, ap, subst, arith}
 use Rattle.log_arena.specs.Layout.{Layout}
 use Rattle.log_arena.specs.Spans.{Span}
 use Rattle.log_arena.proofs.Matches.{paged_at, div_lt}

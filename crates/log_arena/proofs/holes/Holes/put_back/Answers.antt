@@ -1,8 +1,8 @@
-use Rattle.std.proofs.Common.{◌≡◌, ℕ, false, suc, ◌+◌, ◌-◌, ◌<◌, ◌≤◌, List, length, sym, ap, ◌∙◌, subst, arith}
+use Rattle.std.proofs.Common.{◌≡◌, ℕ, false, suc, ◌-◌, length, sym, ap, ◌∙◌, subst, arith}
 use Rattle.std.specs.List.{insert}
 use Rattle.std.proofs.lemmas.List.Edits.{length-insert}
 use Rattle.log_arena.specs.Layout.{Layout}
-use Rattle.log_arena.specs.Spans.{Span, Spaced, Remade, paged, seamed}
+use Rattle.log_arena.specs.Spans.{Span, Remade, paged, seamed}
 use Rattle.log_arena.proofs.Matches.{div_some}
 use Rattle.log_arena.proofs.Tables.{Fits, given_zero, given_suc, seamed-length}
 use Rattle.log_arena.proofs.holes.Holes.put_back.Goals as goal

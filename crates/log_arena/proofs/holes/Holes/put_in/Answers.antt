@@ -1,7 +1,7 @@
-use Rattle.std.proofs.Common.{◌≡◌, ℕ, ◌<◌, List, length, min, vec_capacity, refl, sym, ap, ap₂, ◌∙◌, subst, arith}
+use Rattle.std.proofs.Common.{◌≡◌, min, vec_capacity, sym, ap, ap₂, subst, arith}
 use denote.RawPtr.{Ptr}
 use Rattle.log_arena.specs.Layout.{Layout}
-use Rattle.log_arena.specs.Spans.{Span, IsSpan, paged}
+use Rattle.log_arena.specs.Spans.{IsSpan}
 use Rattle.log_arena.proofs.Matches.{counted, lies-insert, pages-insert}
 use Rattle.log_arena.proofs.holes.Holes.put_in.Goals as goal
 

@@ -1,8 +1,8 @@
-use Rattle.std.proofs.Common.{◌≡◌, ℕ, ◌+◌, ◌/◌, ◌<◌, List, length, get_or, take, drop, refl, sym, ap, ap₂, ◌∙◌, subst, arith}
+use Rattle.std.proofs.Common.{◌≡◌, ℕ, ◌+◌, ◌/◌, List, length, get_or, sym, ap, ap₂, ◌∙◌, arith}
 use Rattle.std.specs.List.{insert, remove}
 use Rattle.std.proofs.lemmas.List.Edits.{length-remove}
 use Rattle.log_arena.specs.Layout.{Layout}
-use Rattle.log_arena.specs.Spans.{Span, paged, seamed}
+use Rattle.log_arena.specs.Spans.{Span, paged}
 use Rattle.log_arena.proofs.Matches.{get-remove, one_for_two, div_sum}
 use Rattle.log_arena.proofs.Tables.{seamed-touch}
 use Rattle.log_arena.proofs.holes.Holes.seam.Goals as goal

@@ -1,7 +1,7 @@
-use Rattle.std.proofs.Common.{◌≡◌, ℕ, true, suc, ◌+◌, ◌-◌, ◌/◌, ◌<◌, ◌≤◌, List, ◌∷◌, ◌++◌, length, get_or, take, drop, sym, ap, ap₂, ◌∙◌, subst, arith}
+use Rattle.std.proofs.Common.{◌≡◌, true, suc, ◌+◌, ◌-◌, ◌/◌, ◌<◌, ◌≤◌, ◌∷◌, ◌++◌, get_or, take, drop, sym, ap, ap₂, ◌∙◌, subst, arith}
 use Rattle.std.specs.List.{insert, remove}
 use Rattle.log_arena.specs.Layout.{Layout}
-use Rattle.log_arena.specs.Spans.{Span, Spaced, Remade, paged}
+use Rattle.log_arena.specs.Spans.{Span, Remade, paged}
 use Rattle.log_arena.proofs.Matches.{one_for_one, div_sum, div_sub}
 use Rattle.log_arena.proofs.Tables.{taken_whole, taken_front}
 use Rattle.log_arena.proofs.holes.Holes.take_front.Goals as goal

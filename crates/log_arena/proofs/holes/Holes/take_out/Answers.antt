@@ -1,8 +1,7 @@
-use Rattle.std.proofs.Common.{◌≡◌, ℕ, ◌<◌, length, min, refl, sym, ap, ap₂, ◌∙◌, arith}
-use Rattle.std.specs.List.{remove}
+use Rattle.std.proofs.Common.{◌≡◌, ◌<◌, length, min, sym, ap, ap₂, ◌∙◌, arith}
 use Rattle.std.proofs.Common.{List, get_or, vec_capacity}
 use Rattle.log_arena.specs.Layout.{Layout}
-use Rattle.log_arena.specs.Spans.{Span, paged, pages_of}
+use Rattle.log_arena.specs.Spans.{Span}
 use Rattle.log_arena.proofs.Matches.{counted, lies-remove, lies-found, pages-remove, found_page}
 use Rattle.log_arena.proofs.holes.Holes.take_out.Goals as goal
 

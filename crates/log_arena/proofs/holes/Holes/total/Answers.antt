@@ -1,6 +1,6 @@
-use Rattle.std.proofs.Common.{◌≡◌, ℕ, ◌*◌, ◌<◌, List, sym, ap, ◌∙◌, arith}
+use Rattle.std.proofs.Common.{◌≡◌, ◌*◌, ap, ◌∙◌, arith}
 use Rattle.log_arena.specs.Layout.{Layout}
-use Rattle.log_arena.specs.Spans.{Span, total}
+use Rattle.log_arena.specs.Spans.{total}
 use Rattle.log_arena.proofs.Matches.{total-pages}
 use Rattle.log_arena.proofs.holes.Holes.total.Goals as goal
 

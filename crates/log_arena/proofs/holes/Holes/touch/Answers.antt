@@ -1,4 +1,4 @@
-use Rattle.std.proofs.Common.{◌≡◌, ℕ, ◌+◌, ◌<◌, ◌≤◌, List, length, get_or, refl, sym, ap, ◌∙◌, arith, eqb, eqb-true, true, false}
+use Rattle.std.proofs.Common.{◌+◌, ◌<◌, ◌≤◌, length, ap, arith, eqb-true}
 use borrow.Author.Tests.{eqb-false}
 use Rattle.log_arena.specs.Layout.{Layout}
 use Rattle.log_arena.proofs.Matches.{counted, span_is, touch_told}
