@@ -1,5 +1,5 @@
 -- A `Vec` of bytes is a run and a deed. Assumes `Logic`.
-use Rattle.std.proofs.Common.{◌≡◌, ℕ, ◌*◌, ◌-◌, ◌^◌, ◌<◌, List, [], ◌∷◌, length, Bool, true, refl, sym, ap, arith, Vec, Global, ◌∙◌}
+use Rattle.std.proofs.Common.{◌≡◌, ℕ, ◌*◌, ◌-◌, ◌^◌, ◌<◌, List, [], ◌∷◌, length, Bool, true, refl, sym, arith, Vec, Global}
 use Rattle.std.proofs.lemmas.Bool.{ne_eqb, not_from_false}
 use Rattle.std.proofs.lemmas.List.{with_items_is}
 use seplogic.Ra.Ura.{Ura}
@@ -8,9 +8,9 @@ use mir.Val.{Val}
 use prog.Memory.{size}
 use base.Fraction.{full_share}
 use base.Logic.{ent, sep, never, never_e, via, fst∗, snd∗}
-use base.Fml.{Fml, fsep, feq, flt, fall, fwand}
+use base.Fml.{fex, Fml, fsep, feq, flt, fwand}
 use types.Logic.{Logic, sem}
-use types.Kit.{‵, ◌⊛◌, ◌$◌, ◌∵◌, !, qed, move, frame, each, assume, show, use1, use2, split, fsplit, fjoin, feq_l, feq_i, rewrite, done}
+use types.Kit.{‵, ◌⊛◌, ◌$◌, ◌∵◌, !, qed, move, frame, each, assume, fpack, use1, use2, split, fsplit, fjoin, feq_l, feq_i, rewrite, done}
 use denote.RattleType.{RattleType}
 use denote.Steps.{nothing}
 use denote.Builtin.{u8}
@@ -32,6 +32,7 @@ use Rattle.std_alloc.specs.contracts.vec.Vec as vec
 use Rattle.std_alloc.proofs.vec.Vec.TheLaws as vec_laws
 use Rattle.log_arena.specs.Ownership.{run_owns}
 use Rattle.log_arena.specs.contracts.memory.Deed as deed
+use Rattle.log_arena.specs.declared.memory.Deed.TheInside.{Inside}
 use Rattle.log_arena.proofs.Steps.{packed, packs, unnamed}
 
 abbrev pub byte_laws : Laws u8
@@ -73,9 +74,12 @@ module _ {M : Type 1} {𝓤 : Ura M} (𝓛 : Logic 𝓤) where
       move ! (1 ∷ 0 ∷ []) $ fjoin ! $ done !
 
   module _ (v : Vec ℕ Global) (u : Val) where
-    -- the right to put other bytes in
-    abbrev Refills : List ℕ → Fml
-    Refills ys = fwand (fsep (feq ℕ (length ys) v.len) (run_owns v.ptr ys)) ((Struct (unnamed (Held ∷ []))).own_val (with_items v ys, tt) (packed (u ∷ []) ∷ []))
+    -- what the deed makes of the bytes ys: some `Vec` that holds them
+    abbrev Filled : List ℕ → Inside → Fml
+    Filled ys d = fsep (feq (List ℕ) d.vec.items ys) ((Struct (unnamed (Held ∷ []))).own_val (d.vec, tt) (packed (u ∷ []) ∷ []))
+
+    abbrev Returns : List ℕ → Fml
+    Returns ys = fsep (feq ℕ (length ys) v.len) (run_owns v.ptr ys)
 
     pub taken_out : 0 < v.len → ent 𝓤 (sem 𝓛 (Held.own_val v (u ∷ []))) (sep 𝓤 (sem 𝓛 (run_owns v.ptr v.items)) (sem 𝓛 (deed.the_own (record { ptr = v.ptr; len = v.len }) (packed (u ∷ []) ∷ []))))
     taken_out some =
@@ -85,11 +89,10 @@ module _ {M : Type 1} {𝓤 : Ura M} (𝓛 : Logic 𝓤) where
         qed 𝓛 (‵ (Held.own_val v (u ∷ [])) ∷ []) ∵ fsplit ! $ move ! (1 ∷ []) $
         use1 𝓛 (‵ (run_owns v.ptr v.items) ⊛ ‵ Left) (heap_out t v.ptr v.len v.cap v.items block v.ok.0) $ split ! $ frame ! $
         -- [what is left; the fields]
-        show ! (λ i. sem 𝓛 (fsep (feq ℕ i.vec.len v.len) (fall (List ℕ) (λ ys. fwand (fsep (feq ℕ (length ys) v.len) (run_owns v.ptr ys)) ((Struct (unnamed (Held ∷ []))).own_val (with_items i.vec ys, tt) (packed (u ∷ []) ∷ [])))))) (record { vec = v }) $
-        feq_i ! ℕ v.len v.len refl $ frame ! $
-        each ! (λ ys. sem 𝓛 (Refills ys)) (λ ys. assume ! (‵ (fsep (feq ℕ (length ys) v.len) (run_owns v.ptr ys))) $ fsplit ! $ feq_l ! (λ long.
-        let zs = (with_items v ys).items in
-        let same : zs ≡ ys = with_items_is v ys long in
+        each ! (λ ys. sem 𝓛 (fwand (Returns ys) (fex Inside (Filled ys)))) (λ ys. assume ! (‵ (Returns ys)) $ fsplit ! $ feq_l ! (λ long.
+        let w = with_items v ys in
+        let same : w.items ≡ ys = with_items_is v ys long in
         rewrite ! 0 (λ ws. ‵ (run_owns v.ptr ws)) (sym same) refl $
-        use2 𝓛 (‵ (vec_owns t u8 v.ptr v.len v.cap zs)) (heap_in t v.ptr v.len v.cap zs block (sym long ∙ ap length (sym same))) $
-        move ! (1 ∷ 0 ∷ []) $ fjoin ! $ nothing ! $ move ! (1 ∷ 0 ∷ []) $ fjoin ! $ packs ! (Held ∷ []) (with_items v ys, tt) (u ∷ [], tt) $ done !))
+        use2 𝓛 (‵ (vec_owns t u8 v.ptr v.len v.cap w.items)) (heap_in t v.ptr v.len v.cap w.items block w.ok.0) $
+        move ! (1 ∷ 0 ∷ []) $ fjoin ! $ nothing ! $ move ! (1 ∷ 0 ∷ []) $ fjoin ! $ packs ! (Held ∷ []) (w, tt) (u ∷ [], tt) $
+        feq_i ! (List ℕ) w.items ys same $ fjoin ! $ fpack ! Inside (Filled ys) (record { vec = w }) $ done !))

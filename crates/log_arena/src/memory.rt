@@ -1,8 +1,7 @@
-// The bytes of the region, in parts that are owned one by one. A `Run` and a `Deed` take no memory of
-// their own: they say who may reach which bytes. The seven functions below are the only ones of this
-// crate whose proofs follow a pointer; what is above them is safe code.
+// The bytes of the region, in parts that are owned one by one. A `Run` takes no memory when the program
+// runs: it says who may reach which bytes. The seven functions below are the only ones of this crate
+// whose proofs follow a pointer; what is above them is safe code.
 ghost use Rattle.std.specs.Prelude.{◌≡◌, ℕ, ◌+◌, ◌^◌, ◌<◌, ◌≤◌, List, ◌++◌, length, take, drop};
-ghost use Rattle.std.specs.Vec.{with_items};
 ghost use base.Fml.{ftrue, fex, fall, fwand, fsep, feq};
 ghost use denote.RawPtr.{InBlock, Ptr, ◌+ₚ◌};
 ghost use Rattle.log_arena.specs.Ownership.{Apart, Extent, extent_code, run_owns};
@@ -35,7 +34,8 @@ impl Owns for Deed {
 }
 
 impl Move for Deed {
-    ghost own_val = { λ e vs. fex Inside (λ v. fsep (feq ℕ v.vec.len e.len) (fall (List ℕ) (λ xs. fwand (fsep (feq ℕ (length xs) e.len) (run_owns e.ptr xs)) (Fields.own_val (record { vec = with_items v.vec xs }) vs)))) };
+    ghost own_val = { λ e vs. fall (List ℕ) (λ xs. fwand (fsep (feq ℕ (length xs) e.len) (run_owns e.ptr xs))
+        (fex Inside (λ d. fsep (feq (List ℕ) d.vec.items xs) (Fields.own_val d vs)))) };
 }
 
 unsafe impl Send for Run {}

@@ -1,12 +1,11 @@
 -- `attach`: the bytes go where they are waited for. Assumes `Logic`.
-use Rattle.std.proofs.Common.{◌≡◌, ℕ, List, [], ◌∷◌, ◌++◌, length, refl, sym, ap, ◌∙◌, subst}
+use Rattle.std.proofs.Common.{◌≡◌, ℕ, List, [], ◌∷◌, ◌++◌, length, refl, ap, ◌∙◌, subst}
 use Rattle.std.proofs.raw_atomic.Walks.{proved_at}
 use Rattle.std.proofs.alloc.Calls.{Goes-blank}
-use Rattle.std.proofs.lemmas.List.{with_items_is}
-use Rattle.std.specs.Vec.{with_items}
 use mir.Val.{Val}
 use base.Logic.{SProp, apply∗, all_e}
-use base.Fml.{fsep, feq, fwand}
+use Rattle.log_arena.specs.declared.memory.Deed.TheInside.{Inside}
+use base.Fml.{fex, fsep, feq, fwand}
 use prog.Wp.{WpFn}
 use contract.Monad.{fact}
 use contract.Running.{tables}
@@ -50,14 +49,14 @@ attach_spec 𝓤 𝓛 𝓜 𝓡 wired =
     let Asked = (r.ptr ≡ e.ptr) × (length xs ≡ e.len) in
     qed 𝓛 ((raw (alive 𝓛 f.signature z.0.0 z.0.1) ⊛ ‵ (owns (types_at f.signature.params z.0.0) z.0.3 vss)) ∷ raw (fact 𝓤 Asked) ∷ []) ∵
     move ! (1 ∷ []) $ heard ! Asked (λ asked. split ! $ move ! (1 ∷ []) $
-    fsplit ! $ run_opens ! r vss.0 (λ is₀. move ! (1 ∷ []) $ fsplit ! $ fsplit ! $ fpick ! (λ typed. drop ! $ fpick ! (λ i. fsplit ! $ feq_l ! (λ long.
+    fsplit ! $ run_opens ! r vss.0 (λ is₀. move ! (1 ∷ []) $ fsplit ! $ fsplit ! $ fpick ! (λ typed. drop ! $
     let Back = λ (ys : List ℕ). fsep (feq ℕ (length ys) e.len) (run_owns e.ptr ys) in
-    let Filled = λ (ys : List ℕ). (Struct (unnamed (Held ∷ []))).own_val (with_items i.vec ys, tt) vss.1.0 in
-    let w = with_items i.vec xs in
+    let Filled = λ (ys : List ℕ). fex Inside (λ d. fsep (feq (List ℕ) d.vec.items ys) ((Struct (unnamed (Held ∷ []))).own_val (d.vec, tt) vss.1.0)) in
     -- [the way back; nothing; the bytes; the tokens]
     use1 𝓛 (‵ (fwand (Back xs) (Filled xs))) (all_e 𝓤 (λ ys. sem 𝓛 (fwand (Back ys) (Filled ys))) xs) $ move ! (2 ∷ []) $
     rewrite ! 0 (λ (p : Ptr). ‵ (run_owns p xs)) asked.0 refl $ feq_i ! ℕ (length xs) e.len asked.1 $ fjoin ! $
     use2 𝓛 (‵ (Filled xs)) (apply∗ 𝓤 (sem 𝓛 (Back xs)) (sem 𝓛 (Filled xs))) $
+    fpick ! (λ d. fsplit ! $ feq_l ! (λ held. let w = d.vec in
     unpacks ! (Held ∷ []) (w, tt) vss.1.0 (λ us is₁. fsplit ! $ tells ! Held held-laws (lone Held.mir) refl w us.0 (λ u is good. move ! (1 ∷ 2 ∷ []) $ drop ! $ drop ! $
     let whole_is : vss.1.0 ≡ packed (u ∷ []) ∷ [] = is₁ ∙ ap (λ (ws : List Val). packed (ws ++ []) ∷ []) is in
     regoal ! (λ (ws : List Val). prop (runs (ws ++ (vss.1.0 ++ [])))) is₀ refl $
@@ -67,5 +66,5 @@ attach_spec 𝓤 𝓛 𝓜 𝓡 wired =
     sets ! (of_opd ! (get_in ! (fld ! refl (stop !)) (sub ! 0 refl (whole !)))) refl good $
     sets ! (of_opd ! (get ! refl)) refl good $
     returns ! (look_at ! 0 refl) $ free_all ! refl $
-    suffices ! _ (ends_at 𝓛 f.ended stayed c z u w (tt, (tt, tt)) (tt, (tt, tt))) $ says ! (with_items_is i.vec xs (asked.1 ∙ sym long)) $
+    suffices ! _ (ends_at 𝓛 f.ended stayed c z u w (tt, (tt, tt)) (tt, (tt, tt))) $ says ! held $
     nothing ! $ nothing ! $ fjoin ! $ nothing ! $ fjoin ! $ move ! (2 ∷ 0 ∷ 1 ∷ []) $ done !)))))))))
