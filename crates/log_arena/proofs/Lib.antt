@@ -1,0 +1,9 @@
+pub mod Crossing
+pub mod Deeds
+pub mod Lodgings
+pub mod Marks
+pub mod Matches
+pub mod Places
+pub mod Runs
+pub mod Steps
+pub mod Tables

@@ -1,0 +1,5 @@
+pub mod Layout
+pub mod Lease
+pub mod Ownership
+pub mod Pages
+pub mod Spans

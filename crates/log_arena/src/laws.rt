@@ -1,0 +1,53 @@
+//! What holds of any two leases, and of a lease that is out while others come and go.
+ghost use Rattle.std.specs.Prelude.{◌≡◌, ◌/◌, ◌%◌, ◌<◌, false, true, IfOk, OnErr};
+ghost use Rattle.log_arena.specs.Lease.{IsOf, IsSame, ShareNoPage, lease_len, lease_place};
+ghost use Rattle.log_arena.specs.Pages.{marked};
+
+use crate::arena::{Arena, NoRoom};
+use crate::lease::Lease;
+use crate::memory::apart;
+
+/// Two leases that are held share no page, if they are of one arena. Gives both back.
+pub fn share_no_page(first: Lease, second: Lease) -> (Lease, Lease)
+    ensures first { IsSame first result.0 }
+    ensures second { IsSame second result.1 }
+    ensures apart { ShareNoPage first second }
+{
+    if first.len() == 0 || second.len() == 0 {
+        return (first, second);
+    }
+    let (mut first, mut second) = (first, second);
+    let (start, other_start) = (first.start(), second.start());
+    let (span, run) = first.into_run();
+    let (other_span, other) = second.into_run();
+    let (run, other) = apart(run, other);
+    (
+        Lease::housed(span.0, start, span.1, run),
+        Lease::housed(other_span.0, other_start, other_span.1, other),
+    )
+}
+
+/// What becomes of other pages leaves a lease and its bytes as they are.
+pub fn others_leave_a_lease(
+    arena: &mut Arena,
+    held: &mut Lease,
+    given: Lease,
+    len: usize,
+) -> Result<Lease, NoRoom>
+    requires given { IsOf arena.old given }
+    requires len { (0 < len) × (len % 4096 ≡ 0) }
+    ensures held { held.new ≡ held.old }
+    ensures here { IfOk result (λ l. IsOf arena.new l) }
+    ensures taken { IfOk result (λ l. arena.new ≡ record arena.old {
+      leased
+          = marked true (lease_place l / 4096) (len / 4096)
+          (marked false (lease_place given / 4096) (lease_len given / 4096) arena.old.leased);
+    }) }
+    ensures err { OnErr result (arena.new ≡ record arena.old {
+      leased
+          = marked false (lease_place given / 4096) (lease_len given / 4096) arena.old.leased;
+    }) }
+{
+    arena.give(given);
+    arena.lease(len)
+}

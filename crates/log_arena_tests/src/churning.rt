@@ -1,0 +1,87 @@
+// Leases that come and go in an order that looks random, beside a plain page table.
+ghost use Rattle.std.specs.Prelude.{◌≡◌, ◌<◌, ◌≤◌};
+ghost use Rattle.log_arena_tests.specs.Leases.{AllOf};
+
+use log_arena::{Arena, Lease, NoRoom, PAGE};
+use std::alloc::{AllocError, Global};
+
+/// Takes `steps` steps in an arena of `pages` pages. Whether the holes were those of the page table after each,
+/// and the bytes used and free were its counts.
+pub fn churn(alloc: Global, pages: usize, steps: u32) -> Result<bool, AllocError>
+    requires { (0 < pages) × (pages ≤ 65536) }
+{
+    let mut arena = Arena::new(alloc, pages)?;
+    let mut leases = Vec::new(alloc);
+    let mut table = Vec::from_elem(alloc, false, pages)?;
+    let mut word = 1;
+    let mut same = true;
+    for _ in 0..steps {
+        word = next(word);
+        step(&mut arena, &mut leases, &mut table, word)?;
+        same &= agrees(alloc, &arena, &table)?;
+    }
+    Ok(same)
+}
+
+// The next word of a linear congruence, as the C standard's example has it, but for 64 bits (Knuth's MMIX).
+fn next(word: u64) -> u64 {
+    word.wrapping_mul(6364136223846793005)
+        .wrapping_add(1442695040888963407)
+}
+
+// Leases 1 to 5 pages, or gives a lease back.
+fn step(
+    arena: &mut Arena,
+    leases: &mut Vec<Lease>,
+    table: &mut Vec<bool>,
+    word: u64,
+) -> Result<(), AllocError>
+    requires { AllOf arena.old.base arena.old.pages leases.old.items }
+    ensures { AllOf arena.new.base arena.new.pages leases.new.items }
+{
+    let choice = word >> 33;
+    let held = leases.len();
+    if choice % 5 < 3 || held == 0 {
+        let count = (choice / 5 % 5 + 1) as usize;
+        let lease = match arena.lease(count * PAGE) {
+            Ok(lease) => lease,
+            Err(NoRoom) => return Ok(()),
+        };
+        mark(table, lease.place() / PAGE, count, true);
+        leases.push(lease)?;
+        return Ok(());
+    }
+    let at = (choice / 25) as usize % held;
+    let lease = leases.remove(at);
+    mark(table, lease.place() / PAGE, lease.len() / PAGE, false);
+    arena.give(lease);
+    Ok(())
+}
+
+// Writes down whether the `count` pages from `at` on have a lease.
+fn mark(table: &mut Vec<bool>, at: usize, count: usize, leased: bool) {
+    for page in table.iter_mut().skip(at).take(count) {
+        *page = leased;
+    }
+}
+
+// Whether the arena's holes, used and free bytes are those of the table.
+fn agrees(alloc: Global, arena: &Arena, table: &[bool]) -> Result<bool, AllocError> {
+    let mut holes: Vec<(usize, usize)> = Vec::new(alloc);
+    let mut free: usize = 0;
+    let mut all: usize = 0;
+    let mut last = true;
+    for leased in table {
+        if !*leased {
+            free = free.wrapping_add(PAGE);
+            match holes.last_mut() {
+                Some(hole) if !last => hole.1 = hole.1.wrapping_add(PAGE),
+                _ => holes.push((all, PAGE))?,
+            }
+        }
+        last = *leased;
+        all = all.wrapping_add(PAGE);
+    }
+    let used = all.wrapping_sub(free);
+    Ok(arena.holes() == holes.as_slice() && arena.free() == free && arena.used() == used)
+}

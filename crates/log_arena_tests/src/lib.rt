@@ -1,0 +1,11 @@
+//! Tests of `log_arena`, and the programs that they run.
+#![tactic(auto)]
+
+mod churning;
+mod owners;
+
+pub use churning::churn;
+pub use owners::hand_over;
+
+#[cfg(test)]
+mod tests;
