@@ -56,7 +56,7 @@ fn the_last_value_of_a_key_stands(rt: HostRuntime) -> Result<(), Fail> {
 #[test]
 fn the_length_is_looked_at_first(rt: HostRuntime) -> Result<(), Fail> {
     let mut text = String::from_str(rt.alloc(), "aeron:udp?a=")?;
-    while text.len() < 1024 {
+    for _ in 0..1012 {
         text.push_str("x")?;
     }
     assert_eq!(rt; fault_of(rt.alloc(), text.as_str()), None);
