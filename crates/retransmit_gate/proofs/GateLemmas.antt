@@ -47,14 +47,6 @@ lingering-joined Busy linger start end moment list = refl
 lingering-joined OutOfWindow linger start end moment list = refl
 lingering-joined Empty linger start end moment list = refl
 
--- nothing joins the list where nothing is sent again
-pub joined-refused : (answer : Answer) (list : List Resent) (resent : Resent) → (answer ≡ Resend → ⊥) → joined answer list resent ≡ list
-joined-refused Resend list resent other = absurd (other refl)
-joined-refused Lingering list resent other = refl
-joined-refused Busy list resent other = refl
-joined-refused OutOfWindow list resent other = refl
-joined-refused Empty list resent other = refl
-
 -- what is kept after a NAK: what lingers, and the range where it is sent again
 pub kept_joined : (resends : Resends) (now position : ℕ) (size : ℤ) (window : Range ℕ)
     → kept_of (after_nak resends now position size window) ≡ record {

@@ -4,11 +4,12 @@ use std::test::Fail;
 /// A millisecond, in nanoseconds.
 const MILLISECOND: u64 = 1_000_000;
 
-/// The linger and the window of a sender at position 2816, of a log that still holds all of it.
+/// A gate whose ranges linger for 60 ms.
 fn gate() -> Gate {
     Gate::new(60 * MILLISECOND)
 }
 
+/// A sender at position 2816, of a log that still holds all of it.
 #[test]
 fn resend_by_source_principal(rt: HostRuntime) -> Result<(), Fail> {
     let mut gate = gate();

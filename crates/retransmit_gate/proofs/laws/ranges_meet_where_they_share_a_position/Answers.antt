@@ -1,7 +1,6 @@
 -- The greater of the two starts is in both ranges, where any position is.
-use Rattle.std.proofs.Common.{◌<◌, ◌≤◌, IsTrue, max, min, arith}
+use Rattle.std.proofs.Common.{◌<◌, max, min, arith}
 use Rattle.std.proofs.lemmas.Bool.Decides.{nat_tests}
-use Rattle.retransmit_gate.specs.Gate.{meets}
 use Rattle.retransmit_gate.proofs.laws.ranges_meet_where_they_share_a_position.Goals as goal
 
 pub returns : goal.returns

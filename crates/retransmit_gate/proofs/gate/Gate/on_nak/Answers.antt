@@ -1,5 +1,5 @@
 -- The clauses over all that was sent again follow from those over what the gate keeps.
-use Rattle.std.proofs.Common.{◌≡◌, ap, ◌∙◌, rules}
+use Rattle.std.proofs.Common.{ap, ◌∙◌, rules}
 use Rattle.retransmit_gate.specs.Gate.{answer_of, after_nak, kept_of}
 use Rattle.retransmit_gate.proofs.GateLemmas.{kept_answers, kept_after, decided}
 use Rattle.retransmit_gate.proofs.gate.Gate.on_nak.Goals as goal
