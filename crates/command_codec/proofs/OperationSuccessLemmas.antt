@@ -1,7 +1,6 @@
 -- The fields of ON_OPERATION_SUCCESS are read as they were written, and written as they were read.
 use Rattle.std.proofs.Common.{◌≡◌, ℕ, List, [], Ok, refl, subst}
 use Rattle.command_codec.specs.declared.operation_success.OperationSuccess.{OperationSuccess}
-use Rattle.command_codec.specs.Gives.{◌>>=◌}
 use Rattle.command_codec.specs.Fields.{number_at, ended, number_bytes, IsBytes}
 use Rattle.command_codec.specs.OperationSuccess.{operation_success_of, operation_success_bytes, IsOperationSuccess}
 use Rattle.command_codec.proofs.FieldLemmas.{bind_ok, step, Takes, Takes-all, number_takes, number_last, ended_takes}

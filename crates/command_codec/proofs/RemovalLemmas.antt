@@ -1,7 +1,6 @@
 -- The fields of REMOVE_SUBSCRIPTION are read as they were written, and written as they were read.
 use Rattle.std.proofs.Common.{◌≡◌, ℕ, List, [], Ok, refl, subst}
 use Rattle.command_codec.specs.declared.removal.Removal.{Removal}
-use Rattle.command_codec.specs.Gives.{◌>>=◌}
 use Rattle.command_codec.specs.Fields.{number_at, ended, number_bytes, IsBytes}
 use Rattle.command_codec.specs.Removal.{removal_of, removal_bytes, IsRemoval}
 use Rattle.command_codec.proofs.FieldLemmas.{bind_ok, step, Takes, Takes-all, number_takes, number_last, ended_takes}
