@@ -6,6 +6,9 @@ use driver_script::line::{Line, read_line};
 use driver_script::output::write_whole;
 use driver_script::statements::{Said, Statement, Statements};
 use driver_script::{RunFault, read_input};
+use policy_text::PolicyFault;
+use std::alloc::Global;
+use std::fmt;
 use std::process::Abort;
 use std::test::Fail;
 
@@ -52,6 +55,11 @@ fn a_text_is_written_whole_or_a_front_of_it(rt: HostRuntime) {
     }
 }
 
+/// A value in words, by which two of them are compared.
+fn shown<T: fmt::Debug>(alloc: Global, value: &T) -> Result<String, Fail> {
+    Ok(format!(in alloc; "{value:?}")?)
+}
+
 fn said(rt: &HostRuntime, line: &str) -> Result<Line, Fail> {
     Ok(read_line(rt.alloc(), line.as_bytes())?)
 }
@@ -59,25 +67,30 @@ fn said(rt: &HostRuntime, line: &str) -> Result<Line, Fail> {
 #[test]
 fn lines_are_read(rt: HostRuntime) -> Result<(), Fail> {
     for line in ["", "#", "# attach 0 7", "#attach"] {
-        assert_eq!(rt; said(&rt, line)?, Line::Skipped, "{line}");
+        assert!(rt; matches!(said(&rt, line)?, Line::Skipped), "{line}");
     }
-    assert_eq!(rt; said(&rt, "policy")?, Line::Policy);
+    assert!(rt; matches!(said(&rt, "policy")?, Line::Policy));
     let alice = Line::Principal {
         name: Text::new(rt.alloc(), "alice")?,
         number: 7,
     };
-    assert_eq!(rt; said(&rt, "principal alice 7")?, alice);
-    assert_eq!(rt; said(&rt, "principal alice 0007")?, alice);
+    let alice = shown(rt.alloc(), &alice)?;
+    for line in ["principal alice 7", "principal alice 0007"] {
+        let line = said(&rt, line)?;
+        assert_eq!(rt; shown(rt.alloc(), &line)?, alice);
+    }
     let star = Line::Principal {
         name: Text::new(rt.alloc(), "*#\t")?,
         number: 4_294_967_295,
     };
-    assert_eq!(rt; said(&rt, "principal *#\t 4294967295")?, star);
+    let line = said(&rt, "principal *#\t 4294967295")?;
+    assert_eq!(rt; shown(rt.alloc(), &line)?, shown(rt.alloc(), &star)?);
     let attach = Line::Does(Event::Attach {
         now: 18_446_744_073_709_551_615,
         principal: 0,
     });
-    assert_eq!(rt; said(&rt, "attach 18446744073709551615 0")?, attach);
+    let line = said(&rt, "attach 18446744073709551615 0")?;
+    assert_eq!(rt; shown(rt.alloc(), &line)?, shown(rt.alloc(), &attach)?);
     Ok(())
 }
 
@@ -91,15 +104,17 @@ fn command(rt: &HostRuntime, bytes: &[u8]) -> Result<Line, Fail> {
 
 #[test]
 fn hex_is_read(rt: HostRuntime) -> Result<(), Fail> {
-    assert_eq!(rt; said(&rt, "cmd 10 1 -")?, command(&rt, b"")?);
+    let none = shown(rt.alloc(), &command(&rt, b"")?)?;
+    assert_eq!(rt; shown(rt.alloc(), &said(&rt, "cmd 10 1 -")?)?, none);
+    let three = shown(rt.alloc(), &command(&rt, b"\x00\xff\x6a")?)?;
     for line in ["cmd 10 1 00ff6a", "cmd 10 1 00_ff_6a", "cmd 10 1 00__ff6a"] {
-        assert_eq!(rt; said(&rt, line)?, command(&rt, b"\x00\xff\x6a")?, "{line}");
+        assert_eq!(rt; shown(rt.alloc(), &said(&rt, line)?)?, three, "{line}");
     }
     for word in [
         "", "0", "000", "0g", "0A", "_00", "00_", "0_0", "00_0_00", "-00", "--", "00-", "_", "+0",
     ] {
         let line = format!(in rt.alloc(); "cmd 10 1 {word}")?;
-        assert_eq!(rt; said(&rt, line.as_str())?, Line::Bad, "{word}");
+        assert!(rt; matches!(said(&rt, line.as_str())?, Line::Bad), "{word}");
     }
     Ok(())
 }
@@ -142,48 +157,56 @@ fn other_lines_are_bad(rt: HostRuntime) -> Result<(), Fail> {
         "set mtu 1408",
         "peer 127.0.0.1:50001 1",
     ] {
-        assert_eq!(rt; said(&rt, line)?, Line::Bad, "{line}");
+        assert!(rt; matches!(said(&rt, line)?, Line::Bad), "{line}");
     }
-    assert_eq!(rt; read_line(rt.alloc(), b"# \xc3\xa9")?, Line::Bad);
-    assert_eq!(rt; read_line(rt.alloc(), b"principal \xff 1")?, Line::Bad);
+    assert!(rt; matches!(read_line(rt.alloc(), b"# \xc3\xa9")?, Line::Bad));
+    assert!(rt; matches!(read_line(rt.alloc(), b"principal \xff 1")?, Line::Bad));
     Ok(())
 }
 
-fn statement(line: u64, said: Said) -> Option<Statement> {
-    Some(Statement { line, said })
+/// Takes the next statement, which has to be this one.
+fn expect(
+    rt: &HostRuntime,
+    statements: &mut Statements<'_>,
+    line: u64,
+    said: Said,
+) -> Result<(), Fail> {
+    let taken = statements.next(rt.alloc())?;
+    let wanted = Some(Statement { line, said });
+    assert_eq!(rt; shown(rt.alloc(), &taken)?, shown(rt.alloc(), &wanted)?);
+    Ok(())
 }
 
 #[test]
-fn a_script_is_principals_a_policy_and_steps(rt: HostRuntime) -> Result<(), Fail> {
+fn a_script_is_principals_policies_and_steps(rt: HostRuntime) -> Result<(), Fail> {
     let script =
-        b"# the first one\nprincipal alice 7\n\npolicy\n# open\nversion = 1\n\n.\nattach 0 7\n#\ncmd 0 1 -";
+        b"# the first one\nprincipal alice 7\n\npolicy\n# open\nversion = 1\n\n.\nattach 0 7\n#\n\
+policy\n.\ncmd 0 1 -\npolicy\nversion = 2\n.";
     let mut statements = Statements::new(script);
     let alice = Said::Principal {
         name: Text::new(rt.alloc(), "alice")?,
         number: 7,
     };
-    assert_eq!(rt; statements.next(rt.alloc())?, statement(2, alice));
+    expect(&rt, &mut statements, 2, alice)?;
     let policy = Said::Policy(Text::new(rt.alloc(), "# open\nversion = 1\n\n")?);
-    assert_eq!(rt; statements.next(rt.alloc())?, statement(4, policy));
+    expect(&rt, &mut statements, 4, policy)?;
     let attach = Event::Attach {
         now: 0,
         principal: 7,
     };
-    assert_eq!(rt;
-        statements.next(rt.alloc())?,
-        statement(9, Said::Does(attach))
-    );
+    expect(&rt, &mut statements, 9, Said::Does(attach))?;
+    let policy = Said::Policy(Text::new(rt.alloc(), "")?);
+    expect(&rt, &mut statements, 11, policy)?;
     let command = Event::Command {
         now: 0,
         client: 1,
         bytes: Bytes::new(rt.alloc(), b"")?,
     };
-    assert_eq!(rt;
-        statements.next(rt.alloc())?,
-        statement(11, Said::Does(command))
-    );
-    assert_eq!(rt; statements.next(rt.alloc())?, None);
-    assert_eq!(rt; statements.next(rt.alloc())?, None);
+    expect(&rt, &mut statements, 13, Said::Does(command))?;
+    let policy = Said::Policy(Text::new(rt.alloc(), "version = 2\n")?);
+    expect(&rt, &mut statements, 14, policy)?;
+    assert!(rt; statements.next(rt.alloc())?.is_none());
+    assert!(rt; statements.next(rt.alloc())?.is_none());
     Ok(())
 }
 
@@ -195,8 +218,8 @@ fn first_bad(rt: &(impl AllocGlobal + Abort), script: &str) -> Result<Option<u64
         let Some(statement) = statements.next(rt.alloc())? else {
             return Ok(None);
         };
-        if statement.said == Said::Bad {
-            assert_eq!(rt; statements.next(rt.alloc())?, None);
+        if matches!(statement.said, Said::Bad) {
+            assert!(rt; statements.next(rt.alloc())?.is_none());
             return Ok(Some(statement.line));
         }
     }
@@ -220,13 +243,28 @@ fn a_bad_line_ends_the_script(rt: HostRuntime) -> Result<(), Fail> {
         // Behind the policy.
         ("policy\n.\nprincipal alice 7\n", Some(3)),
         ("policy\n.\n.\n", Some(3)),
-        ("policy\n.\nattach 0 7\npolicy\n.\n", Some(4)),
+        ("policy\n.\npolicy\n.\nprincipal alice 7\n", Some(5)),
+        // A later policy, and one without its last line.
+        (
+            "policy\n.\nattach 0 7\npolicy\n.\npolicy\n.\nattach 0 7\n",
+            None,
+        ),
+        ("policy\n.\nattach 0 7\npolicy\nversion = 1\n", Some(4)),
     ] {
         assert_eq!(rt; first_bad(&rt, script)?, line, "{script:?}");
     }
     let mut statements = Statements::new(b"policy\n# \xc3\xa9\n.\n");
-    assert_eq!(rt; statements.next(rt.alloc())?, statement(2, Said::Bad));
-    assert_eq!(rt; statements.next(rt.alloc())?, None);
+    expect(&rt, &mut statements, 2, Said::Bad)?;
+    assert!(rt; statements.next(rt.alloc())?.is_none());
+    let mut statements = Statements::new(b"policy\n.\npolicy\n\xff\n.\n");
+    expect(
+        &rt,
+        &mut statements,
+        1,
+        Said::Policy(Text::new(rt.alloc(), "")?),
+    )?;
+    expect(&rt, &mut statements, 4, Said::Bad)?;
+    assert!(rt; statements.next(rt.alloc())?.is_none());
     Ok(())
 }
 
@@ -236,6 +274,12 @@ fn answers_are_written(rt: HostRuntime) -> Result<(), Fail> {
         (AnswerLine::Attached(1), "attached 1\n"),
         (AnswerLine::Full, "full\n"),
         (AnswerLine::Stopped, "stopped\n"),
+        (AnswerLine::PolicyInForce(2), "policy 2\n"),
+        (AnswerLine::PolicyFull, "policy refused: full\n"),
+        (
+            AnswerLine::PolicyRefused(PolicyFault::BadRange { rule: 3 }),
+            "policy refused: rule 3: bad range\n",
+        ),
         (
             AnswerLine::Reply {
                 client: 12,

@@ -74,6 +74,9 @@ fn what_was_answered_stands_before_a_bad_line(rt: HostRuntime) -> Result<(), Fai
         "tick 5",
         "principal bob 8",
         "policy",
+        "peer 127.0.0.1:50001 7",
+        "set mtu 1408",
+        ".",
         "cmd 0 1 0",
         "cmd 0 1 _00",
         "cmd 0 1 0A",
@@ -115,4 +118,76 @@ fn a_reader_that_fails_writes_nothing(rt: HostRuntime) {
         assert_eq!(rt; ended, Err(fault));
         assert!(rt; writer.taken.is_empty());
     }
+}
+
+const ALLOWED: &str = "policy\nversion = 1\ndefault = \"allow\"\n.\n";
+
+#[test]
+fn reload_then_remove(rt: HostRuntime) -> Result<(), Fail> {
+    let script = format!(in rt.alloc();
+        "{FIRST}{ALLOWED}\
+cmd 0 1 04000000_0100000000000000_0c00000000000000_0000000000000000_0a000000_09000000_6165726f6e3a697063\n\
+cmd 0 1 05000000_0100000000000000_0d00000000000000_0100000000000000\n\
+cmd 0 1 05000000_0100000000000000_0e00000000000000_0100000000000000\n"
+    )?;
+    let wanted = format!(in rt.alloc();
+        "{FIRST_ANSWERS}policy 2\n\
+reply 1 070f00000c000000000000000100000000000000\n\
+reply 1 040f00000d00000000000000\n\
+reply 1 010f00000e000000000000000200000014000000756e6b6e6f776e20737562736372697074696f6e\n"
+    )?;
+    let (ended, written) = run_into(rt.alloc(), script.as_str(), 1000);
+    assert_eq!(rt; ended, Ok(script::Ended::Done));
+    assert_eq!(rt; written.as_slice(), wanted.as_bytes());
+    Ok(())
+}
+
+#[test]
+fn refused_policies_are_no_events(rt: HostRuntime) -> Result<(), Fail> {
+    for (policy, answer) in [
+        ("version = 1\ndefault = \"allow\"\n", "policy 2"),
+        ("", "policy refused: bad version"),
+        ("version", "policy refused: not toml"),
+        (
+            "version = 2\ndefault = \"allow\"\n",
+            "policy refused: bad version",
+        ),
+        ("version = 1\n", "policy refused: rule 0: bad field default"),
+        (
+            "version = 1\ndefault = \"deny\"\n[[rule]]\nname = \"a\"\nprincipal = \"bob\"\n",
+            "policy refused: rule 1: unknown principal",
+        ),
+        (
+            "version = 1\ndefault = \"deny\"\n[[rule]]\nname = \"a\"\nprincipal = \"alice\"\nact = \"fly\"\n",
+            "policy refused: rule 1: unknown act",
+        ),
+    ] {
+        // The next number is drawn only by a policy that is put in force.
+        let number = if answer == "policy 2" { 3 } else { 2 };
+        let script = format!(in rt.alloc();
+            "principal alice 7\n{HEAD}attach 0 7\npolicy\n{policy}.\nattach 0 7\n{ALLOWED}"
+        )?;
+        let wanted = format!(in rt.alloc(); "attached 1\n{answer}\nattached 2\npolicy {number}\n")?;
+        let (ended, written) = run_into(rt.alloc(), script.as_str(), 1000);
+        assert_eq!(rt; ended, Ok(script::Ended::Done), "at {policy}");
+        assert_eq!(rt; written.as_slice(), wanted.as_bytes(), "at {policy}");
+    }
+    Ok(())
+}
+
+#[test]
+fn names_hold_for_every_policy(rt: HostRuntime) -> Result<(), Fail> {
+    let rule =
+        "name = \"a\"\nprincipal = \"alice\"\nact = \"subscribe\"\nchannel = \"aeron:ipc\"\nallow = true\n";
+    let script = format!(in rt.alloc();
+        "{FIRST}policy\nversion = 1\ndefault = \"deny\"\n[[rule]]\n{rule}.\n\
+cmd 0 1 04000000_0100000000000000_0c00000000000000_0000000000000000_0a000000_09000000_6165726f6e3a697063\n"
+    )?;
+    let wanted = format!(in rt.alloc();
+        "{FIRST_ANSWERS}policy 2\nreply 1 070f00000c000000000000000100000000000000\n"
+    )?;
+    let (ended, written) = run_into(rt.alloc(), script.as_str(), 1000);
+    assert_eq!(rt; ended, Ok(script::Ended::Done));
+    assert_eq!(rt; written.as_slice(), wanted.as_bytes());
+    Ok(())
 }
