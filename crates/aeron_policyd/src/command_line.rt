@@ -1,17 +1,84 @@
-use clap::{Arg, Command};
+use clap::{Arg, ArgMatches, Command, value_parser};
 use std::alloc::{AllocError, Global};
 
 /// What the program is.
 const ABOUT: &str =
     "The shared part of an Aeron media driver (conductor, sender, receiver) under a written channel policy";
 
-/// A script with its answers, and what the program ends with.
-const EXAMPLE: &str = "\
+/// How the program is used, and what it ends with.
+const USES: &str = "\
+Example: may p1 subscribe to `aeron:ipc`, stream 10, under the policy in `policy.toml`?
+
+  $ cat policy.toml
+  version = 1
+  default = \"deny\"
+
+  [[rule]]
+  name = \"the house keeps streams 10 to 20\"
+  principal = \"*\"
+  act = \"*\"
+  channel = \"*\"
+  stream = [10, 20]
+  allow = false
+
+  [[rule]]
+  name = \"p1 reads in this host\"
+  principal = \"p1\"
+  act = [\"subscribe\", \"image\", \"receive\"]
+  channel = \"aeron:ipc\"
+  allow = true
+  $ aeron_policyd check policy.toml
+  ok: 2 rules
+  $ aeron_policyd decide policy.toml p1 subscribe aeron:ipc 10
+  denied by rule 1 in policy 1
+  $ aeron_policyd decide policy.toml p1 subscribe aeron:ipc 9
+  allowed by rule 2 in policy 1
+
+`aeron_policyd script --help` shows a script with its answers.
+
+Status: 0 for an answer; 1 after `aeron_policyd: FAULT` on standard error, and after a bad line of a script; 2 for a \
+command line that is at fault.";
+
+/// What `check` says.
+const CHECK: &str = "\
+Example: a policy of two rules, and one whose first rule ends its range of streams before it begins.
+
+  $ aeron_policyd check policy.toml
+  ok: 2 rules
+  $ aeron_policyd check swapped.toml
+  aeron_policyd: rule 1: bad range
+
+A policy is TOML: `version = 1`, `default = \"allow\"` or `\"deny\"`, and any `[[rule]]` with `name`, `principal`, `act`, \
+`channel`, `allow` and perhaps `stream = [LOW, HIGH]`. Principals are `nobody` and `p1` to `p63`, or `*` for everybody.
+
+Status: 0; 1 after `aeron_policyd: FAULT` on standard error: cannot read file, read failed, too long, the first fault of \
+the policy, write failed, or no memory.";
+
+/// What `decide` says.
+const DECIDE: &str = "\
+Example: rule 1 of the policy denies everybody streams 10 to 20; rule 2 allows p1 to subscribe to `aeron:ipc`.
+
+  $ aeron_policyd decide policy.toml p1 subscribe aeron:ipc 10
+  denied by rule 1 in policy 1
+  $ aeron_policyd decide policy.toml p1 subscribe aeron:ipc 9
+  allowed by rule 2 in policy 1
+  $ aeron_policyd decide policy.toml p2 subscribe aeron:ipc 9
+  denied by default in policy 1
+  $ aeron_policyd decide policy.toml p64 subscribe aeron:ipc 9
+  aeron_policyd: unknown principal
+
+The first rule that matches decides, whatever the others say; where none does, the default stands.
+
+Status: 0; 1 after `aeron_policyd: FAULT` on standard error, the first of: cannot read file, read failed, too long, a fault \
+of the policy, unknown principal, unknown act, invalid channel; or write failed, or no memory.";
+
+/// A script with its answers.
+const SCRIPT: &str = "\
 Example: a client of alice, attached at moment 0, asks to subscribe to `aeron:ipc`, stream 10, by a command with \
 correlation id 11. The policy denies it, so the reply is an ON_ERROR (0x0f01) with code 1001 and the text \
-`denied by default in policy 1`.
+`denied by default in policy 1`. Then a policy that allows is put in force, as policy 2.
 
-  $ cat first.txt
+  $ cat second.txt
   principal alice 7
   policy
   version = 1
@@ -19,13 +86,19 @@ correlation id 11. The policy denies it, so the reply is an ON_ERROR (0x0f01) wi
   .
   attach 0 7
   cmd 0 1 04000000_0100000000000000_0b00000000000000_0000000000000000_0a000000_09000000_6165726f6e3a697063
-  $ aeron_policyd script first.txt
+  policy
+  version = 1
+  default = \"allow\"
+  .
+  $ aeron_policyd script second.txt
   attached 1
   reply 1 010f00000b00000000000000e90300001d00000064656e6965642062792064656661756c7420696e20706f6c6963792031
+  policy 2
 
 Lines of a script:
-  principal NAME NUMBER   before the policy: rules may name this principal
-  policy                  the lines up to one that is `.` are the policy, in TOML
+  principal NAME NUMBER   before the first policy: rules may name this principal
+  policy                  the lines up to one that is `.` are a policy, in TOML; the first one opens the driver, and each
+                          later one is put in force in its turn
   attach NOW P            a client comes for principal P; NOW is in nanoseconds
   cmd NOW C HEX           client C gives a command: two lower-case digits for a byte, `_` between bytes, `-` for none
   # ...                   a comment; empty lines are skipped too
@@ -34,18 +107,110 @@ Any other line answers `line N: bad line`, and ends the script.
 Status: 0 when the script ended; 1 after a bad line, and after `aeron_policyd: FAULT` on standard error (cannot read \
 file, read failed, too long, write failed, no memory); 2 for a command line that is at fault.";
 
-/// The words that the program takes.
-pub fn command<'a>(alloc: Global) -> Result<Command<'a>, AllocError> {
+/// What the command line asks for.
+#[derive(Clone, Copy, Debug, PartialEq, Eq)]
+pub enum Task<'a> {
+    /// Whether a file is a policy.
+    Check {
+        policy: &'a str,
+    },
+    /// What the policy in a file decides of a question.
+    Decide {
+        policy: &'a str,
+        principal: &'a str,
+        act: &'a str,
+        channel: &'a str,
+        stream: i32,
+    },
+    /// To run the script in a file.
+    Script {
+        file: &'a str,
+    },
+}
+
+/// The argument that names a policy's file.
+fn policy_file<'a>(alloc: Global) -> Arg<'a> {
+    Arg::new(alloc, "POLICY")
+        .required(true)
+        .help("The policy's file, of at most 16,777,216 bytes")
+}
+
+fn check<'a>(alloc: Global) -> Result<Command<'a>, AllocError> {
+    Command::new(alloc, "check")
+        .about("Says how many rules a policy has, or its first fault")
+        .after_help(CHECK)
+        .arg(policy_file(alloc))
+}
+
+fn decide<'a>(alloc: Global) -> Result<Command<'a>, AllocError> {
+    let principal = Arg::new(alloc, "PRINCIPAL")
+        .required(true)
+        .help("Who asks: nobody, or p1 to p63");
+    let act = Arg::new(alloc, "ACT").required(true).help(
+        "What is asked: publish, publish-exclusive, subscribe, spy, destination, counter, terminate, offer, image, \
+         receive, send, retransmit or list",
+    );
+    let channel = Arg::new(alloc, "CHANNEL").required(true).help(
+        "On which channel, such as aeron:ipc; aeron:counter where a counter is meant",
+    );
+    let stream = Arg::new(alloc, "STREAM")
+        .required(true)
+        .value_parser(value_parser!(i32).range(0..))
+        .help("On which stream, 0 to 2147483647; for a counter its type id");
+    Command::new(alloc, "decide")
+        .about("Says what a policy decides of a question, and by which rule")
+        .after_help(DECIDE)
+        .arg(policy_file(alloc))?
+        .arg(principal)?
+        .arg(act)?
+        .arg(channel)?
+        .arg(stream)
+}
+
+fn script<'a>(alloc: Global) -> Result<Command<'a>, AllocError> {
     let file = Arg::new(alloc, "FILE")
         .required(true)
         .help("The script, of at most 16,777,216 bytes");
-    let script = Command::new(alloc, "script")
+    Command::new(alloc, "script")
         .about("Runs a script, and writes its answers to standard output")
-        .after_help(EXAMPLE)
-        .arg(file)?;
+        .after_help(SCRIPT)
+        .arg(file)
+}
+
+/// The words that the program takes.
+pub fn command<'a>(alloc: Global) -> Result<Command<'a>, AllocError> {
     Command::new(alloc, "aeron_policyd")
         .about(ABOUT)
-        .after_help(EXAMPLE)
+        .after_help(USES)
         .subcommand_required(true)
-        .subcommand(script)
+        .subcommand(check(alloc)?)?
+        .subcommand(decide(alloc)?)?
+        .subcommand(script(alloc)?)
+}
+
+fn decide_task<'a>(of: &ArgMatches<'a>) -> Option<Task<'a>> {
+    Some(Task::Decide {
+        policy: of.get_str("POLICY")?,
+        principal: of.get_str("PRINCIPAL")?,
+        act: of.get_str("ACT")?,
+        channel: of.get_str("CHANNEL")?,
+        stream: of.get_one::<i32>("STREAM")?,
+    })
+}
+
+/// What the words ask for, once they were found to be of the form.
+pub fn task<'a>(matches: &ArgMatches<'a>) -> Option<Task<'a>> {
+    let (name, of) = matches.subcommand()?;
+    if name == "check" {
+        let policy = of.get_str("POLICY")?;
+        return Some(Task::Check { policy });
+    }
+    if name == "decide" {
+        return decide_task(of);
+    }
+    if name == "script" {
+        let file = of.get_str("FILE")?;
+        return Some(Task::Script { file });
+    }
+    None
 }

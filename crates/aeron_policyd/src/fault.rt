@@ -1,4 +1,6 @@
 use driver_script::RunFault;
+use driver_script::deciding::DecideFault;
+use policy_text::PolicyFault;
 use std::alloc::AllocError;
 use thiserror::Error;
 
@@ -9,6 +11,10 @@ pub enum Fault {
     CannotRead,
     #[error("{0}")]
     Run(RunFault),
+    #[error("{0}")]
+    Policy(PolicyFault),
+    #[error("{0}")]
+    Decide(DecideFault),
 }
 
 impl Fault {
@@ -20,6 +26,18 @@ impl Fault {
 impl From<RunFault> for Fault {
     fn from(fault: RunFault) -> Fault {
         Fault::Run(fault)
+    }
+}
+
+impl From<PolicyFault> for Fault {
+    fn from(fault: PolicyFault) -> Fault {
+        Fault::Policy(fault)
+    }
+}
+
+impl From<DecideFault> for Fault {
+    fn from(fault: DecideFault) -> Fault {
+        Fault::Decide(fault)
     }
 }
 

@@ -7,11 +7,12 @@
 mod command_line;
 mod fault;
 
-use crate::command_line::command;
+use crate::command_line::{Task, command, task};
 use crate::fault::Fault;
 use clap::error::ErrorKind;
-use driver_script::script;
+use driver_script::deciding::decide;
 use driver_script::script::Ended;
+use driver_script::{deciding, read_input, script};
 use std::process::ExitCode;
 use std::rt::{Env, Files};
 use std::{env, fs, io};
@@ -43,18 +44,64 @@ fn explain<R: Print + Eprint>(rt: &R, error: &clap::Error) -> Result<ExitCode, F
     })
 }
 
+/// Opens a file to read.
+fn open<R: Files + AllocGlobal>(rt: &R, path: &str) -> Result<R::File, Fault> {
+    match fs::open(rt, path) {
+        Ok(file) => Ok(file),
+        Err(error) if error.kind() == io::ErrorKind::OutOfMemory => Err(Fault::NO_MEMORY),
+        Err(_) => Err(Fault::CannotRead),
+    }
+}
+
+/// All bytes of a policy's file.
+fn policy_in<R: Files + AllocGlobal>(rt: &R, path: &str) -> Result<Vec<u8>, Fault> {
+    let mut file = open(rt, path)?;
+    Ok(read_input(rt.alloc(), &mut file)?)
+}
+
+/// Prints how many rules the policy in a file has.
+fn check_policy<R: Files + Print + AllocGlobal>(rt: &R, path: &str) -> Result<ExitCode, Fault> {
+    let policy = policy_in(rt, path)?;
+    let checked = deciding::check(rt.alloc(), policy.as_slice())?;
+    print_line(rt, format!(in rt.alloc(); "{checked}")?.as_str())
+}
+
+/// Prints a line that answers the command line.
+fn print_line<R: Print>(rt: &R, line: &str) -> Result<ExitCode, Fault> {
+    match rt.println(line) {
+        Ok(()) => Ok(ExitCode::SUCCESS),
+        Err(_) => Err(Fault::WRITE),
+    }
+}
+
 /// Runs the script in a file to standard output.
 fn run_script<R: Files + Print + AllocGlobal>(rt: &R, path: &str) -> Result<ExitCode, Fault> {
-    let mut file = match fs::open(rt, path) {
-        Ok(file) => file,
-        Err(error) if error.kind() == io::ErrorKind::OutOfMemory => return Err(Fault::NO_MEMORY),
-        Err(_) => return Err(Fault::CannotRead),
-    };
+    let mut file = open(rt, path)?;
     let ended = script::run(rt.alloc(), &mut file, &mut io::writer(rt))?;
     Ok(match ended {
         Ended::Done => ExitCode::SUCCESS,
         Ended::BadLine(_) => ExitCode::FAILURE,
     })
+}
+
+/// Does a task.
+fn perform<R: Files + Print + AllocGlobal>(rt: &R, task: Task<'_>) -> Result<ExitCode, Fault> {
+    match task {
+        Task::Check { policy } => check_policy(rt, policy),
+        Task::Decide {
+            policy,
+            principal,
+            act,
+            channel,
+            stream,
+        } => {
+            let policy = policy_in(rt, policy)?;
+            let policy = policy.as_slice();
+            let verdict = decide(rt.alloc(), policy, principal, act, channel, stream)?;
+            print_line(rt, format!(in rt.alloc(); "{verdict}")?.as_str())
+        }
+        Task::Script { file } => run_script(rt, file),
+    }
 }
 
 /// Does what the command line says.
@@ -67,9 +114,9 @@ fn serve<R: Env + Files + Print + Eprint + AllocGlobal>(rt: &R) -> Result<ExitCo
         Ok(matches) => matches,
         Err(error) => return explain(rt, &error),
     };
-    match matches.subcommand() {
-        Some(("script", of)) => run_script(rt, of.get_str("FILE").unwrap_or("")),
-        _ => Ok(ExitCode::from(USAGE)),
+    match task(&matches) {
+        Some(task) => perform(rt, task),
+        None => Ok(ExitCode::from(USAGE)),
     }
 }
 
@@ -82,3 +129,6 @@ fn main(rt: HostRuntime) -> ExitCode {
         }
     }
 }
+
+#[cfg(test)]
+mod tests;

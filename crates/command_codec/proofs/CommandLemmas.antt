@@ -1,5 +1,5 @@
 -- Commands are read as they were written, and written as they were read.
-use Rattle.std.proofs.Common.{◌≡◌, ℕ, ◌^◌, ◌<◌, ◌≤◌, false, eqb, ltb, List, ◌++◌, length, drop, Ok, refl, sym, ap, subst, ◌∙◌, append_assoc, arith}
+use Rattle.std.proofs.Common.{◌≡◌, ℕ, ◌^◌, ◌<◌, ◌≤◌, false, eqb, ltb, cond, List, ◌++◌, length, drop, Ok, Err, inl, inr, refl, sym, ap, subst, ◌∙◌, append_assoc, arith}
 use Rattle.std.proofs.lemmas.Bool.{eqb-true, ltb-false, le-ltb}
 use Rattle.std.proofs.lemmas.List.{drop-drop, length-drop}
 use Rattle.command_codec.specs.declared.fault.CommandFault.TheVariants.{Unknown, Malformed}
@@ -11,34 +11,63 @@ use Rattle.command_codec.specs.declared.command.Kind.TheVariants as kinds
 use Rattle.command_codec.specs.Gives.{◌>>=◌}
 use Rattle.command_codec.specs.Fields.{number_in, number_at, number_bytes, IsBytes}
 use Rattle.command_codec.specs.AddSubscription.{add_subscription_of}
+use Rattle.command_codec.specs.Removal.{removal_of}
 use Rattle.command_codec.specs.Command.{kind_of, fields_of, type_number, fields_bytes, AreFields, command_of, command_bytes, correlation_of, IsCommand}
-use Rattle.command_codec.proofs.FieldLemmas.{bind_ok, step, guard_ok, wanted_ok, ok_is, Takes, Takes-then, number_takes, number_again}
+use Rattle.command_codec.proofs.FieldLemmas.{bind_ok, step, guard_ok, chosen, wanted_ok, ok_is, Takes, Takes-then, number_takes, number_again}
 use Rattle.command_codec.proofs.AddSubscriptionLemmas.{add_subscription_takes, add_subscription_again}
+use Rattle.command_codec.proofs.RemovalLemmas.{removal_takes, removal_again}
 
 -- ---- a line for each kind of command
 
 -- the kind whose body it is
 kind_in : Body → Kind
 kind_in (bodies.AddSubscription fields) = kinds.AddSubscription
+kind_in (bodies.RemoveSubscription fields) = kinds.RemoveSubscription
 
 kind_again : (body : Body) → kind_of (type_number body) ≡ Ok (kind_in body)
 unfolding kind_in
 kind_again (bodies.AddSubscription fields) = refl
+kind_again (bodies.RemoveSubscription fields) = refl
 
 fields_again : (body : Body) → AreFields body → fields_of (kind_in body) (fields_bytes body) ≡ Ok body
 unfolding kind_in
 fields_again (bodies.AddSubscription fields) h = rw (add_subscription_again fields h) refl
+fields_again (bodies.RemoveSubscription fields) h = rw (removal_again fields h) refl
 
 number_fits : (body : Body) → type_number body < 256 ^ 4
 number_fits (bodies.AddSubscription fields) = omega arith
+number_fits (bodies.RemoveSubscription fields) = omega arith
+
+-- the number of a kind
+number_of : Kind → ℕ
+number_of kinds.AddSubscription = 4
+number_of kinds.RemoveSubscription = 5
+
+number_known : (number : ℕ) (kind : Kind) → kind_of number ≡ Ok kind → number ≡ number_of kind
+unfolding number_of
+number_known number kind e =
+    elim (chosen (eqb number 4) (Ok kinds.AddSubscription) (cond (eqb number 5) (Ok kinds.RemoveSubscription) (Err Unknown)) kind e) [
+      | inl (is, same) ↦ subst (λ (k : Kind). number ≡ number_of k) (ok_is kinds.AddSubscription kind same) (eqb-true number 4 is)
+      | inr (other, later) ↦
+          let last = wanted_ok (eqb number 5) Unknown (Ok kinds.RemoveSubscription) kind later in
+          subst (λ (k : Kind). number ≡ number_of k) (ok_is kinds.RemoveSubscription kind last.1) (eqb-true number 5 last.0)
+    ]
 
 fields_take : (number : ℕ) (kind : Kind) (bytes : List ℕ) (body : Body) → IsBytes bytes → kind_of number ≡ Ok kind → fields_of kind bytes ≡ Ok body → (number ≡ type_number body) × (bytes ≡ fields_bytes body) × AreFields body
+unfolding number_of
 fields_take number kinds.AddSubscription bytes body fits known e =
-    let n = wanted_ok (eqb number 4) Unknown (Ok kinds.AddSubscription) kinds.AddSubscription known in
+    let n = number_known number kinds.AddSubscription known in
     elim (bind_ok (add_subscription_of bytes) (λ fields. Ok (bodies.AddSubscription fields)) body e) [
       | step fields is made ↦
           let t = add_subscription_takes bytes fields fits is in
-          subst (λ (b : Body). (number ≡ type_number b) × (bytes ≡ fields_bytes b) × AreFields b) (ok_is (bodies.AddSubscription fields) body made) (eqb-true number 4 n.0, t.0, t.1)
+          subst (λ (b : Body). (number ≡ type_number b) × (bytes ≡ fields_bytes b) × AreFields b) (ok_is (bodies.AddSubscription fields) body made) (n, t.0, t.1)
+    ]
+fields_take number kinds.RemoveSubscription bytes body fits known e =
+    let n = number_known number kinds.RemoveSubscription known in
+    elim (bind_ok (removal_of bytes) (λ fields. Ok (bodies.RemoveSubscription fields)) body e) [
+      | step fields is made ↦
+          let t = removal_takes bytes fields fits is in
+          subst (λ (b : Body). (number ≡ type_number b) × (bytes ≡ fields_bytes b) × AreFields b) (ok_is (bodies.RemoveSubscription fields) body made) (n, t.0, t.1)
     ]
 
 -- ---- commands

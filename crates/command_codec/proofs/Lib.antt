@@ -3,7 +3,9 @@ pub mod Numbers
 pub mod FieldLemmas
 pub mod CodeLemmas
 pub mod AddSubscriptionLemmas
+pub mod RemovalLemmas
 pub mod CommandLemmas
 pub mod ErrorReplyLemmas
+pub mod OperationSuccessLemmas
 pub mod SubscriptionReadyLemmas
 pub mod ReplyLemmas

@@ -1,6 +1,6 @@
 -- Commands as bytes: type, client id, correlation id, then the fields of the type, and nothing after them.
 -- (Layouts and type numbers are this project's own.)
-use Rattle.std.specs.Prelude.{ℕ, ◌<◌, ◌^◌, ◌==◌, nat_lt, if◌then◌else◌, Bool, true, List, ◌++◌, length, drop, Result, Ok, Err}
+use Rattle.std.specs.Prelude.{ℕ, ◌<◌, ◌^◌, ◌==◌, nat_lt, if◌then◌else◌, Bool, true, false, List, ◌++◌, length, drop, Result, Ok, Err}
 use Rattle.command_codec.specs.declared.fault.CommandFault.{CommandFault}
 use Rattle.command_codec.specs.declared.fault.CommandFault.TheVariants.{Unknown}
 use Rattle.command_codec.specs.declared.command.Command.{Command}
@@ -11,27 +11,36 @@ use Rattle.command_codec.specs.declared.command.Kind.TheVariants as kinds
 use Rattle.command_codec.specs.Gives.{◌>>=◌}
 use Rattle.command_codec.specs.Fields.{number_in, number_at, number_bytes}
 use Rattle.command_codec.specs.AddSubscription.{add_subscription_of, add_subscription_bytes, IsAddSubscription}
+use Rattle.command_codec.specs.Removal.{removal_of, removal_bytes, IsRemoval}
 
 -- ---- the kinds of commands, a line each
 
 abbrev pub kind_of : ℕ → Result Kind CommandFault
-kind_of number = if number == 4 then Ok kinds.AddSubscription else Err Unknown
+kind_of number =
+    if number == 4 then Ok kinds.AddSubscription
+    else if number == 5 then Ok kinds.RemoveSubscription
+    else Err Unknown
 
 abbrev pub fields_of : Kind → List ℕ → Result Body CommandFault
 fields_of kinds.AddSubscription bytes = add_subscription_of bytes >>= λ fields. Ok (bodies.AddSubscription fields)
+fields_of kinds.RemoveSubscription bytes = removal_of bytes >>= λ fields. Ok (bodies.RemoveSubscription fields)
 
 abbrev pub type_number : Body → ℕ
 type_number (bodies.AddSubscription fields) = 4
+type_number (bodies.RemoveSubscription fields) = 5
 
 abbrev pub fields_bytes : Body → List ℕ
 fields_bytes (bodies.AddSubscription fields) = add_subscription_bytes fields
+fields_bytes (bodies.RemoveSubscription fields) = removal_bytes fields
 
 abbrev pub AreFields : Body → Type 0
 AreFields (bodies.AddSubscription fields) = IsAddSubscription fields
+AreFields (bodies.RemoveSubscription fields) = IsRemoval fields
 
 -- whether a command's fields have a text
 abbrev pub has_text : Body → Bool
 has_text (bodies.AddSubscription fields) = true
+has_text (bodies.RemoveSubscription fields) = false
 
 -- ---- commands
 

@@ -2,7 +2,9 @@ pub mod Gives
 pub mod Fields
 pub mod ErrorCode
 pub mod AddSubscription
+pub mod Removal
 pub mod Command
 pub mod ErrorReply
+pub mod OperationSuccess
 pub mod SubscriptionReady
 pub mod Reply

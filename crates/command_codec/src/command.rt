@@ -4,6 +4,7 @@ ghost use Rattle.command_codec.specs.Gives.{Equals, Gives, takes_memory};
 use crate::add_subscription::AddSubscription;
 use crate::fault::CommandFault;
 use crate::fields;
+use crate::removal::Removal;
 use byte_strings::Bytes;
 use byteorder::{ByteOrder, LittleEndian};
 use std::alloc::{AllocError, Global};
@@ -22,12 +23,14 @@ pub struct Command {
 #[derive(Debug, PartialEq, Eq, Drop)]
 pub enum Body {
     AddSubscription(AddSubscription),
+    RemoveSubscription(Removal),
 }
 
 /// The types of commands that have a number here.
 #[derive(Clone, Copy)]
 enum Kind {
     AddSubscription,
+    RemoveSubscription,
 }
 
 impl Kind {
@@ -38,6 +41,7 @@ impl Kind {
     {
         match number {
             4 => Ok(Kind::AddSubscription),
+            5 => Ok(Kind::RemoveSubscription),
             _ => Err(CommandFault::Unknown),
         }
     }
@@ -52,6 +56,10 @@ impl Kind {
                 let fields = AddSubscription::read(alloc, bytes)?;
                 Ok(Body::AddSubscription(fields))
             }
+            Kind::RemoveSubscription => {
+                let fields = Removal::read(bytes)?;
+                Ok(Body::RemoveSubscription(fields))
+            }
         }
     }
 }
@@ -64,6 +72,7 @@ impl Body {
     {
         match self {
             Body::AddSubscription(_) => 4,
+            Body::RemoveSubscription(_) => 5,
         }
     }
 
@@ -72,6 +81,7 @@ impl Body {
     {
         match self {
             Body::AddSubscription(fields) => fields.put(out),
+            Body::RemoveSubscription(fields) => fields.put(out),
         }
     }
 
@@ -80,6 +90,7 @@ impl Body {
     {
         match self {
             Body::AddSubscription(fields) => Ok(Body::AddSubscription(fields.copy(alloc)?)),
+            Body::RemoveSubscription(fields) => Ok(Body::RemoveSubscription(*fields)),
         }
     }
 }

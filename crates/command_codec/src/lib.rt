@@ -12,6 +12,8 @@ mod error_reply;
 mod fault;
 mod fields;
 mod laws;
+mod operation_success;
+mod removal;
 mod reply;
 mod subscription_ready;
 
@@ -24,6 +26,8 @@ pub use laws::{
     codes_are_told_by_their_numbers, commands_read_back, commands_write_back,
     correlation_is_in_place, replies_read_back, replies_write_back,
 };
+pub use operation_success::OperationSuccess;
+pub use removal::Removal;
 pub use reply::Reply;
 pub use subscription_ready::SubscriptionReady;
 

@@ -4,6 +4,7 @@ ghost use Rattle.command_codec.specs.Gives.{Gives, takes_memory};
 use crate::error_reply::ErrorReply;
 use crate::fault::CommandFault;
 use crate::fields;
+use crate::operation_success::OperationSuccess;
 use crate::subscription_ready::SubscriptionReady;
 use byte_strings::Bytes;
 use std::alloc::{AllocError, Global};
@@ -12,6 +13,7 @@ use std::alloc::{AllocError, Global};
 #[derive(Debug, PartialEq, Eq, Drop)]
 pub enum Reply {
     Error(ErrorReply),
+    OperationSuccess(OperationSuccess),
     SubscriptionReady(SubscriptionReady),
 }
 
@@ -40,6 +42,10 @@ impl Reply {
                 let fields = ErrorReply::read(alloc, bytes)?;
                 Ok(Reply::Error(fields))
             }
+            0x0F04 => {
+                let fields = OperationSuccess::read(bytes)?;
+                Ok(Reply::OperationSuccess(fields))
+            }
             0x0F07 => {
                 let fields = SubscriptionReady::read(bytes)?;
                 Ok(Reply::SubscriptionReady(fields))
@@ -60,6 +66,10 @@ impl Reply {
                 fields::put_u32(&mut out, 0x0F01)?;
                 fields.put(&mut out)?;
             }
+            Reply::OperationSuccess(fields) => {
+                fields::put_u32(&mut out, 0x0F04)?;
+                fields.put(&mut out)?;
+            }
             Reply::SubscriptionReady(fields) => {
                 fields::put_u32(&mut out, 0x0F07)?;
                 fields.put(&mut out)?;
@@ -74,6 +84,7 @@ impl Reply {
     {
         Ok(match self {
             Reply::Error(fields) => Reply::Error(fields.copy(alloc)?),
+            Reply::OperationSuccess(fields) => Reply::OperationSuccess(*fields),
             Reply::SubscriptionReady(fields) => Reply::SubscriptionReady(*fields),
         })
     }

@@ -139,6 +139,49 @@ fn a_subscription_is_ready(rt: HostRuntime) -> Result<(), Fail> {
     Ok(())
 }
 
+/// REMOVE_SUBSCRIPTION of client 1 with correlation id 13, for registration 1.
+const REMOVE: [u8; 28] = [
+    0x05, 0, 0, 0, // type
+    0x01, 0, 0, 0, 0, 0, 0, 0, // client
+    0x0d, 0, 0, 0, 0, 0, 0, 0, // correlation
+    0x01, 0, 0, 0, 0, 0, 0, 0, // registration
+];
+
+#[test]
+fn a_subscription_is_removed(rt: HostRuntime) -> Result<(), Fail> {
+    let command = Command {
+        client: 1,
+        correlation: 13,
+        body: Body::RemoveSubscription(Removal { registration: 1 }),
+    };
+    assert_eq!(rt; command.write(rt.alloc())?.as_slice(), REMOVE.as_slice());
+    assert!(rt; command.copy(rt.alloc())? == command);
+    assert_eq!(rt; Command::read(rt.alloc(), &REMOVE).ok(), Some(command));
+    assert_eq!(rt; Command::correlation_of(&REMOVE), 13);
+    for len in 0..28 {
+        let fault = fault_of(&rt, &REMOVE[..len]);
+        assert_eq!(rt; fault, Some(CommandFault::Malformed), "at {len}");
+    }
+    let mut longer = [0; 29];
+    longer[..28].copy_from_slice(&REMOVE);
+    assert_eq!(rt; fault_of(&rt, &longer), Some(CommandFault::Malformed));
+    Ok(())
+}
+
+#[test]
+fn an_operation_succeeded(rt: HostRuntime) -> Result<(), Fail> {
+    let bytes = [0x04, 0x0f, 0, 0, 0x0d, 0, 0, 0, 0, 0, 0, 0];
+    let reply = Reply::OperationSuccess(OperationSuccess { correlation: 13 });
+    assert_eq!(rt; reply.write(rt.alloc())?.as_slice(), bytes.as_slice());
+    assert!(rt; reply.copy(rt.alloc())? == reply);
+    assert_eq!(rt; Reply::read(rt.alloc(), &bytes).ok(), Some(reply));
+    for len in 0..12 {
+        let fault = Reply::read(rt.alloc(), &bytes[..len]).err();
+        assert_eq!(rt; fault, Some(CommandFault::Malformed), "at {len}");
+    }
+    Ok(())
+}
+
 #[test]
 fn numbers_of_both_signs(rt: HostRuntime) -> Result<(), Fail> {
     let command = Command {

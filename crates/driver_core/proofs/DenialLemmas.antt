@@ -3,20 +3,24 @@ use Rattle.std.proofs.Common.{◌≡◌, ℕ, false, List, [], refl, sym, ap, �
 use Rattle.std.specs.List.{AllByRecursion}
 use Rattle.driver_core.specs.declared.change.Change.{Change}
 use Rattle.driver_core.specs.declared.event.Event.{Event}
-use Rattle.driver_core.specs.declared.event.Event.TheVariants.{Attach, Command}
+use Rattle.driver_core.specs.declared.event.Event.TheVariants.{Attach, Command, Reload}
 use Rattle.driver_core.specs.declared.event.Inputs.{Inputs}
 use Rattle.driver_core.specs.declared.outcome.Response.{Response}
 use Rattle.driver_core.specs.declared.refusal.Refusal.{Refusal}
-use Rattle.driver_core.specs.declared.refusal.Refusal.TheVariants.{UnknownCommandType, MalformedCommand, WrongClient, InvalidChannel, Denied, Full}
+use Rattle.driver_core.specs.declared.refusal.Refusal.TheVariants.{UnknownCommandType, MalformedCommand, WrongClient, InvalidChannel, UnknownSubscription, Denied, Full}
 use Rattle.driver_core.specs.Attaching.{attached}
 use Rattle.driver_core.specs.Change.{answered, replied, refused}
 use Rattle.driver_core.specs.Conduct.{conduct, outcome_of}
 use Rattle.driver_core.specs.Laws.{SubscriptionRequest, AsksToSubscribe, IsDenialNamed, IsNamedRefusal, IsDeniedOn, verdict_on}
+use Rattle.driver_core.specs.Reloading.{reloaded}
+use Rattle.driver_core.specs.RemovalLaws.{RemovalRequest}
 use Rattle.driver_core.specs.State.{State, at_moment}
+use Rattle.driver_core.specs.Unsubscribing.{unsubscribed}
 use Rattle.driver_core.specs.Subscribing.{subscribe, subscribed, decision_of}
 use Rattle.policy_core.specs.declared.decision.Decision.{Decision}
 use Rattle.policy_core.specs.declared.verdict.Verdict.{Verdict}
-use Rattle.driver_core.proofs.EventCases.{Cases, IsPlain, command_cases, subscribe_cases, attach_cases}
+use Rattle.policy_core.specs.RuleList.{Rules}
+use Rattle.driver_core.proofs.EventCases.{Cases, IsPlain, command_cases, subscribe_cases, remove_cases, attach_cases, reload_cases}
 use Rattle.driver_core.proofs.LawLemmas.{at_request, asks_before, found_number, verdict_is}
 use Rattle.driver_core.proofs.VerdictLemmas.{by_policy, epoch_of, denial_words, denial_is_named}
 
@@ -29,6 +33,7 @@ plain_named s event client correlation UnknownCommandType plain = tt
 plain_named s event client correlation MalformedCommand plain = tt
 plain_named s event client correlation WrongClient plain = tt
 plain_named s event client correlation InvalidChannel plain = tt
+plain_named s event client correlation UnknownSubscription plain = tt
 plain_named s event client correlation Full plain = tt
 
 -- each denial among the replies of a change is named
@@ -44,6 +49,15 @@ refusal_names s event after decisions client correlation refusal named = (named,
 answer_names : (s : State) (event : Event) (after : State) (response : Response) → Names s event (answered after response)
 unfolding answered
 answer_names s event after response = tt
+
+removal_names : (s : State) (event : Event) (left : State) (request : RemovalRequest) →
+    Names s event (unsubscribed left request.client request.correlation request.fields.registration)
+unfolding unsubscribed replied
+removal_names s event left request = (tt, tt)
+
+reloaded_names : (s : State) (event : Event) (left : State) (policy : Rules) → Names s event (reloaded left policy)
+unfolding reloaded
+reloaded_names s event left policy = tt
 
 grant_names : (s : State) (now handle : ℕ) (bytes : List ℕ) (request : SubscriptionRequest) →
     Names s (Command now handle bytes) (
@@ -96,6 +110,11 @@ command_names s now handle bytes = record {
       refusal_names s (Command now handle bytes) (at_request s now handle) [] client.number correlation InvalidChannel tt;
   decided = λ request was_heard asks.
       decided_names s now handle bytes request (asks_before s now handle bytes request asks);
+  removal = λ request was_heard asks.
+      remove_cases (Names s (Command now handle bytes)) (at_request s now handle) request.client request.correlation
+      request.fields
+      (λ known. removal_names s (Command now handle bytes) (at_request s now handle) request)
+      (λ unknown. refusal_names s (Command now handle bytes) (at_request s now handle) _ _ _ UnknownSubscription tt);
 }
 
 attach_names : (s : State) (now principal : ℕ) (inputs : Inputs) →
@@ -106,8 +125,17 @@ attach_names s now principal inputs =
     (answer_names s (Attach now principal) _ _)
     (answer_names s (Attach now principal) _ _)
 
+reload_names : (s : State) (now : ℕ) (policy : Rules) (inputs : Inputs) →
+    Names s (Reload now policy) (conduct s (Reload now policy) inputs)
+unfolding conduct
+reload_names s now policy inputs =
+    reload_cases (Names s (Reload now policy)) (at_moment s now) policy
+    (λ room. reloaded_names s (Reload now policy) _ policy)
+    (λ full. answer_names s (Reload now policy) _ _)
+
 pub denials_named : (s : State) (event : Event) (inputs : Inputs) →
     AllByRecursion (λ message. IsDenialNamed s event message.client message.reply) (outcome_of s event inputs).replies
 denials_named s (Attach now principal) inputs = attach_names s now principal inputs
 denials_named s (Command now handle bytes) inputs =
     command_cases (Names s (Command now handle bytes)) s now handle bytes inputs (command_names s now handle bytes)
+denials_named s (Reload now policy) inputs = reload_names s now policy inputs

@@ -6,24 +6,29 @@ use Rattle.driver_core.specs.declared.event.Event.TheVariants.{Command}
 use Rattle.driver_core.specs.declared.event.Inputs.{Inputs}
 use Rattle.driver_core.specs.declared.outcome.Response.TheVariants as response
 use Rattle.driver_core.specs.declared.refusal.Refusal.{Refusal}
-use Rattle.driver_core.specs.declared.refusal.Refusal.TheVariants.{WrongClient, InvalidChannel, Denied, Full}
+use Rattle.driver_core.specs.declared.refusal.Refusal.TheVariants.{WrongClient, InvalidChannel, UnknownSubscription, Denied, Full}
 use Rattle.driver_core.specs.declared.rows.Client.{Client}
 use Rattle.driver_core.specs.Attaching.{attach, attached, has_room_for_client}
 use Rattle.driver_core.specs.Change.{answered, refused}
 use Rattle.driver_core.specs.Commands.{client_at, heard, requested, asked, asked_by, command, command_from, body_change, refusal_for}
 use Rattle.driver_core.specs.Conduct.{conduct}
 use Rattle.driver_core.specs.Laws.{SubscriptionRequest, AsksToSubscribe, is_heard}
+use Rattle.driver_core.specs.Reloading.{reload, reloaded, has_room_for_policy}
+use Rattle.driver_core.specs.RemovalLaws.{RemovalRequest, AsksToRemove}
 use Rattle.driver_core.specs.State.{State, at_moment}
 use Rattle.driver_core.specs.Subscribing.{is_subscribable, subscribe, subscribe_on, add_subscription, subscribed, decision_of, has_room_for_subscription}
+use Rattle.driver_core.specs.Unsubscribing.{remove_subscription, unsubscribed, has_subscription}
 use Rattle.channel_uri.specs.declared.error.UriError.{UriError}
 use Rattle.channel_uri.specs.Channel.{Shape, denotes}
 use Rattle.command_codec.specs.declared.add_subscription.AddSubscription.{AddSubscription}
 use Rattle.command_codec.specs.declared.command.Body.{Body}
-use Rattle.command_codec.specs.declared.command.Body.TheVariants.{AddSubscription as Adds}
+use Rattle.command_codec.specs.declared.command.Body.TheVariants.{AddSubscription as Adds, RemoveSubscription as Removes}
 use Rattle.command_codec.specs.declared.command.Command.{Command as Read}
 use Rattle.command_codec.specs.declared.fault.CommandFault.{CommandFault}
 use Rattle.command_codec.specs.declared.fault.CommandFault.TheVariants.{Unknown, Malformed, NoMemory}
+use Rattle.command_codec.specs.declared.removal.Removal.{Removal}
 use Rattle.command_codec.specs.Command.{command_of, correlation_of}
+use Rattle.policy_core.specs.RuleList.{Rules}
 
 -- a refusal for which the policy is not asked
 abbrev pub IsPlain : Refusal → Type 0
@@ -41,6 +46,9 @@ pub record Cases (P : Change → Type 0) (s : State) (handle : ℕ) (bytes : Lis
   pub decided :
       (request : SubscriptionRequest) → is_heard s handle bytes ≡ true → AsksToSubscribe s handle bytes request →
       P (subscribe (heard s handle) request.client request.correlation request.channel request.fields.stream)
+  pub removal :
+      (request : RemovalRequest) → is_heard s handle bytes ≡ true → AsksToRemove s handle bytes request →
+      P (remove_subscription (heard s handle) request.client request.correlation request.fields)
 
 plain_fault : (fault : CommandFault) → IsPlain (refusal_for fault)
 plain_fault Unknown = tt
@@ -48,9 +56,9 @@ plain_fault Malformed = tt
 plain_fault NoMemory = tt
 
 -- a command by its parts
-whole : (read : Read) (handle : ℕ) (fields : AddSubscription) → read.client ≡ handle → read.body ≡ Adds fields →
-    read ≡ record { client = handle; correlation = read.correlation; body = Adds fields }
-whole read handle fields own is = rw (← own, ← is) refl
+whole : (read : Read) (handle : ℕ) (body : Body) → read.client ≡ handle → read.body ≡ body →
+    read ≡ record { client = handle; correlation = read.correlation; body = body }
+whole read handle body own is = rw (← own, ← is) refl
 
 -- ---- a client that is there
 
@@ -78,7 +86,10 @@ body_cases : (P : Change → Type 0) (s : State) (handle : ℕ) (bytes : List �
 unfolding add_subscription
 body_cases P s handle bytes client read cases known is own found (Adds fields) same =
     channel_cases P s handle bytes client read.correlation fields cases known
-    (is ∙ ap Ok (whole read handle fields own same)) found (denotes fields.channel) refl
+    (is ∙ ap Ok (whole read handle (Adds fields) own same)) found (denotes fields.channel) refl
+body_cases P s handle bytes client read cases known is own found (Removes fields) same =
+    cases.removal (record { client = client; correlation = read.correlation; fields = fields }) known
+    (record { command = is ∙ ap Ok (whole read handle (Removes fields) own same); attached = found })
 
 -- ---- any bytes
 
@@ -127,6 +138,25 @@ subscribe_cases P s client correlation channel stream granted full denied =
     let allow : Bool = (decision_of s client channel stream).verdict.allow in
     cond_both (not allow) _ _ P (λ e. denied (not-true allow e))
     (λ e. cond_both (has_room_for_subscription s) _ _ P (granted (not-false allow e)) (full (not-false allow e)))
+
+-- ---- a subscription that goes
+
+pub remove_cases : (P : Change → Type 0) (s : State) (client : Client) (correlation : ℕ) (fields : Removal) →
+    (has_subscription s client.number fields.registration ≡ true →
+    P (unsubscribed s client correlation fields.registration)) →
+    (has_subscription s client.number fields.registration ≡ false →
+    P (refused s [] client.number correlation UnknownSubscription)) → P (remove_subscription s client correlation fields)
+unfolding remove_subscription
+remove_cases P s client correlation fields known unknown =
+    cond_both (has_subscription s client.number fields.registration) _ _ P known unknown
+
+-- ---- a policy that is put in force
+
+pub reload_cases : (P : Change → Type 0) (s : State) (policy : Rules) →
+    (has_room_for_policy s policy ≡ true → P (reloaded s policy)) →
+    (has_room_for_policy s policy ≡ false → P (answered s response.PolicyFull)) → P (reload s policy)
+unfolding reload
+reload_cases P s policy done full = cond_both (has_room_for_policy s policy) _ _ P done full
 
 -- ---- a client that comes
 

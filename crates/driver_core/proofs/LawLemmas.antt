@@ -3,7 +3,7 @@ use Rattle.std.proofs.Common.{◌≡◌, ℕ, ℤ, ◌==◌, Bool, true, false, 
 use Rattle.std.proofs.lemmas.Bool.{eqb-true, eq-eqb}
 use Rattle.std.proofs.lemmas.List.Elements.{Contains-push, Contains-push_cases}
 use Rattle.driver_core.specs.declared.event.Event.{Event}
-use Rattle.driver_core.specs.declared.event.Event.TheVariants.{Attach, Command}
+use Rattle.driver_core.specs.declared.event.Event.TheVariants.{Attach, Command, Reload}
 use Rattle.driver_core.specs.declared.event.Inputs.{Inputs}
 use Rattle.driver_core.specs.declared.refusal.Refusal.{Refusal}
 use Rattle.driver_core.specs.declared.refusal.Refusal.TheVariants.{InvalidChannel, Denied, Full}
@@ -15,11 +15,16 @@ use Rattle.driver_core.specs.Change.{answered, replied, refused}
 use Rattle.driver_core.specs.Commands.{client_at, heard, requested, asked, command}
 use Rattle.driver_core.specs.Conduct.{conduct}
 use Rattle.driver_core.specs.Laws.{SubscriptionRequest, AsksToSubscribe, IsDecidedExactly, IsGranted, IsRefused, GrantsOnly, IsMadeBy, verdict_on, subscription_for}
+use Rattle.driver_core.specs.Reloading.{in_force, reloaded}
+use Rattle.driver_core.specs.RemovalLaws.{RemovalRequest}
 use Rattle.driver_core.specs.State.{State, at_moment}
+use Rattle.driver_core.specs.Unsubscribing.{stays, unsubscribed}
 use Rattle.channel_uri.specs.Channel.{Shape}
 use Rattle.policy_core.specs.declared.decision.Decision.{Decision}
 use Rattle.policy_core.specs.declared.verdict.Verdict.{Verdict}
-use Rattle.driver_core.proofs.EventCases.{Cases, command_cases, subscribe_cases, attach_cases}
+use Rattle.policy_core.specs.RuleList.{Rules}
+use Rattle.driver_core.proofs.EventCases.{Cases, command_cases, subscribe_cases, remove_cases, attach_cases, reload_cases}
+use Rattle.driver_core.proofs.ListLemmas.{left_was_there}
 use Rattle.driver_core.proofs.VerdictLemmas.{by_policy}
 use Rattle.driver_core.specs.Subscribing.{subscribe, add_subscription, subscribed, decision_of, has_room_for_subscription}
 
@@ -171,6 +176,23 @@ unfolding answered
 answer_grants_only s event after response same =
     record { told = tt; stands = λ subscription stands. inl (rw same at stands) }
 
+removal_grants_only : (s : State) (event : Event) (left : State) (request : RemovalRequest) →
+    left.subscriptions ≡ s.subscriptions →
+    GrantsOnly s event (unsubscribed left request.client request.correlation request.fields.registration)
+unfolding unsubscribed replied
+removal_grants_only s event left request same = record {
+  told = (tt, tt);
+  stands = λ subscription stands'.
+      inl (rw same at
+      (left_was_there (stays request.client.number request.fields.registration) left.subscriptions subscription stands'));
+}
+
+reloaded_grants_only : (s : State) (event : Event) (left : State) (policy : Rules) →
+    left.subscriptions ≡ s.subscriptions → GrantsOnly s event (reloaded left policy)
+unfolding reloaded in_force
+reloaded_grants_only s event left policy same =
+    record { told = tt; stands = λ subscription stands. inl (rw same at stands) }
+
 grant_grants_only : (s : State) (now handle : ℕ) (bytes : List ℕ) (request : SubscriptionRequest) →
     AsksToSubscribe s handle bytes request → (verdict_on s request).allow ≡ true → has_room_for_subscription s ≡ true →
     GrantsOnly s (Command now handle bytes) (
@@ -217,6 +239,11 @@ command_grants_only s now handle bytes = record {
       grant_grants_only s now handle bytes request asks (sym word ∙ allows) (sym (room_is s now handle) ∙ room))
       (λ allows room. refusal_grants_only s (Command now handle bytes) (at_request s now handle) _ _ _ Full refl)
       (λ denies. refusal_grants_only s (Command now handle bytes) (at_request s now handle) _ _ _ _ refl);
+  removal = λ request was_heard asks.
+      remove_cases (GrantsOnly s (Command now handle bytes)) (at_request s now handle) request.client request.correlation
+      request.fields
+      (λ known. removal_grants_only s (Command now handle bytes) (at_request s now handle) request refl)
+      (λ unknown. refusal_grants_only s (Command now handle bytes) (at_request s now handle) _ _ _ _ refl);
 }
 
 attach_grants_only : (s : State) (now principal : ℕ) (inputs : Inputs) →
@@ -227,8 +254,17 @@ attach_grants_only s now principal inputs =
     (answer_grants_only s (Attach now principal) _ _ refl)
     (answer_grants_only s (Attach now principal) _ _ refl)
 
+reload_grants_only : (s : State) (now : ℕ) (policy : Rules) (inputs : Inputs) →
+    GrantsOnly s (Reload now policy) (conduct s (Reload now policy) inputs)
+unfolding conduct at_moment
+reload_grants_only s now policy inputs =
+    reload_cases (GrantsOnly s (Reload now policy)) (at_moment s now) policy
+    (λ room. reloaded_grants_only s (Reload now policy) _ policy refl)
+    (λ full. answer_grants_only s (Reload now policy) _ _ refl)
+
 pub grants_only : (s : State) (event : Event) (inputs : Inputs) → GrantsOnly s event (conduct s event inputs)
 grants_only s (Attach now principal) inputs = attach_grants_only s now principal inputs
 grants_only s (Command now handle bytes) inputs =
     command_cases (GrantsOnly s (Command now handle bytes)) s now handle bytes inputs
     (command_grants_only s now handle bytes)
+grants_only s (Reload now policy) inputs = reload_grants_only s now policy inputs

@@ -1,6 +1,9 @@
 pub mod DenialLemmas
 pub mod EventCases
 pub mod LawLemmas
+pub mod ListLemmas
+pub mod ReloadLemmas
+pub mod RemovalLemmas
 pub mod RefusalLemmas
 pub mod RunLemmas
 pub mod TakenLemmas

@@ -18,6 +18,8 @@ told : (e : RunEnd) (step : Step) (r : Response) (replies : List Message) → an
 told e step response.Nothing replies is = (is, refl)
 told e step (response.Attached number) replies is = (is, refl)
 told e step response.Full replies is = (is, refl)
+told e step (response.PolicyInForce epoch) replies is = (is, refl)
+told e step response.PolicyFull replies is = (is, refl)
 
 -- an event that was taken serves the conductor's step
 pub event_served : (old new : RunEnd) (event : Event) (outcome : Outcome) →

@@ -1,18 +1,18 @@
 -- A run takes the events that were not refused memory.
-use Rattle.std.proofs.Common.{◌≡◌, List, [], ◌∷◌, refl}
+use Rattle.std.proofs.Common.{◌≡◌, List, [], ◌∷◌, refl, sym, subst}
 use Rattle.driver_core.specs.declared.answer.Answer.{Answer}
-use Rattle.driver_core.specs.declared.answer.Answer.TheVariants.{NoMemory, Attached, Full, Replies}
+use Rattle.driver_core.specs.declared.answer.Answer.TheVariants.{NoMemory, Attached, Full, PolicyInForce, PolicyFull, Replies}
+use Rattle.driver_core.specs.declared.event.Event.{Event}
 use Rattle.driver_core.specs.declared.outcome.Outcome.{Outcome}
 use Rattle.driver_core.specs.declared.outcome.Response.{Response}
 use Rattle.driver_core.specs.declared.outcome.Response.TheVariants as response
 use Rattle.driver_core.specs.declared.peer.Peer.{Peer}
-use Rattle.driver_core.specs.declared.replies.Message.{Message}
 use Rattle.driver_core.specs.declared.settings.Settings.{Settings}
 use Rattle.driver_core.specs.declared.step.Step.{Step}
 use Rattle.driver_core.specs.declared.step.Step.TheVariants.{Conductor}
-use Rattle.driver_core.specs.Conduct.{state_after}
-use Rattle.driver_core.specs.Laws.{TakesEvents, state_of, taken}
-use Rattle.driver_core.specs.Runs.{opening_end, end_of, no_inputs, answered_by, answer_of}
+use Rattle.driver_core.specs.Conduct.{outcome_of, state_after}
+use Rattle.driver_core.specs.Laws.{TakesEvents, IsTold, state_of, taken}
+use Rattle.driver_core.specs.Runs.{RunEnd, opening_end, end_of, no_inputs, IsAnswer, answered_by, answer_of}
 use Rattle.driver_core.specs.State.{State}
 use Rattle.policy_core.specs.RuleList.{Rules}
 
@@ -26,22 +26,35 @@ leaves_of s (Conductor event ∷ steps) (Attached number ∷ answers) =
 leaves_of s (Conductor event ∷ steps) (Full ∷ answers) = leaves_of (state_after s event no_inputs) steps answers
 leaves_of s (Conductor event ∷ steps) (Replies messages ∷ answers) =
     leaves_of (state_after s event no_inputs) steps answers
+leaves_of s (Conductor event ∷ steps) (PolicyInForce epoch messages ∷ answers) =
+    leaves_of (state_after s event no_inputs) steps answers
+leaves_of s (Conductor event ∷ steps) (PolicyFull ∷ answers) = leaves_of (state_after s event no_inputs) steps answers
 
-told_replies : (r : Response) (replies messages : List Message) → Replies messages ≡ answered_by r replies →
-    messages ≡ replies
-told_replies response.Nothing replies messages is = cc
-told_replies (response.Attached number) replies messages is = absurd (cc)
-told_replies response.Full replies messages is = absurd (cc)
+told_by : (r : Response) (outcome : Outcome) → outcome.response ≡ r → IsTold (answered_by r outcome.replies) outcome
+told_by response.Nothing outcome same = (same, refl)
+told_by (response.Attached number) outcome same = same
+told_by response.Full outcome same = same
+told_by (response.PolicyInForce epoch) outcome same = (same, refl)
+told_by response.PolicyFull outcome same = same
 
-outcome_told : (outcome : Outcome) (messages : List Message) → Replies messages ≡ answer_of outcome →
-    messages ≡ outcome.replies
+told : (answer : Answer) (outcome : Outcome) → answer ≡ answer_of outcome → IsTold answer outcome
 unfolding answer_of
-outcome_told outcome messages is = told_replies outcome.response outcome.replies messages is
+told answer outcome is =
+    subst (λ (a : Answer). IsTold a outcome) (sym is) (told_by outcome.response outcome refl)
+
+answer_told : (e : RunEnd) (event : Event) (answer : Answer) → IsAnswer e (Conductor event) answer →
+    IsTold answer (outcome_of e.registry event no_inputs)
+answer_told e event NoMemory is = tt
+answer_told e event (Attached number) is = told (Attached number) _ is
+answer_told e event Full is = told Full _ is
+answer_told e event (PolicyInForce epoch messages) is = told (PolicyInForce epoch messages) _ is
+answer_told e event PolicyFull is = told PolicyFull _ is
+answer_told e event (Replies messages) is = told (Replies messages) _ is
 
 pub takes_events : (settings : Settings) (policy : Rules) (peers : List Peer) (steps : List Step) (answers : List Answer) →
     TakesEvents settings policy peers steps answers
 unfolding opening_end
 takes_events settings policy peers steps answers = record {
   leaves = leaves_of _ steps answers;
-  tells = λ event messages told. rw (← leaves_of _ steps answers) (outcome_told _ messages told);
+  tells = λ event answer told. rw (← leaves_of _ steps answers) (answer_told _ event answer told);
 }

@@ -7,9 +7,10 @@ use Rattle.driver_core.specs.declared.rows.Client.{Client}
 use Rattle.driver_core.specs.Change.{refused}
 use Rattle.driver_core.specs.State.{State}
 use Rattle.driver_core.specs.Subscribing.{add_subscription}
+use Rattle.driver_core.specs.Unsubscribing.{remove_subscription}
 use Rattle.command_codec.specs.declared.command.Command.{Command}
 use Rattle.command_codec.specs.declared.command.Body.{Body}
-use Rattle.command_codec.specs.declared.command.Body.TheVariants.{AddSubscription}
+use Rattle.command_codec.specs.declared.command.Body.TheVariants.{AddSubscription, RemoveSubscription}
 use Rattle.command_codec.specs.declared.fault.CommandFault.{CommandFault}
 use Rattle.command_codec.specs.declared.fault.CommandFault.TheVariants.{Unknown, Malformed, NoMemory}
 use Rattle.command_codec.specs.Command.{command_of, correlation_of}
@@ -31,6 +32,7 @@ heard s number = record s { clients = heard_by number s.moment s.clients }
 -- what is asked for by a client that is there
 abbrev pub body_change : State → Client → ℕ → Body → Change
 body_change s client correlation (AddSubscription fields) = add_subscription s client correlation fields
+body_change s client correlation (RemoveSubscription fields) = remove_subscription s client correlation fields
 
 unfoldable pub requested : State → Client → Command → Change
 requested s client command = body_change s client command.correlation command.body

@@ -3,10 +3,10 @@ use Rattle.std.specs.Prelude.{◌≡◌, ℕ, ◌+◌, ◌==◌, ◌&&◌, max, 
 use Rattle.std.specs.Fmt.{decimal}
 use Rattle.std.specs.List.{AllByRecursion}
 use Rattle.driver_core.specs.declared.answer.Answer.{Answer}
-use Rattle.driver_core.specs.declared.answer.Answer.TheVariants.{NoMemory, Replies}
+use Rattle.driver_core.specs.declared.answer.Answer.TheVariants.{NoMemory, Attached, Full as IsFull, PolicyInForce, PolicyFull, Replies}
 use Rattle.driver_core.specs.declared.change.Change.{Change}
 use Rattle.driver_core.specs.declared.event.Event.{Event}
-use Rattle.driver_core.specs.declared.event.Event.TheVariants.{Attach, Command}
+use Rattle.driver_core.specs.declared.event.Event.TheVariants.{Attach, Command, Reload}
 use Rattle.driver_core.specs.declared.event.Inputs.{Inputs}
 use Rattle.driver_core.specs.declared.outcome.Outcome.{Outcome}
 use Rattle.driver_core.specs.declared.outcome.Response.{Response}
@@ -16,7 +16,7 @@ use Rattle.driver_core.specs.declared.refusal.Refusal.{Refusal}
 use Rattle.driver_core.specs.declared.refusal.Refusal.TheVariants.{Denied, Full}
 use Rattle.driver_core.specs.declared.replies.Message.{Message}
 use Rattle.driver_core.specs.declared.replies.Reply.{Reply}
-use Rattle.driver_core.specs.declared.replies.Reply.TheVariants.{Error, SubscriptionReady}
+use Rattle.driver_core.specs.declared.replies.Reply.TheVariants.{Error, OperationSuccess, SubscriptionReady}
 use Rattle.driver_core.specs.declared.rows.Client.{Client}
 use Rattle.driver_core.specs.declared.rows.Subscription.{Subscription}
 use Rattle.driver_core.specs.declared.settings.Settings.{Settings}
@@ -176,6 +176,7 @@ IsGrantTold s event after client (SubscriptionReady correlation registration) =
     × Contains after.subscriptions made
     × IsMadeBy s event correlation made
 IsGrantTold s event after client (Error correlation refusal) = Unit {0}
+IsGrantTold s event after client (OperationSuccess correlation) = Unit {0}
 
 pub record GrantsOnly (s : State) (event : Event) (change : Change) : Type 0 where
   pub told :
@@ -215,6 +216,7 @@ IsNamedRefusal s event client correlation refusal = Unit {0}
 
 abbrev pub IsDenialNamed : State → Event → ℕ → Reply → Type 0
 IsDenialNamed s event client (Error correlation refusal) = IsNamedRefusal s event client correlation refusal
+IsDenialNamed s event client (OperationSuccess correlation) = Unit {0}
 IsDenialNamed s event client (SubscriptionReady correlation registration) = Unit {0}
 
 abbrev pub DenialsAreNamed : Type 0
@@ -227,12 +229,15 @@ DenialsAreNamed =
 -- each of the replies refuses
 abbrev pub IsRefusal : Reply → Type 0
 IsRefusal (Error correlation refusal) = Unit {0}
+IsRefusal (OperationSuccess correlation) = ⊥
 IsRefusal (SubscriptionReady correlation registration) = ⊥
 
 abbrev pub IsNoGrant : Response → Type 0
 IsNoGrant response.Nothing = Unit {0}
 IsNoGrant (response.Attached number) = ⊥
 IsNoGrant response.Full = Unit {0}
+IsNoGrant (response.PolicyInForce epoch) = ⊥
+IsNoGrant response.PolicyFull = Unit {0}
 
 pub record GrantsNothing (outcome : Outcome) : Type 0 where
   pub response : IsNoGrant outcome.response
@@ -249,6 +254,7 @@ is_heard s handle bytes = names handle (command_of bytes) && is_some (client_at 
 -- the registry with no more than its moment and that of the client that was heard of set
 abbrev pub only_moments : State → Event → State
 only_moments s (Attach now principal) = record s { moment = max s.moment now }
+only_moments s (Reload now policy) = record s { moment = max s.moment now }
 only_moments s (Command now handle bytes) = record s {
   moment = max s.moment now;
   clients = if is_heard s handle bytes then heard_by handle (max s.moment now) s.clients else s.clients;
@@ -268,15 +274,25 @@ taken (step ∷ steps) [] = []
 taken (step ∷ steps) (NoMemory ∷ answers) = taken steps answers
 taken (Conductor event ∷ steps) (answer ∷ answers) = (event, no_inputs) ∷ taken steps answers
 
--- at its end stands the registry that those events leave, and the replies that a further step is answered are its event's
+-- what an answer says is what the event tells; want of memory says nothing
+abbrev pub IsTold : Answer → Outcome → Type 0
+IsTold NoMemory outcome = Unit {0}
+IsTold (Attached number) outcome = outcome.response ≡ response.Attached number
+IsTold IsFull outcome = outcome.response ≡ response.Full
+IsTold (PolicyInForce epoch messages) outcome =
+    (outcome.response ≡ response.PolicyInForce epoch) × (messages ≡ outcome.replies)
+IsTold PolicyFull outcome = outcome.response ≡ response.PolicyFull
+IsTold (Replies messages) outcome = (outcome.response ≡ response.Nothing) × (messages ≡ outcome.replies)
+
+-- at its end stands the registry that those events leave, and a further step is answered what its event tells
 pub record TakesEvents (settings : Settings) (policy : Rules) (peers : List Peer) (steps : List Step) (answers : List Answer) : Type 0 where
   pub leaves :
       (end_of (opening_end settings policy peers) steps answers).registry
       ≡ state_of (opened settings policy peers) (taken steps answers)
   pub tells :
-      (event : Event) (messages : List Message) →
-      IsAnswer (end_of (opening_end settings policy peers) steps answers) (Conductor event) (Replies messages) →
-      messages ≡ (outcome_of (state_of (opened settings policy peers) (taken steps answers)) event no_inputs).replies
+      (event : Event) (answer : Answer) →
+      IsAnswer (end_of (opening_end settings policy peers) steps answers) (Conductor event) answer →
+      IsTold answer (outcome_of (state_of (opened settings policy peers) (taken steps answers)) event no_inputs)
 
 abbrev pub RunsTakeEvents : Type 0
 RunsTakeEvents =

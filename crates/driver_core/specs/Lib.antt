@@ -3,8 +3,13 @@ pub mod Change
 pub mod Commands
 pub mod Conduct
 pub mod Laws
+pub mod Pairs
+pub mod ReloadLaws
+pub mod Reloading
+pub mod RemovalLaws
 pub mod Replies
 pub mod Runs
 pub mod Settings
 pub mod State
 pub mod Subscribing
+pub mod Unsubscribing

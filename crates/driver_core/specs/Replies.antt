@@ -1,9 +1,9 @@
 -- How a reply is laid out.
 use Rattle.std.specs.Prelude.{ℕ, List, [], unwrap_or}
 use Rattle.driver_core.specs.declared.refusal.Refusal.{Refusal}
-use Rattle.driver_core.specs.declared.refusal.Refusal.TheVariants.{UnknownCommandType, MalformedCommand, WrongClient, InvalidChannel, Denied, Full}
+use Rattle.driver_core.specs.declared.refusal.Refusal.TheVariants.{UnknownCommandType, MalformedCommand, WrongClient, InvalidChannel, UnknownSubscription, Denied, Full}
 use Rattle.driver_core.specs.declared.replies.Reply.{Reply}
-use Rattle.driver_core.specs.declared.replies.Reply.TheVariants.{Error, SubscriptionReady}
+use Rattle.driver_core.specs.declared.replies.Reply.TheVariants.{Error, OperationSuccess, SubscriptionReady}
 use Rattle.command_codec.specs.declared.error_code.ErrorCode.{ErrorCode}
 use Rattle.command_codec.specs.declared.error_code.ErrorCode.TheVariants as code
 use Rattle.command_codec.specs.declared.reply.Reply.{Reply as Layout}
@@ -17,6 +17,7 @@ code_for UnknownCommandType = code.UnknownCommandType
 code_for MalformedCommand = code.MalformedCommand
 code_for WrongClient = code.WrongClient
 code_for InvalidChannel = code.InvalidChannel
+code_for UnknownSubscription = code.UnknownSubscription
 code_for (Denied verdict) = code.Denied
 code_for Full = code.Full
 
@@ -28,5 +29,6 @@ refusal_text refusal = unwrap_or (code_text (code_for refusal)) []
 unfoldable pub layout_of : Reply → Layout
 layout_of (Error correlation refusal) =
     layout.Error (record { correlation = correlation; code = code_for refusal; text = refusal_text refusal })
+layout_of (OperationSuccess correlation) = layout.OperationSuccess (record { correlation = correlation })
 layout_of (SubscriptionReady correlation registration) =
     layout.SubscriptionReady (record { correlation = correlation; registration = registration })

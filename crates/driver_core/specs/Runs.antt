@@ -1,7 +1,7 @@
 -- Runs: any list of steps with their answers, from an opened world.
 use Rattle.std.specs.Prelude.{◌≡◌, List, [], ◌∷◌, ◌++◌}
 use Rattle.driver_core.specs.declared.answer.Answer.{Answer}
-use Rattle.driver_core.specs.declared.answer.Answer.TheVariants.{NoMemory, Attached, Full, Replies}
+use Rattle.driver_core.specs.declared.answer.Answer.TheVariants.{NoMemory, Attached, Full, PolicyInForce, PolicyFull, Replies}
 use Rattle.driver_core.specs.declared.event.Inputs.{Inputs}
 use Rattle.driver_core.specs.declared.outcome.Outcome.{Outcome}
 use Rattle.driver_core.specs.declared.outcome.Response.{Response}
@@ -32,6 +32,8 @@ abbrev pub answered_by : Response → List Message → Answer
 answered_by response.Nothing replies = Replies replies
 answered_by (response.Attached number) replies = Attached number
 answered_by response.Full replies = Full
+answered_by (response.PolicyInForce epoch) replies = PolicyInForce epoch replies
+answered_by response.PolicyFull replies = PolicyFull
 
 unfoldable pub answer_of : Outcome → Answer
 answer_of outcome = answered_by outcome.response outcome.replies

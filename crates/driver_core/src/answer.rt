@@ -14,7 +14,15 @@ pub enum Answer {
     Attached(u64),
     /// A limit of the driver would be broken.
     Full,
-    /// The replies that an event gives, in their order.
+    /// The policy is in force, under this number.
+    PolicyInForce {
+        epoch: u64,
+        /// The replies that it gives, in their order.
+        replies: Items<Message>,
+    },
+    /// A limit of the driver would be broken under the policy, which is not in force.
+    PolicyFull,
+    /// The replies that a command gives, in their order.
     Replies(Items<Message>),
 }
 
@@ -28,6 +36,11 @@ impl Answer {
             Response::Nothing => Answer::Replies(outcome.replies),
             Response::Attached(number) => Answer::Attached(number),
             Response::Full => Answer::Full,
+            Response::PolicyInForce(epoch) => Answer::PolicyInForce {
+                epoch,
+                replies: outcome.replies,
+            },
+            Response::PolicyFull => Answer::PolicyFull,
         }
     }
 }

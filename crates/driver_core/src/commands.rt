@@ -5,7 +5,7 @@ use crate::change::Change;
 use crate::refusal::Refusal;
 use crate::registry::Registry;
 use crate::rows::Client;
-use crate::subscribing;
+use crate::{subscribing, unsubscribing};
 use byte_strings::Items;
 use command_codec::{Body, Command, CommandFault};
 use std::alloc::{AllocError, Global};
@@ -59,6 +59,13 @@ fn requested(
         Body::AddSubscription(fields) => {
             subscribing::add_subscription(registry, alloc, client, command.correlation, fields)
         }
+        Body::RemoveSubscription(fields) => unsubscribing::remove_subscription(
+            registry,
+            alloc,
+            client,
+            command.correlation,
+            *fields,
+        ),
     }
 }
 

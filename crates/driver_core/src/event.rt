@@ -1,16 +1,19 @@
 ghost use Rattle.std.specs.Prelude.{◌≡◌, []};
 
 use byte_strings::{Bytes, Items};
+use policy_core::Policy;
 use std::alloc::Global;
 
 /// What happens to the conductor, with its moment in nanoseconds. A moment before one that was seen already counts as
 /// the one seen.
-#[derive(Debug, PartialEq, Eq, Drop)]
+#[derive(Debug, Drop)]
 pub enum Event {
     /// A client comes, which acts for this principal.
     Attach { now: u64, principal: u32 },
     /// The bytes of a command come over the handle of a client.
     Command { now: u64, client: u64, bytes: Bytes },
+    /// A policy is to be in force from here on, under the next number.
+    Reload { now: u64, policy: Policy },
 }
 
 /// How far a log reaches.

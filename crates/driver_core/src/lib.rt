@@ -1,6 +1,7 @@
 //! The registry of a driver, and what each event makes of it.
 //!
-//! `Registry::step` is one event of the conductor: a client that attaches, or a command of one. What it answers is
+//! `Registry::step` is one event of the conductor: a client that attaches, a command of
+//! one, or a policy that is put in force. What it answers is
 //! `outcome_of`, and what it leaves is `state_after`, two total functions on the registry as plain data. `World::run`
 //! takes any list of steps, and its answers continue the run that came before.
 #![tactic(auto)]
@@ -15,18 +16,22 @@ mod outcome;
 mod peer;
 mod refusal;
 mod registry;
+mod reloading;
 mod replies;
 mod rows;
 mod settings;
 mod step;
 mod subscribing;
+mod unsubscribing;
 mod world;
 
 pub use answer::Answer;
 pub use event::{End, Event, Inputs};
 pub use laws::{
-    denials_are_named, refusals_change_no_more_than_moments, runs_take_events,
-    subscriptions_are_granted_exactly, subscriptions_are_granted_only,
+    denials_are_named, newest_policy_is_in_force, refusals_change_no_more_than_moments,
+    reloads_close_exactly, runs_take_events, subscriptions_are_granted_exactly,
+    subscriptions_are_granted_only, subscriptions_are_removed_exactly,
+    subscriptions_are_removed_only,
 };
 pub use outcome::{Opening, Outcome, Pair, Response};
 pub use peer::{Address, Peer};
@@ -37,6 +42,3 @@ pub use rows::{Client, Subscription};
 pub use settings::Settings;
 pub use step::Step;
 pub use world::World;
-
-#[cfg(test)]
-mod tests;

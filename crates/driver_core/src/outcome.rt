@@ -10,6 +10,10 @@ pub enum Response {
     Attached(u64),
     /// A limit of the driver would be broken.
     Full,
+    /// The policy is in force, under this number.
+    PolicyInForce(u64),
+    /// A limit of the driver would be broken under the policy, which is not in force.
+    PolicyFull,
 }
 
 /// A log that opens, and the page at which its memory begins.

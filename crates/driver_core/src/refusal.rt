@@ -11,6 +11,8 @@ pub enum Refusal {
     WrongClient,
     /// The channel's text is no channel, or not one that such a command takes.
     InvalidChannel,
+    /// The client has no subscription under this registration id, whoever else may have.
+    UnknownSubscription,
     /// The policy denies the request, by this verdict.
     Denied(Verdict),
     /// The command would break a limit of the driver.

@@ -6,7 +6,7 @@ use crate::outcome::Outcome;
 use crate::peer::Peer;
 use crate::rows::{Client, Subscription};
 use crate::settings::Settings;
-use crate::{attaching, commands};
+use crate::{attaching, commands, reloading};
 use policy_core::Policy;
 use std::alloc::{AllocError, Global};
 use std::marker::Model;
@@ -126,6 +126,10 @@ impl Registry {
             Event::Command { now, client, bytes } => {
                 let registry = self.at_moment(alloc, *now)?;
                 commands::command(registry, alloc, *client, bytes.as_slice())
+            }
+            Event::Reload { now, policy } => {
+                let registry = self.at_moment(alloc, *now)?;
+                Ok(reloading::reload(registry, alloc, policy.copy(alloc)?))
             }
         }
     }

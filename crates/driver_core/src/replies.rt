@@ -4,7 +4,7 @@ ghost use Rattle.std.specs.Prelude.{◌≡◌, IfOk};
 
 use crate::refusal::Refusal;
 use byte_strings::{Bytes, Text};
-use command_codec::{ErrorCode, ErrorReply, SubscriptionReady};
+use command_codec::{ErrorCode, ErrorReply, OperationSuccess, SubscriptionReady};
 use std::alloc::{AllocError, Global};
 
 /// What a client is told. A denial keeps its verdict: it becomes a text only where the reply is written.
@@ -12,6 +12,8 @@ use std::alloc::{AllocError, Global};
 pub enum Reply {
     /// The command of this correlation id is refused.
     Error { correlation: u64, refusal: Refusal },
+    /// The command of this correlation id is done.
+    OperationSuccess { correlation: u64 },
     /// The subscription stands, under this registration id.
     SubscriptionReady { correlation: u64, registration: u64 },
 }
@@ -34,6 +36,7 @@ impl Refusal {
             Refusal::MalformedCommand => ErrorCode::MalformedCommand,
             Refusal::WrongClient => ErrorCode::WrongClient,
             Refusal::InvalidChannel => ErrorCode::InvalidChannel,
+            Refusal::UnknownSubscription => ErrorCode::UnknownSubscription,
             Refusal::Denied(_) => ErrorCode::Denied,
             Refusal::Full => ErrorCode::Full,
         }
@@ -67,6 +70,11 @@ impl Reply {
                     correlation: *correlation,
                     code: refusal.code(),
                     text,
+                }))
+            }
+            Reply::OperationSuccess { correlation } => {
+                Ok(command_codec::Reply::OperationSuccess(OperationSuccess {
+                    correlation: *correlation,
                 }))
             }
             Reply::SubscriptionReady {

@@ -1,7 +1,7 @@
 use crate::event::Event;
 
 /// A step of one of the actors of a driver.
-#[derive(Debug, PartialEq, Eq, Drop)]
+#[derive(Debug, Drop)]
 pub enum Step {
     /// The conductor takes an event.
     Conductor(Event),

@@ -1,4 +1,5 @@
 pub mod AnswersLemmas
+pub mod DecidingLemmas
 pub mod HexLemmas
 pub mod LineLemmas
 pub mod NumberLemmas

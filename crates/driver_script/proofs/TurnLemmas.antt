@@ -17,8 +17,14 @@ use Rattle.driver_script.specs.declared.statements.Said.{Said}
 use Rattle.driver_script.specs.declared.statements.Said.TheVariants.{Principal, Policy, Does, Bad}
 use Rattle.driver_script.specs.declared.statements.Statement.{Statement}
 use Rattle.driver_script.specs.Output.{AppendsFront}
-use Rattle.driver_script.specs.Script.{Opening, Ends, Refuses, Opens, opening_of, IsOpeningText, IsScriptText, IsSaid, IsRunning, Writes, answer_text, ended_text, script_text}
-use Rattle.driver_script.specs.Turns.{Turns, Goes, Steps, Stops, GivesUp, GivesUpStep, IsHead, WritesScript, BeginsScript, WritesFront, WritesWhole, SoFar}
+use Rattle.policy_core.specs.RuleList.{Rules}
+use Rattle.policy_text.specs.declared.fault.PolicyFault.{PolicyFault}
+use Rattle.policy_text.specs.declared.fault.PolicyFault.TheVariants as text
+use Rattle.policy_text.specs.Document.{policy_of}
+use Rattle.policy_text.specs.Fault.{Fails}
+use Rattle.policy_text.specs.Names.{Known}
+use Rattle.driver_script.specs.Script.{Opening, Ends, Refuses, Opens, opening_of, Deed, Takes, Faults, Stops, deed_by, deed_of, put_in_force, Told, Answered, Refused, after_told, IsDone, IsOpeningText, IsScriptText, IsRunning, Writes, answer_text, told_text, ended_text, script_text}
+use Rattle.driver_script.specs.Turns.{Turns, Goes, Steps, Puts, StopsAt, GivesUp, GivesUpStep, GivesUpPolicy, IsHead, WritesScript, BeginsScript, WritesFront, WritesWhole, SoFar, told_of_fault}
 use Rattle.driver_script.proofs.OutputLemmas.{appends_more}
 
 -- ---- writing
@@ -44,96 +50,148 @@ front_longer start end text more (some, rest, is, written) =
 -- ---- one statement
 
 -- the end of the script
-pub writes_none : (e : RunEnd) → Writes e [] Done []
-writes_none e = record { answers = []; run = (refl, refl); text_is = refl }
+pub writes_none : (names : Known) (e : RunEnd) → Writes names e [] Done []
+writes_none names e = record { told = []; run = (refl, refl); text_is = refl }
 
--- a step with its answer
-pub turns_step : (e : RunEnd) (line : ℕ) (event : Event) (answer : Answer) → IsAnswer e (Conductor event) answer →
-    Turns e (after e (Conductor event) answer) (record { line = line; said = Does event }) (answer_text answer)
-turns_step e line event answer is =
+-- a statement with what it is told
+turns_told : (names : Known) (e next : RunEnd) (statement : Statement) (told : Told) →
+    ((later : RunEnd → List Told → Type 0) (others : List Told) (ended : Ended) → later next others →
+    IsDone e statement.line (deed_of names statement.said) later (told ∷ others) ended) →
+    Turns names e next statement (told_text told)
+turns_told names e next statement told done =
     record {
       on = λ rest ended text written.
           record {
-            answers = answer ∷ written.answers;
-            run = (is, written.run);
-            text_is = rw written.text_is (sym (append_assoc (answer_text answer) (flat_map answer_text written.answers) (ended_text ended)));
+            told = told ∷ written.told;
+            run = done (λ after more. IsRunning names after rest more ended) written.told ended written.run;
+            text_is = rw written.text_is (sym (append_assoc (told_text told) (flat_map told_text written.told) (ended_text ended)));
           };
     }
+
+-- an event with its answer
+done_event : (e : RunEnd) (line : ℕ) (deed : Deed) (event : Event) (answer : Answer) → deed ≡ Takes event →
+    IsAnswer e (Conductor event) answer → (later : RunEnd → List Told → Type 0) (others : List Told) (ended : Ended) →
+    later (after e (Conductor event) answer) others → IsDone e line deed later (Answered answer ∷ others) ended
+done_event e line deed event answer is answered later others ended rest =
+    let P : Deed → Type 0 = λ those. IsDone e line those later (Answered answer ∷ others) ended in
+    subst P (sym is) (answered, rest)
+
+pub turns_event : (names : Known) (e : RunEnd) (line : ℕ) (said : Said) (event : Event) (answer : Answer) →
+    deed_of names said ≡ Takes event → IsAnswer e (Conductor event) answer →
+    Turns names e (after e (Conductor event) answer) (record { line = line; said = said }) (answer_text answer)
+turns_event names e line said event answer is answered =
+    turns_told names e (after e (Conductor event) answer) (record { line = line; said = said }) (Answered answer)
+    (done_event e line (deed_of names said) event answer is answered)
+
+-- the text of a policy that is refused, or finds no memory: nothing is changed
+done_refused : (e : RunEnd) (line : ℕ) (fault : PolicyFault) (meaning : Result Rules PolicyFault) → Fails fault meaning →
+    (later : RunEnd → List Told → Type 0) (others : List Told) (ended : Ended) →
+    later e others → IsDone e line (deed_by meaning) later (told_of_fault fault ∷ others) ended
+done_refused e line text.NoMemory (Ok policy) is later others ended rest = (tt, rest)
+done_refused e line text.NoMemory (Err fault) is later others ended rest = (tt, rest)
+done_refused e line text.NotToml meaning is later others ended rest = rw is (refl, rest)
+done_refused e line text.BadVersion meaning is later others ended rest = rw is (refl, rest)
+done_refused e line (text.BadField rule field) meaning is later others ended rest = rw is (refl, rest)
+done_refused e line text.TooManyRules meaning is later others ended rest = rw is (refl, rest)
+done_refused e line (text.UnknownPrincipal rule) meaning is later others ended rest = rw is (refl, rest)
+done_refused e line (text.UnknownAct rule) meaning is later others ended rest = rw is (refl, rest)
+done_refused e line (text.BadRange rule) meaning is later others ended rest = rw is (refl, rest)
+
+turns_refused : (names : Known) (e : RunEnd) (line : ℕ) (text : List ℕ) (fault : PolicyFault) → Fails fault (policy_of names text) →
+    Turns names e e (record { line = line; said = Policy text }) (told_text (told_of_fault fault))
+turns_refused names e line text fault is =
+    turns_told names e e (record { line = line; said = Policy text }) (told_of_fault fault)
+    (done_refused e line fault (policy_of names text) is)
 
 -- a statement that is bad where it stands
 abbrev pub IsOutOfOrder : Said → Type 0
 IsOutOfOrder (Does event) = ⊥
 IsOutOfOrder (Principal name number) = Unit {0}
-IsOutOfOrder (Policy text) = Unit {0}
+IsOutOfOrder (Policy text) = ⊥
 IsOutOfOrder Bad = Unit {0}
 
-pub writes_bad : (e : RunEnd) (line : ℕ) (said : Said) (rest : List Statement) → IsOutOfOrder said →
-    Writes e (record { line = line; said = said } ∷ rest) (BadLine line) (ended_text (BadLine line))
-writes_bad e line (Does event) rest out = absurd out
-writes_bad e line (Principal name number) rest out = record { answers = []; run = (refl, refl); text_is = refl }
-writes_bad e line (Policy text) rest out = record { answers = []; run = (refl, refl); text_is = refl }
-writes_bad e line Bad rest out = record { answers = []; run = (refl, refl); text_is = refl }
+pub writes_bad : (names : Known) (e : RunEnd) (line : ℕ) (said : Said) (rest : List Statement) → IsOutOfOrder said →
+    Writes names e (record { line = line; said = said } ∷ rest) (BadLine line) (ended_text (BadLine line))
+writes_bad names e line (Does event) rest out = absurd out
+writes_bad names e line (Principal name number) rest out = record { told = []; run = (refl, refl); text_is = refl }
+writes_bad names e line (Policy text) rest out = absurd out
+writes_bad names e line Bad rest out = record { told = []; run = (refl, refl); text_is = refl }
 
-some_text_by : (e : RunEnd) (line : ℕ) (said : Said) (rest : List Statement) →
-    ((ended : Ended) × (text : List ℕ) × Writes e rest ended text) →
-    (ended : Ended) × (text : List ℕ) × Writes e (record { line = line; said = said } ∷ rest) ended text
-some_text_by e line (Does event) rest (ended, text, written) =
-    (ended, answer_text NoMemory ++ text, (turns_step e line event NoMemory tt).on rest ended text written)
-some_text_by e line (Principal name number) rest later =
-    (BadLine line, ended_text (BadLine line), writes_bad e line (Principal name number) rest tt)
-some_text_by e line (Policy text) rest later =
-    (BadLine line, ended_text (BadLine line), writes_bad e line (Policy text) rest tt)
-some_text_by e line Bad rest later =
-    (BadLine line, ended_text (BadLine line), writes_bad e line Bad rest tt)
+-- what has no memory is told so, and leaves all as it was
+done_without : (e : RunEnd) (line : ℕ) (meaning : Result Rules PolicyFault) (later : RunEnd → List Told → Type 0) (others : List Told)
+    (ended : Ended) → later e others → IsDone e line (deed_by meaning) later (Answered NoMemory ∷ others) ended
+done_without e line (Ok policy) later others ended rest = (tt, rest)
+done_without e line (Err fault) later others ended rest = (tt, rest)
+
+some_text_by : (names : Known) (e : RunEnd) (line : ℕ) (said : Said) (rest : List Statement) →
+    ((ended : Ended) × (text : List ℕ) × Writes names e rest ended text) →
+    (ended : Ended) × (text : List ℕ) × Writes names e (record { line = line; said = said } ∷ rest) ended text
+some_text_by names e line (Does event) rest (ended, text, written) = (
+  ended,
+  answer_text NoMemory ++ text,
+  (turns_event names e line (Does event) event NoMemory refl tt).on rest ended text written,
+)
+some_text_by names e line (Principal name number) rest later =
+    (BadLine line, ended_text (BadLine line), writes_bad names e line (Principal name number) rest tt)
+some_text_by names e line (Policy toml) rest (ended, text, written) = (
+  ended,
+  answer_text NoMemory ++ text,
+  (turns_told names e e (record { line = line; said = Policy toml }) (Answered NoMemory) (done_without e line (policy_of names toml))).on
+      rest ended text written,
+)
+some_text_by names e line Bad rest later =
+    (BadLine line, ended_text (BadLine line), writes_bad names e line Bad rest tt)
 
 -- from any point on there is a text that is written: that of steps which are all refused memory
-pub some_text : (e : RunEnd) (statements : List Statement) → (ended : Ended) × (text : List ℕ) × Writes e statements ended text
-some_text e [] = (Done, [], writes_none e)
-some_text e (statement ∷ rest) = some_text_by e statement.line statement.said rest (some_text e rest)
+pub some_text : (names : Known) (e : RunEnd) (statements : List Statement) →
+    (ended : Ended) × (text : List ℕ) × Writes names e statements ended text
+some_text names e [] = (Done, [], writes_none names e)
+some_text names e (statement ∷ rest) = some_text_by names e statement.line statement.said rest (some_text names e rest)
 
 -- ---- a world in the middle of a run
 
--- a step that a world took, and whose answer was written
-pub goes_step : (old new : RunEnd) (line : ℕ) (event : Event) (answer : Answer) (before after' : Option (List ℕ)) →
-    Serves old new (Conductor event) answer → Appends before after' (answer_text answer) →
-    Goes old new (record { line = line; said = Does event }) before after'
-goes_step old new line event answer before after' served appended =
-    record {
-      front = answer_text answer;
-      appended = appended;
-      on = λ e stands.
-          let s = served.on e stands in
-          (after e (Conductor event) answer, s.1, turns_step e line event answer s.0);
-    }
+-- a statement that turns a world into another, and whose text was written
+goes_by : (names : Known) (old new : RunEnd) (statement : Statement) (front : List ℕ) (before after' : Option (List ℕ)) →
+    ((e : RunEnd) → StandsFor old e → (next : RunEnd) × StandsFor new next × Turns names e next statement front) →
+    Appends before after' front → Goes names old new statement before after'
+goes_by names old new statement front before after' turns appended = record { front = front; appended = appended; on = turns }
 
--- a step whose answer was written in part, or not at all
-pub gives_up_step : (old new : RunEnd) (line : ℕ) (event : Event) (answer : Answer) (before after' : Option (List ℕ)) →
-    Serves old new (Conductor event) answer → AppendsFront before after' (answer_text answer) →
-    GivesUp old (record { line = line; said = Does event }) before after'
-gives_up_step old new line event answer before after' served appended =
+-- a statement whose text was written in part, or not at all
+gives_up_by : (names : Known) (old new : RunEnd) (statement : Statement) (front : List ℕ) (before after' : Option (List ℕ)) →
+    ((e : RunEnd) → StandsFor old e → (next : RunEnd) × StandsFor new next × Turns names e next statement front) →
+    AppendsFront before after' front → GivesUp names old statement before after'
+gives_up_by names old new statement front before after' turns begun =
     record {
       on = λ rest. record {
         on = λ e stands.
-            let s = served.on e stands in
-            let (ended, text, written) = some_text (after e (Conductor event) answer) rest in (
+            let (next, stands', turn) = turns e stands in
+            let (ended, text, written) = some_text names next rest in (
               ended,
-              answer_text answer ++ text,
-              (turns_step e line event answer s.0).on rest ended text written,
-              front_longer before after' (answer_text answer) text appended,
+              front ++ text,
+              turn.on rest ended text written,
+              front_longer before after' front text begun,
             );
       };
     }
 
-pub so_far_none : (held : RunEnd) (statements : List Statement) (written : Option (List ℕ)) → Appends written written [] →
-    SoFar held statements held statements written written
-so_far_none held statements written nothing =
+-- a step that a world took
+turns_of : (names : Known) (old new : RunEnd) (line : ℕ) (said : Said) (event : Event) (answer : Answer) →
+    deed_of names said ≡ Takes event → Serves old new (Conductor event) answer → (e : RunEnd) → StandsFor old e →
+    (next : RunEnd) × StandsFor new next × Turns names e next (record { line = line; said = said }) (answer_text answer)
+turns_of names old new line said event answer is served e stands =
+    let s = served.on e stands in
+    (after e (Conductor event) answer, s.1, turns_event names e line said event answer is s.0)
+
+pub so_far_none : (names : Known) (held : RunEnd) (statements : List Statement) (written : Option (List ℕ)) → Appends written written [] →
+    SoFar names held statements held statements written written
+so_far_none names held statements written nothing =
     record { front = []; appended = nothing; on = λ e stands. (e, stands, λ ended text w. w) }
 
-pub so_far_more : (start : RunEnd) (all : List Statement) (middle new : RunEnd) (statement : Statement) (rest : List Statement)
+pub so_far_more : (names : Known) (start : RunEnd) (all : List Statement) (middle new : RunEnd) (statement : Statement) (rest : List Statement)
     (before between after' : Option (List ℕ)) →
-    SoFar start all middle (statement ∷ rest) before between → Goes middle new statement between after' →
-    SoFar start all new rest before after'
-so_far_more start all middle new statement rest before between after' so_far goes =
+    SoFar names start all middle (statement ∷ rest) before between → Goes names middle new statement between after' →
+    SoFar names start all new rest before after'
+so_far_more names start all middle new statement rest before between after' so_far goes =
     record {
       front = so_far.front ++ goes.front;
       appended = appends_more before between after' so_far.front goes.front so_far.appended goes.appended;
@@ -147,20 +205,20 @@ so_far_more start all middle new statement rest before between after' so_far goe
           );
     }
 
-pub so_far_done : (start : RunEnd) (all : List Statement) (held : RunEnd) (before after' : Option (List ℕ)) →
-    SoFar start all held [] before after' → WritesWhole start all Done before after'
-so_far_done start all held before after' so_far =
+pub so_far_done : (names : Known) (start : RunEnd) (all : List Statement) (held : RunEnd) (before after' : Option (List ℕ)) →
+    SoFar names start all held [] before after' → WritesWhole names start all Done before after'
+so_far_done names start all held before after' so_far =
     record {
       on = λ e stands.
           let (next, stands', on) = so_far.on e stands in
-          (so_far.front ++ [], on Done [] (writes_none next), rw append-nil so_far.appended);
+          (so_far.front ++ [], on Done [] (writes_none names next), rw append-nil so_far.appended);
     }
 
-pub so_far_stops : (start : RunEnd) (all : List Statement) (held : RunEnd) (statement : Statement) (rest : List Statement) (ended : Ended)
+pub so_far_stops : (names : Known) (start : RunEnd) (all : List Statement) (held : RunEnd) (statement : Statement) (rest : List Statement) (ended : Ended)
     (before between after' : Option (List ℕ)) →
-    SoFar start all held (statement ∷ rest) before between → Stops statement ended between after' →
-    WritesWhole start all ended before after'
-so_far_stops start all held statement rest ended before between after' so_far stops =
+    SoFar names start all held (statement ∷ rest) before between → StopsAt names statement ended between after' →
+    WritesWhole names start all ended before after'
+so_far_stops names start all held statement rest ended before between after' so_far stops =
     record {
       on = λ e stands.
           let (next, stands', on) = so_far.on e stands in (
@@ -170,11 +228,11 @@ so_far_stops start all held statement rest ended before between after' so_far st
           );
     }
 
-pub so_far_gives_up : (start : RunEnd) (all : List Statement) (held : RunEnd) (statement : Statement) (rest : List Statement)
+pub so_far_gives_up : (names : Known) (start : RunEnd) (all : List Statement) (held : RunEnd) (statement : Statement) (rest : List Statement)
     (before between after' : Option (List ℕ)) →
-    SoFar start all held (statement ∷ rest) before between → GivesUp held statement between after' →
-    WritesFront start all before after'
-so_far_gives_up start all held statement rest before between after' so_far gives_up =
+    SoFar names start all held (statement ∷ rest) before between → GivesUp names held statement between after' →
+    WritesFront names start all before after'
+so_far_gives_up names start all held statement rest before between after' so_far gives_up =
     record {
       on = λ e stands.
           let (next, stands', on) = so_far.on e stands in
@@ -187,13 +245,13 @@ so_far_gives_up start all held statement rest before between after' so_far gives
     }
 
 -- the run gave up between two statements
-pub so_far_front : (start : RunEnd) (all : List Statement) (held : RunEnd) (left : List Statement) (before after' : Option (List ℕ)) →
-    SoFar start all held left before after' → WritesFront start all before after'
-so_far_front start all held left before after' so_far =
+pub so_far_front : (names : Known) (start : RunEnd) (all : List Statement) (held : RunEnd) (left : List Statement) (before after' : Option (List ℕ)) →
+    SoFar names start all held left before after' → WritesFront names start all before after'
+so_far_front names start all held left before after' so_far =
     record {
       on = λ e stands.
           let (next, stands', on) = so_far.on e stands in
-          let (ended, text, written) = some_text next left in (
+          let (ended, text, written) = some_text names next left in (
             ended,
             so_far.front ++ text,
             on ended text written,
@@ -206,7 +264,11 @@ pub event_goes : (r : Result (Unit {0}) RunFault) (old new : RunEnd) (event : Ev
     Serves old new (Conductor event) answer → OnOk r (Appends before after' (answer_text answer)) →
     OnOk r (Steps old new event before after')
 event_goes (Ok x) old new event answer before after' served appended =
-    record { on = λ line. goes_step old new line event answer before after' served appended }
+    record {
+      on = λ names line said is.
+          goes_by names old new (record { line = line; said = said }) (answer_text answer) before after'
+          (turns_of names old new line said event answer is served) appended;
+    }
 event_goes (Err fault) old new event answer before after' served appended = tt
 
 pub event_gives_up : (r : Result (Unit {0}) RunFault) (old new : RunEnd) (event : Event) (answer : Answer) (before after' : Option (List ℕ)) →
@@ -214,23 +276,65 @@ pub event_gives_up : (r : Result (Unit {0}) RunFault) (old new : RunEnd) (event 
     OnErr r (GivesUpStep old event before after')
 event_gives_up (Ok x) old new event answer before after' served begun = tt
 event_gives_up (Err fault) old new event answer before after' served begun =
-    record { on = λ line. gives_up_step old new line event answer before after' served begun }
+    record {
+      on = λ names line said is.
+          gives_up_by names old new (record { line = line; said = said }) (answer_text answer) before after'
+          (turns_of names old new line said event answer is served) begun;
+    }
+
+-- a policy that is put in force is a step
+pub policy_goes : (r : Result (Unit {0}) RunFault) (names : Known) (old new : RunEnd) (text : List ℕ) (policy : Rules) (before after' : Option (List ℕ)) →
+    policy_of names text ≡ Ok policy → OnOk r (Steps old new (put_in_force policy) before after') →
+    OnOk r (Puts names old new text before after')
+policy_goes (Ok x) names old new text policy before after' is steps =
+    record { on = λ line. steps.on names line (Policy text) (rw is refl) }
+policy_goes (Err fault) names old new text policy before after' is steps = tt
+
+pub policy_gives_up : (r : Result (Unit {0}) RunFault) (names : Known) (old : RunEnd) (text : List ℕ) (policy : Rules) (before after' : Option (List ℕ)) →
+    policy_of names text ≡ Ok policy → OnErr r (GivesUpStep old (put_in_force policy) before after') →
+    OnErr r (GivesUpPolicy names old text before after')
+policy_gives_up (Ok x) names old text policy before after' is gives_up = tt
+policy_gives_up (Err fault) names old text policy before after' is gives_up =
+    record { on = λ line. gives_up.on names line (Policy text) (rw is refl) }
+
+-- one that is refused is none
+pub refusal_goes : (r : Result (Unit {0}) RunFault) (names : Known) (held : RunEnd) (text : List ℕ) (fault : PolicyFault) (before after' : Option (List ℕ)) →
+    Fails fault (policy_of names text) → OnOk r (Appends before after' (told_text (told_of_fault fault))) →
+    OnOk r (Puts names held held text before after')
+refusal_goes (Ok x) names held text fault before after' is appended =
+    record {
+      on = λ line.
+          goes_by names held held (record { line = line; said = Policy text }) (told_text (told_of_fault fault)) before after'
+          (λ e stands. (e, stands, turns_refused names e line text fault is)) appended;
+    }
+refusal_goes (Err error) names held text fault before after' is appended = tt
+
+pub refusal_gives_up : (r : Result (Unit {0}) RunFault) (names : Known) (held : RunEnd) (text : List ℕ) (fault : PolicyFault) (before after' : Option (List ℕ)) →
+    Fails fault (policy_of names text) → OnErr r (AppendsFront before after' (told_text (told_of_fault fault))) →
+    OnErr r (GivesUpPolicy names held text before after')
+refusal_gives_up (Ok x) names held text fault before after' is begun = tt
+refusal_gives_up (Err error) names held text fault before after' is begun =
+    record {
+      on = λ line.
+          gives_up_by names held held (record { line = line; said = Policy text }) (told_text (told_of_fault fault)) before after'
+          (λ e stands. (e, stands, turns_refused names e line text fault is)) begun;
+    }
 
 -- a statement that is bad where it stands, and whose line was written, or a front of it
-pub stops_bad : (line : ℕ) (said : Said) (before after' : Option (List ℕ)) → IsOutOfOrder said →
+pub stops_bad : (names : Known) (line : ℕ) (said : Said) (before after' : Option (List ℕ)) → IsOutOfOrder said →
     Appends before after' (ended_text (BadLine line)) →
-    Stops (record { line = line; said = said }) (BadLine line) before after'
-stops_bad line said before after' out appended =
-    record { text = ended_text (BadLine line); appended = appended; on = λ e rest. writes_bad e line said rest out }
+    StopsAt names (record { line = line; said = said }) (BadLine line) before after'
+stops_bad names line said before after' out appended =
+    record { text = ended_text (BadLine line); appended = appended; on = λ e rest. writes_bad names e line said rest out }
 
-pub gives_up_bad : (held : RunEnd) (line : ℕ) (said : Said) (before after' : Option (List ℕ)) → IsOutOfOrder said →
+pub gives_up_bad : (names : Known) (held : RunEnd) (line : ℕ) (said : Said) (before after' : Option (List ℕ)) → IsOutOfOrder said →
     AppendsFront before after' (ended_text (BadLine line)) →
-    GivesUp held (record { line = line; said = said }) before after'
-gives_up_bad held line said before after' out begun =
+    GivesUp names held (record { line = line; said = said }) before after'
+gives_up_bad names held line said before after' out begun =
     record {
       on = λ rest. record {
         on = λ e stands.
-            (BadLine line, ended_text (BadLine line), writes_bad e line said rest out, begun);
+            (BadLine line, ended_text (BadLine line), writes_bad names e line said rest out, begun);
       };
     }
 
@@ -253,30 +357,42 @@ if_some P None all = tt
 if_some P (Some x) all = all x
 
 -- the same of a statement that says so
-pub statement_goes : (old new : RunEnd) (statement : Statement) (event : Event) (before after' : Option (List ℕ)) →
-    statement.said ≡ Does event → Steps old new event before after' → Goes old new statement before after'
-statement_goes old new statement event before after' is steps =
-    let P : Said → Type 0 = λ said. Goes old new (record { line = statement.line; said = said }) before after' in
-    subst P (sym is) (steps.on statement.line)
+pub statement_goes : (names : Known) (old new : RunEnd) (statement : Statement) (event : Event) (before after' : Option (List ℕ)) →
+    statement.said ≡ Does event → Steps old new event before after' → Goes names old new statement before after'
+statement_goes names old new statement event before after' is steps =
+    let P : Said → Type 0 = λ said. Goes names old new (record { line = statement.line; said = said }) before after' in
+    subst P (sym is) (steps.on names statement.line (Does event) refl)
 
-pub statement_gives_up : (held : RunEnd) (statement : Statement) (event : Event) (before after' : Option (List ℕ)) →
-    statement.said ≡ Does event → GivesUpStep held event before after' → GivesUp held statement before after'
-statement_gives_up held statement event before after' is gives_up =
-    let P : Said → Type 0 = λ said. GivesUp held (record { line = statement.line; said = said }) before after' in
+pub statement_gives_up : (names : Known) (held : RunEnd) (statement : Statement) (event : Event) (before after' : Option (List ℕ)) →
+    statement.said ≡ Does event → GivesUpStep held event before after' → GivesUp names held statement before after'
+statement_gives_up names held statement event before after' is gives_up =
+    let P : Said → Type 0 = λ said. GivesUp names held (record { line = statement.line; said = said }) before after' in
+    subst P (sym is) (gives_up.on names statement.line (Does event) refl)
+
+pub statement_puts : (names : Known) (old new : RunEnd) (statement : Statement) (text : List ℕ) (before after' : Option (List ℕ)) →
+    statement.said ≡ Policy text → Puts names old new text before after' → Goes names old new statement before after'
+statement_puts names old new statement text before after' is puts =
+    let P : Said → Type 0 = λ said. Goes names old new (record { line = statement.line; said = said }) before after' in
+    subst P (sym is) (puts.on statement.line)
+
+pub statement_gives_up_policy : (names : Known) (held : RunEnd) (statement : Statement) (text : List ℕ) (before after' : Option (List ℕ)) →
+    statement.said ≡ Policy text → GivesUpPolicy names held text before after' → GivesUp names held statement before after'
+statement_gives_up_policy names held statement text before after' is gives_up =
+    let P : Said → Type 0 = λ said. GivesUp names held (record { line = statement.line; said = said }) before after' in
     subst P (sym is) (gives_up.on statement.line)
 
-pub statement_bad : (held : RunEnd) (statement : Statement) (said : Said) (before after' : Option (List ℕ)) →
+pub statement_bad : (names : Known) (held : RunEnd) (statement : Statement) (said : Said) (before after' : Option (List ℕ)) →
     statement.said ≡ said → IsOutOfOrder said → AppendsFront before after' (ended_text (BadLine statement.line)) →
-    GivesUp held statement before after'
-statement_bad held statement said before after' is out begun =
-    let P : Said → Type 0 = λ said. GivesUp held (record { line = statement.line; said = said }) before after' in
-    subst P (sym is) (gives_up_bad held statement.line said before after' out begun)
+    GivesUp names held statement before after'
+statement_bad names held statement said before after' is out begun =
+    let P : Said → Type 0 = λ those. GivesUp names held (record { line = statement.line; said = those }) before after' in
+    subst P (sym is) (gives_up_bad names held statement.line said before after' out begun)
 
 -- the statements that are left, as they were found to be
-pub so_far_at : (start : RunEnd) (all : List Statement) (held : RunEnd) (left found : List Statement) (before after' : Option (List ℕ)) →
-    left ≡ found → SoFar start all held left before after' → SoFar start all held found before after'
-so_far_at start all held left found before after' is so_far =
-    let P : List Statement → Type 0 = λ rest. SoFar start all held rest before after' in
+pub so_far_at : (names : Known) (start : RunEnd) (all : List Statement) (held : RunEnd) (left found : List Statement) (before after' : Option (List ℕ)) →
+    left ≡ found → SoFar names start all held left before after' → SoFar names start all held found before after'
+so_far_at names start all held left found before after' is so_far =
+    let P : List Statement → Type 0 = λ rest. SoFar names start all held rest before after' in
     subst P is so_far
 
 -- ---- a whole script
@@ -285,7 +401,7 @@ so_far_at start all held left found before after' is so_far =
 some_opening_text : (o : Opening) → (ended : Ended) × (text : List ℕ) × IsOpeningText o ended text
 some_opening_text Ends = (Done, [], (refl, refl))
 some_opening_text (Refuses line) = (BadLine line, ended_text (BadLine line), (refl, refl))
-some_opening_text (Opens policy rest) = some_text (opening_end default_settings policy []) rest
+some_opening_text (Opens names policy rest) = some_text names (opening_end default_settings policy []) rest
 
 -- nothing was written
 pub begins_any : (statements : List Statement) (written : Option (List ℕ)) → BeginsScript statements written written
@@ -294,67 +410,74 @@ begins_any statements written =
     record { ended = ended; text = text; is = is; appended = ([], text, refl, appends_nothing written) }
 
 -- the head refused a line
-head_refused : (o : Opening) (left : List Statement) (line : ℕ) → IsHead o left (head.Refused line) →
+head_refused : (o : Opening) (names : Known) (left : List Statement) (line : ℕ) → IsHead o names left (head.Refused line) →
     IsOpeningText o (BadLine line) (ended_text (BadLine line))
-head_refused Ends left line is = cc
-head_refused (Refuses number) left line is =
+head_refused Ends names left line is = cc
+head_refused (Refuses number) names left line is =
     let same : line ≡ number = cc in
     (ap BadLine same, ap (λ n. ended_text (BadLine n)) same)
-head_refused (Opens policy rest) left line is = absurd is.1
+head_refused (Opens given policy rest) names left line is = absurd is.2
 
-pub begins_refused : (r : Result Ended RunFault) (statements left : List Statement) (line : ℕ) (before after' : Option (List ℕ)) →
-    IsHead (opening_of [] statements) left (head.Refused line) →
+pub begins_refused : (r : Result Ended RunFault) (statements : List Statement) (names : Known) (left : List Statement) (line : ℕ)
+    (before after' : Option (List ℕ)) →
+    IsHead (opening_of [] statements) names left (head.Refused line) →
     OnErr r (AppendsFront before after' (ended_text (BadLine line))) → OnErr r (BeginsScript statements before after')
-begins_refused (Ok x) statements left line before after' is begun = tt
-begins_refused (Err fault) statements left line before after' is begun =
+begins_refused (Ok x) statements names left line before after' is begun = tt
+begins_refused (Err fault) statements names left line before after' is begun =
     record {
       ended = BadLine line;
       text = ended_text (BadLine line);
-      is = head_refused (opening_of [] statements) left line is;
+      is = head_refused (opening_of [] statements) names left line is;
       appended = begun;
     }
 
 -- the head opened a world
-head_whole : (o : Opening) (left : List Statement) (world : RunEnd) (ended : Ended) (before after' : Option (List ℕ)) →
-    IsHead o left (head.Opened world) → WritesWhole world left ended before after' →
+head_whole : (o : Opening) (names : Known) (left : List Statement) (world : RunEnd) (ended : Ended) (before after' : Option (List ℕ)) →
+    IsHead o names left (head.Opened world) → WritesWhole names world left ended before after' →
     (text : List ℕ) × IsOpeningText o ended text × Appends before after' text
-head_whole Ends left world ended before after' is whole = cc
-head_whole (Refuses line) left world ended before after' is whole = cc
-head_whole (Opens policy rest) left world ended before after' is whole =
-    let (text, written, appended) = whole.on (opening_end default_settings policy []) is.1 in
-    let P : List Statement → Type 0 = λ those. Writes (opening_end default_settings policy []) those ended text in
-    (text, subst P (sym is.0) written, appended)
+head_whole Ends names left world ended before after' is whole = cc
+head_whole (Refuses line) names left world ended before after' is whole = cc
+head_whole (Opens given policy rest) names left world ended before after' is whole =
+    let (text, written, appended) = whole.on (opening_end default_settings policy []) is.2 in
+    let P : List Statement → Type 0 = λ those. Writes names (opening_end default_settings policy []) those ended text in
+    let Q : Known → Type 0 = λ those. Writes those (opening_end default_settings policy []) rest ended text in
+    (text, subst Q (sym is.0) (subst P (sym is.1) written), appended)
 
-head_front : (o : Opening) (left : List Statement) (world : RunEnd) (before after' : Option (List ℕ)) →
-    IsHead o left (head.Opened world) → WritesFront world left before after' →
+head_front : (o : Opening) (names : Known) (left : List Statement) (world : RunEnd) (before after' : Option (List ℕ)) →
+    IsHead o names left (head.Opened world) → WritesFront names world left before after' →
     (ended : Ended) × (text : List ℕ) × IsOpeningText o ended text × AppendsFront before after' text
-head_front Ends left world before after' is front = cc
-head_front (Refuses line) left world before after' is front = cc
-head_front (Opens policy rest) left world before after' is front =
-    let (ended, text, written, begun) = front.on (opening_end default_settings policy []) is.1 in
-    let P : List Statement → Type 0 = λ those. Writes (opening_end default_settings policy []) those ended text in
-    (ended, text, subst P (sym is.0) written, begun)
+head_front Ends names left world before after' is front = cc
+head_front (Refuses line) names left world before after' is front = cc
+head_front (Opens given policy rest) names left world before after' is front =
+    let (ended, text, written, begun) = front.on (opening_end default_settings policy []) is.2 in
+    let P : List Statement → Type 0 = λ those. Writes names (opening_end default_settings policy []) those ended text in
+    let Q : Known → Type 0 = λ those. Writes those (opening_end default_settings policy []) rest ended text in
+    (ended, text, subst Q (sym is.0) (subst P (sym is.1) written), begun)
 
-pub writes_opened : (r : Result Ended RunFault) (statements left : List Statement) (world : RunEnd) (before after' : Option (List ℕ)) →
-    IsHead (opening_of [] statements) left (head.Opened world) →
-    IfOk r (λ ended. WritesWhole world left ended before after') → IfOk r (λ ended. WritesScript statements ended before after')
-writes_opened (Ok ended) statements left world before after' is whole =
-    let (text, written, appended) = head_whole (opening_of [] statements) left world ended before after' is whole in
+pub writes_opened : (r : Result Ended RunFault) (statements : List Statement) (names : Known) (left : List Statement) (world : RunEnd)
+    (before after' : Option (List ℕ)) →
+    IsHead (opening_of [] statements) names left (head.Opened world) →
+    IfOk r (λ ended. WritesWhole names world left ended before after') → IfOk r (λ ended. WritesScript statements ended before after')
+writes_opened (Ok ended) statements names left world before after' is whole =
+    let (text, written, appended) = head_whole (opening_of [] statements) names left world ended before after' is whole in
     record { text = text; is = written; appended = appended }
-writes_opened (Err fault) statements left world before after' is whole = tt
+writes_opened (Err fault) statements names left world before after' is whole = tt
 
-pub begins_opened : (r : Result Ended RunFault) (statements left : List Statement) (world : RunEnd) (before after' : Option (List ℕ)) →
-    IsHead (opening_of [] statements) left (head.Opened world) →
-    OnErr r (WritesFront world left before after') → OnErr r (BeginsScript statements before after')
-begins_opened (Ok ended) statements left world before after' is front = tt
-begins_opened (Err fault) statements left world before after' is front =
-    let (ended, text, written, begun) = head_front (opening_of [] statements) left world before after' is front in
+pub begins_opened : (r : Result Ended RunFault) (statements : List Statement) (names : Known) (left : List Statement) (world : RunEnd)
+    (before after' : Option (List ℕ)) →
+    IsHead (opening_of [] statements) names left (head.Opened world) →
+    OnErr r (WritesFront names world left before after') → OnErr r (BeginsScript statements before after')
+begins_opened (Ok ended) statements names left world before after' is front = tt
+begins_opened (Err fault) statements names left world before after' is front =
+    let (ended, text, written, begun) = head_front (opening_of [] statements) names left world before after' is front in
     record { ended = ended; text = text; is = written; appended = begun }
 
--- the head of the statements that are those of the script
-pub head_at : (statements found left : List Statement) (h k : Head) → statements ≡ found → h ≡ k →
-    IsHead (opening_of [] statements) left h → IsHead (opening_of [] found) left k
-head_at statements found left h k same is head =
-    let P : List Statement → Type 0 = λ those. IsHead (opening_of [] those) left h in
-    let Q : Head → Type 0 = λ that. IsHead (opening_of [] found) left that in
-    subst Q is (subst P same head)
+-- the head of the statements that are those of the script, from no names on
+pub head_at : (given : Known) (statements found : List Statement) (names : Known) (left : List Statement) (h k : Head) →
+    given ≡ [] → statements ≡ found → h ≡ k →
+    IsHead (opening_of given statements) names left h → IsHead (opening_of [] found) names left k
+head_at given statements found names left h k none same is head =
+    let N : Known → Type 0 = λ those. IsHead (opening_of those statements) names left h in
+    let P : List Statement → Type 0 = λ those. IsHead (opening_of [] those) names left h in
+    let Q : Head → Type 0 = λ that. IsHead (opening_of [] found) names left that in
+    subst Q is (subst P same (subst N none head))

@@ -3,7 +3,9 @@ use Rattle.std.specs.Prelude.{ℕ, ◌+◌, ◌/◌, ◌%◌, List, [], ◌∷�
 use Rattle.std.specs.Fmt.{decimal}
 use Rattle.std.specs.List.{flat_map}
 use Rattle.driver_script.specs.declared.answers.AnswerLine.{AnswerLine}
-use Rattle.driver_script.specs.declared.answers.AnswerLine.TheVariants.{Attached, Full, Stopped, Reply, NoMemory, BadLine}
+use Rattle.driver_script.specs.declared.answers.AnswerLine.TheVariants.{Attached, Full, Stopped, PolicyInForce, PolicyFull, PolicyRefused, Reply, NoMemory, BadLine}
+use Rattle.policy_text.specs.declared.fault.PolicyFault.{PolicyFault}
+use Rattle.policy_text.specs.Fault.{fault_text}
 
 -- `0` to `9`, `a` to `f`
 abbrev pub digit_text : ℕ → ℕ
@@ -22,11 +24,22 @@ hex_text (byte ∷ bytes) = flat_map byte_text (byte ∷ bytes)
 abbrev pub reply_text : ℕ → List ℕ → List ℕ
 reply_text client bytes = codes "reply " ++ (decimal client ++ (codes " " ++ (hex_text bytes ++ codes "\n")))
 
+-- a policy that is in force
+abbrev pub policy_line : ℕ → List ℕ
+policy_line epoch = codes "policy " ++ (decimal epoch ++ codes "\n")
+
+-- a policy whose text is refused
+abbrev pub refusal_line : PolicyFault → List ℕ
+refusal_line fault = codes "policy refused: " ++ (fault_text fault ++ codes "\n")
+
 -- each line with its line feed
 unfoldable pub line_text : AnswerLine → List ℕ
 line_text (Attached client) = codes "attached " ++ (decimal client ++ codes "\n")
 line_text Full = codes "full\n"
 line_text Stopped = codes "stopped\n"
+line_text (PolicyInForce epoch) = policy_line epoch
+line_text PolicyFull = codes "policy refused: full\n"
+line_text (PolicyRefused fault) = refusal_line fault
 line_text (Reply client bytes) = reply_text client bytes.now
 line_text NoMemory = codes "no memory\n"
 line_text (BadLine number) = codes "line " ++ (decimal number ++ codes ": bad line\n")

@@ -1,4 +1,5 @@
 pub mod Answers
+pub mod Deciding
 pub mod Fault
 pub mod Hex
 pub mod Left

@@ -3,8 +3,9 @@ use Rattle.std.specs.Prelude.{◌≡◌, ℕ, List, [], ◌∷◌, ◌++◌, Boo
 use Rattle.std.specs.Fmt.{decimal}
 use Rattle.std.specs.List.{flat_map}
 use Rattle.driver_core.specs.declared.answer.Answer.{Answer}
-use Rattle.driver_core.specs.declared.answer.Answer.TheVariants.{NoMemory, Attached, Full, Replies}
+use Rattle.driver_core.specs.declared.answer.Answer.TheVariants.{NoMemory, Attached, Full, PolicyInForce, PolicyFull, Replies}
 use Rattle.driver_core.specs.declared.event.Event.{Event}
+use Rattle.driver_core.specs.declared.event.Event.TheVariants.{Reload}
 use Rattle.driver_core.specs.declared.replies.Message.{Message}
 use Rattle.driver_core.specs.declared.settings.Settings.{Settings}
 use Rattle.driver_core.specs.declared.step.Step.TheVariants.{Conductor}
@@ -21,21 +22,21 @@ use Rattle.driver_script.specs.declared.script.Ended.TheVariants.{Done, BadLine}
 use Rattle.driver_script.specs.declared.statements.Said.{Said}
 use Rattle.driver_script.specs.declared.statements.Said.TheVariants.{Principal, Policy, Does, Bad}
 use Rattle.driver_script.specs.declared.statements.Statement.{Statement}
-use Rattle.driver_script.specs.Answers.{reply_text}
+use Rattle.driver_script.specs.Answers.{policy_line, refusal_line, reply_text}
 
 -- ---- the head of a script: its principals and its policy
 
--- the script ends before a policy; or it is bad at this line; or the world opens with this policy, and these statements
--- are left
+-- the script ends before a policy; or it is bad at this line; or these names are given and the world opens with this
+-- policy, and these statements are left
 pub data Opening : Type 0 where
   Ends : Opening
   Refuses : ℕ → Opening
-  Opens : Rules → List Statement → Opening
+  Opens : Known → Rules → List Statement → Opening
 
 -- a text that is no policy is bad, at its first line
-abbrev pub opened_by : ℕ → List Statement → Result Rules PolicyFault → Opening
-opened_by line rest (Err fault) = Refuses line
-opened_by line rest (Ok policy) = Opens policy rest
+abbrev pub opened_by : Known → ℕ → List Statement → Result Rules PolicyFault → Opening
+opened_by names line rest (Err fault) = Refuses line
+opened_by names line rest (Ok policy) = Opens names policy rest
 
 -- a name is given once, and `nobody` is given from the start
 abbrev pub named : Known → ℕ → List ℕ → ℕ → (Known → Opening) → Opening
@@ -44,7 +45,7 @@ named names line name number later =
 
 abbrev pub opening_by : Known → ℕ → Said → List Statement → (Known → Opening) → Opening
 opening_by names line (Principal name number) rest later = named names line name number later
-opening_by names line (Policy text) rest later = opened_by line rest (policy_of names text)
+opening_by names line (Policy text) rest later = opened_by names line rest (policy_of names text)
 opening_by names line (Does event) rest later = Refuses line
 opening_by names line Bad rest later = Refuses line
 
@@ -55,50 +56,95 @@ opening_of names (statement ∷ rest) =
 
 -- ---- the steps of a script, with their answers
 
-abbrev pub IsSaid : RunEnd → ℕ → Said → (RunEnd → List Answer → Type 0) → List Answer → Ended → Type 0
-IsSaid e line (Does event) later [] ended = ⊥
-IsSaid e line (Does event) later (answer ∷ answers) ended =
-    IsAnswer e (Conductor event) answer × later (after e (Conductor event) answer) answers
-IsSaid e line (Principal name number) later answers ended = (answers ≡ []) × (ended ≡ BadLine line)
-IsSaid e line (Policy text) later answers ended = (answers ≡ []) × (ended ≡ BadLine line)
-IsSaid e line Bad later answers ended = (answers ≡ []) × (ended ≡ BadLine line)
+-- what a statement does behind the head: an event of the conductor; nothing, where the text of a policy is refused; or
+-- it is bad there
+pub data Deed : Type 0 where
+  Takes : Event → Deed
+  Faults : PolicyFault → Deed
+  Stops : Deed
 
--- each step is answered where the ones before it left off, up to the end or to a bad line
-abbrev pub IsRunning : RunEnd → List Statement → List Answer → Ended → Type 0
-IsRunning e [] answers ended = (answers ≡ []) × (ended ≡ Done)
-IsRunning e (statement ∷ rest) answers ended =
-    IsSaid e statement.line statement.said (λ next more. IsRunning next rest more ended) answers ended
+-- a policy is put in force by an event, whose moment is that of the registry: no moment is before 0
+abbrev pub put_in_force : Rules → Event
+put_in_force policy = Reload 0 policy
+
+abbrev pub deed_by : Result Rules PolicyFault → Deed
+deed_by (Err fault) = Faults fault
+deed_by (Ok policy) = Takes (put_in_force policy)
+
+abbrev pub deed_of : Known → Said → Deed
+deed_of names (Does event) = Takes event
+deed_of names (Policy text) = deed_by (policy_of names text)
+deed_of names (Principal name number) = Stops
+deed_of names Bad = Stops
+
+-- what a statement is told: the answer of a step, or why the text of a policy is refused
+pub data Told : Type 0 where
+  Answered : Answer → Told
+  Refused : PolicyFault → Told
+
+abbrev pub IsTold : RunEnd → Event → Told → Type 0
+IsTold e event (Answered answer) = IsAnswer e (Conductor event) answer
+IsTold e event (Refused fault) = ⊥
+
+abbrev pub after_told : RunEnd → Event → Told → RunEnd
+after_told e event (Answered answer) = after e (Conductor event) answer
+after_told e event (Refused fault) = e
+
+-- a policy that is refused is no event; there may also have been no memory for its text
+abbrev pub IsRefused : PolicyFault → Told → Type 0
+IsRefused fault (Refused named) = named ≡ fault
+IsRefused fault (Answered NoMemory) = Unit {0}
+IsRefused fault (Answered answer) = ⊥
+
+abbrev pub IsDone : RunEnd → ℕ → Deed → (RunEnd → List Told → Type 0) → List Told → Ended → Type 0
+IsDone e line (Takes event) later [] ended = ⊥
+IsDone e line (Takes event) later (told ∷ others) ended = IsTold e event told × later (after_told e event told) others
+IsDone e line (Faults fault) later [] ended = ⊥
+IsDone e line (Faults fault) later (told ∷ others) ended = IsRefused fault told × later e others
+IsDone e line Stops later all ended = (all ≡ []) × (ended ≡ BadLine line)
+
+-- each statement is answered where the ones before it left off, up to the end or to a bad line
+abbrev pub IsRunning : Known → RunEnd → List Statement → List Told → Ended → Type 0
+IsRunning names e [] all ended = (all ≡ []) × (ended ≡ Done)
+IsRunning names e (statement ∷ rest) all ended =
+    IsDone e statement.line (deed_of names statement.said) (λ next more. IsRunning names next rest more ended) all ended
 
 -- ---- the text
 
 abbrev pub message_text : Message → List ℕ
 message_text message = reply_text message.client (reply_bytes (layout_of message.reply))
 
--- an answer has its line, or a line for each reply
+-- an answer has its line, and a line for each reply
 unfoldable pub answer_text : Answer → List ℕ
 answer_text NoMemory = codes "no memory\n"
 answer_text (Attached client) = codes "attached " ++ (decimal client ++ codes "\n")
 answer_text Full = codes "full\n"
+answer_text (PolicyInForce epoch messages) = policy_line epoch ++ flat_map message_text messages
+answer_text PolicyFull = codes "policy refused: full\n"
 answer_text (Replies messages) = flat_map message_text messages
+
+abbrev pub told_text : Told → List ℕ
+told_text (Answered answer) = answer_text answer
+told_text (Refused fault) = refusal_line fault
 
 abbrev pub ended_text : Ended → List ℕ
 ended_text Done = []
 ended_text (BadLine line) = codes "line " ++ (decimal line ++ codes ": bad line\n")
 
-abbrev pub script_text : List Answer → Ended → List ℕ
-script_text answers ended = flat_map answer_text answers ++ ended_text ended
+abbrev pub script_text : List Told → Ended → List ℕ
+script_text all ended = flat_map told_text all ++ ended_text ended
 
--- the text that these statements make from that end of a run on
-pub record Writes (e : RunEnd) (statements : List Statement) (ended : Ended) (text : List ℕ) : Type 0 where
-  pub answers : List Answer
-  pub run : IsRunning e statements answers ended
-  pub text_is : text ≡ script_text answers ended
+-- the text that these statements make from that end of a run on, with these names
+pub record Writes (names : Known) (e : RunEnd) (statements : List Statement) (ended : Ended) (text : List ℕ) : Type 0 where
+  pub told : List Told
+  pub run : IsRunning names e statements told ended
+  pub text_is : text ≡ script_text told ended
 
 -- the text of a script, by what its head opens
 abbrev pub IsOpeningText : Opening → Ended → List ℕ → Type 0
 IsOpeningText Ends ended text = (ended ≡ Done) × (text ≡ [])
 IsOpeningText (Refuses line) ended text = (ended ≡ BadLine line) × (text ≡ ended_text (BadLine line))
-IsOpeningText (Opens policy rest) ended text = Writes (opening_end default_settings policy []) rest ended text
+IsOpeningText (Opens names policy rest) ended text = Writes names (opening_end default_settings policy []) rest ended text
 
 -- the text that the run of these statements writes, and how it ends
 abbrev pub IsScriptText : List Statement → Ended → List ℕ → Type 0

@@ -1,4 +1,5 @@
--- What a script says, statement by statement: first its principals, then a policy, then the steps of a run.
+-- What a script says, statement by statement: first its principals, then a policy, then the steps of a run with further
+-- policies among them.
 use Rattle.std.specs.Prelude.{ℕ, ◌+◌, List, [], ◌∷◌, ◌++◌, codes, if◌then◌else◌}
 use Rattle.std.specs.Str.{bytes_eq}
 use Rattle.driver_script.specs.declared.line.Line.{Line}
@@ -8,8 +9,8 @@ use Rattle.driver_script.specs.declared.statements.Statement.{Statement}
 use Rattle.driver_script.specs.Line.{is_plain, line_of}
 use Rattle.driver_script.specs.Pieces.{pieces}
 
--- a line stands before the policy, within it, or behind it; within it there is the number of the line `policy`, and the
--- text so far
+-- a line stands before the first policy, within a policy, or behind one; within it there is the number of the line
+-- `policy`, and the text so far
 pub data Place : Type 0 where
   Before : Place
   Within : ℕ → List ℕ → Place
@@ -19,7 +20,7 @@ pub data Place : Type 0 where
 abbrev pub bad : ℕ → List Statement
 bad number = record { line = number; said = said.Bad } ∷ []
 
--- a line before the policy
+-- a line before the first policy
 abbrev pub before : ℕ → Line → (Place → List Statement) → List Statement
 before number line.Skipped later = later Before
 before number (line.Principal name principal) later =
@@ -28,7 +29,7 @@ before number line.Policy later = later (Within number [])
 before number (line.Does step) later = bad number
 before number line.Bad later = bad number
 
--- a line of the policy: its text is TOML, up to a line that is `.`
+-- a line of a policy: its text is TOML, up to a line that is `.`
 abbrev pub within : ℕ → List ℕ → ℕ → List ℕ → (Place → List Statement) → List Statement
 within start text number bytes later =
     if is_plain bytes then
@@ -36,15 +37,15 @@ within start text number bytes later =
     else later (Within start (text ++ (bytes ++ codes "\n")))
     else bad number
 
--- a line behind the policy
+-- a line behind a policy
 abbrev pub behind : ℕ → Line → (Place → List Statement) → List Statement
 behind number line.Skipped later = later Behind
 behind number (line.Principal name principal) later = bad number
-behind number line.Policy later = bad number
+behind number line.Policy later = later (Within number [])
 behind number (line.Does step) later = record { line = number; said = said.Does step } ∷ later Behind
 behind number line.Bad later = bad number
 
--- a line of either
+-- a line of any of them
 abbrev pub said_at : Place → ℕ → List ℕ → (Place → List Statement) → List Statement
 said_at Before number bytes later = before number (line_of bytes) later
 said_at (Within start text) number bytes later = within start text number bytes later

@@ -1,20 +1,24 @@
 -- The run of a script, statement by statement: what has been written so far goes before whatever is written from there on.
 use Rattle.std.specs.Prelude.{◌≡◌, ℕ, List, [], ◌∷◌, ◌++◌, Option, Some, None}
 use Rattle.std.specs.Io.KnownBytes.{Appends}
+use Rattle.driver_core.specs.declared.answer.Answer.TheVariants.{NoMemory}
 use Rattle.driver_core.specs.declared.event.Event.{Event}
 use Rattle.driver_core.specs.Runs.{RunEnd, StandsFor, opening_end}
 use Rattle.driver_core.specs.Settings.{default_settings}
 use Rattle.policy_core.specs.RuleList.{Rules}
+use Rattle.policy_text.specs.declared.fault.PolicyFault.{PolicyFault}
+use Rattle.policy_text.specs.declared.fault.PolicyFault.TheVariants as text
 use Rattle.policy_text.specs.Names.{Known}
 use Rattle.driver_script.specs.declared.script.Ended.{Ended}
 use Rattle.driver_script.specs.declared.script.Head.{Head}
 use Rattle.driver_script.specs.declared.script.Head.TheVariants as head
 use Rattle.driver_script.specs.declared.fault.RunFault.{RunFault}
 use Rattle.driver_script.specs.declared.fault.RunFault.TheVariants as fault
-use Rattle.driver_script.specs.declared.statements.Said.TheVariants.{Does}
+use Rattle.driver_script.specs.declared.statements.Said.{Said}
+use Rattle.driver_script.specs.declared.statements.Said.TheVariants.{Policy}
 use Rattle.driver_script.specs.declared.statements.Statement.{Statement}
 use Rattle.driver_script.specs.Output.{AppendsFront}
-use Rattle.driver_script.specs.Script.{Opening, Ends, Refuses, Opens, opening_of, Writes, IsScriptText}
+use Rattle.driver_script.specs.Script.{Opening, Ends, Refuses, Opens, opening_of, Takes, deed_of, Told, Answered, Refused, Writes, IsScriptText}
 
 -- ---- the head
 
@@ -24,71 +28,85 @@ IsWorldOf policy (head.Opened world) = StandsFor world (opening_end default_sett
 IsWorldOf policy (head.Refused line) = ⊥
 IsWorldOf policy head.Ended = ⊥
 
--- the head is what the statements open, and these are left
-abbrev pub IsHead : Opening → List Statement → Head → Type 0
-IsHead Ends left h = h ≡ head.Ended
-IsHead (Refuses line) left h = h ≡ head.Refused line
-IsHead (Opens policy rest) left h = (rest ≡ left) × IsWorldOf policy h
+-- the head is what the statements open; these names are given, and these statements are left
+abbrev pub IsHead : Opening → Known → List Statement → Head → Type 0
+IsHead Ends names left h = h ≡ head.Ended
+IsHead (Refuses line) names left h = h ≡ head.Refused line
+IsHead (Opens given policy rest) names left h = (given ≡ names) × (rest ≡ left) × IsWorldOf policy h
 
 -- one statement of the head: it adds to the names, or it decides the head
 pub record NamesOne (old new : Known) (statement : Statement) : Type 0 where
   pub on : (rest : List Statement) → opening_of old (statement ∷ rest) ≡ opening_of new rest
 
-pub record DecidesHead (old : Known) (statement : Statement) (h : Head) : Type 0 where
-  pub on : (rest : List Statement) → IsHead (opening_of old (statement ∷ rest)) rest h
+pub record DecidesHead (old new : Known) (statement : Statement) (h : Head) : Type 0 where
+  pub on : (rest : List Statement) → IsHead (opening_of old (statement ∷ rest)) new rest h
 
 abbrev pub TakesHead : Known → Known → Statement → Option Head → Type 0
 TakesHead old new statement None = NamesOne old new statement
-TakesHead old new statement (Some h) = DecidesHead old statement h
+TakesHead old new statement (Some h) = DecidesHead old new statement h
 
 -- ---- the steps
 
--- a step was taken, and the text of its answer goes before what the others write from there on
-pub record Turns (e next : RunEnd) (statement : Statement) (front : List ℕ) : Type 0 where
+-- what is told of a policy's text that is refused, or finds no memory
+abbrev pub told_of_fault : PolicyFault → Told
+told_of_fault text.NoMemory = Answered NoMemory
+told_of_fault fault = Refused fault
+
+-- a statement was taken, and the text that it is told goes before what the others write from there on
+pub record Turns (names : Known) (e next : RunEnd) (statement : Statement) (front : List ℕ) : Type 0 where
   pub on : (rest : List Statement) (ended : Ended) (text : List ℕ) →
-      Writes next rest ended text → Writes e (statement ∷ rest) ended (front ++ text)
+      Writes names next rest ended text → Writes names e (statement ∷ rest) ended (front ++ text)
 
 -- the same of a world, with what reached the writer
-pub record Goes (old new : RunEnd) (statement : Statement) (before after : Option (List ℕ)) : Type 0 where
+pub record Goes (names : Known) (old new : RunEnd) (statement : Statement) (before after : Option (List ℕ)) : Type 0 where
   pub front : List ℕ
   pub appended : Appends before after front
-  pub on : (e : RunEnd) → StandsFor old e → (next : RunEnd) × StandsFor new next × Turns e next statement front
+  pub on : (e : RunEnd) → StandsFor old e → (next : RunEnd) × StandsFor new next × Turns names e next statement front
 
--- the same of an event, on whatever line it stands
+-- the same of an event, whatever statement it is
 pub record Steps (old new : RunEnd) (event : Event) (before after : Option (List ℕ)) : Type 0 where
-  pub on : (line : ℕ) → Goes old new (record { line = line; said = Does event }) before after
+  pub on : (names : Known) (line : ℕ) (said : Said) → deed_of names said ≡ Takes event →
+      Goes names old new (record { line = line; said = said }) before after
+
+-- the same of the text of a policy, on whatever line it begins
+pub record Puts (names : Known) (old new : RunEnd) (text : List ℕ) (before after : Option (List ℕ)) : Type 0 where
+  pub on : (line : ℕ) → Goes names old new (record { line = line; said = Policy text }) before after
 
 -- the statement is bad here, and its text ends the run
-pub record Stops (statement : Statement) (ended : Ended) (before after : Option (List ℕ)) : Type 0 where
+pub record StopsAt (names : Known) (statement : Statement) (ended : Ended) (before after : Option (List ℕ)) : Type 0 where
   pub text : List ℕ
   pub appended : Appends before after text
-  pub on : (e : RunEnd) (rest : List Statement) → Writes e (statement ∷ rest) ended text
+  pub on : (e : RunEnd) (rest : List Statement) → Writes names e (statement ∷ rest) ended text
 
-abbrev pub TakesStep : RunEnd → RunEnd → Statement → Option Ended → Option (List ℕ) → Option (List ℕ) → Type 0
-TakesStep old new statement None before after = Goes old new statement before after
-TakesStep old new statement (Some ended) before after = Stops statement ended before after
+abbrev pub TakesStep : Known → RunEnd → RunEnd → Statement → Option Ended → Option (List ℕ) → Option (List ℕ) → Type 0
+TakesStep names old new statement None before after = Goes names old new statement before after
+TakesStep names old new statement (Some ended) before after = StopsAt names statement ended before after
 
 -- a front of a text that the statements write from there on was written
-pub record WritesFront (held : RunEnd) (statements : List Statement) (before after : Option (List ℕ)) : Type 0 where
+pub record WritesFront (names : Known) (held : RunEnd) (statements : List Statement) (before after : Option (List ℕ)) : Type 0 where
   pub on : (e : RunEnd) → StandsFor held e →
-      (ended : Ended) × (text : List ℕ) × Writes e statements ended text × AppendsFront before after text
+      (ended : Ended) × (text : List ℕ) × Writes names e statements ended text × AppendsFront before after text
 
-pub record GivesUp (held : RunEnd) (statement : Statement) (before after : Option (List ℕ)) : Type 0 where
-  pub on : (rest : List Statement) → WritesFront held (statement ∷ rest) before after
+pub record GivesUp (names : Known) (held : RunEnd) (statement : Statement) (before after : Option (List ℕ)) : Type 0 where
+  pub on : (rest : List Statement) → WritesFront names held (statement ∷ rest) before after
 
 pub record GivesUpStep (held : RunEnd) (event : Event) (before after : Option (List ℕ)) : Type 0 where
-  pub on : (line : ℕ) → GivesUp held (record { line = line; said = Does event }) before after
+  pub on : (names : Known) (line : ℕ) (said : Said) → deed_of names said ≡ Takes event →
+      GivesUp names held (record { line = line; said = said }) before after
+
+pub record GivesUpPolicy (names : Known) (held : RunEnd) (text : List ℕ) (before after : Option (List ℕ)) : Type 0 where
+  pub on : (line : ℕ) → GivesUp names held (record { line = line; said = Policy text }) before after
 
 -- the text that the statements write from there on was written
-pub record WritesWhole (held : RunEnd) (statements : List Statement) (ended : Ended) (before after : Option (List ℕ)) : Type 0 where
-  pub on : (e : RunEnd) → StandsFor held e → (text : List ℕ) × Writes e statements ended text × Appends before after text
+pub record WritesWhole (names : Known) (held : RunEnd) (statements : List Statement) (ended : Ended) (before after : Option (List ℕ)) : Type 0 where
+  pub on : (e : RunEnd) → StandsFor held e → (text : List ℕ) × Writes names e statements ended text × Appends before after text
 
 -- in the middle of a run: what was written goes before what the others write
-pub record SoFar (start : RunEnd) (all : List Statement) (held : RunEnd) (left : List Statement) (before after : Option (List ℕ)) : Type 0 where
+pub record SoFar (names : Known) (start : RunEnd) (all : List Statement) (held : RunEnd) (left : List Statement) (before after : Option (List ℕ)) : Type 0 where
   pub front : List ℕ
   pub appended : Appends before after front
   pub on : (e : RunEnd) → StandsFor start e → (next : RunEnd) × StandsFor held next
-      × ((ended : Ended) (text : List ℕ) → Writes next left ended text → Writes e all ended (front ++ text))
+      × ((ended : Ended) (text : List ℕ) → Writes names next left ended text → Writes names e all ended (front ++ text))
 
 -- ---- a whole script
 

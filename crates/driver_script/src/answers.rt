@@ -1,5 +1,6 @@
 ghost use Rattle.std.specs.Prelude.{Some};
 
+use policy_text::PolicyFault;
 use std::fmt;
 
 /// Bytes in lower-case hexadecimal, two digits for each; `-` where there are none.
@@ -33,6 +34,12 @@ pub enum AnswerLine<'a> {
     Full,
     /// The driver takes no clients any more.
     Stopped,
+    /// The policy is in force, under this number.
+    PolicyInForce(u64),
+    /// A limit of the driver would be broken under the policy, which is not in force.
+    PolicyFull,
+    /// The text is no policy, and the one before stays in force.
+    PolicyRefused(PolicyFault),
     /// This client gets a reply.
     Reply { client: u64, bytes: &'a [u8] },
     /// There was no memory for the step, which changed nothing.
@@ -52,6 +59,9 @@ impl fmt::Display for AnswerLine<'_> {
             AnswerLine::Attached(client) => writeln!(f, "attached {client}"),
             AnswerLine::Full => writeln!(f, "full"),
             AnswerLine::Stopped => writeln!(f, "stopped"),
+            AnswerLine::PolicyInForce(epoch) => writeln!(f, "policy {epoch}"),
+            AnswerLine::PolicyFull => writeln!(f, "policy refused: full"),
+            AnswerLine::PolicyRefused(fault) => writeln!(f, "policy refused: {fault}"),
             AnswerLine::Reply { client, bytes } => {
                 let bytes = Hex(bytes);
                 writeln!(f, "reply {client} {bytes}")

@@ -4,19 +4,17 @@
 //! language.
 #![tactic(auto)]
 
-mod answers;
+pub mod answers;
+pub mod deciding;
 mod fault;
 mod hex;
 mod input;
-mod line;
+pub mod line;
 mod number;
-mod output;
+pub mod output;
 mod pieces;
 pub mod script;
-mod statements;
+pub mod statements;
 
 pub use fault::RunFault;
-pub use input::LIMIT;
-
-#[cfg(test)]
-mod tests;
+pub use input::{LIMIT, read_input};

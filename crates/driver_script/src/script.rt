@@ -1,7 +1,7 @@
 ghost use Rattle.driver_core.specs.Replies.{layout_of};
 ghost use Rattle.command_codec.specs.Reply.{reply_bytes};
 ghost use Rattle.driver_script.specs.Output.{AppendsFront};
-ghost use Rattle.driver_script.specs.Script.{message_text, answer_text, ended_text};
+ghost use Rattle.driver_script.specs.Script.{message_text, answer_text, told_text, ended_text};
 ghost use Rattle.std.specs.Io.KnownBytes.{Appends};
 ghost use Rattle.std.specs.List.{flat_map};
 ghost use Rattle.driver_script.specs.declared.script.Ended.TheVariants.{BadLine};
@@ -10,7 +10,7 @@ ghost use Rattle.driver_script.specs.declared.input.TheConstants.{LIMIT};
 ghost use Rattle.driver_script.specs.Statements.{statements_of};
 ghost use Rattle.driver_script.specs.Left.{left};
 ghost use Rattle.driver_script.specs.Script.{opening_of};
-ghost use Rattle.driver_script.specs.Turns.{TakesHead, IsHead, Steps, GivesUpStep, TakesStep, GivesUp, WritesWhole, WritesFront, WritesScript, BeginsScript, IsBegun, IsUnread};
+ghost use Rattle.driver_script.specs.Turns.{TakesHead, IsHead, Steps, GivesUpStep, Puts, GivesUpPolicy, told_of_fault, TakesStep, GivesUp, WritesWhole, WritesFront, WritesScript, BeginsScript, IsBegun, IsUnread};
 ghost use Rattle.std.specs.Prelude.{◌≡◌, ◌<◌, ◌≤◌, ◌++◌, [], Err, IfOk, IfErr, IfSome, OnOk, OnErr, length};
 ghost use Rattle.std.specs.String.{string_bytes};
 
@@ -68,6 +68,13 @@ fn text_of(alloc: Global, answer: &Answer) -> Result<String, AllocError>
             format!(in alloc; "{line}")
         }
         Answer::Full => format!(in alloc; "{}", AnswerLine::Full),
+        Answer::PolicyInForce { epoch, replies } => {
+            let line = AnswerLine::PolicyInForce(*epoch);
+            let mut text = format!(in alloc; "{line}")?;
+            push_messages(&mut text, alloc, replies.as_slice())?;
+            Ok(text)
+        }
+        Answer::PolicyFull => format!(in alloc; "{}", AnswerLine::PolicyFull),
         Answer::Replies(messages) => {
             let mut text = String::new(alloc);
             push_messages(&mut text, alloc, messages.as_slice())?;
@@ -119,13 +126,16 @@ fn take_head(
     }
 }
 
-/// Takes the statements up to the policy.
-fn take_heads(alloc: Global, statements: &mut Statements<'_>) -> Result<Head, AllocError>
-    ensures { IfOk result (λ head. IsHead (opening_of [] (left statements.old)) (left statements.new) head) }
+/// Takes the statements up to the first policy.
+fn take_heads(
+    alloc: Global,
+    names: &mut Names,
+    statements: &mut Statements<'_>,
+) -> Result<Head, AllocError>
+    ensures { IfOk result (λ head. IsHead (opening_of names.old (left statements.old)) names.new (left statements.new) head) }
 {
-    let mut names = Names::new(alloc);
     'statements: while let Some(statement) = statements.next(alloc)? {
-        if let Some(head) = take_head(alloc, &mut names, statement)? {
+        if let Some(head) = take_head(alloc, names, statement)? {
             return Ok(head);
         }
     }
@@ -172,15 +182,53 @@ fn take_event<W: Write>(
     write_answer(alloc, &answer, writer)
 }
 
-/// Takes one statement behind the head: a step, or what is bad there.
+/// Writes why the text of a policy is refused, or that there was no memory for it.
+#[tactic(auto, unfolding(crate::specs::Answers::line_text, crate::specs::Script::answer_text))]
+fn write_refusal<W: Write>(
+    alloc: Global,
+    fault: PolicyFault,
+    writer: &mut W,
+) -> Result<(), RunFault>
+    ensures ok { OnOk result (Appends (W.contents writer.old) (W.contents writer.new) (told_text (told_of_fault fault))) }
+    ensures err { OnErr result (AppendsFront (W.contents writer.old) (W.contents writer.new) (told_text (told_of_fault fault))) }
+    ensures begun { IfErr result IsBegun }
+{
+    let line = match fault {
+        PolicyFault::NoMemory => AnswerLine::NoMemory,
+        fault => AnswerLine::PolicyRefused(fault),
+    };
+    let text = format!(in alloc; "{line}")?;
+    write_whole(writer, text.as_bytes())
+}
+
+/// Puts the policy that a text is in force, and writes the answer; or why the text is refused, which is no event.
+fn take_policy<W: Write>(
+    alloc: Global,
+    names: &Names,
+    world: &mut World,
+    text: &str,
+    writer: &mut W,
+) -> Result<(), RunFault>
+    ensures ok { OnOk result (Puts names.now world.old world.new text.now (W.contents writer.old) (W.contents writer.new)) }
+    ensures err { OnErr result (GivesUpPolicy names.now world.old text.now (W.contents writer.old) (W.contents writer.new)) }
+    ensures begun { IfErr result IsBegun }
+{
+    match policy_text::read(alloc, text, names) {
+        Ok(policy) => take_event(alloc, world, Event::Reload { now: 0, policy }, writer),
+        Err(fault) => write_refusal(alloc, fault, writer),
+    }
+}
+
+/// Takes one statement behind the head: a step, a policy, or what is bad there.
 fn take_step<W: Write>(
     alloc: Global,
+    names: &Names,
     world: &mut World,
     statement: Statement,
     writer: &mut W,
 ) -> Result<Option<Ended>, RunFault>
-    ensures ok { IfOk result (λ ended. TakesStep world.old world.new statement ended (W.contents writer.old) (W.contents writer.new)) }
-    ensures err { OnErr result (GivesUp world.old statement (W.contents writer.old) (W.contents writer.new)) }
+    ensures ok { IfOk result (λ ended. TakesStep names.now world.old world.new statement ended (W.contents writer.old) (W.contents writer.new)) }
+    ensures err { OnErr result (GivesUp names.now world.old statement (W.contents writer.old) (W.contents writer.new)) }
     ensures begun { IfErr result IsBegun }
 {
     let Statement { line, said } = statement;
@@ -189,8 +237,11 @@ fn take_step<W: Write>(
             take_event(alloc, world, event, writer)?;
             Ok(None)
         }
+        Said::Policy(text) => {
+            take_policy(alloc, names, world, text.as_str(), writer)?;
+            Ok(None)
+        }
         Said::Principal { .. } => Ok(Some(write_bad_line(alloc, line, writer)?)),
-        Said::Policy(_) => Ok(Some(write_bad_line(alloc, line, writer)?)),
         Said::Bad => Ok(Some(write_bad_line(alloc, line, writer)?)),
     }
 }
@@ -198,12 +249,13 @@ fn take_step<W: Write>(
 /// Takes the statements behind the head.
 fn take_steps<W: Write>(
     alloc: Global,
+    names: &Names,
     statements: &mut Statements<'_>,
     world: World,
     writer: &mut W,
 ) -> Result<Ended, RunFault>
-    ensures whole { IfOk result (λ ended. WritesWhole world (left statements.old) ended (W.contents writer.old) (W.contents writer.new)) }
-    ensures front { OnErr result (WritesFront world (left statements.old) (W.contents writer.old) (W.contents writer.new)) }
+    ensures whole { IfOk result (λ ended. WritesWhole names.now world (left statements.old) ended (W.contents writer.old) (W.contents writer.new)) }
+    ensures front { OnErr result (WritesFront names.now world (left statements.old) (W.contents writer.old) (W.contents writer.new)) }
     ensures begun { IfErr result IsBegun }
 {
     let mut world = world;
@@ -212,7 +264,7 @@ fn take_steps<W: Write>(
             Some(statement) => statement,
             None => return Ok(Ended::Done),
         };
-        match take_step(alloc, &mut world, statement, writer)? {
+        match take_step(alloc, names, &mut world, statement, writer)? {
             Some(ended) => return Ok(ended),
             None => {}
         }
@@ -226,11 +278,12 @@ fn run_script<W: Write>(alloc: Global, script: &[u8], writer: &mut W) -> Result<
     ensures front { OnErr result (BeginsScript (statements_of script.now) (W.contents writer.old) (W.contents writer.new)) }
     ensures begun { IfErr result IsBegun }
 {
+    let mut names = Names::new(alloc);
     let mut statements = Statements::new(script);
-    match take_heads(alloc, &mut statements)? {
+    match take_heads(alloc, &mut names, &mut statements)? {
         Head::Ended => Ok(Ended::Done),
         Head::Refused(line) => write_bad_line(alloc, line, writer),
-        Head::Opened(world) => take_steps(alloc, &mut statements, world, writer),
+        Head::Opened(world) => take_steps(alloc, &names, &mut statements, world, writer),
     }
 }
 

@@ -9,11 +9,11 @@ use driver_core::Event;
 use std::alloc::{AllocError, Global};
 
 /// What a statement says.
-#[derive(Debug, PartialEq, Eq, Drop)]
+#[derive(Debug, Drop)]
 pub enum Said {
-    /// Rules of the policy may name this principal.
+    /// Rules of the policies may name this principal.
     Principal { name: Text, number: u32 },
-    /// This text is the policy, each of its lines with its line feed.
+    /// This text is a policy, each of its lines with its line feed.
     Policy(Text),
     /// A step of the run.
     Does(Event),
@@ -23,7 +23,7 @@ pub enum Said {
 
 /// A statement of a script, with the number of the line that it begins on, counted from 1. A line of a policy that is
 /// not ASCII is bad by itself.
-#[derive(Debug, PartialEq, Eq, Drop)]
+#[derive(Debug, Drop)]
 pub struct Statement {
     pub line: u64,
     pub said: Said,
@@ -108,7 +108,7 @@ impl<'a> Statements<'a> {
         Ok(self.refuse(start))
     }
 
-    /// What a line before the policy says, where it says something.
+    /// What a line before the first policy says, where it says something.
     fn before(
         &mut self,
         alloc: Global,
@@ -137,21 +137,26 @@ impl<'a> Statements<'a> {
         }
     }
 
-    /// What a line behind the policy says, where it says something.
-    fn behind(&mut self, number: u64, line: Line) -> Option<Statement>
+    /// What a line behind a policy says, where it says something.
+    fn behind(
+        &mut self,
+        alloc: Global,
+        number: u64,
+        line: Line,
+    ) -> Result<Option<Statement>, AllocError>
         requires { self.old.opened ≡ true }
-        ensures said { GoesOn (behind number line (λ next. left_from next self.old)) (left self.new) result }
-        ensures nothing { IfNone result (self.new ≡ self.old) }
+        ensures said { IfOk result (λ statement. GoesOn (behind number line (λ next. left_from next self.old)) (left self.new) statement) }
+        ensures nothing { IfOk result (λ statement. IfNone statement (self.new ≡ self.old)) }
     {
         match line {
-            Line::Skipped => None,
-            Line::Does(step) => Some(Statement {
+            Line::Skipped => Ok(None),
+            Line::Does(step) => Ok(Some(Statement {
                 line: number,
                 said: Said::Does(step),
-            }),
-            Line::Principal { .. } => Some(self.refuse(number)),
-            Line::Policy => Some(self.refuse(number)),
-            Line::Bad => Some(self.refuse(number)),
+            })),
+            Line::Policy => Ok(Some(self.take_policy(alloc, number)?)),
+            Line::Principal { .. } => Ok(Some(self.refuse(number))),
+            Line::Bad => Ok(Some(self.refuse(number))),
         }
     }
 
@@ -167,7 +172,7 @@ impl<'a> Statements<'a> {
     {
         let line = read_line(alloc, line)?;
         if self.opened {
-            return Ok(self.behind(number, line));
+            return self.behind(alloc, number, line);
         }
         self.before(alloc, number, line)
     }

@@ -6,7 +6,7 @@ use Rattle.driver_script.proofs.script.take_steps.Given as goal
 -- what was written goes before what the statements that are left write
 abbrev pub invariant-statements : goal.invariant-statements
 invariant-statements g l =
-    SoFar l.fn.world (left l.fn.statements) l.world (left l.statements) (g.W.Write.contents l.fn.writer) (g.W.Write.contents l.writer)
+    SoFar l.names l.fn.world (left l.fn.statements) l.world (left l.statements) (g.W.Write.contents l.fn.writer) (g.W.Write.contents l.writer)
 
 abbrev pub decreases-statements : goal.decreases-statements
 decreases-statements g l = length (left l.statements)

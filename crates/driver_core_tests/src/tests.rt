@@ -1,7 +1,9 @@
-use super::*;
 use byte_strings::{Bytes, Items, Text};
 use channel_uri::Pattern;
-use command_codec::{AddSubscription, Body, Command};
+use command_codec::{AddSubscription, Body, Command, Removal};
+use driver_core::{
+    Answer, Event, Inputs, Message, Refusal, Registry, Reply, Response, Settings, Step, World,
+};
 use policy_core::{Act, Acts, Policy, Principals, Rule, Verdict};
 use std::alloc::Global;
 use std::test::Fail;
@@ -30,6 +32,15 @@ const READY: [u8; 20] = [
     0x07, 0x0f, 0, 0, // type
     0x0b, 0, 0, 0, 0, 0, 0, 0, // correlation
     0x01, 0, 0, 0, 0, 0, 0, 0, // registration
+];
+
+/// ON_ERROR with correlation id 14: 2, `unknown subscription`.
+const UNKNOWN: [u8; 40] = [
+    0x01, 0x0f, 0, 0, // type
+    0x0e, 0, 0, 0, 0, 0, 0, 0, // correlation
+    0x02, 0, 0, 0, // code
+    0x14, 0, 0, 0, 0x75, 0x6e, 0x6b, 0x6e, 0x6f, 0x77, 0x6e, 0x20, 0x73, 0x75, 0x62, 0x73, 0x63,
+    0x72, 0x69, 0x70, 0x74, 0x69, 0x6f, 0x6e, // text
 ];
 
 /// A policy without rules.
@@ -76,11 +87,57 @@ fn subscribe(alloc: Global, channel: &str) -> Result<Event, Fail> {
     })
 }
 
+/// REMOVE_SUBSCRIPTION of a client over its handle.
+fn remove(alloc: Global, client: u64, correlation: u64, registration: u64) -> Result<Step, Fail> {
+    let bytes = Command {
+        client,
+        correlation,
+        body: Body::RemoveSubscription(Removal { registration }),
+    }
+    .write(alloc)?;
+    Ok(Step::Conductor(Event::Command {
+        now: 0,
+        client,
+        bytes,
+    }))
+}
+
+/// A policy without rules is put in force.
+fn reload(alloc: Global, default: bool) -> Step {
+    Step::Conductor(Event::Reload {
+        now: 0,
+        policy: policy(alloc, default),
+    })
+}
+
+/// The answer to a command: one reply to a client.
+fn told_to(alloc: Global, client: u64, reply: Reply) -> Result<Answer, Fail> {
+    let mut replies = Items::new(alloc);
+    replies.push(Message { client, reply })?;
+    Ok(Answer::Replies(replies))
+}
+
 /// The answer to a command: one reply to client 1.
 fn told(alloc: Global, reply: Reply) -> Result<Answer, Fail> {
-    let mut replies = Items::new(alloc);
-    replies.push(Message { client: 1, reply })?;
-    Ok(Answer::Replies(replies))
+    told_to(alloc, 1, reply)
+}
+
+fn in_force(alloc: Global, epoch: u64) -> Answer {
+    Answer::PolicyInForce {
+        epoch,
+        replies: Items::new(alloc),
+    }
+}
+
+fn denied_by_default(correlation: u64, epoch: u64) -> Reply {
+    Reply::Error {
+        correlation,
+        refusal: Refusal::Denied(Verdict {
+            allow: false,
+            rule: None,
+            epoch,
+        }),
+    }
 }
 
 fn refused(alloc: Global, correlation: u64, refusal: Refusal) -> Result<Answer, Fail> {
@@ -100,17 +157,136 @@ fn first_denial(rt: HostRuntime) -> Result<(), Fail> {
         Step::Conductor(attach(0)),
         Step::Conductor(command(rt.alloc(), 0, &SUBSCRIBE)?),
     ]?;
-    let denial = Reply::Error {
-        correlation: 11,
-        refusal: Refusal::Denied(Verdict {
-            allow: false,
-            rule: None,
-            epoch: 1,
-        }),
-    };
+    let denial = denied_by_default(11, 1);
     let answers = vec![in rt.alloc(); Answer::Attached(1), told(rt.alloc(), denial)?]?;
     assert!(rt; world.run(rt.alloc(), &steps)? == Items::from(answers));
     assert_eq!(rt; denial.bytes(rt.alloc())?.as_slice(), DENIAL.as_slice());
+    Ok(())
+}
+
+#[test]
+fn reload_then_remove(rt: HostRuntime) -> Result<(), Fail> {
+    let mut world = world(rt.alloc(), policy(rt.alloc(), false))?;
+    let mut subscribe = SUBSCRIBE;
+    subscribe[12] = 12;
+    let steps = vec![in rt.alloc();
+        Step::Conductor(attach(0)),
+        Step::Conductor(command(rt.alloc(), 0, &SUBSCRIBE)?),
+        reload(rt.alloc(), true),
+        Step::Conductor(command(rt.alloc(), 0, &subscribe)?),
+        remove(rt.alloc(), 1, 13, 1)?,
+        remove(rt.alloc(), 1, 14, 1)?,
+    ]?;
+    let ready = Reply::SubscriptionReady {
+        correlation: 12,
+        registration: 1,
+    };
+    let done = Reply::OperationSuccess { correlation: 13 };
+    let unknown = Reply::Error {
+        correlation: 14,
+        refusal: Refusal::UnknownSubscription,
+    };
+    let answers = vec![in rt.alloc();
+        Answer::Attached(1),
+        told(rt.alloc(), denied_by_default(11, 1))?,
+        in_force(rt.alloc(), 2),
+        told(rt.alloc(), ready)?,
+        told(rt.alloc(), done)?,
+        told(rt.alloc(), unknown)?,
+    ]?;
+    assert!(rt; world.run(rt.alloc(), &steps)? == Items::from(answers));
+
+    let mut bytes = READY;
+    bytes[4] = 12;
+    assert_eq!(rt; ready.bytes(rt.alloc())?.as_slice(), bytes.as_slice());
+    let bytes = [0x04, 0x0f, 0, 0, 0x0d, 0, 0, 0, 0, 0, 0, 0];
+    assert_eq!(rt; done.bytes(rt.alloc())?.as_slice(), bytes.as_slice());
+    assert_eq!(rt; unknown.bytes(rt.alloc())?.as_slice(), UNKNOWN.as_slice());
+    Ok(())
+}
+
+#[test]
+fn the_newest_policy_decides(rt: HostRuntime) -> Result<(), Fail> {
+    let mut world = world(rt.alloc(), policy(rt.alloc(), false))?;
+    world.step(rt.alloc(), &Step::Conductor(attach(0)));
+    let ask = Step::Conductor(command(rt.alloc(), 0, &SUBSCRIBE)?);
+    let ready = Reply::SubscriptionReady {
+        correlation: 11,
+        registration: 1,
+    };
+    for (default, epoch) in [(false, 2), (true, 3), (false, 4), (false, 5)] {
+        let answer = world.step(rt.alloc(), &reload(rt.alloc(), default));
+        assert!(rt; answer == in_force(rt.alloc(), epoch), "at {epoch}");
+        let reply = if default {
+            ready
+        } else {
+            denied_by_default(11, epoch)
+        };
+        let answer = world.step(rt.alloc(), &ask);
+        assert!(rt; answer == told(rt.alloc(), reply)?, "at {epoch}");
+    }
+    Ok(())
+}
+
+#[test]
+fn a_reload_closes_no_subscription(rt: HostRuntime) -> Result<(), Fail> {
+    let inputs = Inputs::none(rt.alloc());
+    let mut registry = registry(rt.alloc(), policy(rt.alloc(), true))?;
+    registry.step(rt.alloc(), &attach(0), &inputs)?;
+    registry.step(rt.alloc(), &command(rt.alloc(), 0, &SUBSCRIBE)?, &inputs)?;
+    let event = Event::Reload {
+        now: 3,
+        policy: policy(rt.alloc(), false),
+    };
+    let outcome = registry.step(rt.alloc(), &event, &inputs)?;
+    assert_eq!(rt; outcome.response, Response::PolicyInForce(2));
+    assert!(rt; outcome.replies.is_empty());
+    assert!(rt; outcome.decisions.is_empty());
+    assert!(rt; outcome.opens.is_none());
+    assert!(rt; outcome.closes.is_empty());
+    assert!(rt; outcome.gone.is_empty());
+    assert!(rt; outcome.come.is_empty());
+
+    let Step::Conductor(event) = remove(rt.alloc(), 1, 12, 1)?;
+    let outcome = registry.step(rt.alloc(), &event, &inputs)?;
+    let done = Message {
+        client: 1,
+        reply: Reply::OperationSuccess { correlation: 12 },
+    };
+    assert_eq!(rt; outcome.replies.as_slice(), [done].as_slice());
+    assert!(rt; outcome.decisions.is_empty());
+    Ok(())
+}
+
+#[test]
+fn the_subscription_of_another_client_is_unknown(rt: HostRuntime) -> Result<(), Fail> {
+    let mut world = world(rt.alloc(), policy(rt.alloc(), true))?;
+    world.step(rt.alloc(), &Step::Conductor(attach(0)));
+    world.step(rt.alloc(), &Step::Conductor(attach(0)));
+    let ask = Step::Conductor(command(rt.alloc(), 0, &SUBSCRIBE)?);
+    world.step(rt.alloc(), &ask);
+    world.step(rt.alloc(), &ask);
+
+    let unknown = |correlation| Reply::Error {
+        correlation,
+        refusal: Refusal::UnknownSubscription,
+    };
+    let done = |correlation| Reply::OperationSuccess { correlation };
+    for (client, correlation, registration, reply) in [
+        (2, 21, 1, unknown(21)),
+        (1, 22, 0, unknown(22)),
+        (1, 23, 3, unknown(23)),
+        (1, 24, 1, done(24)),
+        (1, 25, 1, unknown(25)),
+        (1, 26, 2, done(26)),
+    ] {
+        let step = remove(rt.alloc(), client, correlation, registration)?;
+        let answer = world.step(rt.alloc(), &step);
+        assert!(rt;
+            answer == told_to(rt.alloc(), client, reply)?,
+            "at {correlation}"
+        );
+    }
     Ok(())
 }
 
@@ -218,11 +394,12 @@ fn a_spy_is_asked_for_as_a_spy(rt: HostRuntime) -> Result<(), Fail> {
     };
     let mut registry = registry(rt.alloc(), Policy::new(vec![in rt.alloc(); spies]?, false))?;
     registry.step(rt.alloc(), &attach(0), &Inputs::none(rt.alloc()))?;
-    for (channel, act, allow, rule) in [
+    for (channel, act, allow, rule, registration) in [
         (
             "aeron:udp?endpoint=127.0.0.1:40123",
             Act::Subscribe,
             false,
+            None,
             None,
         ),
         (
@@ -230,12 +407,14 @@ fn a_spy_is_asked_for_as_a_spy(rt: HostRuntime) -> Result<(), Fail> {
             Act::Spy,
             true,
             Some(1),
+            Some(1),
         ),
         (
             "aeron-spy:aeron:udp?control-mode=manual",
             Act::Spy,
             true,
             Some(1),
+            Some(2),
         ),
     ] {
         let event = subscribe(rt.alloc(), channel)?;
@@ -254,8 +433,18 @@ fn a_spy_is_asked_for_as_a_spy(rt: HostRuntime) -> Result<(), Fail> {
             },
             "at {channel}"
         );
+        let reply = match registration {
+            Some(registration) => Reply::SubscriptionReady {
+                correlation: 11,
+                registration,
+            },
+            None => denied_by_default(11, 1),
+        };
+        assert_eq!(rt;
+            outcome.replies.as_slice(),
+            [Message { client: 1, reply }].as_slice()
+        );
     }
-    assert_eq!(rt; registry.subscriptions.len(), 2);
     Ok(())
 }
 
@@ -278,22 +467,17 @@ fn there_are_64_clients_and_512_subscriptions(rt: HostRuntime) -> Result<(), Fai
         assert!(rt; answer == told(rt.alloc(), ready)?, "at {registration}");
     }
     assert!(rt; world.step(rt.alloc(), &step) == refused(rt.alloc(), 11, Refusal::Full)?);
-    assert_eq!(rt; Refusal::Full.code().number(), 1003);
-    Ok(())
-}
 
-#[test]
-fn moments_do_not_go_back(rt: HostRuntime) -> Result<(), Fail> {
-    let mut registry = registry(rt.alloc(), policy(rt.alloc(), false))?;
-    let inputs = Inputs::none(rt.alloc());
-    registry.step(rt.alloc(), &attach(9), &inputs)?;
-    // A denied command is heard of, at the moment already seen.
-    for (now, heard) in [(12, 12), (5, 12), (13, 13)] {
-        registry.step(rt.alloc(), &command(rt.alloc(), now, &SUBSCRIBE)?, &inputs)?;
-        assert_eq!(rt; registry.moment, heard, "at {now}");
-        assert_eq!(rt; registry.clients.len(), 1);
-        assert_eq!(rt; registry.clients[0].heard, heard, "at {now}");
-    }
+    // One goes, and the next gets a number that none had before.
+    let done = Reply::OperationSuccess { correlation: 12 };
+    let answer = world.step(rt.alloc(), &remove(rt.alloc(), 1, 12, 7)?);
+    assert!(rt; answer == told(rt.alloc(), done)?);
+    let ready = Reply::SubscriptionReady {
+        correlation: 11,
+        registration: 513,
+    };
+    assert!(rt; world.step(rt.alloc(), &step) == told(rt.alloc(), ready)?);
+    assert_eq!(rt; Refusal::Full.code().number(), 1003);
     Ok(())
 }
 
@@ -308,5 +492,14 @@ fn ample_memory(rt: HostRuntime) -> Result<(), Fail> {
     assert!(rt; copy.step(rt.alloc(), &event, &inputs)? == outcome);
     assert_eq!(rt; outcome.response, Response::Nothing);
     assert_eq!(rt; outcome.replies.len(), 1);
+
+    let event = Event::Reload {
+        now: 0,
+        policy: policy(rt.alloc(), false),
+    };
+    let mut copy = registry.copy(rt.alloc())?;
+    let outcome = registry.step(rt.alloc(), &event, &inputs)?;
+    assert!(rt; copy.step(rt.alloc(), &event, &inputs)? == outcome);
+    assert_eq!(rt; outcome.response, Response::PolicyInForce(2));
     Ok(())
 }

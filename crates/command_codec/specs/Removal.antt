@@ -1,0 +1,19 @@
+-- The fields of REMOVE_SUBSCRIPTION. (The layout is this project's own.)
+use Rattle.std.specs.Prelude.{ℕ, ◌<◌, ◌^◌, List, Result}
+use Rattle.command_codec.specs.declared.fault.CommandFault.{CommandFault}
+use Rattle.command_codec.specs.declared.removal.Removal.{Removal}
+use Rattle.command_codec.specs.Gives.{◌>>=◌}
+use Rattle.command_codec.specs.Fields.{number_at, ended, number_bytes}
+
+-- the registration that is to go
+unfoldable pub removal_of : List ℕ → Result Removal CommandFault
+removal_of bytes = do
+  registration ← number_at 8 bytes
+  ended (record { registration = registration.0 }) registration.1
+
+unfoldable pub removal_bytes : Removal → List ℕ
+removal_bytes r = number_bytes 8 r.registration
+
+-- what can be read again
+pub record IsRemoval (r : Removal) : Type 0 where
+  pub registration : r.registration < 2 ^ 64

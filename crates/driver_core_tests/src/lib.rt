@@ -1,0 +1,5 @@
+//! Tests of `driver_core`.
+#![tactic(auto)]
+
+#[cfg(test)]
+mod tests;

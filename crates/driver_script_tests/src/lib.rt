@@ -1,0 +1,11 @@
+//! Tests of `driver_script`: of its readers, of the runs of scripts, and of questions to a policy.
+#![tactic(auto)]
+
+#[cfg(test)]
+mod deciding;
+#[cfg(test)]
+mod ends;
+#[cfg(test)]
+mod reading;
+#[cfg(test)]
+mod running;
