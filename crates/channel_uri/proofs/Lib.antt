@@ -1,3 +1,4 @@
+pub mod EndingLemmas
 pub mod KeysLemmas
 pub mod LastValue
-pub mod PatternLemmas
+pub mod NumberLemmas

@@ -10,7 +10,7 @@ use crate::error::UriError;
 use crate::keys::Keys;
 use crate::media::Media;
 use crate::place::Place;
-use crate::syntax;
+use crate::{syntax, values};
 use byte_strings::Text;
 use std::alloc::{AllocError, Global};
 use std::marker::Model;
@@ -70,7 +70,10 @@ impl Channel {
         let (word, pairs) = syntax::halves(rest);
         let media = media_of(spy, word)?;
         let keys = syntax::keys_of(alloc, pairs)?;
-        Ok(Channel { spy, media, keys })
+        match values::first_fault(&keys) {
+            Some(fault) => Err(fault),
+            None => Ok(Channel { spy, media, keys }),
+        }
     }
 
     /// The subject of a rule on counters. No text of a channel denotes it. It takes no memory.

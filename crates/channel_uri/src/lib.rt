@@ -4,17 +4,25 @@
 //! what a whole text denotes, or its first fault; `Pattern::covers` says whether a channel is one that a rule means.
 #![tactic(auto)]
 
+mod address;
 mod channel;
 mod error;
+mod key;
 mod keys;
 mod laws;
 mod media;
+mod number;
 mod pattern;
 mod place;
+mod quantity;
+mod session;
 mod syntax;
+mod values;
 
+pub use address::Address;
 pub use channel::Channel;
 pub use error::UriError;
+pub use key::Key;
 pub use keys::Keys;
 pub use laws::last_value_stands;
 pub use media::Media;
