@@ -6,6 +6,7 @@ pub mod Key
 pub mod Keys
 pub mod Media
 pub mod Number
+pub mod Parameters
 pub mod Pattern
 pub mod Place
 pub mod Quantity

@@ -3,7 +3,7 @@ ghost use Rattle.channel_uri.specs.Channel.{media_of};
 ghost use Rattle.channel_uri.specs.Canonical.{mark_of, pairs_text};
 ghost use Rattle.channel_uri.specs.Keys.{value_at};
 ghost use Rattle.std.specs.Option.{option_map};
-ghost use Rattle.std.specs.Prelude.{◌≡◌, ◌++◌, IfOk, OnOk, false, true, codes, option_copied};
+ghost use Rattle.std.specs.Prelude.{◌≡◌, ◌++◌, IfOk, OnOk, false, true, option_copied};
 ghost use Rattle.std.specs.String.{string_bytes};
 
 use crate::error::UriError;
@@ -50,7 +50,7 @@ fn media_of(spy: bool, word: &str) -> Result<Media, UriError>
 impl Channel {
     ghost use Rattle.channel_uri.specs.Canonical.{canonical_of};
     ghost use Rattle.channel_uri.specs.Channel.{denotes, takes_memory, counter_shape};
-    ghost use Rattle.channel_uri.specs.Place.{spot_of, spot_at, is_text};
+    ghost use Rattle.channel_uri.specs.Place.{spot_of, spot_at};
 
     /// Reads a channel's text: `aeron:udp` or `aeron:ipc`, for a spy of `udp` behind `aeron-spy:`, and then perhaps a
     /// `?` and pairs `key=value` with `|` between them. A repeated key keeps its last value.
@@ -123,16 +123,6 @@ impl Channel {
             Media::Udp if self.is_manual() => Some(Place::Manual),
             Media::Udp => self.keys.get("endpoint").map(Place::Endpoint),
             Media::Counter => None,
-        }
-    }
-
-    /// Whether the destinations are named by hand.
-    fn is_manual(&self) -> bool
-        ensures { result ≡ is_text (codes "manual") (value_at (codes "control-mode") self.now.keys) }
-    {
-        match self.keys.get("control-mode") {
-            Some(mode) => mode == "manual",
-            None => false,
         }
     }
 

@@ -12,6 +12,7 @@ mod keys;
 mod laws;
 mod media;
 mod number;
+mod parameters;
 mod pattern;
 mod place;
 mod quantity;
@@ -24,10 +25,7 @@ pub use channel::Channel;
 pub use error::UriError;
 pub use key::Key;
 pub use keys::Keys;
-pub use laws::last_value_stands;
+pub use laws::{last_value_stands, stated_is_read, values_keep_their_rules};
 pub use media::Media;
 pub use pattern::Pattern;
 pub use place::Place;
-
-#[cfg(test)]
-mod tests;
