@@ -1,3 +1,5 @@
+pub mod EndingLemmas
 pub mod KeysLemmas
 pub mod LastValue
-pub mod PatternLemmas
+pub mod NumberLemmas
+pub mod Parsed

@@ -7,6 +7,7 @@ use Rattle.channel_uri.specs.declared.media.Media.{Media}
 use Rattle.channel_uri.specs.declared.media.Media.TheVariants.{Udp, Ipc, Counter}
 use Rattle.channel_uri.specs.Keys.{Pair}
 use Rattle.channel_uri.specs.Syntax.{◌>>=◌, unspied, behind_scheme, halves, keys_of}
+use Rattle.channel_uri.specs.Values.{first_fault, checked}
 
 -- a channel: whether it asks for a spy, its medium, and its keys with their values in the byte order of the keys
 pub record Shape : Type 0 where
@@ -22,14 +23,15 @@ media_of spy word =
     else if bytes_eq word (codes "ipc") then Ok Ipc
     else Err BadMedia
 
--- the channel that the text is, or its first fault from the left
+-- the channel that the text is, or its first fault: its length, then its syntax from the left, then the values that are
+-- kept, in the byte order of their keys
 unfoldable pub denotes : List ℕ → Result Shape UriError
 denotes text =
     if nat_lt 1024 (length text) then Err TooLong
     else behind_scheme (unspied text).1 >>= λ rest.
     media_of (unspied text).0 (halves rest).0 >>= λ media.
     keys_of (halves rest).1 >>= λ keys.
-    Ok (record { spy = (unspied text).0; media = media; keys = keys })
+    checked (first_fault keys) (record { spy = (unspied text).0; media = media; keys = keys })
 
 -- the text has a scheme and a medium that are served, and then pairs to keep; no other text takes memory
 abbrev pub takes_memory : List ℕ → Bool

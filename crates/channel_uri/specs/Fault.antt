@@ -1,6 +1,7 @@
-use Rattle.std.specs.Prelude.{◌≡◌, ℕ, List, Result, Ok, Err, codes}
+use Rattle.std.specs.Prelude.{◌≡◌, ℕ, List, ◌++◌, Result, Ok, Err, codes}
 use Rattle.channel_uri.specs.declared.error.UriError.{UriError}
-use Rattle.channel_uri.specs.declared.error.UriError.TheVariants.{TooLong, NoScheme, BadMedia, EmptyKey, KeyWithoutValue, NoMemory}
+use Rattle.channel_uri.specs.declared.error.UriError.TheVariants.{TooLong, NoScheme, BadMedia, EmptyKey, KeyWithoutValue, BadValue, NotServed, NoMemory}
+use Rattle.channel_uri.specs.Key.{key_text}
 
 -- the words for a fault
 abbrev pub fault_text : UriError → List ℕ
@@ -9,6 +10,8 @@ fault_text NoScheme = codes "no scheme aeron:"
 fault_text BadMedia = codes "bad media"
 fault_text EmptyKey = codes "empty key"
 fault_text KeyWithoutValue = codes "key without value"
+fault_text (BadValue key) = codes "bad value of " ++ key_text key
+fault_text (NotServed key) = codes "not served: " ++ key_text key
 fault_text NoMemory = codes "no memory"
 
 -- the meaning of a text is this fault; want of memory tells nothing of the text

@@ -1,8 +1,15 @@
+pub mod Address
 pub mod Canonical
 pub mod Channel
 pub mod Fault
+pub mod Key
 pub mod Keys
 pub mod Media
+pub mod Number
+pub mod Parameters
 pub mod Pattern
 pub mod Place
+pub mod Quantity
+pub mod Session
 pub mod Syntax
+pub mod Values

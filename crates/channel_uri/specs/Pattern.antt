@@ -1,6 +1,6 @@
 -- Patterns of a policy's rules, and which channels they cover.
-use Rattle.std.specs.Prelude.{ℕ, ◌-◌, Bool, true, false, ◌&&◌, ◌||◌, ◌==◌, List, [], Option, Some, None, Result, Ok, Err, is_ok, is_some, nat_eq, nat_lt, length, take, codes, if◌then◌else◌}
-use Rattle.std.specs.List.{list_all, starts_with, ends_with}
+use Rattle.std.specs.Prelude.{ℕ, Bool, true, false, ◌&&◌, ◌||◌, ◌==◌, List, [], Option, Some, None, Result, Ok, Err, is_ok, is_some, nat_eq, nat_lt, length, codes, if◌then◌else◌}
+use Rattle.std.specs.List.{list_all, starts_with}
 use Rattle.std.specs.Str.{bytes_eq}
 use Rattle.channel_uri.specs.declared.error.UriError.{UriError}
 use Rattle.channel_uri.specs.declared.error.UriError.TheVariants.{TooLong, BadMedia}
@@ -11,7 +11,7 @@ use Rattle.channel_uri.specs.declared.pattern.Pattern.TheVariants.{Any, Of}
 use Rattle.channel_uri.specs.Channel.{Shape}
 use Rattle.channel_uri.specs.Keys.{Pair, value_at}
 use Rattle.channel_uri.specs.Media.{media_number}
-use Rattle.channel_uri.specs.Syntax.{◌>>=◌, behind_scheme, halves, keys_of}
+use Rattle.channel_uri.specs.Syntax.{◌>>=◌, before_end, behind_scheme, halves, keys_of}
 
 -- the medium of a pattern's text
 abbrev pub pattern_media_of : List ℕ → Result Media UriError
@@ -40,8 +40,7 @@ pattern_takes_memory text =
 
 -- what stands before a final `*`
 abbrev pub front_of : List ℕ → Option (List ℕ)
-front_of wanted =
-    if ends_with nat_eq wanted (codes "*") then Some (take (length wanted - 1) wanted) else None
+front_of wanted = before_end (codes "*") wanted
 
 -- the value begins with the front, where there is one
 abbrev pub begins_with : List ℕ → Option (List ℕ) → Bool

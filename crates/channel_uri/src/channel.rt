@@ -3,14 +3,14 @@ ghost use Rattle.channel_uri.specs.Channel.{media_of};
 ghost use Rattle.channel_uri.specs.Canonical.{mark_of, pairs_text};
 ghost use Rattle.channel_uri.specs.Keys.{value_at};
 ghost use Rattle.std.specs.Option.{option_map};
-ghost use Rattle.std.specs.Prelude.{◌≡◌, ◌++◌, IfOk, OnOk, false, true, codes, option_copied};
+ghost use Rattle.std.specs.Prelude.{◌≡◌, ◌++◌, IfOk, OnOk, false, true, option_copied};
 ghost use Rattle.std.specs.String.{string_bytes};
 
 use crate::error::UriError;
 use crate::keys::Keys;
 use crate::media::Media;
 use crate::place::Place;
-use crate::syntax;
+use crate::{syntax, values};
 use byte_strings::Text;
 use std::alloc::{AllocError, Global};
 use std::marker::Model;
@@ -50,7 +50,7 @@ fn media_of(spy: bool, word: &str) -> Result<Media, UriError>
 impl Channel {
     ghost use Rattle.channel_uri.specs.Canonical.{canonical_of};
     ghost use Rattle.channel_uri.specs.Channel.{denotes, takes_memory, counter_shape};
-    ghost use Rattle.channel_uri.specs.Place.{spot_of, spot_at, is_text};
+    ghost use Rattle.channel_uri.specs.Place.{spot_of, spot_at};
 
     /// Reads a channel's text: `aeron:udp` or `aeron:ipc`, for a spy of `udp` behind `aeron-spy:`, and then perhaps a
     /// `?` and pairs `key=value` with `|` between them. A repeated key keeps its last value.
@@ -70,7 +70,10 @@ impl Channel {
         let (word, pairs) = syntax::halves(rest);
         let media = media_of(spy, word)?;
         let keys = syntax::keys_of(alloc, pairs)?;
-        Ok(Channel { spy, media, keys })
+        match values::first_fault(&keys) {
+            Some(fault) => Err(fault),
+            None => Ok(Channel { spy, media, keys }),
+        }
     }
 
     /// The subject of a rule on counters. No text of a channel denotes it. It takes no memory.
@@ -120,16 +123,6 @@ impl Channel {
             Media::Udp if self.is_manual() => Some(Place::Manual),
             Media::Udp => self.keys.get("endpoint").map(Place::Endpoint),
             Media::Counter => None,
-        }
-    }
-
-    /// Whether the destinations are named by hand.
-    fn is_manual(&self) -> bool
-        ensures { result ≡ is_text (codes "manual") (value_at (codes "control-mode") self.now.keys) }
-    {
-        match self.keys.get("control-mode") {
-            Some(mode) => mode == "manual",
-            None => false,
         }
     }
 

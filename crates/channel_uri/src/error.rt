@@ -2,13 +2,15 @@ ghost use Rattle.channel_uri.specs.Fault.{fault_text};
 ghost use Rattle.channel_uri.specs.declared.error.UriError.TheVariants.{NoMemory};
 ghost use Rattle.std.specs.Prelude.{◌≡◌, Some};
 
+use crate::key::Key;
 use std::alloc::{AllocError, AllocFailed};
 use std::error::Error;
 use std::fmt;
 
 /// Why a text is no channel, or no pattern.
 ///
-/// The length is looked at first; then the first fault from the left is named.
+/// The length is looked at first; then the first fault of the syntax from the left is named, and then the first value that
+/// is kept and is bad, in the byte order of the keys.
 #[derive(Clone, Copy, Debug, PartialEq, Eq)]
 pub enum UriError {
     /// The text has more than 1,024 bytes.
@@ -21,6 +23,10 @@ pub enum UriError {
     EmptyKey,
     /// A pair has no `=`.
     KeyWithoutValue,
+    /// The value of the key breaks the key's rule.
+    BadValue(Key),
+    /// The key, or this value of it, is not served here.
+    NotServed(Key),
     /// There is no memory for the parts of the text.
     NoMemory,
 }
@@ -51,6 +57,8 @@ impl fmt::Display for UriError {
             UriError::BadMedia => f.write_str("bad media"),
             UriError::EmptyKey => f.write_str("empty key"),
             UriError::KeyWithoutValue => f.write_str("key without value"),
+            UriError::BadValue(key) => write!(f, "bad value of {key}"),
+            UriError::NotServed(key) => write!(f, "not served: {key}"),
             UriError::NoMemory => f.write_str("no memory"),
         }
     }

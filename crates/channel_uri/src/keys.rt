@@ -43,12 +43,11 @@ impl Keys {
     }
 
     /// Gives `key` this value, in place of an earlier one.
-    pub(crate) fn put(&mut self, alloc: Global, key: &str, value: &str) -> Result<(), AllocError>
-        ensures ok { OnOk result (self.new ≡ put self.old (key.now, value.now)) }
+    pub(crate) fn put(&mut self, alloc: Global, key: &str, value: String) -> Result<(), AllocError>
+        ensures ok { OnOk result (self.new ≡ put self.old (key.now, string_bytes value)) }
         ensures err { OnErr result (self.new ≡ self.old) }
     {
         let key = String::from_str(alloc, key)?;
-        let value = String::from_str(alloc, value)?;
         self.table.insert(key, value)?;
         Ok(())
     }

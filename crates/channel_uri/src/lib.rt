@@ -4,22 +4,28 @@
 //! what a whole text denotes, or its first fault; `Pattern::covers` says whether a channel is one that a rule means.
 #![tactic(auto)]
 
+mod address;
 mod channel;
 mod error;
+mod key;
 mod keys;
 mod laws;
 mod media;
+mod number;
+mod parameters;
 mod pattern;
 mod place;
+mod quantity;
+mod session;
 mod syntax;
+mod values;
 
+pub use address::Address;
 pub use channel::Channel;
 pub use error::UriError;
+pub use key::Key;
 pub use keys::Keys;
-pub use laws::last_value_stands;
+pub use laws::{last_value_stands, stated_is_read, values_keep_their_rules};
 pub use media::Media;
 pub use pattern::Pattern;
 pub use place::Place;
-
-#[cfg(test)]
-mod tests;

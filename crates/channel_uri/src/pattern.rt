@@ -39,7 +39,7 @@ fn media_of(word: &str) -> Result<Media, UriError>
 fn front_of(wanted: &str) -> Option<&str>
     ensures { option_copied result ≡ front_of wanted.now }
 {
-    wanted.strip_suffix('*')
+    syntax::before_end("*", wanted)
 }
 
 /// The value is the wanted one, or begins with what stands before the wanted one's final `*`.

@@ -1,7 +1,8 @@
 ghost use Rattle.channel_uri.specs.Fault.{Equals, Gives};
-ghost use Rattle.channel_uri.specs.Syntax.{cut, unspied, behind_scheme, halves, pair_of, keys_of};
+ghost use Rattle.channel_uri.specs.Syntax.{cut, before_end, address_read, value_read, unspied, behind_scheme, halves, pair_of, keys_of};
 ghost use Rattle.std.specs.List.{slice_split};
 ghost use Rattle.std.specs.Option.{option_map};
+ghost use Rattle.std.specs.String.{string_bytes};
 ghost use Rattle.std.specs.Prelude.{◌≡◌, ◌<◌, ◌==◌, IfOk, is_some, false, map, option_copied};
 
 use crate::error::UriError;
@@ -9,11 +10,18 @@ use crate::keys::Keys;
 use std::alloc::{AllocError, Global};
 
 /// What stands before and behind the first `mark`.
-fn cut(text: &str, mark: char) -> Option<(&str, &str)>
+pub(crate) fn cut(text: &str, mark: char) -> Option<(&str, &str)>
     requires { mark < 128 }
     ensures { option_map (λ sides. (sides.0.now, sides.1.now)) result ≡ cut mark text.now }
 {
     text.split_once(mark)
+}
+
+/// What stands before this ending.
+pub(crate) fn before_end<'a>(end: &str, text: &'a str) -> Option<&'a str>
+    ensures { option_copied result ≡ before_end end.now text.now }
+{
+    text.strip_suffix(end)
 }
 
 /// Whether the text asks for a spy, and what stands behind that prefix.
@@ -62,6 +70,33 @@ fn pair_of(piece: &str) -> Result<(&str, &str), UriError>
     Ok((key, value))
 }
 
+/// An address as it is kept: `localhost:` at its head is read as `127.0.0.1:`.
+fn address_read(alloc: Global, value: &str) -> Result<String, AllocError>
+    ensures { IfOk result (λ read. string_bytes read ≡ address_read value.now) }
+{
+    match value.strip_prefix("localhost:") {
+        Some(rest) => {
+            let mut read = String::from_str(alloc, "127.0.0.1:")?;
+            read.push_str(rest)?;
+            Ok(read)
+        }
+        None => String::from_str(alloc, value),
+    }
+}
+
+/// The value that is kept for a key.
+fn value_read(alloc: Global, key: &str, value: &str) -> Result<String, AllocError>
+    ensures { IfOk result (λ read. string_bytes read ≡ value_read key.now value.now) }
+{
+    if key == "endpoint" {
+        return address_read(alloc, value);
+    }
+    if key == "control" {
+        return address_read(alloc, value);
+    }
+    String::from_str(alloc, value)
+}
+
 fn pieces_of(alloc: Global, text: &str) -> Result<Vec<&str>, AllocError>
     ensures { IfOk result (λ pieces. map (λ piece. piece.now) pieces.items ≡ slice_split (λ b. b == 124) text.now) }
 {
@@ -81,7 +116,7 @@ pub(crate) fn keys_of(alloc: Global, text: Option<&str>) -> Result<Keys, UriErro
     let pieces = pieces_of(alloc, text)?;
     for piece in &pieces {
         let (key, value) = pair_of(piece)?;
-        keys.put(alloc, key, value)?;
+        keys.put(alloc, key, value_read(alloc, key, value)?)?;
     }
     Ok(keys)
 }

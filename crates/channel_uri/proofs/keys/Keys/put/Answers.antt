@@ -5,5 +5,5 @@ use Rattle.channel_uri.proofs.keys.Keys.put.Goals as goal
 
 pub returns-clause-ok : goal.returns-clause-ok
 returns-clause-ok c =
-    rw (← c.self.view_is, ← c.in_ok-key.ensures.ok, ← c.in_ok-value.ensures.ok)
-    (ap (map texts) c.in_ok-insert.ensures.entries ∙ insert-texts c.self.inside.table.entries c.in_ok-key.key c.in_ok-value.value)
+    rw (← c.self.view_is, ← c.in_ok-key.ensures.ok)
+    (ap (map texts) c.in_ok-insert.ensures.entries ∙ insert-texts c.self.inside.table.entries c.in_ok-key.key c.args.value)

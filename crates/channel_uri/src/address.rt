@@ -1,0 +1,81 @@
+ghost use Rattle.channel_uri.specs.Address.{address_of, first_octet_of, octets_of, plain_below, port_of};
+ghost use Rattle.std.specs.Prelude.{◌≡◌};
+
+use crate::number::number_below;
+use crate::syntax::cut;
+
+/// An address of the Internet Protocol, version 4, and a port of the User Datagram Protocol.
+#[derive(Clone, Copy, Debug, PartialEq, Eq)]
+pub struct Address {
+    pub octets: [u8; 4],
+    pub port: u16,
+}
+
+/// A decimal below the limit that begins with no zero but `0` itself.
+fn plain_below(limit: u64, text: &str) -> Option<u64>
+    ensures { result ≡ plain_below limit text.now }
+{
+    if text.len() > 1 {
+        if text.starts_with("0") {
+            return None;
+        }
+    }
+    number_below(limit, text)
+}
+
+/// One of the four numbers.
+fn octet_of(text: &str) -> Option<u8>
+    ensures { result ≡ plain_below 256 text.now }
+{
+    let octet = plain_below(256, text)?;
+    Some(octet as u8)
+}
+
+/// The first of the four numbers: from 224 to 239 it stands for a group of hosts.
+fn first_octet_of(text: &str) -> Option<u8>
+    ensures { result ≡ first_octet_of text.now }
+{
+    let octet = octet_of(text)?;
+    if octet >= 224 {
+        if octet <= 239 {
+            return None;
+        }
+    }
+    Some(octet)
+}
+
+/// Four numbers with dots between them.
+fn octets_of(host: &str) -> Option<[u8; 4]>
+    ensures { result ≡ octets_of host.now }
+{
+    let (first, host) = cut(host, '.')?;
+    let (second, host) = cut(host, '.')?;
+    let (third, fourth) = cut(host, '.')?;
+    let first = first_octet_of(first)?;
+    let second = octet_of(second)?;
+    let third = octet_of(third)?;
+    let fourth = octet_of(fourth)?;
+    Some([first, second, third, fourth])
+}
+
+/// A port that can be sent to.
+fn port_of(text: &str) -> Option<u16>
+    ensures { result ≡ port_of text.now }
+{
+    let port = plain_below(65536, text)?;
+    if port == 0 {
+        return None;
+    }
+    Some(port as u16)
+}
+
+/// The address that the text is.
+#[tactic(auto, unfolding(crate::specs::Address::address_of))]
+pub(crate) fn address_of(text: &str) -> Option<Address>
+    ensures { result ≡ address_of text.now }
+{
+    let (host, port) = cut(text, ':')?;
+    let octets = octets_of(host)?;
+    let port = port_of(port)?;
+    Some(Address { octets, port })
+}

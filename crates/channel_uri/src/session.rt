@@ -1,0 +1,21 @@
+ghost use Rattle.channel_uri.specs.Session.{session_id_of};
+ghost use Rattle.std.specs.Prelude.{◌≡◌};
+
+use crate::number::number_below;
+
+/// A signed decimal of 32 bits.
+#[tactic(auto, unfolding(crate::specs::Session::session_id_of))]
+pub(crate) fn session_id_of(text: &str) -> Option<i32>
+    ensures { result ≡ session_id_of text.now }
+{
+    match text.strip_prefix("-") {
+        Some(digits) => {
+            let number = number_below(2_147_483_649, digits)?;
+            Some((-(number as i64)) as i32)
+        }
+        None => {
+            let number = number_below(2_147_483_648, text)?;
+            Some(number as i32)
+        }
+    }
+}

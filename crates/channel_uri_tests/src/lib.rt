@@ -1,0 +1,9 @@
+//! Tests of `channel_uri`.
+#![tactic(auto)]
+
+#[cfg(test)]
+mod channels;
+#[cfg(test)]
+mod patterns;
+#[cfg(test)]
+mod values;
