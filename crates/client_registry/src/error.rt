@@ -1,0 +1,8 @@
+/// Why a client does not come.
+#[derive(Clone, Copy, Debug, PartialEq, Eq)]
+pub enum AdmitError {
+    /// There are 64 clients, or the greatest id was given.
+    Full,
+    /// There was no memory for the client.
+    NoMemory,
+}

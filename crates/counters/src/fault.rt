@@ -1,0 +1,10 @@
+/// Why nothing is done about a counter.
+#[derive(Clone, Copy, Debug, PartialEq, Eq)]
+pub enum CounterFault {
+    /// The client has no counter of this number.
+    UnknownCounter,
+    /// There are 1,024 counters.
+    Full,
+    /// There was no memory for the counter.
+    NoMemory,
+}
