@@ -1,5 +1,9 @@
+pub mod AddressText
+pub mod Canonical
+pub mod Cuts
 pub mod EndingLemmas
 pub mod KeysLemmas
 pub mod LastValue
 pub mod NumberLemmas
 pub mod Parsed
+pub mod Sorted

@@ -11,7 +11,7 @@ use Rattle.channel_uri.specs.Number.{below, decimal_of}
 tells_digits_alone : IsDigitsTest (λ ds. list_all is_ascii_digit ds ≡ true)
 tells_digits_alone = search rules
 
-decimals : IsNumeralModel (λ ds. list_all is_ascii_digit ds ≡ true) (digits_value 10)
+pub decimals : IsNumeralModel (λ ds. list_all is_ascii_digit ds ≡ true) (digits_value 10)
 decimals = numerals_by_value _ tells_digits_alone
 
 decimal_of-digits : (text : List ℕ) → (length text == 0) ≡ false → list_all is_ascii_digit text ≡ true →

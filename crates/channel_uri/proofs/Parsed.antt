@@ -22,7 +22,7 @@ pub bind_ok : {A B : Type 0} (r : Result A UriError) (next : A → Result B UriE
 bind_ok (Ok x) next y e = (x, refl, e)
 bind_ok (Err fault) next y e = absurd cc
 
-if_ok : {A : Type 0} (b : Bool) (fault : UriError) (r : Result A UriError) (y : A) → cond b (Err fault) r ≡ Ok y →
+pub if_ok : {A : Type 0} (b : Bool) (fault : UriError) (r : Result A UriError) (y : A) → cond b (Err fault) r ≡ Ok y →
     (b ≡ false) × (r ≡ Ok y)
 if_ok true fault r y e = absurd cc
 if_ok false fault r y e = (refl, e)

@@ -1,6 +1,8 @@
 -- Addresses (Aeron wiki, channel configuration: `endpoint`, `control`): four numbers with dots between them, `:`, a port.
-use Rattle.std.specs.Prelude.{ℕ, ◌==◌, List, [], ◌∷◌, Option, Some, None, nat_eq, nat_le, nat_lt, length, codes, if◌then◌else◌}
+use Rattle.std.specs.Prelude.{◌≡◌, ℕ, ◌==◌, List, [], ◌∷◌, ◌++◌, Option, Some, None, nat_eq, nat_le, nat_lt, length, codes, if◌then◌else◌}
+use Rattle.std.specs.Fmt.{decimal}
 use Rattle.std.specs.List.{starts_with}
+use Rattle.std.specs.Net.Text.{ipv4_text}
 use Rattle.channel_uri.specs.declared.address.Address.{Address}
 use Rattle.channel_uri.specs.Number.{◌>>?◌, decimal_of, below}
 use Rattle.channel_uri.specs.Syntax.{cut}
@@ -40,3 +42,11 @@ address_of text =
     octets_of sides.0 >>? λ octets.
     port_of sides.1 >>? λ port.
     Some (record { octets = octets; port = port })
+
+-- an address as it is written
+abbrev pub address_text : Address → List ℕ
+address_text address = ipv4_text address.octets ++ (codes ":" ++ decimal address.port)
+
+-- a text that is an address is what the address is written as: two texts of one address are equal
+abbrev pub AddressesHaveOneText : Type 0
+AddressesHaveOneText = (text : List ℕ) (address : Address) → address_of text ≡ Some address → text ≡ address_text address

@@ -2,6 +2,8 @@ use Rattle.std.specs.Prelude.{◌≡◌, ℕ, List, [], ◌∷◌, Option, Strin
 use Rattle.std.specs.Ordering.{nat_cmp}
 use Rattle.std.specs.Cmp.Lexicographic.{slice_cmp}
 use Rattle.std.specs.declared.cmp.Ordering.{Ordering}
+use Rattle.std.specs.declared.cmp.Ordering.TheVariants.{Less}
+use Rattle.std.specs.List.{AllByRecursion}
 use Rattle.std.specs.BTreeMap.{insert_entry}
 use Rattle.std.specs.Map.{lookup}
 use Rattle.std.specs.Str.{bytes_eq}
@@ -31,6 +33,11 @@ put keys pair = insert_entry bytes_cmp keys pair.0 pair.1
 abbrev pub kept : List Pair → List Pair → List Pair
 kept keys [] = keys
 kept keys (pair ∷ pairs) = kept (put keys pair) pairs
+
+-- each key stands before the later ones, byte by byte
+abbrev pub InByteOrder : List Pair → Type 0
+InByteOrder [] = Unit {0}
+InByteOrder (pair ∷ pairs) = AllByRecursion (λ later. bytes_cmp pair.0 later.0 ≡ Less) pairs × InByteOrder pairs
 
 -- the look-ups among the kept keys are those among the pairs from the last one on
 abbrev pub LastValueStands : Type 0

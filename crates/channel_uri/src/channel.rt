@@ -53,10 +53,12 @@ impl Channel {
     ghost use Rattle.channel_uri.specs.Place.{spot_of, spot_at};
 
     /// Reads a channel's text: `aeron:udp` or `aeron:ipc`, for a spy of `udp` behind `aeron-spy:`, and then perhaps a
-    /// `?` and pairs `key=value` with `|` between them. A repeated key keeps its last value.
+    /// `?` and pairs `key=value` with `|` between them. A repeated key keeps its last value; in `endpoint` and `control` a
+    /// leading `localhost:` is read as `127.0.0.1:`. Each value that is kept follows the rule of its key.
     ///
     /// # Errors
-    /// The first fault of the text, from the left; [`UriError::TooLong`] is looked at first.
+    /// [`UriError::TooLong`] is looked at first, then the syntax from the left, and then the values that are kept, in the
+    /// byte order of their keys: the first fault is given.
     #[tactic(auto, unfolding(crate::specs::Channel::denotes))]
     pub fn parse(alloc: Global, text: &str) -> Result<Channel, UriError>
         ensures exact { Gives (λ channel. channel) result (denotes text.now) }
@@ -100,7 +102,7 @@ impl Channel {
         self.media
     }
 
-    /// The value of `key`, as it stands in the text.
+    /// The value of `key`, as it is kept.
     pub fn get(&self, key: &str) -> Option<&str>
         ensures { option_copied result ≡ value_at key.now self.now.keys }
     {

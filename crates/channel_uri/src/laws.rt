@@ -1,3 +1,5 @@
+ghost use Rattle.channel_uri.specs.Address.{AddressesHaveOneText};
+ghost use Rattle.channel_uri.specs.Canonical.{CanonicalDenotes};
 ghost use Rattle.channel_uri.specs.Keys.{LastValueStands};
 ghost use Rattle.channel_uri.specs.Parameters.{StatedIsRead, ValuesKeepTheirRules};
 
@@ -14,4 +16,14 @@ pub fn values_keep_their_rules()
 /// What stands in the text of a channel is read: the parameters of a channel are missing only where their keys are.
 pub fn stated_is_read()
     ensures { StatedIsRead }
+{}
+
+/// The canonical text of a channel that a text denotes has the keys in byte order, and denotes the same channel.
+pub fn canonical_denotes()
+    ensures { CanonicalDenotes }
+{}
+
+/// A text that is an address is the one way to write it, so places with equal addresses have equal texts.
+pub fn addresses_have_one_text()
+    ensures { AddressesHaveOneText }
 {}

@@ -1,7 +1,8 @@
 //! Channels, such as `aeron:udp?endpoint=127.0.0.1:40123|mtu=1408`, and the patterns by which a policy speaks of them.
 //!
-//! The syntax is that of the Aeron wiki's page on channel configuration. `Channel::parse` and `Pattern::parse` give
-//! what a whole text denotes, or its first fault; `Pattern::covers` says whether a channel is one that a rule means.
+//! The syntax, and the rules of the keys, are those of the Aeron wiki's page on channel configuration. `Channel::parse`
+//! and `Pattern::parse` give what a whole text denotes, or its first fault; `Pattern::covers` says whether a channel is one
+//! that a rule means.
 #![tactic(auto)]
 
 mod address;
@@ -25,7 +26,10 @@ pub use channel::Channel;
 pub use error::UriError;
 pub use key::Key;
 pub use keys::Keys;
-pub use laws::{last_value_stands, stated_is_read, values_keep_their_rules};
+pub use laws::{
+    addresses_have_one_text, canonical_denotes, last_value_stands, stated_is_read,
+    values_keep_their_rules,
+};
 pub use media::Media;
 pub use pattern::Pattern;
 pub use place::Place;

@@ -84,8 +84,8 @@ fn all_fit(wanted: &Keys, keys: &Keys) -> bool
 }
 
 impl Pattern {
-    /// Reads a pattern: `*`, or `aeron:` and a medium, with pairs by the syntax of channels. Values are kept as they
-    /// stand.
+    /// Reads a pattern: `*`, or `aeron:` and a medium, with pairs by the syntax of channels. Values are not checked;
+    /// in `endpoint` and `control` a leading `localhost:` is read as `127.0.0.1:`.
     ///
     /// # Errors
     /// The first fault of the text, from the left; [`UriError::TooLong`] is looked at first.

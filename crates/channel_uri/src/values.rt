@@ -54,7 +54,7 @@ fn fault_at(key: Key, value: &str) -> Option<UriError>
 
 /// What is wrong with a pair.
 #[tactic(auto, unfolding(crate::specs::Values::fault_of))]
-fn fault_of(key: &str, value: &str) -> Option<UriError>
+pub(crate) fn fault_of(key: &str, value: &str) -> Option<UriError>
     ensures { result ≡ fault_of (key.now, value.now) }
 {
     fault_at(Key::from_text(key)?, value)
