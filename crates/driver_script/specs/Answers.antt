@@ -3,7 +3,7 @@ use Rattle.std.specs.Prelude.{ℕ, ◌+◌, ◌/◌, ◌%◌, List, [], ◌∷�
 use Rattle.std.specs.Fmt.{decimal}
 use Rattle.std.specs.List.{flat_map}
 use Rattle.driver_script.specs.declared.answers.AnswerLine.{AnswerLine}
-use Rattle.driver_script.specs.declared.answers.AnswerLine.TheVariants.{Attached, Full, Stopped, Reply, NoMemory, BadLine}
+use Rattle.driver_script.specs.declared.answers.AnswerLine.TheVariants.{Attached, Full, PolicyInForce, PolicyFull, Stopped, Reply, NoMemory, BadLine}
 
 -- `0` to `9`, `a` to `f`
 abbrev pub digit_text : ℕ → ℕ
@@ -26,6 +26,8 @@ reply_text client bytes = codes "reply " ++ (decimal client ++ (codes " " ++ (he
 unfoldable pub line_text : AnswerLine → List ℕ
 line_text (Attached client) = codes "attached " ++ (decimal client ++ codes "\n")
 line_text Full = codes "full\n"
+line_text (PolicyInForce epoch) = codes "policy " ++ (decimal epoch ++ codes "\n")
+line_text PolicyFull = codes "policy refused: full\n"
 line_text Stopped = codes "stopped\n"
 line_text (Reply client bytes) = reply_text client bytes.now
 line_text NoMemory = codes "no memory\n"

@@ -3,7 +3,7 @@ use Rattle.std.specs.Prelude.{◌≡◌, ℕ, List, [], ◌∷◌, ◌++◌, Boo
 use Rattle.std.specs.Fmt.{decimal}
 use Rattle.std.specs.List.{flat_map}
 use Rattle.driver_core.specs.declared.answer.Answer.{Answer}
-use Rattle.driver_core.specs.declared.answer.Answer.TheVariants.{NoMemory, Attached, Full, Replies}
+use Rattle.driver_core.specs.declared.answer.Answer.TheVariants.{NoMemory, Attached, Full, PolicyInForce, PolicyFull, Replies}
 use Rattle.driver_core.specs.declared.event.Event.{Event}
 use Rattle.driver_core.specs.declared.replies.Message.{Message}
 use Rattle.driver_core.specs.declared.settings.Settings.{Settings}
@@ -79,6 +79,9 @@ unfoldable pub answer_text : Answer → List ℕ
 answer_text NoMemory = codes "no memory\n"
 answer_text (Attached client) = codes "attached " ++ (decimal client ++ codes "\n")
 answer_text Full = codes "full\n"
+answer_text (PolicyInForce epoch messages) =
+    (codes "policy " ++ (decimal epoch ++ codes "\n")) ++ flat_map message_text messages
+answer_text PolicyFull = codes "policy refused: full\n"
 answer_text (Replies messages) = flat_map message_text messages
 
 abbrev pub ended_text : Ended → List ℕ

@@ -31,6 +31,10 @@ pub enum AnswerLine<'a> {
     Attached(u64),
     /// A limit of the driver would be broken.
     Full,
+    /// The policy is in force, under this number.
+    PolicyInForce(u64),
+    /// A limit of the driver would be broken under the policy, which is not in force.
+    PolicyFull,
     /// The driver takes no clients any more.
     Stopped,
     /// This client gets a reply.
@@ -51,6 +55,8 @@ impl fmt::Display for AnswerLine<'_> {
         match self {
             AnswerLine::Attached(client) => writeln!(f, "attached {client}"),
             AnswerLine::Full => writeln!(f, "full"),
+            AnswerLine::PolicyInForce(epoch) => writeln!(f, "policy {epoch}"),
+            AnswerLine::PolicyFull => writeln!(f, "policy refused: full"),
             AnswerLine::Stopped => writeln!(f, "stopped"),
             AnswerLine::Reply { client, bytes } => {
                 let bytes = Hex(bytes);

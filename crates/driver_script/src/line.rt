@@ -13,7 +13,7 @@ use driver_core::Event;
 use std::alloc::{AllocError, AllocFailed, Global};
 
 /// What a line of a script says.
-#[derive(Debug, PartialEq, Eq, Drop)]
+#[derive(Debug, Drop)]
 pub enum Line {
     /// Nothing: it is empty, or a comment.
     Skipped,

@@ -68,6 +68,13 @@ fn text_of(alloc: Global, answer: &Answer) -> Result<String, AllocError>
             format!(in alloc; "{line}")
         }
         Answer::Full => format!(in alloc; "{}", AnswerLine::Full),
+        Answer::PolicyInForce { epoch, replies } => {
+            let line = AnswerLine::PolicyInForce(*epoch);
+            let mut text = format!(in alloc; "{line}")?;
+            push_messages(&mut text, alloc, replies.as_slice())?;
+            Ok(text)
+        }
+        Answer::PolicyFull => format!(in alloc; "{}", AnswerLine::PolicyFull),
         Answer::Replies(messages) => {
             let mut text = String::new(alloc);
             push_messages(&mut text, alloc, messages.as_slice())?;

@@ -9,7 +9,7 @@ use driver_core::Event;
 use std::alloc::{AllocError, Global};
 
 /// What a statement says.
-#[derive(Debug, PartialEq, Eq, Drop)]
+#[derive(Debug, Drop)]
 pub enum Said {
     /// Rules of the policy may name this principal.
     Principal { name: Text, number: u32 },
@@ -23,7 +23,7 @@ pub enum Said {
 
 /// A statement of a script, with the number of the line that it begins on, counted from 1. A line of a policy that is
 /// not ASCII is bad by itself.
-#[derive(Debug, PartialEq, Eq, Drop)]
+#[derive(Debug, Drop)]
 pub struct Statement {
     pub line: u64,
     pub said: Said,

@@ -7,10 +7,10 @@ use crate::statements::{Said, Statement, Statements};
 use byte_strings::{Bytes, Text};
 use driver_core::Event;
 use std::alloc::Global;
-use std::io;
 use std::io::{Read, Write};
 use std::process::Abort;
 use std::test::Fail;
+use std::{fmt, io};
 
 /// Gives this many line feeds, at most 3,000 at a time, and then fails or ends.
 #[derive(Drop)]
@@ -110,41 +110,50 @@ fn a_text_is_written_whole_or_a_front_of_it(rt: HostRuntime) {
     }
 }
 
-fn said(rt: &HostRuntime, line: &str) -> Result<Line, Fail> {
-    Ok(read_line(rt.alloc(), line.as_bytes())?)
+/// A value in the form in which it is debugged, by which tests compare what holds events.
+fn shown<T: fmt::Debug>(rt: &HostRuntime, value: &T) -> Result<String, Fail> {
+    Ok(format!(in rt.alloc(); "{value:?}")?)
+}
+
+fn said(rt: &HostRuntime, line: &str) -> Result<String, Fail> {
+    shown(rt, &read_line(rt.alloc(), line.as_bytes())?)
 }
 
 #[test]
 fn lines_are_read(rt: HostRuntime) -> Result<(), Fail> {
     for line in ["", "#", "# attach 0 7", "#attach"] {
-        assert_eq!(rt; said(&rt, line)?, Line::Skipped, "{line}");
+        assert_eq!(rt; said(&rt, line)?, shown(&rt, &Line::Skipped)?, "{line}");
     }
-    assert_eq!(rt; said(&rt, "policy")?, Line::Policy);
+    assert_eq!(rt; said(&rt, "policy")?, shown(&rt, &Line::Policy)?);
     let alice = Line::Principal {
         name: Text::new(rt.alloc(), "alice")?,
         number: 7,
     };
-    assert_eq!(rt; said(&rt, "principal alice 7")?, alice);
-    assert_eq!(rt; said(&rt, "principal alice 0007")?, alice);
+    assert_eq!(rt; said(&rt, "principal alice 7")?, shown(&rt, &alice)?);
+    assert_eq!(rt; said(&rt, "principal alice 0007")?, shown(&rt, &alice)?);
     let star = Line::Principal {
         name: Text::new(rt.alloc(), "*#\t")?,
         number: 4_294_967_295,
     };
-    assert_eq!(rt; said(&rt, "principal *#\t 4294967295")?, star);
+    assert_eq!(rt; said(&rt, "principal *#\t 4294967295")?, shown(&rt, &star)?);
     let attach = Line::Does(Event::Attach {
         now: 18_446_744_073_709_551_615,
         principal: 0,
     });
-    assert_eq!(rt; said(&rt, "attach 18446744073709551615 0")?, attach);
+    assert_eq!(rt;
+        said(&rt, "attach 18446744073709551615 0")?,
+        shown(&rt, &attach)?
+    );
     Ok(())
 }
 
-fn command(rt: &HostRuntime, bytes: &[u8]) -> Result<Line, Fail> {
-    Ok(Line::Does(Event::Command {
+fn command(rt: &HostRuntime, bytes: &[u8]) -> Result<String, Fail> {
+    let line = Line::Does(Event::Command {
         now: 10,
         client: 1,
         bytes: Bytes::new(rt.alloc(), bytes)?,
-    }))
+    });
+    shown(rt, &line)
 }
 
 #[test]
@@ -157,7 +166,11 @@ fn hex_is_read(rt: HostRuntime) -> Result<(), Fail> {
         "", "0", "000", "0g", "0A", "_00", "00_", "0_0", "00_0_00", "-00", "--", "00-", "_", "+0",
     ] {
         let line = format!(in rt.alloc(); "cmd 10 1 {word}")?;
-        assert_eq!(rt; said(&rt, line.as_str())?, Line::Bad, "{word}");
+        assert_eq!(rt;
+            said(&rt, line.as_str())?,
+            shown(&rt, &Line::Bad)?,
+            "{word}"
+        );
     }
     Ok(())
 }
@@ -200,15 +213,22 @@ fn other_lines_are_bad(rt: HostRuntime) -> Result<(), Fail> {
         "set mtu 1408",
         "peer 127.0.0.1:50001 1",
     ] {
-        assert_eq!(rt; said(&rt, line)?, Line::Bad, "{line}");
+        assert_eq!(rt; said(&rt, line)?, shown(&rt, &Line::Bad)?, "{line}");
     }
-    assert_eq!(rt; read_line(rt.alloc(), b"# \xc3\xa9")?, Line::Bad);
-    assert_eq!(rt; read_line(rt.alloc(), b"principal \xff 1")?, Line::Bad);
+    let line = read_line(rt.alloc(), b"# \xc3\xa9")?;
+    assert_eq!(rt; shown(&rt, &line)?, shown(&rt, &Line::Bad)?);
+    let line = read_line(rt.alloc(), b"principal \xff 1")?;
+    assert_eq!(rt; shown(&rt, &line)?, shown(&rt, &Line::Bad)?);
     Ok(())
 }
 
-fn statement(line: u64, said: Said) -> Option<Statement> {
-    Some(Statement { line, said })
+fn statement(rt: &HostRuntime, line: u64, said: Said) -> Result<String, Fail> {
+    shown(rt, &Some(Statement { line, said }))
+}
+
+/// The next of the statements.
+fn next(rt: &HostRuntime, statements: &mut Statements<'_>) -> Result<String, Fail> {
+    shown(rt, &statements.next(rt.alloc())?)
 }
 
 #[test]
@@ -220,16 +240,16 @@ fn a_script_is_principals_a_policy_and_steps(rt: HostRuntime) -> Result<(), Fail
         name: Text::new(rt.alloc(), "alice")?,
         number: 7,
     };
-    assert_eq!(rt; statements.next(rt.alloc())?, statement(2, alice));
+    assert_eq!(rt; next(&rt, &mut statements)?, statement(&rt, 2, alice)?);
     let policy = Said::Policy(Text::new(rt.alloc(), "# open\nversion = 1\n\n")?);
-    assert_eq!(rt; statements.next(rt.alloc())?, statement(4, policy));
+    assert_eq!(rt; next(&rt, &mut statements)?, statement(&rt, 4, policy)?);
     let attach = Event::Attach {
         now: 0,
         principal: 7,
     };
     assert_eq!(rt;
-        statements.next(rt.alloc())?,
-        statement(9, Said::Does(attach))
+        next(&rt, &mut statements)?,
+        statement(&rt, 9, Said::Does(attach))?
     );
     let command = Event::Command {
         now: 0,
@@ -237,11 +257,11 @@ fn a_script_is_principals_a_policy_and_steps(rt: HostRuntime) -> Result<(), Fail
         bytes: Bytes::new(rt.alloc(), b"")?,
     };
     assert_eq!(rt;
-        statements.next(rt.alloc())?,
-        statement(11, Said::Does(command))
+        next(&rt, &mut statements)?,
+        statement(&rt, 11, Said::Does(command))?
     );
-    assert_eq!(rt; statements.next(rt.alloc())?, None);
-    assert_eq!(rt; statements.next(rt.alloc())?, None);
+    assert!(rt; statements.next(rt.alloc())?.is_none());
+    assert!(rt; statements.next(rt.alloc())?.is_none());
     Ok(())
 }
 
@@ -253,8 +273,8 @@ fn first_bad(rt: &(impl AllocGlobal + Abort), script: &str) -> Result<Option<u64
         let Some(statement) = statements.next(rt.alloc())? else {
             return Ok(None);
         };
-        if statement.said == Said::Bad {
-            assert_eq!(rt; statements.next(rt.alloc())?, None);
+        if matches!(statement.said, Said::Bad) {
+            assert!(rt; statements.next(rt.alloc())?.is_none());
             return Ok(Some(statement.line));
         }
     }
@@ -283,8 +303,8 @@ fn a_bad_line_ends_the_script(rt: HostRuntime) -> Result<(), Fail> {
         assert_eq!(rt; first_bad(&rt, script)?, line, "{script:?}");
     }
     let mut statements = Statements::new(b"policy\n# \xc3\xa9\n.\n");
-    assert_eq!(rt; statements.next(rt.alloc())?, statement(2, Said::Bad));
-    assert_eq!(rt; statements.next(rt.alloc())?, None);
+    assert_eq!(rt; next(&rt, &mut statements)?, statement(&rt, 2, Said::Bad)?);
+    assert!(rt; statements.next(rt.alloc())?.is_none());
     Ok(())
 }
 
@@ -293,6 +313,8 @@ fn answers_are_written(rt: HostRuntime) -> Result<(), Fail> {
     for (line, text) in [
         (AnswerLine::Attached(1), "attached 1\n"),
         (AnswerLine::Full, "full\n"),
+        (AnswerLine::PolicyInForce(2), "policy 2\n"),
+        (AnswerLine::PolicyFull, "policy refused: full\n"),
         (AnswerLine::Stopped, "stopped\n"),
         (
             AnswerLine::Reply {
