@@ -369,17 +369,19 @@ statement_gives_up names held statement event before after' is gives_up =
     let P : Said → Type 0 = λ said. GivesUp names held (record { line = statement.line; said = said }) before after' in
     subst P (sym is) (gives_up.on names statement.line (Does event) refl)
 
-pub statement_puts : (names : Known) (old new : RunEnd) (statement : Statement) (text : List ℕ) (before after' : Option (List ℕ)) →
-    statement.said ≡ Policy text → Puts names old new text before after' → Goes names old new statement before after'
-statement_puts names old new statement text before after' is puts =
+pub statement_puts : (names : Known) (old new : RunEnd) (statement : Statement) (text found : List ℕ) (before after' : Option (List ℕ)) →
+    found ≡ text → statement.said ≡ Policy text → Puts names old new found before after' → Goes names old new statement before after'
+statement_puts names old new statement text found before after' same is puts =
     let P : Said → Type 0 = λ said. Goes names old new (record { line = statement.line; said = said }) before after' in
-    subst P (sym is) (puts.on statement.line)
+    let Q : List ℕ → Type 0 = λ those. Puts names old new those before after' in
+    subst P (sym is) ((subst Q same puts).on statement.line)
 
-pub statement_gives_up_policy : (names : Known) (held : RunEnd) (statement : Statement) (text : List ℕ) (before after' : Option (List ℕ)) →
-    statement.said ≡ Policy text → GivesUpPolicy names held text before after' → GivesUp names held statement before after'
-statement_gives_up_policy names held statement text before after' is gives_up =
+pub statement_gives_up_policy : (names : Known) (held : RunEnd) (statement : Statement) (text found : List ℕ) (before after' : Option (List ℕ)) →
+    found ≡ text → statement.said ≡ Policy text → GivesUpPolicy names held found before after' → GivesUp names held statement before after'
+statement_gives_up_policy names held statement text found before after' same is gives_up =
     let P : Said → Type 0 = λ said. GivesUp names held (record { line = statement.line; said = said }) before after' in
-    subst P (sym is) (gives_up.on statement.line)
+    let Q : List ℕ → Type 0 = λ those. GivesUpPolicy names held those before after' in
+    subst P (sym is) ((subst Q same gives_up).on statement.line)
 
 pub statement_bad : (names : Known) (held : RunEnd) (statement : Statement) (said : Said) (before after' : Option (List ℕ)) →
     statement.said ≡ said → IsOutOfOrder said → AppendsFront before after' (ended_text (BadLine statement.line)) →

@@ -182,8 +182,21 @@ fn take_event<W: Write>(
     write_answer(alloc, &answer, writer)
 }
 
-/// Writes why the text of a policy is refused, or that there was no memory for it.
+/// The text of a policy's refusal, or that there was no memory for it.
 #[tactic(auto, unfolding(crate::specs::Answers::line_text, crate::specs::Script::answer_text))]
+fn refusal_of(alloc: Global, fault: PolicyFault) -> Result<String, AllocError>
+    ensures { IfOk result (λ text. string_bytes text ≡ told_text (told_of_fault fault)) }
+{
+    match fault {
+        PolicyFault::NoMemory => format!(in alloc; "{}", AnswerLine::NoMemory),
+        fault => {
+            let line = AnswerLine::PolicyRefused(fault);
+            format!(in alloc; "{line}")
+        }
+    }
+}
+
+/// Writes why the text of a policy is refused.
 fn write_refusal<W: Write>(
     alloc: Global,
     fault: PolicyFault,
@@ -193,11 +206,7 @@ fn write_refusal<W: Write>(
     ensures err { OnErr result (AppendsFront (W.contents writer.old) (W.contents writer.new) (told_text (told_of_fault fault))) }
     ensures begun { IfErr result IsBegun }
 {
-    let line = match fault {
-        PolicyFault::NoMemory => AnswerLine::NoMemory,
-        fault => AnswerLine::PolicyRefused(fault),
-    };
-    let text = format!(in alloc; "{line}")?;
+    let text = refusal_of(alloc, fault)?;
     write_whole(writer, text.as_bytes())
 }
 

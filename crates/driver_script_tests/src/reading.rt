@@ -166,7 +166,7 @@ fn other_lines_are_bad(rt: HostRuntime) -> Result<(), Fail> {
 
 /// Takes the next statement, which has to be this one.
 fn expect(
-    rt: &HostRuntime,
+    rt: &(impl AllocGlobal + Abort),
     statements: &mut Statements<'_>,
     line: u64,
     said: Said,

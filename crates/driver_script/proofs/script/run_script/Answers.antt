@@ -15,15 +15,15 @@ returns-in-Refused-clause-front g c =
     (head.Refused c.in-Refused.line) c.new-names.ensures c.new-statements.ensures c.in-Refused.is c.in_ok-take_heads.ensures)
     c.write_bad_line.ensures.err
 
-pub returns-in-Opened-clause-whole : goal.returns-in-Opened-clause-whole
-returns-in-Opened-clause-whole g c =
+pub returns-clause-whole : goal.returns-clause-whole
+returns-clause-whole g c =
     writes_opened c.take_steps.result (statements_of c.args.script.now) c.take_heads.new.names (left c.take_heads.new.statements) c.in-Opened.world _ _
     (head_at c.new-names.result (left c.new-statements.result) (statements_of c.args.script.now) c.take_heads.new.names (left c.take_heads.new.statements) c.in_ok-take_heads.field-0
     (head.Opened c.in-Opened.world) c.new-names.ensures c.new-statements.ensures c.in-Opened.is c.in_ok-take_heads.ensures)
     c.take_steps.ensures.whole
 
-pub returns-in-Opened-clause-front : goal.returns-in-Opened-clause-front
-returns-in-Opened-clause-front g c =
+pub returns-clause-front : goal.returns-clause-front
+returns-clause-front g c =
     begins_opened c.take_steps.result (statements_of c.args.script.now) c.take_heads.new.names (left c.take_heads.new.statements) c.in-Opened.world _ _
     (head_at c.new-names.result (left c.new-statements.result) (statements_of c.args.script.now) c.take_heads.new.names (left c.take_heads.new.statements) c.in_ok-take_heads.field-0
     (head.Opened c.in-Opened.world) c.new-names.ensures c.new-statements.ensures c.in-Opened.is c.in_ok-take_heads.ensures)

@@ -17,11 +17,11 @@ returns-in_err-write_bad_line-in-Principal-clause-err g c =
 pub returns-in_err-take_policy-in-Policy-clause-err : goal.returns-in_err-take_policy-in-Policy-clause-err
 returns-in_err-take_policy-in-Policy-clause-err g c =
     on_err c.from_residual-in_err-take_policy-in-Policy.result
-    (statement_gives_up_policy _ _ c.args.statement _ _ _ c.in-Policy.is c.in_err-take_policy-in-Policy.ensures.err)
+    (statement_gives_up_policy _ _ c.args.statement c.in-Policy.text c.as_str.result.now _ _ c.as_str.ensures c.in-Policy.is c.in_err-take_policy-in-Policy.ensures.err)
 
 pub returns-in-Policy-clause-ok : goal.returns-in-Policy-clause-ok
 returns-in-Policy-clause-ok g c =
-    statement_puts _ _ _ c.args.statement _ _ _ c.in-Policy.is c.in_ok-take_policy-in-Policy.ensures.ok
+    statement_puts _ _ _ c.args.statement c.in-Policy.text c.as_str.result.now _ _ c.as_str.ensures c.in-Policy.is c.in_ok-take_policy-in-Policy.ensures.ok
 
 pub returns-in_err-write_bad_line-in-Bad-clause-err : goal.returns-in_err-write_bad_line-in-Bad-clause-err
 returns-in_err-write_bad_line-in-Bad-clause-err g c =
