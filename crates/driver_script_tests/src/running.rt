@@ -147,7 +147,7 @@ fn refused_policies_are_no_events(rt: HostRuntime) -> Result<(), Fail> {
     for (policy, answer) in [
         ("version = 1\ndefault = \"allow\"\n", "policy 2"),
         ("", "policy refused: bad version"),
-        ("version", "policy refused: not toml"),
+        ("version\n", "policy refused: not toml"),
         (
             "version = 2\ndefault = \"allow\"\n",
             "policy refused: bad version",
