@@ -1,11 +1,18 @@
-//! What holds of any two leases, and of a lease that is out while others come and go.
+//! What holds of the holes of every region, of any two leases, and of a lease that is out while others come and go.
 ghost use Rattle.std.specs.Prelude.{◌≡◌, ◌/◌, ◌%◌, ◌<◌, false, true, IfOk, OnErr};
 ghost use Rattle.log_arena.specs.Lease.{IsOf, IsSame, ShareNoPage, lease_len, lease_place};
-ghost use Rattle.log_arena.specs.Pages.{marked};
+ghost use Rattle.log_arena.specs.Pages.{HolesAreMaximalRuns, HolesAreWholePages, HolesAscend, marked};
 
 use crate::arena::{Arena, NoRoom};
 use crate::lease::Lease;
 use crate::memory::apart;
+
+/// The holes of a region are its maximal runs of pages without a lease, ascending, with a page or more between two.
+pub fn holes_are_the_maximal_runs()
+    ensures runs { HolesAreMaximalRuns }
+    ensures whole { HolesAreWholePages }
+    ensures ascending { HolesAscend }
+{}
 
 /// Two leases that are held share no page, if they are of one arena. Gives both back.
 pub fn share_no_page(first: Lease, second: Lease) -> (Lease, Lease)
