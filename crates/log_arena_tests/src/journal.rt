@@ -1,6 +1,6 @@
 // A struct that holds a lease, writes through it and gives it back. All that its user carries is of which region the
 // lease is.
-ghost use Rattle.std.specs.Prelude.{◌≡◌, ℕ, ◌+◌, ◌/◌, ◌≤◌, ◌==◌, false, true, length, take};
+ghost use Rattle.std.specs.Prelude.{◌≡◌, ◌+◌, ◌/◌, ◌≤◌, ◌++◌, false, true, length, take, drop};
 ghost use Rattle.log_arena.specs.Pages.{marked};
 
 use log_arena::{Arena, Lease};
@@ -27,6 +27,8 @@ impl Journal {
     /// Writes `text` behind what was written. Whether there was room; else nothing is written.
     pub fn append(&mut self, text: &[u8]) -> bool
         ensures written { result ≡ true → self.new.written ≡ self.old.written + length text.now }
+        ensures bytes { result ≡ true → lease_bytes self.new.lease
+            ≡ take self.old.written (lease_bytes self.old.lease) ++ (text.now ++ drop self.new.written (lease_bytes self.old.lease)) }
         ensures same { result ≡ false → self.new ≡ self.old }
         ensures home { lease_home self.new.lease ≡ lease_home self.old.lease }
         ensures span { (lease_place self.new.lease ≡ lease_place self.old.lease)

@@ -1,4 +1,4 @@
-use Rattle.std.proofs.Common.{◌≡◌, ℕ, ◌<◌, List, length, sym, subst, arith}
+use Rattle.std.proofs.Common.{List, sym, subst, arith}
 use Rattle.log_arena.specs.Pages.{Region}
 use Rattle.log_arena.specs.declared.lease.Lease.{Lease}
 use Rattle.log_arena_tests.specs.Leases.{AllOf}
