@@ -3,6 +3,7 @@ pub mod Deeds
 pub mod Lodgings
 pub mod Marks
 pub mod Matches
+pub mod MaximalRuns
 pub mod Places
 pub mod Runs
 pub mod Steps

@@ -20,11 +20,11 @@ abbrev pub Begins : List Span → ℕ → Type 0
 Begins [] p = ⊥
 Begins (h ∷ hs) p = h.0 ≤ p
 
-truth : {X : Type 0} (b : Bool) → b ≡ true → b ≡ false → X
+pub truth : {X : Type 0} (b : Bool) → b ≡ true → b ≡ false → X
 truth b y n = absurd (let e : true ≡ false = sym y ∙ n in cc)
 
 -- behind a hole is a page with a lease, or the end
-after_hole : (low end : ℕ) (hs : List Span) → Spaced (low + 1) end hs → has_lease (table low end hs) 0 ≡ true
+pub after_hole : (low end : ℕ) (hs : List Span) → Spaced (low + 1) end hs → has_lease (table low end hs) 0 ≡ true
 after_hole low end [] s = all_leased (end - low) 0
 after_hole low end (h ∷ hs) s = first_pages true (h.0 - low) 0 (replicate h.1 false ++ table (h.0 + h.1) end hs) (omega (arith, s.0))
 

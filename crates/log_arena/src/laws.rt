@@ -1,11 +1,29 @@
-//! What holds of any two leases, and of a lease that is out while others come and go.
+//! What holds of the holes of every region, of any two leases, and of a lease that is out while others come and go.
 ghost use Rattle.std.specs.Prelude.{◌≡◌, ◌/◌, ◌%◌, ◌<◌, false, true, IfOk, OnErr};
-ghost use Rattle.log_arena.specs.Lease.{IsOf, IsSame, ShareNoPage, lease_len, lease_place};
-ghost use Rattle.log_arena.specs.Pages.{marked};
+ghost use Rattle.log_arena.specs.Lease.{HasItsPages, IsOf, IsSame, ShareNoPage, lease_len, lease_place};
+ghost use Rattle.log_arena.specs.Pages.{HolesAreMaximalRuns, HolesAreWholePages, HolesAscend, marked};
 
 use crate::arena::{Arena, NoRoom};
 use crate::lease::Lease;
 use crate::memory::apart;
+
+/// The holes of a region are its maximal runs of pages without a lease, ascending, with a page or more between two.
+pub fn holes_are_the_maximal_runs()
+    ensures runs { HolesAreMaximalRuns }
+    ensures whole { HolesAreWholePages }
+    ensures ascending { HolesAscend }
+{}
+
+/// The pages of a lease that is held are marked in its arena: no place for another has them, and `used` counts them.
+/// Gives the lease back.
+pub fn held_pages_have_a_lease(arena: &mut Arena, held: Lease) -> Lease
+    requires { IsOf arena.old held }
+    ensures unchanged { arena.new ≡ arena.old }
+    ensures same { IsSame held result }
+    ensures leased { HasItsPages arena.old.leased held }
+{
+    arena.beside(held)
+}
 
 /// Two leases that are held share no page, if they are of one arena. Gives both back.
 pub fn share_no_page(first: Lease, second: Lease) -> (Lease, Lease)
@@ -13,17 +31,15 @@ pub fn share_no_page(first: Lease, second: Lease) -> (Lease, Lease)
     ensures second { IsSame second result.1 }
     ensures apart { ShareNoPage first second }
 {
-    if first.len() == 0 || second.len() == 0 {
-        return (first, second);
-    }
     let (mut first, mut second) = (first, second);
-    let (start, other_start) = (first.start(), second.start());
+    let (pages, start) = (first.pages(), first.start());
+    let (other_pages, other_start) = (second.pages(), second.start());
     let (span, run) = first.into_run();
     let (other_span, other) = second.into_run();
     let (run, other) = apart(run, other);
     (
-        Lease::housed(span.0, start, span.1, run),
-        Lease::housed(other_span.0, other_start, other_span.1, other),
+        Lease::again(pages, span, start, run),
+        Lease::again(other_pages, other_span, other_start, other),
     )
 }
 
