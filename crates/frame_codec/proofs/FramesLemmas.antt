@@ -68,6 +68,13 @@ next_ok before bytes frame e =
           subst (λ (x : Sent). (frame_of bytes ≡ Ok x) × (follows before x.header ≡ true)) same (f_is, b.0)
     ]
 
+-- a later frame, and those behind it
+pub later_step : (n : ℕ) (before : Header) (bytes : List ℕ) (frame : Sent) → 0 < length bytes → next_of before bytes ≡ Ok frame
+    → later_of (suc n) before bytes ≡ (later_of n frame.header (behind frame bytes) >>= λ later. Ok (frame ∷ later))
+unfolding later_of
+later_step n before [] frame h e = absurd (omega arith)
+later_step n before (b ∷ bytes) frame h e = rw e refl
+
 abbrev with_later : ℕ → List ℕ → Sent → Result (List Sent) BadPacket
 with_later n bytes frame = later_of n frame.header (behind frame bytes) >>= λ later. Ok (frame ∷ later)
 
@@ -77,7 +84,7 @@ later_by : (r : Result Sent BadPacket) (n m : ℕ) (bytes : List ℕ)
 later_by (Ok frame) n m bytes same = ap (λ read. read >>= λ later. Ok (frame ∷ later)) (same frame refl)
 later_by (Err fault) n m bytes same = refl
 
-none_later : (n : ℕ) (before : Header) → later_of n before [] ≡ Ok []
+pub none_later : (n : ℕ) (before : Header) → later_of n before [] ≡ Ok []
 unfolding later_of
 none_later zero before = refl
 none_later (suc n) before = refl

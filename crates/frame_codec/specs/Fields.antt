@@ -1,6 +1,6 @@
 -- The fields of a frame, by the place of their first byte in it. Numbers have their lowest byte first
 -- (Aeron Transport Protocol Specification, frame headers).
-use Rattle.std.specs.Prelude.{ℕ, ℤ, ◌%◌, ◌^◌, ◌==◌, nat_lt, if◌then◌else◌, List, length, drop, slice_index, Result, Ok, Err}
+use Rattle.std.specs.Prelude.{ℕ, ℤ, ◌%◌, ◌^◌, ◌<◌, ◌==◌, nat_lt, if◌then◌else◌, List, length, drop, slice_index, Result, Ok, Err}
 use Rattle.std.specs.Int.{w32, cast_signed}
 use Rattle.byteorder.specs.Endian.{little_number}
 use Rattle.frame_codec.specs.declared.fault.BadPacket.{BadPacket}
@@ -39,3 +39,7 @@ stated_length least bytes = natural_at 0 bytes >>= λ stated.
 -- frames begin at multiples of 32
 abbrev pub aligned : ℕ → Result ℕ BadPacket
 aligned offset = if offset % 32 == 0 then Ok offset else Err Unaligned
+
+-- a list of bytes
+abbrev pub IsBytes : List ℕ → Type 0
+IsBytes bytes = (i : ℕ) → slice_index bytes i < 256

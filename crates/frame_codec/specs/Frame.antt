@@ -1,5 +1,5 @@
 -- Data frames, pads and heartbeats (Aeron Transport Protocol Specification, data frame, padding and heartbeats).
-use Rattle.std.specs.Prelude.{ℕ, ◌+◌, ◌*◌, ◌/◌, ◌%◌, ◌==◌, ◌^◌, ◌<◌, ◌≤◌, if◌then◌else◌, List, length, take, Result, Ok, Err}
+use Rattle.std.specs.Prelude.{ℕ, ◌+◌, ◌-◌, ◌*◌, ◌/◌, ◌%◌, ◌==◌, ◌^◌, ◌<◌, ◌≤◌, if◌then◌else◌, List, ◌++◌, length, take, replicate, Result, Ok, Err}
 use Rattle.frame_codec.specs.declared.fault.BadPacket.{BadPacket}
 use Rattle.frame_codec.specs.declared.fault.BadPacket.TheVariants.{BadLength, Mixed}
 use Rattle.frame_codec.specs.declared.frame_type.FrameType.{FrameType}
@@ -10,7 +10,9 @@ use Rattle.frame_codec.specs.declared.frame.Frame.{Frame}
 use Rattle.frame_codec.specs.Steps.{◌>>=◌}
 use Rattle.frame_codec.specs.Fields.{natural_at, stated_length, aligned}
 use Rattle.frame_codec.specs.FrameType.{type_of}
-use Rattle.frame_codec.specs.Header.{header_of}
+use Rattle.frame_codec.specs.Header.{header_of, header_bytes, plain_header}
+use Rattle.frame_codec.specs.declared.header.TermPlace.{TermPlace}
+use Rattle.frame_codec.specs.declared.flags.Flags.{Flags}
 use Rattle.frame_codec.specs.Nak.{nak_of}
 use Rattle.frame_codec.specs.StatusMessage.{status_of}
 use Rattle.frame_codec.specs.Setup.{setup_of}
@@ -72,3 +74,23 @@ frame_as bytes types.Setup = setup_of bytes >>= λ setup. Err Mixed
 
 unfoldable pub frame_of : List ℕ → Result Sent BadPacket
 frame_of bytes = type_of bytes >>= frame_as bytes
+
+-- ---- as they are written here
+
+-- the header of a data frame: its length is that of header and payload. (Of a length of 2 ^ 32 and above the lowest
+-- four bytes are written.)
+abbrev pub data_header : Flags → TermPlace → List ℕ → Header
+data_header flags place payload = plain_header Data ((32 + length payload) % 2 ^ 32) flags place
+
+-- a data frame: header, payload, and zeros up to the next multiple of 32
+unfoldable pub data_bytes : Flags → TermPlace → List ℕ → List ℕ
+data_bytes flags place payload =
+    header_bytes (data_header flags place payload) ++ payload ++ replicate (padded (32 + length payload) - (32 + length payload)) 0
+
+-- a pad: its header alone
+unfoldable pub pad_bytes : Flags → TermPlace → ℕ → List ℕ
+pad_bytes flags place size = header_bytes (plain_header Pad size flags place)
+
+-- a heartbeat
+unfoldable pub beat_bytes : Flags → TermPlace → List ℕ
+beat_bytes flags place = header_bytes (plain_header Data 0 flags place)

@@ -10,3 +10,5 @@ pub mod StatusMessage
 pub mod Setup
 pub mod Frames
 pub mod Datagram
+pub mod Writing
+pub mod Position

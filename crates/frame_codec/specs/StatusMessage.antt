@@ -1,9 +1,10 @@
 -- Status messages: a receiver tells what it has taken, and for how much more it has room
 -- (Aeron Transport Protocol Specification, status message).
-use Rattle.std.specs.Prelude.{ℕ, List, Result, Ok, Err}
+use Rattle.std.specs.Prelude.{ℕ, List, ◌++◌, Result, Ok, Err}
 use Rattle.frame_codec.specs.declared.fault.BadPacket.{BadPacket}
 use Rattle.frame_codec.specs.declared.status_message.StatusMessage.{StatusMessage}
 use Rattle.frame_codec.specs.Steps.{◌>>=◌}
+use Rattle.frame_codec.specs.Writing.{number_bytes, signed_bytes, front_bytes, no_flags}
 use Rattle.frame_codec.specs.Fields.{byte_at, signed_at, long_at, natural_at, stated_length}
 
 -- the fields of a status message of that offset and window
@@ -25,3 +26,14 @@ status_of bytes = do
   offset ← natural_at 20 bytes
   window ← natural_at 24 bytes
   Ok (status_at offset window bytes)
+
+-- a status message as it is written here, of 36 bytes and without flags
+unfoldable pub status_bytes : StatusMessage → List ℕ
+status_bytes status =
+    front_bytes 36 no_flags 3
+    ++ signed_bytes status.session_id
+    ++ signed_bytes status.stream_id
+    ++ signed_bytes status.consumption_term_id
+    ++ number_bytes 4 status.consumption_term_offset
+    ++ number_bytes 4 status.receiver_window
+    ++ number_bytes 8 status.receiver_id

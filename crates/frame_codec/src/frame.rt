@@ -1,14 +1,15 @@
-ghost use Rattle.frame_codec.specs.Frame.{IsWithin, beat_of, data_of, frame_of, pad_length, pad_of, sent};
+ghost use Rattle.frame_codec.specs.Frame.{IsWithin, beat_bytes, beat_of, data_bytes, data_of, frame_of, pad_bytes, pad_length, pad_of, padded, sent};
 ghost use Rattle.frame_codec.specs.Steps.{Equals};
-ghost use Rattle.std.specs.Prelude.{◌≡◌, ◌≤◌, length, drop, IfOk};
+ghost use Rattle.std.specs.Prelude.{◌≡◌, ◌+◌, ◌≤◌, ◌++◌, length, drop, IfOk};
 
 use crate::fault::BadPacket;
-use crate::fields;
+use crate::flags::Flags;
 use crate::frame_type::FrameType;
-use crate::header::{Header, Kind};
+use crate::header::{Header, Kind, TermPlace};
 use crate::nak::Nak;
 use crate::setup::Setup;
 use crate::status_message::StatusMessage;
+use crate::{fields, writing};
 
 /// A data frame or a pad, as it stands in a datagram.
 #[derive(Clone, Copy, Debug)]
@@ -107,4 +108,56 @@ pub(crate) fn read_beat(bytes: &[u8]) -> Result<Header, BadPacket>
     let term_offset = fields::natural(bytes, 8)?;
     let term_offset = fields::aligned(term_offset)?;
     Ok(Header::read(Kind::Data, 0, term_offset, bytes))
+}
+
+/// Writes a data frame at the front: header, payload, and zeros up to the next multiple of 32. What stands behind them
+/// stays. The frame is read again as it was written if it is shorter than 2^31 bytes. (Of a longer one's length the
+/// lowest four bytes are written.)
+pub fn write_data(out: &mut [u8], flags: Flags, place: &TermPlace, payload: &[u8])
+    requires { padded (32 + length payload.now) ≤ length out.old }
+    ensures { out.new ≡ data_bytes flags place.now payload.now ++ drop (padded (32 + length payload.now)) out.old }
+{
+    let size = Header::SIZE + payload.len();
+    let end = writing::padded(size);
+    let header = Header {
+        kind: Kind::Data,
+        length: (size % (1 << 32)) as u32,
+        flags,
+        place: *place,
+        reserved_value: 0,
+    };
+    header.put(out);
+    writing::put_bytes(out, Header::SIZE, payload);
+    writing::put_zeros(out, size, end - size);
+}
+
+/// Writes a pad at the front: the header alone, of a pad that covers `size` bytes of its term. What stands behind it
+/// stays.
+pub fn write_pad(out: &mut [u8], flags: Flags, place: &TermPlace, size: u32)
+    requires { 32 ≤ length out.old }
+    ensures { out.new ≡ pad_bytes flags place.now size ++ drop 32 out.old }
+{
+    let header = Header {
+        kind: Kind::Pad,
+        length: size,
+        flags,
+        place: *place,
+        reserved_value: 0,
+    };
+    header.put(out);
+}
+
+/// Writes a heartbeat at the front: a header without data, at the sender's position. What stands behind it stays.
+pub fn write_beat(out: &mut [u8], flags: Flags, place: &TermPlace)
+    requires { 32 ≤ length out.old }
+    ensures { out.new ≡ beat_bytes flags place.now ++ drop 32 out.old }
+{
+    let header = Header {
+        kind: Kind::Data,
+        length: 0,
+        flags,
+        place: *place,
+        reserved_value: 0,
+    };
+    header.put(out);
 }

@@ -1,8 +1,9 @@
-ghost use Rattle.frame_codec.specs.Header.{header_of};
+ghost use Rattle.frame_codec.specs.Header.{header_bytes, header_of, kind_number};
+ghost use Rattle.frame_codec.specs.Writing.{Starts};
 ghost use Rattle.std.specs.Prelude.{◌≡◌, ◌≤◌, length};
 
-use crate::fields;
 use crate::flags::Flags;
+use crate::{fields, writing};
 
 /// What takes a place in a term.
 #[derive(Clone, Copy, Debug, PartialEq, Eq)]
@@ -11,6 +12,18 @@ pub enum Kind {
     Data,
     /// Nothing, up to the end of the term.
     Pad,
+}
+
+impl Kind {
+    /// The number of the kind's type.
+    fn number(self) -> u16
+        ensures { result ≡ kind_number self }
+    {
+        match self {
+            Kind::Pad => 0,
+            Kind::Data => 1,
+        }
+    }
 }
 
 /// Where a frame stands: in which stream of which session, in which term, and where in the term.
@@ -59,5 +72,18 @@ impl Header {
             },
             reserved_value: fields::long(bytes, 24),
         }
+    }
+
+    /// Writes the header at the front.
+    pub(crate) fn put(&self, out: &mut [u8])
+        requires { 32 ≤ length out.old }
+        ensures { Starts out.old out.new 32 (header_bytes self.now) }
+    {
+        writing::put_front(out, self.length, self.flags, self.kind.number());
+        writing::put_u32(out, 8, self.place.term_offset);
+        writing::put_i32(out, 12, self.place.session_id);
+        writing::put_i32(out, 16, self.place.stream_id);
+        writing::put_i32(out, 20, self.place.term_id);
+        writing::put_u64(out, 24, self.reserved_value);
     }
 }

@@ -1,7 +1,8 @@
 //! The frames that drivers exchange in datagrams, after the Aeron Transport Protocol Specification.
 //!
 //! `Datagram::read` reads a datagram as what the definition `packet_of` says of its bytes, or names its first fault.
-//! Frames of data are lent, not copied. Nothing here takes memory.
+//! Frames of data are lent, not copied. The `write` functions lay frames out as the definitions of their bytes say, in
+//! the form that drivers here write: reserved values 0, no flags but those of data. Nothing here takes memory.
 #![tactic(auto)]
 
 mod datagram;
@@ -13,15 +14,18 @@ mod frame_type;
 mod frames;
 mod header;
 mod nak;
+mod positions;
 mod setup;
 mod status_message;
+mod writing;
 
 pub use datagram::{Datagram, Packet};
 pub use fault::BadPacket;
 pub use flags::Flags;
-pub use frame::Frame;
+pub use frame::{Frame, write_beat, write_data, write_pad};
 pub use frames::{Frames, padded_length};
 pub use header::{Header, Kind, TermPlace};
-pub use nak::Nak;
-pub use setup::Setup;
-pub use status_message::StatusMessage;
+pub use nak::{Nak, write_nak};
+pub use positions::{position, term_of};
+pub use setup::{Setup, write_setup};
+pub use status_message::{StatusMessage, write_sm};

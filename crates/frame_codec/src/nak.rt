@@ -1,9 +1,9 @@
-ghost use Rattle.frame_codec.specs.Nak.{nak_of};
-ghost use Rattle.std.specs.Prelude.{◌≡◌, ◌≤◌, length};
+ghost use Rattle.frame_codec.specs.Nak.{nak_bytes, nak_of};
+ghost use Rattle.std.specs.Prelude.{◌≡◌, ◌≤◌, ◌++◌, length, drop};
 
 use crate::fault::BadPacket;
-use crate::fields;
 use crate::flags::Flags;
+use crate::{fields, writing};
 
 /// A receiver asks for bytes of a term again (NAK).
 #[derive(Clone, Copy, Debug, PartialEq, Eq)]
@@ -41,4 +41,17 @@ impl Nak {
             length: fields::signed(bytes, 24),
         })
     }
+}
+
+/// Writes a NAK at the front, without flags. What stands behind it stays.
+pub fn write_nak(out: &mut [u8], nak: &Nak)
+    requires { 28 ≤ length out.old }
+    ensures { out.new ≡ nak_bytes nak.now ++ drop 28 out.old }
+{
+    writing::put_front(out, 28, Flags::NONE, 2);
+    writing::put_i32(out, 8, nak.session_id);
+    writing::put_i32(out, 12, nak.stream_id);
+    writing::put_i32(out, 16, nak.term_id);
+    writing::put_u32(out, 20, nak.term_offset);
+    writing::put_i32(out, 24, nak.length);
 }

@@ -1,9 +1,9 @@
-ghost use Rattle.frame_codec.specs.Setup.{setup_of};
-ghost use Rattle.std.specs.Prelude.{◌≡◌, ◌≤◌, length};
+ghost use Rattle.frame_codec.specs.Setup.{setup_bytes, setup_of};
+ghost use Rattle.std.specs.Prelude.{◌≡◌, ◌≤◌, ◌++◌, length, drop};
 
 use crate::fault::BadPacket;
-use crate::fields;
 use crate::flags::Flags;
+use crate::{fields, writing};
 
 /// A sender tells of its stream and where it stands (SETUP).
 #[derive(Clone, Copy, Debug, PartialEq, Eq)]
@@ -48,4 +48,20 @@ impl Setup {
             ttl: fields::signed(bytes, 36),
         })
     }
+}
+
+/// Writes a SETUP at the front, without flags and with TTL 0. What stands behind it stays.
+pub fn write_setup(out: &mut [u8], setup: &Setup)
+    requires { 40 ≤ length out.old }
+    ensures { out.new ≡ setup_bytes setup.now ++ drop 40 out.old }
+{
+    writing::put_front(out, 40, Flags::NONE, 5);
+    writing::put_u32(out, 8, setup.term_offset);
+    writing::put_i32(out, 12, setup.session_id);
+    writing::put_i32(out, 16, setup.stream_id);
+    writing::put_i32(out, 20, setup.initial_term_id);
+    writing::put_i32(out, 24, setup.active_term_id);
+    writing::put_i32(out, 28, setup.term_length);
+    writing::put_i32(out, 32, setup.mtu);
+    writing::put_i32(out, 36, 0);
 }

@@ -1,9 +1,9 @@
-ghost use Rattle.frame_codec.specs.StatusMessage.{status_of};
-ghost use Rattle.std.specs.Prelude.{◌≡◌, ◌≤◌, length};
+ghost use Rattle.frame_codec.specs.StatusMessage.{status_bytes, status_of};
+ghost use Rattle.std.specs.Prelude.{◌≡◌, ◌≤◌, ◌++◌, length, drop};
 
 use crate::fault::BadPacket;
-use crate::fields;
 use crate::flags::Flags;
+use crate::{fields, writing};
 
 /// A receiver tells what it has taken, and for how much more it has room (SM).
 #[derive(Clone, Copy, Debug, PartialEq, Eq)]
@@ -44,4 +44,18 @@ impl StatusMessage {
             receiver_id: fields::long(bytes, 28),
         })
     }
+}
+
+/// Writes a status message at the front, without flags. What stands behind it stays.
+pub fn write_sm(out: &mut [u8], message: &StatusMessage)
+    requires { 36 ≤ length out.old }
+    ensures { out.new ≡ status_bytes message.now ++ drop 36 out.old }
+{
+    writing::put_front(out, 36, Flags::NONE, 3);
+    writing::put_i32(out, 8, message.session_id);
+    writing::put_i32(out, 12, message.stream_id);
+    writing::put_i32(out, 16, message.consumption_term_id);
+    writing::put_u32(out, 20, message.consumption_term_offset);
+    writing::put_u32(out, 24, message.receiver_window);
+    writing::put_u64(out, 28, message.receiver_id);
 }
