@@ -3,3 +3,8 @@ pub mod Readers
 pub mod FramesLemmas
 pub mod WritingLemmas
 pub mod PositionLemmas
+pub mod RoundTrips
+pub mod FramesAgain
+pub mod Numbers
+pub mod WriteBack
+pub mod FramesBack

@@ -117,7 +117,7 @@ pad_fits bytes frame long e =
     ]
 
 -- a frame of another type is none
-refused : {A : Type 0} (r : Result A BadPacket) (fault : BadPacket) (frame : Sent) → (r >>= λ x. Err fault) ≡ Ok frame → ⊥
+pub refused : {A : Type 0} (r : Result A BadPacket) (fault : BadPacket) (frame : Sent) → (r >>= λ x. Err fault) ≡ Ok frame → ⊥
 refused r fault frame e = elim (bind_ok r (λ x. Err fault) frame e) [ step x is after ↦ absurd cc ]
 
 frame_as_fits : (bytes : List ℕ) (t : FrameType) (frame : Sent) → type_size t ≤ length bytes → frame_as bytes t ≡ Ok frame → Fits bytes frame

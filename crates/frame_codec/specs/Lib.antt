@@ -12,3 +12,4 @@ pub mod Frames
 pub mod Datagram
 pub mod Writing
 pub mod Position
+pub mod Written

@@ -13,6 +13,7 @@ mod frame;
 mod frame_type;
 mod frames;
 mod header;
+mod laws;
 mod nak;
 mod positions;
 mod setup;
@@ -25,6 +26,11 @@ pub use flags::Flags;
 pub use frame::{Frame, write_beat, write_data, write_pad};
 pub use frames::{Frames, padded_length};
 pub use header::{Header, Kind, TermPlace};
+pub use laws::{
+    frames_read_back, frames_write_back, heartbeats_read_back, naks_read_back, naks_write_back,
+    places_are_told_by_positions, positions_are_told_by_places, setups_read_back,
+    setups_write_back, status_messages_read_back, status_messages_write_back,
+};
 pub use nak::{Nak, write_nak};
 pub use positions::{position, term_of};
 pub use setup::{Setup, write_setup};
