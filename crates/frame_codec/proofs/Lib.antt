@@ -1,0 +1,10 @@
+pub mod Chains
+pub mod Readers
+pub mod FramesLemmas
+pub mod WritingLemmas
+pub mod PositionLemmas
+pub mod RoundTrips
+pub mod FramesAgain
+pub mod Numbers
+pub mod WriteBack
+pub mod FramesBack

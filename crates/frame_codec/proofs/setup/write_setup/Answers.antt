@@ -1,0 +1,18 @@
+-- The fields, one behind the other.
+use Rattle.std.proofs.Common.{◌≡◌, refl, ◌∙◌, rules}
+use Rattle.frame_codec.specs.Setup.{setup_bytes}
+use Rattle.frame_codec.proofs.WritingLemmas.{put_more, length-number_bytes, length-signed_bytes}
+use Rattle.frame_codec.proofs.setup.write_setup.Goals as goal
+
+pub returns : goal.returns
+unfolding setup_bytes
+returns c =
+    let s1 = put_more c.put_front.ensures c.put_u32.ensures (length-number_bytes 4 _) in
+    let s2 = put_more s1 c.put_i32.ensures (length-signed_bytes _) in
+    let s3 = put_more s2 c.put_i32-2.ensures (length-signed_bytes _) in
+    let s4 = put_more s3 c.put_i32-3.ensures (length-signed_bytes _) in
+    let s5 = put_more s4 c.put_i32-4.ensures (length-signed_bytes _) in
+    let s6 = put_more s5 c.put_i32-5.ensures (length-signed_bytes _) in
+    let s7 = put_more s6 c.put_i32-6.ensures (length-signed_bytes _) in
+    let s8 = put_more s7 c.put_i32-7.ensures (length-signed_bytes _) in
+    s8.is ∙ search rules

@@ -1,0 +1,15 @@
+pub mod Steps
+pub mod Fault
+pub mod Flags
+pub mod Fields
+pub mod FrameType
+pub mod Header
+pub mod Frame
+pub mod Nak
+pub mod StatusMessage
+pub mod Setup
+pub mod Frames
+pub mod Datagram
+pub mod Writing
+pub mod Position
+pub mod Written

@@ -1,0 +1,5 @@
+//! Tests of `frame_codec`.
+#![tactic(auto)]
+
+#[cfg(test)]
+mod tests;
