@@ -1,5 +1,5 @@
 -- Which subscriptions go.
-use Rattle.std.proofs.Common.{◌≡◌, ℕ, ◌==◌, Bool, true, false, List, [], inl, inr, refl, sym, ap, ◌∙◌, ◌⊎◌, ⊎_elim}
+use Rattle.std.proofs.Common.{◌≡◌, ℕ, ◌==◌, true, false, List, [], inl, inr, refl, ap, ◌∙◌, ◌⊎◌, ⊎_elim}
 use Rattle.std.specs.List.{Contains}
 use Rattle.std.proofs.lemmas.Bool.{eqb-true, eq-eqb, and_parts, cases_Bool, not_from_false}
 use Rattle.std.proofs.lemmas.List.Elements.{Contains-append_left}
@@ -19,7 +19,7 @@ use Rattle.driver_core.specs.Laws.{SubscriptionRequest}
 use Rattle.driver_core.specs.Reloading.{in_force, reloaded}
 use Rattle.driver_core.specs.RemovalLaws.{RemovalRequest, AsksToRemove, IsRemoved, IsUnknown, IsRemovedExactly, IsRemovedBy}
 use Rattle.driver_core.specs.State.{State, at_moment}
-use Rattle.driver_core.specs.Subscribing.{subscribe, subscribed}
+use Rattle.driver_core.specs.Subscribing.{subscribed}
 use Rattle.driver_core.specs.Unsubscribing.{is_own, stays, has_subscription, remove_subscription, unsubscribed}
 use Rattle.policy_core.specs.declared.decision.Decision.{Decision}
 use Rattle.policy_core.specs.RuleList.{Rules}

@@ -14,7 +14,6 @@ use Rattle.driver_core.specs.declared.outcome.Response.TheVariants as response
 use Rattle.driver_core.specs.declared.peer.Peer.{Peer}
 use Rattle.driver_core.specs.declared.refusal.Refusal.{Refusal}
 use Rattle.driver_core.specs.declared.refusal.Refusal.TheVariants.{Denied, Full}
-use Rattle.driver_core.specs.declared.replies.Message.{Message}
 use Rattle.driver_core.specs.declared.replies.Reply.{Reply}
 use Rattle.driver_core.specs.declared.replies.Reply.TheVariants.{Error, OperationSuccess, SubscriptionReady}
 use Rattle.driver_core.specs.declared.rows.Client.{Client}

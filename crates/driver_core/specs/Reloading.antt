@@ -1,5 +1,5 @@
 -- A policy is put in force.
-use Rattle.std.specs.Prelude.{ℕ, ◌+◌, Bool, ◌&&◌, nat_le, nat_lt, length, [], None, if◌then◌else◌}
+use Rattle.std.specs.Prelude.{◌+◌, Bool, ◌&&◌, nat_le, nat_lt, length, [], None, if◌then◌else◌}
 use Rattle.driver_core.specs.declared.change.Change.{Change}
 use Rattle.driver_core.specs.declared.outcome.Response.TheVariants.{PolicyInForce, PolicyFull}
 use Rattle.driver_core.specs.Change.{answered}

@@ -164,129 +164,151 @@ fn first_denial(rt: HostRuntime) -> Result<(), Fail> {
     Ok(())
 }
 
+/// Takes one step, and tells whether it is answered so.
+fn is_answered(alloc: Global, world: &mut World, step: &Step, answer: &Answer) -> bool {
+    world.step(alloc, step) == *answer
+}
+
+/// Whether ADD_SUBSCRIPTION of client 1 gets that reply.
+fn subscribes(alloc: Global, world: &mut World, bytes: &[u8], reply: Reply) -> Result<bool, Fail> {
+    let step = Step::Conductor(command(alloc, 0, bytes)?);
+    let answer = told(alloc, reply)?;
+    Ok(is_answered(alloc, world, &step, &answer))
+}
+
+/// Whether REMOVE_SUBSCRIPTION gets that reply.
+fn removes(
+    alloc: Global,
+    world: &mut World,
+    client: u64,
+    correlation: u64,
+    registration: u64,
+    reply: Reply,
+) -> Result<bool, Fail> {
+    let step = remove(alloc, client, correlation, registration)?;
+    let answer = told_to(alloc, client, reply)?;
+    Ok(is_answered(alloc, world, &step, &answer))
+}
+
+/// Whether a policy without rules is put in force under that number.
+fn reloads(alloc: Global, world: &mut World, default: bool, epoch: u64) -> bool {
+    let step = reload(alloc, default);
+    let answer = in_force(alloc, epoch);
+    is_answered(alloc, world, &step, &answer)
+}
+
+fn ready(correlation: u64, registration: u64) -> Reply {
+    Reply::SubscriptionReady {
+        correlation,
+        registration,
+    }
+}
+
+fn done(correlation: u64) -> Reply {
+    Reply::OperationSuccess { correlation }
+}
+
+fn unknown(correlation: u64) -> Reply {
+    Reply::Error {
+        correlation,
+        refusal: Refusal::UnknownSubscription,
+    }
+}
+
 #[test]
 fn reload_then_remove(rt: HostRuntime) -> Result<(), Fail> {
-    let mut world = world(rt.alloc(), policy(rt.alloc(), false))?;
-    let mut subscribe = SUBSCRIBE;
-    subscribe[12] = 12;
-    let steps = vec![in rt.alloc();
-        Step::Conductor(attach(0)),
-        Step::Conductor(command(rt.alloc(), 0, &SUBSCRIBE)?),
-        reload(rt.alloc(), true),
-        Step::Conductor(command(rt.alloc(), 0, &subscribe)?),
-        remove(rt.alloc(), 1, 13, 1)?,
-        remove(rt.alloc(), 1, 14, 1)?,
-    ]?;
-    let ready = Reply::SubscriptionReady {
-        correlation: 12,
-        registration: 1,
-    };
-    let done = Reply::OperationSuccess { correlation: 13 };
-    let unknown = Reply::Error {
-        correlation: 14,
-        refusal: Refusal::UnknownSubscription,
-    };
-    let answers = vec![in rt.alloc();
-        Answer::Attached(1),
-        told(rt.alloc(), denied_by_default(11, 1))?,
-        in_force(rt.alloc(), 2),
-        told(rt.alloc(), ready)?,
-        told(rt.alloc(), done)?,
-        told(rt.alloc(), unknown)?,
-    ]?;
-    assert!(rt; world.run(rt.alloc(), &steps)? == Items::from(answers));
+    let alloc = rt.alloc();
+    let mut world = world(alloc, policy(alloc, false))?;
+    world.step(alloc, &Step::Conductor(attach(0)));
+    let denial = denied_by_default(11, 1);
+    assert!(rt; subscribes(alloc, &mut world, &SUBSCRIBE, denial)?);
+    assert!(rt; reloads(alloc, &mut world, true, 2));
+    let mut again = SUBSCRIBE;
+    again[12] = 12;
+    assert!(rt; subscribes(alloc, &mut world, &again, ready(12, 1))?);
+    assert!(rt; removes(alloc, &mut world, 1, 13, 1, done(13))?);
+    assert!(rt; removes(alloc, &mut world, 1, 14, 1, unknown(14))?);
+    Ok(())
+}
 
+#[test]
+fn replies_of_reload_then_remove(rt: HostRuntime) -> Result<(), Fail> {
     let mut bytes = READY;
     bytes[4] = 12;
-    assert_eq!(rt; ready.bytes(rt.alloc())?.as_slice(), bytes.as_slice());
+    assert_eq!(rt;
+        ready(12, 1).bytes(rt.alloc())?.as_slice(),
+        bytes.as_slice()
+    );
     let bytes = [0x04, 0x0f, 0, 0, 0x0d, 0, 0, 0, 0, 0, 0, 0];
-    assert_eq!(rt; done.bytes(rt.alloc())?.as_slice(), bytes.as_slice());
-    assert_eq!(rt; unknown.bytes(rt.alloc())?.as_slice(), UNKNOWN.as_slice());
+    assert_eq!(rt; done(13).bytes(rt.alloc())?.as_slice(), bytes.as_slice());
+    assert_eq!(rt;
+        unknown(14).bytes(rt.alloc())?.as_slice(),
+        UNKNOWN.as_slice()
+    );
     Ok(())
 }
 
 #[test]
 fn the_newest_policy_decides(rt: HostRuntime) -> Result<(), Fail> {
-    let mut world = world(rt.alloc(), policy(rt.alloc(), false))?;
-    world.step(rt.alloc(), &Step::Conductor(attach(0)));
-    let ask = Step::Conductor(command(rt.alloc(), 0, &SUBSCRIBE)?);
-    let ready = Reply::SubscriptionReady {
-        correlation: 11,
-        registration: 1,
-    };
-    for (default, epoch) in [(false, 2), (true, 3), (false, 4), (false, 5)] {
-        let answer = world.step(rt.alloc(), &reload(rt.alloc(), default));
-        assert!(rt; answer == in_force(rt.alloc(), epoch), "at {epoch}");
-        let reply = if default {
-            ready
-        } else {
-            denied_by_default(11, epoch)
-        };
-        let answer = world.step(rt.alloc(), &ask);
-        assert!(rt; answer == told(rt.alloc(), reply)?, "at {epoch}");
-    }
+    let alloc = rt.alloc();
+    let mut world = world(alloc, policy(alloc, true))?;
+    world.step(alloc, &Step::Conductor(attach(0)));
+    assert!(rt; reloads(alloc, &mut world, false, 2));
+    assert!(rt; reloads(alloc, &mut world, false, 3));
+    let denial = denied_by_default(11, 3);
+    assert!(rt; subscribes(alloc, &mut world, &SUBSCRIBE, denial)?);
+    assert!(rt; reloads(alloc, &mut world, true, 4));
+    assert!(rt; subscribes(alloc, &mut world, &SUBSCRIBE, ready(11, 1))?);
     Ok(())
 }
 
 #[test]
 fn a_reload_closes_no_subscription(rt: HostRuntime) -> Result<(), Fail> {
+    let alloc = rt.alloc();
+    let mut world = world(alloc, policy(alloc, true))?;
+    world.step(alloc, &Step::Conductor(attach(0)));
+    assert!(rt; subscribes(alloc, &mut world, &SUBSCRIBE, ready(11, 1))?);
+    assert!(rt; reloads(alloc, &mut world, false, 2));
+    assert!(rt; removes(alloc, &mut world, 1, 12, 1, done(12))?);
+    Ok(())
+}
+
+#[test]
+fn a_reload_tells_its_number(rt: HostRuntime) -> Result<(), Fail> {
     let inputs = Inputs::none(rt.alloc());
     let mut registry = registry(rt.alloc(), policy(rt.alloc(), true))?;
-    registry.step(rt.alloc(), &attach(0), &inputs)?;
-    registry.step(rt.alloc(), &command(rt.alloc(), 0, &SUBSCRIBE)?, &inputs)?;
     let event = Event::Reload {
         now: 3,
         policy: policy(rt.alloc(), false),
     };
     let outcome = registry.step(rt.alloc(), &event, &inputs)?;
     assert_eq!(rt; outcome.response, Response::PolicyInForce(2));
-    assert!(rt; outcome.replies.is_empty());
-    assert!(rt; outcome.decisions.is_empty());
-    assert!(rt; outcome.opens.is_none());
-    assert!(rt; outcome.closes.is_empty());
     assert!(rt; outcome.gone.is_empty());
     assert!(rt; outcome.come.is_empty());
-
-    let Step::Conductor(event) = remove(rt.alloc(), 1, 12, 1)?;
-    let outcome = registry.step(rt.alloc(), &event, &inputs)?;
-    let done = Message {
-        client: 1,
-        reply: Reply::OperationSuccess { correlation: 12 },
-    };
-    assert_eq!(rt; outcome.replies.as_slice(), [done].as_slice());
-    assert!(rt; outcome.decisions.is_empty());
     Ok(())
 }
 
 #[test]
 fn the_subscription_of_another_client_is_unknown(rt: HostRuntime) -> Result<(), Fail> {
-    let mut world = world(rt.alloc(), policy(rt.alloc(), true))?;
-    world.step(rt.alloc(), &Step::Conductor(attach(0)));
-    world.step(rt.alloc(), &Step::Conductor(attach(0)));
-    let ask = Step::Conductor(command(rt.alloc(), 0, &SUBSCRIBE)?);
-    world.step(rt.alloc(), &ask);
-    world.step(rt.alloc(), &ask);
+    let alloc = rt.alloc();
+    let mut world = world(alloc, policy(alloc, true))?;
+    world.step(alloc, &Step::Conductor(attach(0)));
+    world.step(alloc, &Step::Conductor(attach(0)));
+    assert!(rt; subscribes(alloc, &mut world, &SUBSCRIBE, ready(11, 1))?);
+    assert!(rt; removes(alloc, &mut world, 2, 21, 1, unknown(21))?);
+    assert!(rt; removes(alloc, &mut world, 1, 22, 2, unknown(22))?);
+    assert!(rt; removes(alloc, &mut world, 1, 23, 1, done(23))?);
+    Ok(())
+}
 
-    let unknown = |correlation| Reply::Error {
-        correlation,
-        refusal: Refusal::UnknownSubscription,
-    };
-    let done = |correlation| Reply::OperationSuccess { correlation };
-    for (client, correlation, registration, reply) in [
-        (2, 21, 1, unknown(21)),
-        (1, 22, 0, unknown(22)),
-        (1, 23, 3, unknown(23)),
-        (1, 24, 1, done(24)),
-        (1, 25, 1, unknown(25)),
-        (1, 26, 2, done(26)),
-    ] {
-        let step = remove(rt.alloc(), client, correlation, registration)?;
-        let answer = world.step(rt.alloc(), &step);
-        assert!(rt;
-            answer == told_to(rt.alloc(), client, reply)?,
-            "at {correlation}"
-        );
-    }
+#[test]
+fn numbers_are_not_given_again(rt: HostRuntime) -> Result<(), Fail> {
+    let alloc = rt.alloc();
+    let mut world = world(alloc, policy(alloc, true))?;
+    world.step(alloc, &Step::Conductor(attach(0)));
+    assert!(rt; subscribes(alloc, &mut world, &SUBSCRIBE, ready(11, 1))?);
+    assert!(rt; removes(alloc, &mut world, 1, 12, 1, done(12))?);
+    assert!(rt; subscribes(alloc, &mut world, &SUBSCRIBE, ready(11, 2))?);
     Ok(())
 }
 
@@ -394,12 +416,11 @@ fn a_spy_is_asked_for_as_a_spy(rt: HostRuntime) -> Result<(), Fail> {
     };
     let mut registry = registry(rt.alloc(), Policy::new(vec![in rt.alloc(); spies]?, false))?;
     registry.step(rt.alloc(), &attach(0), &Inputs::none(rt.alloc()))?;
-    for (channel, act, allow, rule, registration) in [
+    for (channel, act, allow, rule) in [
         (
             "aeron:udp?endpoint=127.0.0.1:40123",
             Act::Subscribe,
             false,
-            None,
             None,
         ),
         (
@@ -407,14 +428,12 @@ fn a_spy_is_asked_for_as_a_spy(rt: HostRuntime) -> Result<(), Fail> {
             Act::Spy,
             true,
             Some(1),
-            Some(1),
         ),
         (
             "aeron-spy:aeron:udp?control-mode=manual",
             Act::Spy,
             true,
             Some(1),
-            Some(2),
         ),
     ] {
         let event = subscribe(rt.alloc(), channel)?;
@@ -432,17 +451,6 @@ fn a_spy_is_asked_for_as_a_spy(rt: HostRuntime) -> Result<(), Fail> {
                 epoch: 1
             },
             "at {channel}"
-        );
-        let reply = match registration {
-            Some(registration) => Reply::SubscriptionReady {
-                correlation: 11,
-                registration,
-            },
-            None => denied_by_default(11, 1),
-        };
-        assert_eq!(rt;
-            outcome.replies.as_slice(),
-            [Message { client: 1, reply }].as_slice()
         );
     }
     Ok(())
@@ -467,16 +475,6 @@ fn there_are_64_clients_and_512_subscriptions(rt: HostRuntime) -> Result<(), Fai
         assert!(rt; answer == told(rt.alloc(), ready)?, "at {registration}");
     }
     assert!(rt; world.step(rt.alloc(), &step) == refused(rt.alloc(), 11, Refusal::Full)?);
-
-    // One goes, and the next gets a number that none had before.
-    let done = Reply::OperationSuccess { correlation: 12 };
-    let answer = world.step(rt.alloc(), &remove(rt.alloc(), 1, 12, 7)?);
-    assert!(rt; answer == told(rt.alloc(), done)?);
-    let ready = Reply::SubscriptionReady {
-        correlation: 11,
-        registration: 513,
-    };
-    assert!(rt; world.step(rt.alloc(), &step) == told(rt.alloc(), ready)?);
     assert_eq!(rt; Refusal::Full.code().number(), 1003);
     Ok(())
 }
@@ -492,14 +490,5 @@ fn ample_memory(rt: HostRuntime) -> Result<(), Fail> {
     assert!(rt; copy.step(rt.alloc(), &event, &inputs)? == outcome);
     assert_eq!(rt; outcome.response, Response::Nothing);
     assert_eq!(rt; outcome.replies.len(), 1);
-
-    let event = Event::Reload {
-        now: 0,
-        policy: policy(rt.alloc(), false),
-    };
-    let mut copy = registry.copy(rt.alloc())?;
-    let outcome = registry.step(rt.alloc(), &event, &inputs)?;
-    assert!(rt; copy.step(rt.alloc(), &event, &inputs)? == outcome);
-    assert_eq!(rt; outcome.response, Response::PolicyInForce(2));
     Ok(())
 }
