@@ -199,7 +199,7 @@ fn decide_task<'a>(of: &ArgMatches<'a>) -> Option<Task<'a>> {
 }
 
 /// What the words ask for, once they were found to be of the form.
-pub fn task<'a>(matches: &ArgMatches<'a>) -> Option<Task<'a>> {
+pub fn task_in<'a>(matches: &ArgMatches<'a>) -> Option<Task<'a>> {
     let (name, of) = matches.subcommand()?;
     if name == "check" {
         let policy = of.get_str("POLICY")?;

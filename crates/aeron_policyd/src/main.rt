@@ -7,7 +7,7 @@
 mod command_line;
 mod fault;
 
-use crate::command_line::{Task, command, task};
+use crate::command_line::{Task, command, task_in};
 use crate::fault::Fault;
 use clap::error::ErrorKind;
 use driver_script::deciding::decide;
@@ -114,7 +114,7 @@ fn serve<R: Env + Files + Print + Eprint + AllocGlobal>(rt: &R) -> Result<ExitCo
         Ok(matches) => matches,
         Err(error) => return explain(rt, &error),
     };
-    match task(&matches) {
+    match task_in(&matches) {
         Some(task) => perform(rt, task),
         None => Ok(ExitCode::from(USAGE)),
     }

@@ -1,11 +1,11 @@
-use crate::command_line::{Task, command, task};
+use crate::command_line::{Task, command, task_in};
 use std::alloc::Global;
 use std::test::Fail;
 
 /// What the words ask for, or the status of the command line's fault; 0 where help is asked for.
 fn asked<'a>(alloc: Global, words: &'a [&'a str]) -> Result<Result<Option<Task<'a>>, u8>, Fail> {
     match command(alloc)?.try_get_matches_from(words) {
-        Ok(matches) => Ok(Ok(task(&matches))),
+        Ok(matches) => Ok(Ok(task_in(&matches))),
         Err(error) if error.use_stderr() => Ok(Err(super::USAGE)),
         Err(_) => Ok(Err(0)),
     }
