@@ -42,6 +42,10 @@ first_pages b m p ys h =
     let within : p < length (replicate m b) = omega (arith, length-replicate m b) in
     get_or_append_left (replicate m b) ys true p within ∙ get_or-replicate m p b true h
 
+-- a page of ys behind xs
+pub page_behind : (xs ys : List Bool) (p k : ℕ) → p ≡ length xs + k → has_lease (xs ++ ys) p ≡ has_lease ys k
+page_behind xs ys p k e = ap (λ m. get_or (xs ++ ys) m true) e ∙ get_or-append-add xs ys k true
+
 -- where every page has a lease
 pub all_leased : (m p : ℕ) → has_lease (replicate m true) p ≡ true
 all_leased zero zero = refl

@@ -2,7 +2,8 @@
 use Rattle.std.proofs.Common.{◌≡◌, ℕ, zero, suc, ◌+◌, ◌-◌, ◌⊎◌, inl, inr, ◌/◌, ◌%◌, ◌^◌, ◌<◌, ◌≤◌, List, [], ◌∷◌, ◌++◌, length, get_or, take, drop, map, refl, sym, ap, ap₂, subst, ◌∙◌, ◌*◌, arith}
 use Rattle.std.proofs.lemmas.List.{map-append, take-map, drop-map, length-map}
 use Rattle.std.specs.List.{insert, remove}
-use denote.RawPtr.{InBlock, Ptr, block_ptr, null_ptr, ◌+ₚ◌}
+use denote.RawPtr.{InBlock, Ptr, block_ptr, null_ptr, count_of, ◌+ₚ◌}
+use Rattle.log_arena.specs.Homes.{Home, IsHoused, back}
 use Rattle.log_arena.specs.Ownership.{Apart}
 use Rattle.log_arena.specs.declared.memory.Run.{Run}
 use Rattle.log_arena.specs.Spans.{Span, paged, pages_of, IsSpan, Lies, total}
@@ -186,3 +187,24 @@ one_for_one (suc at) (a ∷ xs) x h = ap (λ l. a ∷ l) (one_for_one at xs x (o
 pub placed_from : (p : Ptr) (i : ℕ) → InBlock (p +ₚ i) → InBlock p
 placed_from null_ptr i placed = absurd placed
 placed_from (block_ptr b o) i placed = tt
+
+-- ---- a lease's region
+pub from_back : (p : Ptr) (n : ℕ) → n ≤ count_of p → p ≡ back p n +ₚ n
+from_back null_ptr n h = refl
+from_back (block_ptr b o) n h = ap (λ k. block_ptr b k) (omega arith)
+
+pub place_counted : (p : Ptr) (n : ℕ) → InBlock p → n ≤ count_of (p +ₚ n)
+place_counted null_ptr n h = absurd h
+place_counted (block_ptr b o) n h = omega arith
+
+-- the run of a lease of this region is a span of it
+pub span_of : (home : Home) (pages place : ℕ) (p : Ptr) (n : ℕ) (r : Run) → IsHoused pages place p n → let h : Home = record { base = back p place; pages = pages } in h ≡ home
+    → home.pages ≤ 65536 → r.ptr ≡ p → length r.items ≡ n → IsSpan home.base (place, n) r
+span_of home pages place p n r is same small at long = record {
+  some = is.some;
+  low = let most : pages ≡ home.pages = ap (λ (h : Home). h.pages) same in omega (arith, is.within);
+  whole_place = is.whole_place;
+  whole_len = is.whole_len;
+  at = at ∙ from_back p place is.behind ∙ ap (λ (h : Home). h.base +ₚ place) same;
+  long = long;
+}

@@ -1,10 +1,10 @@
 -- The list of holes of a page table has its maximal runs, and no others.
 use Rattle.std.proofs.Common.{◌≡◌, ℕ, zero, suc, ◌+◌, ◌-◌, ◌*◌, ◌<◌, ◌≤◌, inl, inr, Bool, true, false, cond, eqb, List, [], ◌∷◌, ◌++◌, length, get_or, replicate, sym, ap, ap₂, ◌∙◌, subst, arith, eqb-true}
-use Rattle.std.proofs.lemmas.List.{length-replicate, get_or-append-add}
+use Rattle.std.proofs.lemmas.List.{length-replicate}
 use borrow.Author.Tests.{eqb-false}
 use Rattle.log_arena.specs.Pages.{has_lease, IsMaximalRun, prepended, runs_from}
 use Rattle.log_arena.specs.Spans.{Span, Spaced, table}
-use Rattle.log_arena.proofs.Marks.{first_pages, all_leased, free_at, free_behind}
+use Rattle.log_arena.proofs.Marks.{first_pages, page_behind, all_leased, free_at, free_behind}
 use Rattle.log_arena.proofs.Tables.{by_test, le_or, table_here, table_later, clear_of, spaced_lower}
 use Rattle.log_arena.proofs.Places.{truth, after_hole}
 
@@ -55,10 +55,6 @@ runs_stand low (false ∷ t) =
     (all.0, all.1 ∙ ap (λ l. false ∷ l) rest.1)
 
 -- ---- the runs of a table
--- a page of ys behind xs
-page_behind : (xs ys : List Bool) (p k : ℕ) → p ≡ length xs + k → has_lease (xs ++ ys) p ≡ has_lease ys k
-page_behind xs ys p k e = ap (λ m. get_or (xs ++ ys) m true) e ∙ get_or-append-add xs ys k true
-
 run_behind : (xs ys : List Bool) (at k n : ℕ) → at ≡ length xs + k → 0 < k → IsMaximalRun ys k n → IsMaximalRun (xs ++ ys) at n
 run_behind xs ys at k n e later r = record {
   some = r.some;
@@ -125,6 +121,9 @@ run_here end g hs k n s inside r =
 abbrev pub Found : List Span → ℕ → ℕ → Type 0
 Found hs p n = (i : ℕ) × (i < length hs) × (get_or hs i (0, 0) ≡ (p, n))
 
+found_behind : (g : Span) (hs : List Span) (p q n : ℕ) → p ≡ q → Found hs p n → Found (g ∷ hs) q n
+found_behind g hs p q n e found = (suc found.0, omega (arith, found.1), found.2 ∙ ap (λ k. let h : Span = (k, n) in h) e)
+
 -- a maximal run is a hole
 pub run_is_hole : (low from end q n : ℕ) (hs : List Span) → low ≤ from → Spaced from end hs → IsMaximalRun (table low end hs) q n → Found hs (low + q) n
 run_is_hole low from end q n [] le s r = truth (has_lease (table low end []) (q + 0)) (all_leased (end - low) (q + 0)) (r.free 0 r.some)
@@ -140,8 +139,7 @@ run_is_hole low from end q n (g ∷ hs) le s r =
           elim (le_or g.1 k) [
             | inl past ↦
                 let found = run_is_hole (g.0 + g.1) (g.0 + g.1 + 1) end (k - g.1) n hs (omega arith) s.3 (run_ahead B T k (k - g.1) n (omega arith) next) in
-                let same : g.0 + g.1 + (k - g.1) ≡ low + q = omega (arith, s.0) in
-                (suc found.0, omega (arith, found.1), found.2 ∙ ap (λ p. let h : Span = (p, n) in h) same)
+                found_behind g hs (g.0 + g.1 + (k - g.1)) (low + q) n (omega (arith, s.0)) found
             | inr inside ↦
                 let here = run_here end g hs k n s.3 inside next in
                 let same : g.0 ≡ low + q = omega (arith, s.0, here.0) in

@@ -4,9 +4,9 @@ use Rattle.std.proofs.lemmas.List.{length-replicate, replicate-append-replicate,
 use Rattle.std.proofs.Math.Seq.{take-append_seam, drop-append_seam}
 use Rattle.std.specs.List.{insert, remove}
 use borrow.Author.Tests.{eqb-false}
-use Rattle.log_arena.specs.Pages.{marked}
+use Rattle.log_arena.specs.Pages.{has_lease, marked}
 use Rattle.log_arena.specs.Spans.{Span, Spaced, table, closed, seamed, Remade}
-use Rattle.log_arena.proofs.Marks.{marked_at}
+use Rattle.log_arena.proofs.Marks.{first_pages, marked_at, page_behind}
 
 -- by a test's answer
 pub by_test : {X : Type 0} (t : Bool) → (t ≡ true → X) → (t ≡ false → X) → X
@@ -67,6 +67,12 @@ clear_less : (p q end : ℕ) (hs : List Span) → q ≤ p → Clear p end hs →
 clear_less p q end [] h c = omega arith
 clear_less p q end (g ∷ hs) h c = omega arith
 
+-- the pages of s have a lease where the holes are before and behind them
+pub clear_table : (end : ℕ) (pre post : List Span) (s : Span) → Before 0 s.0 pre → Clear (s.0 + s.1) end post
+    → table 0 end (pre ++ post) ≡ table 0 s.0 pre ++ (replicate s.1 true ++ table (s.0 + s.1) end post)
+clear_table end pre post s b c =
+    split 0 s.0 end pre post b (clear_less (s.0 + s.1) s.0 end post (omega arith) c) ∙ ap (λ l. table 0 s.0 pre ++ l) (table_later s.0 s.1 end post c)
+
 -- a hole is put in: its pages have no lease now
 pub put_table : (end : ℕ) (pre post : List Span) (s : Span) → Before 0 s.0 pre → Clear (s.0 + s.1) end post
     → table 0 end (pre ++ s ∷ post) ≡ marked false s.0 s.1 (table 0 end (pre ++ post))
@@ -75,8 +81,7 @@ put_table end pre post s b c =
     let long : length P ≡ s.0 = length-table 0 s.0 pre b ∙ (let e : s.0 - 0 ≡ s.0 = omega arith in e) in
     let new : table 0 end (pre ++ s ∷ post) ≡ P ++ (replicate s.1 false ++ Q) =
     split 0 s.0 end pre (s ∷ post) b (omega arith) ∙ ap (λ l. P ++ l) (table_here end s.1 s.0 post) in
-    let old : table 0 end (pre ++ post) ≡ P ++ (replicate s.1 true ++ Q) =
-    split 0 s.0 end pre post b (clear_less (s.0 + s.1) s.0 end post (omega arith) c) ∙ ap (λ l. P ++ l) (table_later s.0 s.1 end post c) in
+    let old : table 0 end (pre ++ post) ≡ P ++ (replicate s.1 true ++ Q) = clear_table end pre post s b c in
     new ∙ sym (marked_at false P (replicate s.1 true) Q s.0 s.1 long (length-replicate s.1 true)) ∙ ap (λ l. marked false s.0 s.1 l) (sym old)
 
 -- the front of a hole is leased
@@ -254,6 +259,35 @@ pub record Fits (end : ℕ) (hs : List Span) (at : ℕ) (s : Span) : Type 0 wher
   pub within : s.0 + s.1 ≤ end
   pub left : (i : ℕ) → at ≡ suc i → (get_or hs i (0, 0)).0 + (get_or hs i (0, 0)).1 ≤ s.0
   pub right : at < length hs → s.0 + s.1 ≤ (get_or hs at (0, 0)).0
+
+-- the holes, in the two parts that s stands between
+parted : (end : ℕ) (hs : List Span) (at : ℕ) (s : Span) → Fits end hs at s
+    → (pre : List Span) × ((post : List Span) × ((hs ≡ pre ++ post) × Before 0 s.0 pre × Clear (s.0 + s.1) end post))
+parted end hs zero s f = ([], (hs, (refl, omega arith, clear_at (s.0 + s.1) end 0 hs f.within f.right)))
+parted end hs (suc i) s f =
+    let here : i < length hs = omega (arith, f.place) in
+    let pre = take i hs in let l = get_or hs i (0, 0) in let post = drop (suc i) hs in
+    let parts : hs ≡ pre ++ l ∷ post = at_place i hs here in
+    let spaced : Spaced 0 end (pre ++ l ∷ post) = subst (λ t. Spaced 0 end t) parts f.spaced in (
+      pre ++ l ∷ [],
+      (
+        post,
+        (
+          parts ∙ sym (append_assoc pre (l ∷ []) post),
+          spaced_upto 0 0 end s.0 pre post l (omega arith) (f.left i refl) spaced,
+          clear_at (s.0 + s.1) end (suc i) hs f.within f.right,
+        ),
+      ),
+    )
+
+-- none of the pages of s is in a hole
+pub pages_held : (end : ℕ) (hs : List Span) (at : ℕ) (s : Span) (k : ℕ) → Fits end hs at s → s.0 ≤ k → k < s.0 + s.1 → has_lease (table 0 end hs) k ≡ true
+pages_held end hs at s k f from to =
+    let cut = parted end hs at s f in let pre = cut.0 in let post = cut.1.0 in
+    let P = table 0 s.0 pre in let Q = table (s.0 + s.1) end post in
+    let long : length P ≡ s.0 = length-table 0 s.0 pre cut.1.1.1 ∙ (let e : s.0 - 0 ≡ s.0 = omega arith in e) in
+    ap (λ t. has_lease (table 0 end t) k) cut.1.1.0 ∙ ap (λ t. has_lease t k) (clear_table end pre post s cut.1.1.1 cut.1.1.2)
+    ∙ page_behind P (replicate s.1 true ++ Q) k (k - s.0) (omega arith) ∙ first_pages true s.1 (k - s.0) Q (omega arith)
 
 given_first : (end : ℕ) (hs : List Span) (s : Span) → Spaced 0 end hs → 0 < s.1 → s.0 + s.1 ≤ end → Clear (s.0 + s.1) end hs → Remade false end hs s (closed (s ∷ hs))
 given_first end hs s spaced some within clear = record {

@@ -1,13 +1,13 @@
 -- A lease, and which region it is of.
-use Rattle.std.specs.Prelude.{◌≡◌, ℕ, ◌+◌, ◌*◌, ◌%◌, ◌<◌, ◌≤◌, List}
+use Rattle.std.specs.Prelude.{◌≡◌, ℕ, ◌+◌, ◌*◌, ◌<◌, ◌≤◌, Bool, true, List}
 use Rattle.std.specs.Borrow.{MutBor, Lends, u8}
 use Rattle.std.specs.Vec.{with_items}
 use base.Fml.{Fml}
 use denote.Array.{Array}
-use denote.RawPtr.{Ptr, ◌+ₚ◌}
 use Rattle.log_arena.specs.declared.lease.Lease.{Lease}
 use Rattle.log_arena.specs.contracts.lease.Lease.{the_row}
-use Rattle.log_arena.specs.Pages.{Region}
+use Rattle.log_arena.specs.Homes.{Home, back}
+use Rattle.log_arena.specs.Pages.{Region, has_lease}
 
 -- where it begins in its region, in bytes
 abbrev pub lease_place : Lease → ℕ
@@ -21,17 +21,13 @@ lease_len l = l.bytes.len
 abbrev pub lease_bytes : Lease → List ℕ
 lease_bytes l = l.bytes.items
 
--- l is whole pages of the region that begins at `base`, in memory where they are in the region
-pub record IsPart (base : Ptr) (pages : ℕ) (l : Lease) : Type 0 where
-  pub some : 0 < l.bytes.len
-  pub whole_place : l.place % 4096 ≡ 0
-  pub whole_len : l.bytes.len % 4096 ≡ 0
-  pub within : l.place + l.bytes.len ≤ 4096 * pages
-  pub at : l.bytes.ptr ≡ base +ₚ l.place
+-- the region that it is of
+abbrev pub lease_home : Lease → Home
+lease_home l = record { base = back l.bytes.ptr l.place; pages = l.pages }
 
 -- l is a lease of the region r: this does not change as other pages get a lease or lose it
 abbrev pub IsOf : Region → Lease → Type 0
-IsOf r l = IsPart r.base r.pages l
+IsOf r l = lease_home l ≡ r.home
 
 -- page k of the region is one of the lease's
 abbrev pub HasPage : Lease → ℕ → Type 0
@@ -39,10 +35,15 @@ HasPage l k = (l.place ≤ 4096 * k) × (4096 * k < l.place + l.bytes.len)
 
 -- two leases of one region share no page
 unfoldable pub ShareNoPage : Lease → Lease → Type 0
-ShareNoPage a b = (r : Region) → IsOf r a → IsOf r b → (k : ℕ) → HasPage a k → ¬ HasPage b k
+ShareNoPage a b = lease_home a ≡ lease_home b → (k : ℕ) → HasPage a k → ¬ HasPage b k
 
--- the same lease: the bytes in memory at the same place
+-- each page of the lease has a lease in the table t
+unfoldable pub HasItsPages : List Bool → Lease → Type 0
+HasItsPages t l = (k : ℕ) → HasPage l k → has_lease t k ≡ true
+
+-- the same lease: the same bytes in memory at the same place of the same region
 pub record IsSame (old new : Lease) : Type 0 where
+  pub pages : new.pages ≡ old.pages
   pub place : new.place ≡ old.place
   pub len : new.bytes.len ≡ old.bytes.len
   pub items : new.bytes.items ≡ old.bytes.items

@@ -1,3 +1,4 @@
+pub mod Homes
 pub mod Layout
 pub mod Lease
 pub mod Ownership

@@ -2,16 +2,16 @@
 use Rattle.std.specs.Prelude.{◌≡◌, ℕ, ◌+◌, ◌*◌, ◌<◌, ◌≤◌, ◌-◌, ◌%◌, ◌↔◌, Bool, true, false, not, ◌==◌, if◌then◌else◌, List, [], ◌∷◌, ◌++◌, length, take, drop, map, count_by, replicate, slice_index_or, Contains, refl}
 use Rattle.std.specs.Coded.{Coded, code_by, coded×, coded_ℕ, coded_bool, coded_list}
 use denote.RawPtr.{Ptr, coded_ptr}
+use Rattle.log_arena.specs.Homes.{Home}
 
--- where the region begins, how many pages it has, and of each page whether it has a lease
+-- which region it is, and of each of its pages whether it has a lease
 pub record Region : Type 0 where
-  pub base : Ptr
-  pub pages : ℕ
+  pub home : Home
   pub leased : List Bool
 
 -- stored as the tuple of its fields
 abbrev pub region_code : Coded Region
-region_code = code_by (Ptr × (ℕ × List Bool)) (coded× coded_ptr (coded× coded_ℕ (coded_list coded_bool))) (λ r. (r.base, (r.pages, r.leased))) (λ p. record { base = p.0; pages = p.1.0; leased = p.1.1 }) (λ _. refl)
+region_code = code_by (Ptr × (ℕ × List Bool)) (coded× coded_ptr (coded× coded_ℕ (coded_list coded_bool))) (λ r. (r.home.base, (r.home.pages, r.leased))) (λ p. record { home = record { base = p.0; pages = p.1.0 }; leased = p.1.1 }) (λ _. refl)
 
 -- whether page p has a lease: past the region no page can be had
 abbrev pub has_lease : List Bool → ℕ → Bool

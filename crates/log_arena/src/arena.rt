@@ -1,5 +1,5 @@
 ghost use Rattle.std.specs.Prelude.{◌≡◌, ℕ, ◌+◌, ◌*◌, ◌/◌, ◌%◌, ◌<◌, ◌≤◌, true, false, List, length, replicate, IfOk, OnErr};
-ghost use Rattle.log_arena.specs.Lease.{IsOf, lease_place, lease_len, lease_bytes};
+ghost use Rattle.log_arena.specs.Lease.{HasItsPages, IsOf, IsSame, lease_place, lease_len, lease_bytes};
 ghost use Rattle.log_arena.specs.Pages.{IsLeastPlace, HasNoPlace, marked, holes_of, used_bytes, free_bytes};
 
 use crate::holes::Holes;
@@ -21,7 +21,8 @@ pub struct NoRoom;
 
 /// One region of memory in pages of 4,096 bytes, from which leases are taken and to which they are given back.
 ///
-/// Contracts see of it where it begins, how many pages it has, and of each page whether it has a lease.
+/// Contracts see of it which region it is (where it begins, and how many pages it has), and of each page whether it
+/// has a lease.
 pub struct Arena {
     pages: usize,
     deed: Deed,
@@ -36,7 +37,7 @@ impl Model for Arena {
 
     ghost coded = { region_code };
 
-    ghost view = { λ a. record { base = a.holes.base; pages = a.pages; leased = table 0 a.pages a.holes.spans } };
+    ghost view = { λ a. record { home = record { base = a.holes.base; pages = a.pages }; leased = table 0 a.pages a.holes.spans } };
 
     ghost invariant = { λ a. IsArena a.deed a.pages a.holes };
 }
@@ -45,7 +46,7 @@ impl Arena {
     /// A region of `pages` pages, from 1 to 65,536, none of which has a lease. No later call takes memory.
     pub fn new(alloc: Global, pages: usize) -> Result<Arena, NoMemory>
         requires { (0 < pages) × (pages ≤ 65536) }
-        ensures { IfOk result (λ a. (a.pages ≡ pages) × (a.leased ≡ replicate pages false)) }
+        ensures { IfOk result (λ a. (a.home.pages ≡ pages) × (a.leased ≡ replicate pages false)) }
     {
         let room = Holes::room_for(alloc, pages / 2 + 2)?;
         let mut bytes = Vec::from_elem(alloc, 0u8, pages * PAGE)?;
@@ -62,11 +63,12 @@ impl Arena {
         ensures least { IfOk result (λ l. IsLeastPlace self.old.leased (len / 4096) (lease_place l / 4096)) }
         ensures none { OnErr result (HasNoPlace self.old.leased (len / 4096)) }
         ensures here { IfOk result (λ l. IsOf self.new l) }
+        ensures long { IfOk result (λ l. lease_len l ≡ len) }
         ensures zeros { IfOk result (λ l. lease_bytes l ≡ replicate len 0) }
         ensures taken { IfOk result (λ l. self.new
             ≡ record self.old { leased = marked true (lease_place l / 4096) (len / 4096) self.old.leased }) }
-        ensures home { (self.new.base ≡ self.old.base) × (self.new.pages ≡ self.old.pages) }
-        ensures sized { length self.new.leased ≡ self.new.pages }
+        ensures home { self.new.home ≡ self.old.home }
+        ensures sized { length self.new.leased ≡ self.new.home.pages }
         ensures err { OnErr result (self.new ≡ self.old) }
     {
         let at = self.holes.first_fit(len);
@@ -75,13 +77,13 @@ impl Arena {
         }
         let (place, run) = self.holes.take_front(at, len);
         let start = self.holes.start_of(place);
-        Ok(Lease::zeroed(place, start, len, run))
+        Ok(Lease::zeroed(self.pages, (place, len), start, run))
     }
 
     /// Takes back a lease of this arena: its pages have none then.
     pub fn give(&mut self, lease: Lease)
         requires { IsOf self.old lease }
-        ensures sized { length self.new.leased ≡ self.new.pages }
+        ensures sized { length self.new.leased ≡ self.new.home.pages }
         ensures given { self.new ≡ record self.old {
           leased
               = marked false (lease_place lease / 4096) (lease_len lease / 4096) self.old.leased;
@@ -89,6 +91,20 @@ impl Arena {
     {
         let (span, run) = lease.into_run();
         self.holes.put_back(span, run);
+    }
+
+    // Looks for a place of a lease's bytes among the holes. None of its pages is in a hole.
+    pub(crate) fn beside(&mut self, lease: Lease) -> Lease
+        requires { IsOf self.old lease }
+        ensures unchanged { self.new ≡ self.old }
+        ensures same { IsSame lease result }
+        ensures leased { HasItsPages self.old.leased lease }
+    {
+        let mut lease = lease;
+        let (pages, start) = (lease.pages(), lease.start());
+        let (span, run) = lease.into_run();
+        let (_at, run) = self.holes.place_of(span, run);
+        Lease::again(pages, span, start, run)
     }
 
     /// The maximal runs of pages without a lease, each as its place and its length in bytes, ascending.

@@ -178,7 +178,7 @@ impl Holes {
     }
 
     // Where a run that comes back stands among the holes.
-    fn place_of(&mut self, span: (usize, usize), run: Run) -> (usize, Run)
+    pub(crate) fn place_of(&mut self, span: (usize, usize), run: Run) -> (usize, Run)
         requires room { length self.old.spans ≤ self.old.room }
         requires is { IsSpan self.old.base span run }
         ensures same { self.new ≡ self.old }
@@ -232,6 +232,7 @@ impl Holes {
         requires len { (0 < len) × (len % 4096 ≡ 0) }
         requires fits { len / 4096 ≤ (slice_index_or self.old.spans at (0, 0)).1 }
         ensures is { IsSpan self.old.base (result.0, len) result.1 }
+        ensures placed { InBlock self.old.base }
         ensures first { result.0 / 4096 ≡ (slice_index_or self.old.spans at (0, 0)).0 }
         ensures rest { (self.new.base ≡ self.old.base) × (self.new.room ≡ self.old.room) }
         ensures taken { (end : ℕ) → Spaced 0 end self.old.spans

@@ -1,6 +1,6 @@
 //! What holds of the holes of every region, of any two leases, and of a lease that is out while others come and go.
 ghost use Rattle.std.specs.Prelude.{◌≡◌, ◌/◌, ◌%◌, ◌<◌, false, true, IfOk, OnErr};
-ghost use Rattle.log_arena.specs.Lease.{IsOf, IsSame, ShareNoPage, lease_len, lease_place};
+ghost use Rattle.log_arena.specs.Lease.{HasItsPages, IsOf, IsSame, ShareNoPage, lease_len, lease_place};
 ghost use Rattle.log_arena.specs.Pages.{HolesAreMaximalRuns, HolesAreWholePages, HolesAscend, marked};
 
 use crate::arena::{Arena, NoRoom};
@@ -14,23 +14,32 @@ pub fn holes_are_the_maximal_runs()
     ensures ascending { HolesAscend }
 {}
 
+/// The pages of a lease that is held are marked in its arena: no place for another has them, and `used` counts them.
+/// Gives the lease back.
+pub fn held_pages_have_a_lease(arena: &mut Arena, held: Lease) -> Lease
+    requires { IsOf arena.old held }
+    ensures unchanged { arena.new ≡ arena.old }
+    ensures same { IsSame held result }
+    ensures leased { HasItsPages arena.old.leased held }
+{
+    arena.beside(held)
+}
+
 /// Two leases that are held share no page, if they are of one arena. Gives both back.
 pub fn share_no_page(first: Lease, second: Lease) -> (Lease, Lease)
     ensures first { IsSame first result.0 }
     ensures second { IsSame second result.1 }
     ensures apart { ShareNoPage first second }
 {
-    if first.len() == 0 || second.len() == 0 {
-        return (first, second);
-    }
     let (mut first, mut second) = (first, second);
-    let (start, other_start) = (first.start(), second.start());
+    let (pages, start) = (first.pages(), first.start());
+    let (other_pages, other_start) = (second.pages(), second.start());
     let (span, run) = first.into_run();
     let (other_span, other) = second.into_run();
     let (run, other) = apart(run, other);
     (
-        Lease::housed(span.0, start, span.1, run),
-        Lease::housed(other_span.0, other_start, other_span.1, other),
+        Lease::again(pages, span, start, run),
+        Lease::again(other_pages, other_span, other_start, other),
     )
 }
 

@@ -1,7 +1,7 @@
-ghost use Rattle.std.specs.Prelude.{◌≡◌, ℕ, ◌+◌, ◌%◌, ◌^◌, ◌<◌, ◌≤◌, List, length, replicate};
+ghost use Rattle.std.specs.Prelude.{◌≡◌, ℕ, ◌^◌, ◌<◌, List, length, replicate};
 ghost use Rattle.std.specs.Borrow.{sem};
 ghost use denote.RawPtr.{◌+ₚ◌};
-ghost use Rattle.log_arena.specs.Lease.{LendsBytes, lease_place, lease_len, lease_bytes};
+ghost use Rattle.log_arena.specs.Homes.{IsHoused, back};
 
 use crate::memory::{Run, house, vacate};
 use std_alloc::vec::Lodged;
@@ -11,33 +11,54 @@ use std_alloc::vec::Lodged;
 /// One that is dropped keeps its pages used: `Arena::give` takes it back.
 #[derive(Drop)]
 pub struct Lease {
+    // how many pages its region has
+    pages: usize,
+    // where it begins in the region, in bytes
     place: usize,
     bytes: Vec<u8, Lodged>,
+    pub ghost housed: { IsHoused pages place bytes.ptr bytes.len },
 }
 
 impl Lease {
-    pub(crate) fn zeroed(place: usize, start: *mut u8, len: usize, run: Run) -> Lease
-        requires { (run.ptr ≡ start) × (length run.items ≡ len) × (0 < len) × (len < 2 ^ 63) }
-        ensures place { lease_place result ≡ place }
-        ensures zeros { lease_bytes result ≡ replicate len 0 }
-        ensures len { lease_len result ≡ len }
-        ensures at { result.bytes.ptr ≡ start }
+    ghost use Rattle.log_arena.specs.Lease.{LendsBytes, lease_bytes, lease_home, lease_len, lease_place};
+
+    // `span` is its place and its length, in a region of `pages` pages.
+    pub(crate) fn zeroed(pages: usize, span: (usize, usize), start: *mut u8, run: Run) -> Lease
+        requires run { (run.ptr ≡ start) × (length run.items ≡ span.1) × (span.1 < 2 ^ 63) }
+        requires housed { IsHoused pages span.0 start span.1 }
+        ensures home { lease_home result ≡ record { base = back start span.0; pages = pages } }
+        ensures place { lease_place result ≡ span.0 }
+        ensures len { lease_len result ≡ span.1 }
+        ensures zeros { lease_bytes result ≡ replicate span.1 0 }
     {
-        let mut bytes = house(start, len, run);
+        let mut bytes = house(start, span.1, run);
         bytes.as_mut_slice().fill(0);
-        Lease { place, bytes }
+        Lease {
+            pages,
+            place: span.0,
+            bytes,
+        }
     }
 
     // The same lease again.
-    pub(crate) fn housed(place: usize, start: *mut u8, len: usize, run: Run) -> Lease
-        requires { (run.ptr ≡ start) × (length run.items ≡ len) × (0 < len) × (len < 2 ^ 63) }
-        ensures { (lease_place result ≡ place) × (lease_bytes result ≡ run.items)
-            × (lease_len result ≡ len) × (result.bytes.ptr ≡ start) }
+    pub(crate) fn again(pages: usize, span: (usize, usize), start: *mut u8, run: Run) -> Lease
+        requires run { (run.ptr ≡ start) × (length run.items ≡ span.1) × (span.1 < 2 ^ 63) }
+        requires housed { IsHoused pages span.0 start span.1 }
+        ensures { (result.pages ≡ pages) × (lease_place result ≡ span.0) × (lease_len result ≡ span.1)
+            × (lease_bytes result ≡ run.items) × (result.bytes.ptr ≡ start) }
     {
         Lease {
-            place,
-            bytes: house(start, len, run),
+            pages,
+            place: span.0,
+            bytes: house(start, span.1, run),
         }
+    }
+
+    // How many pages its region has.
+    pub(crate) fn pages(&self) -> usize
+        ensures { result ≡ self.now.pages }
+    {
+        self.pages
     }
 
     // Where its bytes are in memory.
@@ -50,11 +71,14 @@ impl Lease {
 
     // The span and its bytes.
     pub(crate) fn into_run(self) -> ((usize, usize), Run)
-        requires { 0 < lease_len self }
         ensures { (result.0 ≡ (lease_place self, lease_len self)) × (result.1.ptr ≡ self.bytes.ptr)
             × (result.1.items ≡ lease_bytes self) }
     {
-        let Lease { place, bytes } = self;
+        let Lease {
+            pages: _,
+            place,
+            bytes,
+        } = self;
         let len = bytes.len();
         ((place, len), vacate(bytes))
     }

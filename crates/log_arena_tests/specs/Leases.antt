@@ -1,10 +1,10 @@
 -- Leases of one arena.
-use Rattle.std.specs.Prelude.{ℕ, List, [], ◌∷◌}
-use denote.RawPtr.{Ptr}
-use Rattle.log_arena.specs.Lease.{IsPart}
+use Rattle.std.specs.Prelude.{◌≡◌, List, [], ◌∷◌}
+use Rattle.log_arena.specs.Homes.{Home}
+use Rattle.log_arena.specs.Lease.{lease_home}
 use Rattle.log_arena.specs.declared.lease.Lease.{Lease}
 
--- each of the leases is whole pages of this region
-abbrev pub AllOf : Ptr → ℕ → List Lease → Type 0
-AllOf base pages [] = Unit {0}
-AllOf base pages (l ∷ ls) = IsPart base pages l × AllOf base pages ls
+-- each of the leases is of this region
+abbrev pub AllOf : Home → List Lease → Type 0
+AllOf home [] = Unit {0}
+AllOf home (l ∷ ls) = (lease_home l ≡ home) × AllOf home ls

@@ -36,8 +36,8 @@ fn step(
     table: &mut Vec<bool>,
     word: u64,
 ) -> Result<(), AllocError>
-    requires { AllOf arena.old.base arena.old.pages leases.old.items }
-    ensures { AllOf arena.new.base arena.new.pages leases.new.items }
+    requires { AllOf arena.old.home leases.old.items }
+    ensures { AllOf arena.new.home leases.new.items }
 {
     let choice = word >> 33;
     let held = leases.len();

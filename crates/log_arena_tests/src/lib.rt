@@ -2,9 +2,11 @@
 #![tactic(auto)]
 
 mod churning;
+mod journal;
 mod owners;
 
 pub use churning::churn;
+pub use journal::Journal;
 pub use owners::hand_over;
 
 #[cfg(test)]

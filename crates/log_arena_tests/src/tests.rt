@@ -1,5 +1,7 @@
 use super::*;
-use log_arena::laws::{others_leave_a_lease, share_no_page};
+use log_arena::laws::{
+    held_pages_have_a_lease, holes_are_the_maximal_runs, others_leave_a_lease, share_no_page,
+};
 use log_arena::{Arena, NoRoom, PAGE};
 use std::test::Fail;
 use std::thread;
@@ -102,6 +104,27 @@ fn a_dropped_lease_keeps_its_pages(rt: HostRuntime) -> Result<(), Fail> {
     drop(arena.lease(2 * PAGE)?);
     assert_eq!(rt; arena.used(), 2 * PAGE);
     assert_eq!(rt; arena.holes(), [(2 * PAGE, 2 * PAGE)].as_slice());
+    Ok(())
+}
+
+// A holder of a lease writes into it, and gives it back.
+#[test]
+fn a_journal_gives_its_pages_back(rt: HostRuntime) -> Result<(), Fail> {
+    let mut arena = Arena::new(rt.alloc(), 4)?;
+    let first = arena.lease(PAGE)?;
+    let lease = arena.lease(PAGE)?;
+    let mut journal = Journal::new(lease);
+    assert!(rt; journal.append(b"one "));
+    assert!(rt; journal.append(b"two"));
+    assert_eq!(rt; journal.text(), b"one two".as_slice());
+    assert!(rt; !journal.append([0u8; 4090].as_slice()));
+    assert_eq!(rt; journal.text(), b"one two".as_slice());
+    let first = held_pages_have_a_lease(&mut arena, first);
+    assert_eq!(rt; first.place(), 0);
+    assert_eq!(rt; arena.holes(), [(2 * PAGE, 2 * PAGE)].as_slice());
+    journal.close(&mut arena);
+    assert_eq!(rt; arena.holes(), [(PAGE, 3 * PAGE)].as_slice());
+    holes_are_the_maximal_runs();
     Ok(())
 }
 

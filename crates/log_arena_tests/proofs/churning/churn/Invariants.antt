@@ -2,4 +2,4 @@ use Rattle.log_arena_tests.specs.Leases.{AllOf}
 use Rattle.log_arena_tests.proofs.churning.churn.Given as goal
 
 abbrev pub invariant-loop : goal.invariant-loop
-invariant-loop l = AllOf l.arena.base l.arena.pages l.leases.items
+invariant-loop l = AllOf l.arena.home l.leases.items

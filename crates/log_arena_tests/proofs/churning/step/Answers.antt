@@ -1,4 +1,4 @@
-use Rattle.std.proofs.Common.{◌≡◌, ℕ, ◌<◌, List, length, sym, subst, arith}
+use Rattle.std.proofs.Common.{List, sym, subst, arith}
 use Rattle.log_arena.specs.Pages.{Region}
 use Rattle.log_arena.specs.declared.lease.Lease.{Lease}
 use Rattle.log_arena_tests.specs.Leases.{AllOf}
@@ -8,16 +8,16 @@ use Rattle.log_arena_tests.proofs.churning.step.Goals as goal
 pub returns-then-choice-lt3 : goal.returns-then-choice-lt3
 returns-then-choice-lt3 c =
     let old = c.args.leases.now.items in
-    let all = subst (λ (r : Region). AllOf r.base r.pages old) (sym c.in-Ok.ensures.taken) c.requires in
-    subst (λ (ls : List Lease). AllOf c.lease.new.self.base c.lease.new.self.pages ls) (sym c.in_ok-push.ensures.items)
-    (all-push c.lease.new.self.base c.lease.new.self.pages old c.in-Ok.lease all c.in-Ok.ensures.here)
+    let all = subst (λ (r : Region). AllOf r.home old) (sym c.in-Ok.ensures.taken) c.requires in
+    subst (λ (ls : List Lease). AllOf c.lease.new.self.home ls) (sym c.in_ok-push.ensures.items)
+    (all-push c.lease.new.self.home old c.in-Ok.lease all c.in-Ok.ensures.here)
 
 pub give-requires : goal.give-requires
 give-requires c =
-    all-at _ _ _ _ _ c.requires (omega (arith, c.args.leases.now.ok)) c.remove-lease.ensures.value
+    all-at _ _ _ _ c.requires (omega (arith, c.args.leases.now.ok)) c.remove-lease.ensures.value
 
 pub returns : goal.returns
 returns c =
-    let gone = all-remove _ _ _ _ c.requires in
-    subst (λ (r : Region). AllOf r.base r.pages c.remove-lease.new.self.items) (sym c.give.ensures.given)
-    (subst (λ (ls : List Lease). AllOf c.args.arena.now.base c.args.arena.now.pages ls) (sym c.remove-lease.ensures.items) gone)
+    let gone = all-remove _ _ _ c.requires in
+    subst (λ (r : Region). AllOf r.home c.remove-lease.new.self.items) (sym c.give.ensures.given)
+    (subst (λ (ls : List Lease). AllOf c.args.arena.now.home ls) (sym c.remove-lease.ensures.items) gone)

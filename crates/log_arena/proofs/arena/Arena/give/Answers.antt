@@ -1,4 +1,5 @@
-use Rattle.std.proofs.Common.{◌+◌, ◌/◌, ◌≤◌, sym, ap, subst, arith}
+use Rattle.std.proofs.Common.{◌≡◌, ◌+◌, ◌/◌, ◌≤◌, sym, ap, ◌∙◌, subst, arith}
+use Rattle.log_arena.specs.Homes.{Home}
 use Rattle.log_arena.specs.Pages.{Region}
 use Rattle.log_arena.specs.Spans.{Span, paged}
 use Rattle.log_arena.proofs.Places.{table-sized}
@@ -12,8 +13,8 @@ put_back-requires-clause-room c =
 pub returns-clause-sized : goal.returns-clause-sized
 returns-clause-sized c =
     let pages = c.self.inside.pages in let l = c.args.lease in
-    let within : l.place / 4096 + l.bytes.len / 4096 ≤ pages =
-    omega (arith, c.requires.within, c.requires.whole_place, c.requires.whole_len, ap (λ (r : Region). r.pages) c.self.view_is) in
+    let most : l.pages ≡ pages = ap (λ (home : Home). home.pages) c.requires ∙ ap (λ (r : Region). r.home.pages) (sym c.self.view_is) in
+    let within : l.place / 4096 + l.bytes.len / 4096 ≤ pages = omega (arith, l.housed.within, l.housed.whole_place, l.housed.whole_len, most) in
     let given = c.put_back.ensures.given pages c.self.invariant.spaced
     (subst (λ (s : Span). (paged s).0 + (paged s).1 ≤ pages) (sym c.into_run-run.ensures.0) within) in
     table-sized pages c.put_back.new.self.spans given.spaced

@@ -1,8 +1,8 @@
-use Rattle.std.proofs.Common.{◌≡◌, ◌/◌, ◌%◌, ◌<◌, length, get_or, sym, ap, ◌∙◌, subst, arith}
-use denote.RawPtr.{◌+ₚ◌}
+use Rattle.std.proofs.Common.{◌≡◌, ◌/◌, ◌<◌, ◌≤◌, length, get_or, sym, ap, ◌∙◌, subst, arith}
+use denote.RawPtr.{InBlock, Ptr, count_of}
 use Rattle.log_arena.specs.Pages.{Region, HasNoPlace, IsLeastPlace}
 use Rattle.log_arena.specs.Spans.{Span}
-use Rattle.log_arena.proofs.Matches.{div_some}
+use Rattle.log_arena.proofs.Matches.{div_some, place_counted}
 use Rattle.log_arena.proofs.Places.{least_at, none_at, table-sized}
 use Rattle.log_arena.proofs.Tables.{spaced_count, spaced_within}
 use Rattle.log_arena.proofs.arena.Arena.lease.Goals as goal
@@ -18,6 +18,22 @@ pub take_front-place-requires-clause-room : goal.take_front-place-requires-claus
 take_front-place-requires-clause-room c =
     omega (arith, spaced_count 0 c.self.inside.pages c.self.inside.holes.spans (omega arith) c.self.invariant.spaced, c.self.invariant.room)
 
+pub zeroed-requires-clause-housed : goal.zeroed-requires-clause-housed
+zeroed-requires-clause-housed c =
+    let hs = c.self.inside.holes.spans in let at = c.first_fit-at.result in let place = c.take_front-place.result.0 in
+    let here : at < length hs = omega (arith, c.first_fit-at.ensures.bound) in
+    let within = spaced_within 0 c.self.inside.pages at hs c.self.invariant.spaced here in
+    let long = c.first_fit-at.ensures.long here in
+    let is = c.take_front-place.ensures.is in
+    let placed = subst (λ (p : Ptr). InBlock p) (sym c.take_front-place.ensures.rest.0) c.take_front-place.ensures.placed in
+    record {
+      some = c.requires.0;
+      whole_place = is.whole_place;
+      whole_len = c.requires.1;
+      within = omega (arith, within, long, c.take_front-place.ensures.first, is.whole_place, c.requires.1);
+      behind = subst (λ (p : Ptr). place ≤ count_of p) (sym c.start_of-start.ensures) (place_counted c.take_front-place.new.self.base place placed);
+    }
+
 pub returns-clause-least : goal.returns-clause-least
 returns-clause-least c =
     let n = c.args.len / 4096 in let hs = c.self.inside.holes.spans in let at = c.first_fit-at.result in
@@ -28,24 +44,9 @@ returns-clause-least c =
     (subst (λ p. IsLeastPlace (Rattle.log_arena.specs.Spans.table 0 c.self.inside.pages hs) n p) place
     (least_at n c.self.inside.pages at hs (div_some c.args.len c.requires.1 c.requires.0) c.self.invariant.spaced here c.first_fit-at.ensures.short (c.first_fit-at.ensures.long here)))
 
-pub returns-clause-here : goal.returns-clause-here
-returns-clause-here c =
-    let hs = c.self.inside.holes.spans in let at = c.first_fit-at.result in
-    let here : at < length hs = omega (arith, c.first_fit-at.ensures.bound) in
-    let within = spaced_within 0 c.self.inside.pages at hs c.self.invariant.spaced here in
-    let long = c.first_fit-at.ensures.long here in
-    let is = c.take_front-place.ensures.is in
-    record {
-      some = omega (arith, c.zeroed.ensures.len, c.requires);
-      whole_place = ap (λ p. p % 4096) c.zeroed.ensures.place ∙ is.whole_place;
-      whole_len = ap (λ n. n % 4096) c.zeroed.ensures.len ∙ c.requires.1;
-      within = omega (arith, c.zeroed.ensures.len, c.zeroed.ensures.place, within, long, c.take_front-place.ensures.first, is.whole_place, c.requires.1);
-      at = c.zeroed.ensures.at ∙ c.start_of-start.ensures ∙ ap (λ p. c.take_front-place.new.self.base +ₚ p) (sym c.zeroed.ensures.place);
-    }
-
 pub returns-then-at-len-clause-sized : goal.returns-then-at-len-clause-sized
 returns-then-at-len-clause-sized c =
-    subst (λ (r : Region). length r.leased ≡ r.pages) c.self.view_is (table-sized c.self.inside.pages c.self.inside.holes.spans c.self.invariant.spaced)
+    subst (λ (r : Region). length r.leased ≡ r.home.pages) c.self.view_is (table-sized c.self.inside.pages c.self.inside.holes.spans c.self.invariant.spaced)
 
 pub returns-clause-sized : goal.returns-clause-sized
 returns-clause-sized c =
