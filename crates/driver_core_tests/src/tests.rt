@@ -165,15 +165,15 @@ fn first_denial(rt: HostRuntime) -> Result<(), Fail> {
 }
 
 /// Takes one step, and tells whether it is answered so.
-fn is_answered(alloc: Global, world: &mut World, step: &Step, answer: &Answer) -> bool {
-    world.step(alloc, step) == *answer
+fn is_answered(alloc: Global, world: &mut World, step: &Step, answer: Answer) -> bool {
+    world.step(alloc, step) == answer
 }
 
 /// Whether ADD_SUBSCRIPTION of client 1 gets that reply.
 fn subscribes(alloc: Global, world: &mut World, bytes: &[u8], reply: Reply) -> Result<bool, Fail> {
     let step = Step::Conductor(command(alloc, 0, bytes)?);
     let answer = told(alloc, reply)?;
-    Ok(is_answered(alloc, world, &step, &answer))
+    Ok(is_answered(alloc, world, &step, answer))
 }
 
 /// Whether REMOVE_SUBSCRIPTION gets that reply.
@@ -187,14 +187,14 @@ fn removes(
 ) -> Result<bool, Fail> {
     let step = remove(alloc, client, correlation, registration)?;
     let answer = told_to(alloc, client, reply)?;
-    Ok(is_answered(alloc, world, &step, &answer))
+    Ok(is_answered(alloc, world, &step, answer))
 }
 
 /// Whether a policy without rules is put in force under that number.
 fn reloads(alloc: Global, world: &mut World, default: bool, epoch: u64) -> bool {
     let step = reload(alloc, default);
     let answer = in_force(alloc, epoch);
-    is_answered(alloc, world, &step, &answer)
+    is_answered(alloc, world, &step, answer)
 }
 
 fn ready(correlation: u64, registration: u64) -> Reply {
