@@ -1,11 +1,10 @@
 -- Frames of a term that were written are read back.
-use Rattle.std.proofs.Common.{◌≡◌, ℕ, zero, suc, ◌+◌, ◌-◌, ◌*◌, ◌/◌, ◌%◌, ◌^◌, ◌<◌, ◌≤◌, ◌==◌, Bool, true, false, not, cond, List, [], ◌∷◌, ◌++◌, length, take, drop, Result, Ok, Err, refl, sym, ap, subst, ◌∙◌, append_assoc, arith}
+use Rattle.std.proofs.Common.{◌≡◌, ℕ, zero, suc, ◌+◌, ◌-◌, ◌%◌, ◌^◌, ◌<◌, ◌≤◌, ◌==◌, Bool, true, false, not, cond, List, [], ◌∷◌, ◌++◌, length, take, Result, Ok, refl, sym, ap, subst, ◌∙◌, append_assoc, arith}
 use Rattle.std.specs.Prelude.{replicate}
-use Rattle.std.proofs.lemmas.Bool.{eq-eqb, ne_eqb, le-ltb, lt-ltb}
+use Rattle.std.proofs.lemmas.Bool.{eq-eqb, ne_eqb, le-ltb}
 use Rattle.std.proofs.lemmas.List.{take_at, drop_at, length-append, length-replicate, append-nil}
 use Rattle.std.proofs.Math.Nat.{mod-eq_of_lt}
 use Rattle.frame_codec.specs.declared.fault.BadPacket.{BadPacket}
-use Rattle.frame_codec.specs.declared.frame_type.FrameType.{FrameType}
 use Rattle.frame_codec.specs.declared.frame_type.FrameType.TheVariants as types
 use Rattle.frame_codec.specs.declared.flags.Flags.{Flags}
 use Rattle.frame_codec.specs.declared.header.Kind.{Kind}
@@ -13,15 +12,15 @@ use Rattle.frame_codec.specs.declared.header.Kind.TheVariants.{Data, Pad}
 use Rattle.frame_codec.specs.declared.header.Header.{Header}
 use Rattle.frame_codec.specs.declared.header.TermPlace.{TermPlace}
 use Rattle.frame_codec.specs.Steps.{◌>>=◌}
-use Rattle.frame_codec.specs.Fields.{byte_at, half_at, number_at, signed_at, long_at, natural_at, stated_length, aligned}
+use Rattle.frame_codec.specs.Fields.{byte_at, half_at, number_at, signed_at, long_at, natural_at, aligned}
 use Rattle.frame_codec.specs.FrameType.{type_of}
 use Rattle.frame_codec.specs.Writing.{number_bytes, signed_bytes, front_bytes}
 use Rattle.frame_codec.specs.Header.{header_of, header_bytes, kind_number, plain_header}
-use Rattle.frame_codec.specs.Frame.{Sent, padded, data_of, pad_of, pad_length, beat_of, frame_of, frame_as, data_header, data_bytes, pad_bytes, beat_bytes}
-use Rattle.frame_codec.specs.Frames.{follows, behind, next_of, later_of, all_later, frames_of}
+use Rattle.frame_codec.specs.Frame.{Sent, padded, data_of, pad_of, pad_length, beat_of, frame_of, data_header, data_bytes, pad_bytes, beat_bytes}
+use Rattle.frame_codec.specs.Frames.{follows, behind, next_of, later_of, frames_of}
 use Rattle.frame_codec.specs.Datagram.{packet_of, data_content, content_as}
 use Rattle.frame_codec.specs.Datagram as contents
-use Rattle.frame_codec.specs.Written.{IsPlace, Written, part, padding, written_bytes, written_frame, IsWritten, AreBehind, all_bytes, all_frames}
+use Rattle.frame_codec.specs.Written.{IsPlace, Written, part, padding, written_bytes, written_frame, IsWritten, AreBehind, all_bytes, all_frames, fill_length, filling, ArePlain}
 use Rattle.frame_codec.proofs.RoundTrips.{front_long, half_back, number_back, long_back, signed_back, natural_back, stated_back, aligned_back, type_back}
 use Rattle.frame_codec.proofs.WritingLemmas.{length-header_bytes}
 use Rattle.frame_codec.proofs.FramesLemmas.{later_step, none_later}
@@ -240,6 +239,33 @@ frames_again (padding flags place size) ws fits are =
     let long = is.long in
     let type_is = type_back (pad_bytes flags place size ++ all_bytes ws) 0 types.Pad (omega arith) is.version is.kind refl long in
     pad_packet (pad_bytes flags place size ++ all_bytes ws) (all_frames (padding flags place size ∷ ws)) type_is (all_again (padding flags place size) ws fits are)
+
+-- ---- what is written has the form in which frames are written
+
+no_reserved : (w : Written) → (written_frame w).header.reserved_value ≡ 0
+no_reserved (part flags place payload) = refl
+no_reserved (padding flags place size) = refl
+
+header_fills : (flags : Flags) (place : TermPlace) (size : ℕ) → fill_length (written_frame (padding flags place size)) ≡ 0
+unfolding pad_bytes
+header_fills flags place size = omega (arith, length-header_bytes (plain_header Pad size flags place))
+
+written_filling : (w : Written) (tail : List ℕ) → filling (written_frame w) (written_bytes w ++ tail) ≡ replicate (fill_length (written_frame w)) 0
+written_filling (part flags place payload) tail =
+    let front : List ℕ = header_bytes (data_header flags place payload) ++ payload in
+    let size : length front ≡ 32 + length payload = omega (arith, length-append (header_bytes (data_header flags place payload)) payload, length-header_bytes (data_header flags place payload)) in
+    let zeros : length (fill payload) ≡ padded (length front) - length front = length-replicate (padded (32 + length payload) - (32 + length payload)) 0 ∙ ap (λ (n : ℕ). padded n - n) (sym size) in
+    ap (filling (written_frame (part flags place payload))) (part_is flags place payload tail)
+    ∙ ap (take (padded (length front) - length front)) (drop_at front (fill payload ++ tail) (length front) refl)
+    ∙ take_at (fill payload) tail (padded (length front) - length front) zeros
+    ∙ ap (λ (n : ℕ). replicate (padded n - n) 0) (sym size)
+written_filling (padding flags place size) tail =
+    let none : fill_length (written_frame (padding flags place size)) ≡ 0 = header_fills flags place size in
+    rw none refl
+
+pub all_plain : (ws : List Written) → ArePlain (all_frames ws) (all_bytes ws)
+all_plain [] = tt
+all_plain (w ∷ ws) = (no_reserved w, written_filling w (all_bytes ws), subst (ArePlain (all_frames ws)) (sym (behind_again w (all_bytes ws))) (all_plain ws))
 
 -- ---- heartbeats
 

@@ -1,9 +1,7 @@
 -- Frames of a term that were read are written as the bytes that they were read from.
-use Rattle.std.proofs.Common.{◌≡◌, ℕ, zero, suc, ◌+◌, ◌-◌, ◌*◌, ◌/◌, ◌%◌, ◌^◌, ◌<◌, ◌≤◌, ◌==◌, Bool, true, false, not, cond, List, [], ◌∷◌, ◌++◌, length, take, drop, Result, Ok, Err, refl, sym, ap, subst, ◌∙◌, arith, length-drop}
-use Rattle.std.proofs.lemmas.List.{take-append-drop, drop-take, length-take}
+use Rattle.std.proofs.Common.{◌≡◌, ℕ, zero, suc, ◌+◌, ◌-◌, ◌%◌, ◌≤◌, ◌==◌, cond, List, [], ◌∷◌, ◌++◌, length, take, drop, Ok, Err, refl, sym, ap, subst, ◌∙◌, arith}
+use Rattle.std.proofs.lemmas.List.{drop-take, nil_from_length}
 use Rattle.std.proofs.Math.Seq.{take-add}
-use Rattle.std.proofs.Math.Nat.{mod-eq_of_lt}
-use Rattle.frame_codec.specs.declared.fault.BadPacket.{BadPacket}
 use Rattle.frame_codec.specs.declared.fault.BadPacket.TheVariants.{BadLength, Mixed}
 use Rattle.frame_codec.specs.declared.frame_type.FrameType.{FrameType}
 use Rattle.frame_codec.specs.declared.frame_type.FrameType.TheVariants as types
@@ -13,9 +11,8 @@ use Rattle.frame_codec.specs.declared.header.Header.{Header}
 use Rattle.frame_codec.specs.Steps.{◌>>=◌}
 use Rattle.frame_codec.specs.Fields.{IsBytes, number_at, natural_at, stated_length, aligned}
 use Rattle.frame_codec.specs.FrameType.{type_of, type_size}
-use Rattle.frame_codec.specs.Writing.{number_bytes, signed_bytes, front_bytes}
-use Rattle.frame_codec.specs.Header.{header_of, header_bytes, kind_number, plain_header}
-use Rattle.frame_codec.specs.Frame.{Sent, padded, data_of, pad_of, pad_length, beat_of, frame_of, frame_as}
+use Rattle.frame_codec.specs.Header.{header_of, header_bytes, kind_number}
+use Rattle.frame_codec.specs.Frame.{Sent, padded, data_of, pad_of, pad_length, frame_of, frame_as}
 use Rattle.frame_codec.specs.Frames.{behind, next_of, later_of, all_later, frames_of}
 use Rattle.frame_codec.specs.Nak.{nak_of}
 use Rattle.frame_codec.specs.StatusMessage.{status_of}
@@ -25,12 +22,12 @@ use Rattle.frame_codec.specs.Datagram as contents
 use Rattle.frame_codec.specs.Written.{AreKept, IsKept}
 use Rattle.frame_codec.proofs.Chains.{bind_ok, step, ok_is, guard_ok, wanted_ok}
 use Rattle.frame_codec.proofs.Readers.{type_fits, natural_ok, stated_ok, placed_ok, refused}
-use Rattle.frame_codec.proofs.FramesLemmas.{next_ok}
-use Rattle.frame_codec.proofs.WriteBack.{IsBytes-drop, IsFront, type_number, type_ok, front_back, then_number, then_signed, then_long}
+use Rattle.frame_codec.proofs.FramesLemmas.{behind_less, next_ok}
+use Rattle.frame_codec.proofs.WriteBack.{IsBytes-drop, IsFront, type_number, type_ok, found, front_back, then_number, then_signed, then_long}
 
 -- ---- one frame
 
-header_fields : (bytes : List ℕ) (h : Header) (kind : Kind) (size offset : ℕ) → IsBytes bytes → 32 ≤ length bytes → IsFront bytes (kind_number kind)
+pub header_fields : (bytes : List ℕ) (h : Header) (kind : Kind) (size offset : ℕ) → IsBytes bytes → 32 ≤ length bytes → IsFront bytes (kind_number kind)
     → number_at 0 bytes ≡ size → number_at 8 bytes ≡ offset → header_of kind size offset bytes ≡ h → header_bytes h ≡ take 32 bytes
 unfolding header_bytes header_of
 header_fields bytes h kind size offset fits long front stated is made =
@@ -92,7 +89,7 @@ frame_as_kept bytes types.Nak frame fits front long e = absurd (refused (nak_of 
 frame_as_kept bytes types.StatusMessage frame fits front long e = absurd (refused (status_of bytes) Mixed frame e)
 frame_as_kept bytes types.Setup frame fits front long e = absurd (refused (setup_of bytes) Mixed frame e)
 
-frame_kept : (bytes : List ℕ) (frame : Sent) → IsBytes bytes → frame_of bytes ≡ Ok frame → IsKept frame
+pub frame_kept : (bytes : List ℕ) (frame : Sent) → IsBytes bytes → frame_of bytes ≡ Ok frame → IsKept frame
 unfolding frame_of
 frame_kept bytes frame fits e =
     elim (bind_ok (type_of bytes) (frame_as bytes) frame e) [
@@ -101,77 +98,46 @@ frame_kept bytes frame fits e =
 
 -- ---- all frames of a datagram
 
-later_kept : (n : ℕ) (before : Header) (bytes : List ℕ) (frames : List Sent) → IsBytes bytes → later_of n before bytes ≡ Ok frames → AreKept frames
+-- frames that were read one behind the other, to the last byte
+abbrev pub AreRead : List Sent → List ℕ → Type 0
+AreRead [] bytes = bytes ≡ []
+AreRead (frame ∷ later) bytes = (frame_of bytes ≡ Ok frame) × AreRead later (behind frame bytes)
+
+later_read : (n : ℕ) (before : Header) (bytes : List ℕ) (frames : List Sent) → length bytes ≤ n → later_of n before bytes ≡ Ok frames → AreRead frames bytes
 unfolding later_of
-later_kept zero before bytes frames fits e = subst AreKept (ok_is [] frames e) tt
-later_kept (suc n) before [] frames fits e = subst AreKept (ok_is [] frames e) tt
-later_kept (suc n) before (b ∷ bytes) frames fits e =
+later_read zero before bytes frames h e = subst (λ (fs : List Sent). AreRead fs bytes) (ok_is [] frames e) (nil_from_length bytes (omega arith))
+later_read (suc n) before [] frames h e = subst (λ (fs : List Sent). AreRead fs []) (ok_is [] frames e) refl
+later_read (suc n) before (b ∷ bytes) frames h e =
     elim (bind_ok (next_of before (b ∷ bytes)) (λ frame. later_of n frame.header (behind frame (b ∷ bytes)) >>= λ later. Ok (frame ∷ later)) frames e) [
       | step frame frame_is after ↦
+          let read = (next_ok before (b ∷ bytes) frame frame_is).0 in
+          let less = behind_less (b ∷ bytes) frame read in
           elim (bind_ok (later_of n frame.header (behind frame (b ∷ bytes))) (λ later. Ok (frame ∷ later)) frames after) [
             | step later later_is last ↦
-                subst AreKept (ok_is (frame ∷ later) frames last) (
-                  frame_kept (b ∷ bytes) frame fits (next_ok before (b ∷ bytes) frame frame_is).0,
-                  later_kept n frame.header (behind frame (b ∷ bytes)) later (IsBytes-drop (padded (length frame.bytes)) (b ∷ bytes) fits) later_is,
-                )
+                subst (λ (fs : List Sent). AreRead fs (b ∷ bytes)) (ok_is (frame ∷ later) frames last)
+                (read, later_read n frame.header (behind frame (b ∷ bytes)) later (omega arith) later_is)
           ]
     ]
 
-frames_kept : (bytes : List ℕ) (frames : List Sent) → IsBytes bytes → frames_of bytes ≡ Ok frames → AreKept frames
+all_read : (bytes : List ℕ) (frames : List Sent) → frames_of bytes ≡ Ok frames → AreRead frames bytes
 unfolding frames_of
-frames_kept bytes frames fits e =
+all_read bytes frames e =
     elim (bind_ok (frame_of bytes) (λ frame. all_later frame.header (behind frame bytes) >>= λ later. Ok (frame ∷ later)) frames e) [
       | step frame frame_is after ↦
           elim (bind_ok (all_later frame.header (behind frame bytes)) (λ later. Ok (frame ∷ later)) frames after) [
             | step later later_is last ↦
-                subst AreKept (ok_is (frame ∷ later) frames last) (
-                  frame_kept bytes frame fits frame_is,
-                  later_kept (length (behind frame bytes)) frame.header (behind frame bytes) later (IsBytes-drop (padded (length frame.bytes)) bytes fits) later_is,
-                )
+                subst (λ (fs : List Sent). AreRead fs bytes) (ok_is (frame ∷ later) frames last)
+                (frame_is, later_read (length (behind frame bytes)) frame.header (behind frame bytes) later (omega arith) later_is)
           ]
     ]
 
--- ---- by content
+pub packet_read : (bytes : List ℕ) (frames : List Sent) → packet_of bytes ≡ Ok (contents.frames frames) → AreRead frames bytes
+packet_read bytes frames e = all_read bytes frames (found bytes (contents.frames frames) e).is
 
-abbrev KeptIf : Content → Type 0
-KeptIf (contents.frames frames) = AreKept frames
-KeptIf (contents.beat h) = Unit {0}
-KeptIf (contents.nak n) = Unit {0}
-KeptIf (contents.status s) = Unit {0}
-KeptIf (contents.setup s) = Unit {0}
-
-term_kept : (bytes : List ℕ) (c : Content) → IsBytes bytes → (frames_of bytes >>= λ sent. Ok (contents.frames sent)) ≡ Ok c → KeptIf c
-term_kept bytes c fits e = elim (bind_ok (frames_of bytes) (λ sent. Ok (contents.frames sent)) c e) [
-  | step frames is after ↦ subst KeptIf (ok_is (contents.frames frames) c after) (frames_kept bytes frames fits is)
-]
-
-data_kept_if : (a b : Bool) (bytes : List ℕ) (c : Content) → IsBytes bytes
-    → cond (not a) (frames_of bytes >>= λ sent. Ok (contents.frames sent)) (cond (not b) (frames_of bytes >>= λ sent. Ok (contents.frames sent)) (beat_of bytes >>= λ header. Ok (contents.beat header))) ≡ Ok c → KeptIf c
-data_kept_if false b bytes c fits e = term_kept bytes c fits e
-data_kept_if true false bytes c fits e = term_kept bytes c fits e
-data_kept_if true true bytes c fits e = elim (bind_ok (beat_of bytes) (λ header. Ok (contents.beat header)) c e) [
-  | step h is after ↦ subst KeptIf (ok_is (contents.beat h) c after) tt
-]
-
-data_content_kept : (bytes : List ℕ) (c : Content) → IsBytes bytes → data_content bytes ≡ Ok c → KeptIf c
-unfolding data_content
-data_content_kept bytes c fits e = data_kept_if (length bytes == 32) (number_at 0 bytes == 0) bytes c fits e
-
-content_kept : (bytes : List ℕ) (kind : FrameType) (c : Content) → IsBytes bytes → content_as bytes kind ≡ Ok c → KeptIf c
-content_kept bytes types.Pad c fits e = term_kept bytes c fits e
-content_kept bytes types.Data c fits e = data_content_kept bytes c fits e
-content_kept bytes types.Nak c fits e = elim (bind_ok (nak_of bytes) (λ fields. Ok (contents.nak fields)) c e) [
-  | step x is after ↦ subst KeptIf (ok_is (contents.nak x) c after) tt
-]
-content_kept bytes types.StatusMessage c fits e = elim (bind_ok (status_of bytes) (λ fields. Ok (contents.status fields)) c e) [
-  | step x is after ↦ subst KeptIf (ok_is (contents.status x) c after) tt
-]
-content_kept bytes types.Setup c fits e = elim (bind_ok (setup_of bytes) (λ fields. Ok (contents.setup fields)) c e) [
-  | step x is after ↦ subst KeptIf (ok_is (contents.setup x) c after) tt
-]
+all_kept : (frames : List Sent) (bytes : List ℕ) → IsBytes bytes → AreRead frames bytes → AreKept frames
+all_kept [] bytes fits are = tt
+all_kept (frame ∷ later) bytes fits are =
+    (frame_kept bytes frame fits are.0, all_kept later (behind frame bytes) (IsBytes-drop (padded (length frame.bytes)) bytes fits) are.1)
 
 pub frames_written : (bytes : List ℕ) (frames : List Sent) → IsBytes bytes → packet_of bytes ≡ Ok (contents.frames frames) → AreKept frames
-unfolding packet_of
-frames_written bytes frames fits e = elim (bind_ok (type_of bytes) (content_as bytes) (contents.frames frames) e) [
-  | step kind is after ↦ content_kept bytes kind (contents.frames frames) fits after
-]
+frames_written bytes frames fits e = all_kept frames bytes fits (packet_read bytes frames e)

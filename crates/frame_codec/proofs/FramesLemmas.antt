@@ -1,12 +1,12 @@
 -- The frames of a datagram, one behind the other.
-use Rattle.std.proofs.Common.{◌≡◌, ℕ, zero, suc, ◌+◌, ◌*◌, ◌/◌, ◌<◌, ◌≤◌, ◌==◌, Bool, true, false, cond, ltb, List, [], ◌∷◌, length, drop, Option, Some, None, Result, Ok, Err, refl, sym, ap, subst, ◌∙◌, arith}
+use Rattle.std.proofs.Common.{◌≡◌, ℕ, zero, suc, ◌<◌, ◌≤◌, true, cond, ltb, List, [], ◌∷◌, length, Some, None, Result, Ok, Err, refl, sym, ap, subst, ◌∙◌, arith}
 use Rattle.std.proofs.lemmas.List.{length-drop, nil_from_length}
 use Rattle.frame_codec.specs.declared.fault.BadPacket.{BadPacket}
 use Rattle.frame_codec.specs.declared.fault.BadPacket.TheVariants.{TooShort, Mixed}
 use Rattle.frame_codec.specs.declared.header.Header.{Header}
 use Rattle.frame_codec.specs.Steps.{◌>>=◌, fault_of}
 use Rattle.frame_codec.specs.FrameType.{type_of}
-use Rattle.frame_codec.specs.Frame.{Sent, padded, frame_of, frame_as}
+use Rattle.frame_codec.specs.Frame.{Sent, padded, frame_of}
 use Rattle.frame_codec.specs.Frames.{follows, behind, next_of, later_of, all_later, frames_of, frames_in, and_then}
 use Rattle.frame_codec.proofs.Chains.{bind_ok, step, guard_ok, wanted_ok, ok_is}
 use Rattle.frame_codec.proofs.Readers.{frame_fits}

@@ -8,3 +8,4 @@ pub mod FramesAgain
 pub mod Numbers
 pub mod WriteBack
 pub mod FramesBack
+pub mod DatagramsBack

@@ -1,9 +1,9 @@
 -- What stands in the bytes where reading did not fail.
-use Rattle.std.proofs.Common.{◌≡◌, ℕ, ◌+◌, ◌^◌, ◌%◌, ◌==◌, ◌<◌, ◌≤◌, Bool, true, false, not, cond, ltb, List, length, take, Result, Ok, Err, refl, sym, ap, subst, ◌∙◌, arith}
+use Rattle.std.proofs.Common.{◌≡◌, ℕ, ◌^◌, ◌%◌, ◌==◌, ◌<◌, ◌≤◌, not, cond, ltb, List, length, take, Result, Ok, Err, ap, subst, ◌∙◌, arith}
 use Rattle.std.proofs.lemmas.Bool.{ltb-false, ltb-true, eqb-true}
 use Rattle.std.proofs.lemmas.List.{length-take}
 use Rattle.frame_codec.specs.declared.fault.BadPacket.{BadPacket}
-use Rattle.frame_codec.specs.declared.fault.BadPacket.TheVariants.{TooShort, BadVersion, OtherType, BadLength, Unaligned, Mixed}
+use Rattle.frame_codec.specs.declared.fault.BadPacket.TheVariants.{TooShort, BadVersion, BadLength, Unaligned, Mixed}
 use Rattle.frame_codec.specs.declared.frame_type.FrameType.{FrameType}
 use Rattle.frame_codec.specs.declared.frame_type.FrameType.TheVariants as types
 use Rattle.frame_codec.specs.declared.header.Kind.TheVariants.{Data, Pad}
@@ -15,7 +15,7 @@ use Rattle.frame_codec.specs.Frame.{Sent, data_of, pad_of, pad_length, frame_of,
 use Rattle.frame_codec.specs.Nak.{nak_of}
 use Rattle.frame_codec.specs.StatusMessage.{status_of}
 use Rattle.frame_codec.specs.Setup.{setup_of}
-use Rattle.frame_codec.proofs.Chains.{bind_ok, step, guard_ok, wanted_ok, ok_is, not_false}
+use Rattle.frame_codec.proofs.Chains.{bind_ok, step, guard_ok, wanted_ok, ok_is}
 
 -- there are as many bytes as the type has at least
 pub type_fits : (bytes : List ℕ) (t : FrameType) → type_of bytes ≡ Ok t → type_size t ≤ length bytes

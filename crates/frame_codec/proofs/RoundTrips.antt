@@ -1,5 +1,5 @@
 -- What was written is read back: fields, and frames of one.
-use Rattle.std.proofs.Common.{◌≡◌, ℕ, ℤ, pos, ◌+◌, ◌%◌, ◌^◌, ◌<◌, ◌≤◌, ◌==◌, Bool, true, false, List, [], ◌∷◌, ◌++◌, length, take, drop, Result, Ok, Err, refl, sym, ap, ◌∙◌, arith}
+use Rattle.std.proofs.Common.{◌≡◌, ℕ, ℤ, pos, ◌%◌, ◌^◌, ◌<◌, ◌≤◌, List, ◌++◌, length, drop, Ok, refl, sym, ap, ◌∙◌, arith}
 use Rattle.std.specs.Prelude.{FitsSigned}
 use Rattle.std.specs.Int.{w32, cast_signed, cast_unsigned}
 use Rattle.std.proofs.lemmas.Bool.{eq-eqb, le-ltb, lt-ltb}
@@ -8,15 +8,13 @@ use Rattle.std.proofs.Math.Facts.{Fits-of_z, sfits_lit}
 use Rattle.std.proofs.lemmas.List.{length-append}
 use Rattle.byteorder.specs.Endian.{little_bytes, little_number}
 use Rattle.byteorder.specs.Numbers.{little_number-reads_back}
-use Rattle.frame_codec.specs.declared.fault.BadPacket.{BadPacket}
 use Rattle.frame_codec.specs.declared.frame_type.FrameType.{FrameType}
 use Rattle.frame_codec.specs.declared.frame_type.FrameType.TheVariants as types
 use Rattle.frame_codec.specs.declared.nak.Nak.{Nak}
 use Rattle.frame_codec.specs.declared.status_message.StatusMessage.{StatusMessage}
 use Rattle.frame_codec.specs.declared.setup.Setup.{Setup}
-use Rattle.frame_codec.specs.Steps.{◌>>=◌}
 use Rattle.frame_codec.specs.Fields.{byte_at, half_at, number_at, signed_at, long_at, natural_at, stated_length, aligned}
-use Rattle.frame_codec.specs.FrameType.{type_of, type_numbered, type_size, sized}
+use Rattle.frame_codec.specs.FrameType.{type_of, type_numbered, type_size}
 use Rattle.frame_codec.specs.Writing.{number_bytes, signed_bytes, front_bytes}
 use Rattle.frame_codec.specs.Nak.{nak_of, nak_at, nak_bytes}
 use Rattle.frame_codec.specs.StatusMessage.{status_of, status_at, status_bytes}

@@ -1,18 +1,17 @@
 -- What was read is written as the bytes that it was read from.
-use Rattle.std.proofs.Common.{◌≡◌, ℕ, ℤ, zero, suc, pos, ◌+◌, ◌%◌, ◌^◌, ◌<◌, ◌≤◌, ◌==◌, ◌⊎◌, inl, inr, Bool, true, false, not, cond, ltb, List, [], ◌∷◌, ◌++◌, length, take, drop, slice_index, Result, Ok, Err, refl, sym, ap, subst, ◌∙◌, arith, length-drop}
-use Rattle.std.specs.Int.{w32, cast_signed, cast_unsigned}
-use Rattle.std.proofs.lemmas.Bool.{ltb-false, eqb-true}
+use Rattle.std.proofs.Common.{◌≡◌, ℕ, ℤ, zero, suc, pos, ◌+◌, ◌^◌, ◌<◌, ◌≤◌, ◌==◌, ◌⊎◌, inl, inr, Bool, true, false, not, cond, ltb, List, [], ◌∷◌, ◌++◌, length, take, drop, slice_index, Result, Ok, Err, refl, sym, ap, subst, ◌∙◌, arith, length-drop}
+use Rattle.std.specs.Int.{w32, cast_unsigned}
+use Rattle.std.proofs.lemmas.Bool.{eqb-true}
 use Rattle.std.proofs.lemmas.Int.{of_z-to_z}
 use Rattle.std.proofs.lemmas.List.{take-append-drop, get_or-drop}
 use Rattle.std.proofs.Math.Seq.{take-add}
 use Rattle.byteorder.specs.Endian.{little_bytes, little_number}
 use Rattle.byteorder.specs.Numbers.{little_from-lt}
 use Rattle.frame_codec.specs.declared.fault.BadPacket.{BadPacket}
-use Rattle.frame_codec.specs.declared.fault.BadPacket.TheVariants.{TooShort, BadVersion, OtherType, Mixed}
+use Rattle.frame_codec.specs.declared.fault.BadPacket.TheVariants.{TooShort, BadVersion, OtherType}
 use Rattle.frame_codec.specs.declared.flags.Flags.{Flags}
 use Rattle.frame_codec.specs.declared.frame_type.FrameType.{FrameType}
 use Rattle.frame_codec.specs.declared.frame_type.FrameType.TheVariants as types
-use Rattle.frame_codec.specs.declared.header.Header.{Header}
 use Rattle.frame_codec.specs.declared.nak.Nak.{Nak}
 use Rattle.frame_codec.specs.declared.status_message.StatusMessage.{StatusMessage}
 use Rattle.frame_codec.specs.declared.setup.Setup.{Setup}
@@ -20,7 +19,7 @@ use Rattle.frame_codec.specs.Steps.{◌>>=◌}
 use Rattle.frame_codec.specs.Fields.{IsBytes, byte_at, half_at, number_at, signed_at, long_at, natural_at, stated_length, aligned}
 use Rattle.frame_codec.specs.FrameType.{type_of, type_numbered, type_size, sized}
 use Rattle.frame_codec.specs.Writing.{number_bytes, signed_bytes, front_bytes, no_flags}
-use Rattle.frame_codec.specs.Frame.{Sent, beat_of}
+use Rattle.frame_codec.specs.Frame.{beat_of}
 use Rattle.frame_codec.specs.Frames.{frames_of}
 use Rattle.frame_codec.specs.Nak.{nak_of, nak_at, nak_bytes}
 use Rattle.frame_codec.specs.StatusMessage.{status_of, status_at, status_bytes}
@@ -148,67 +147,55 @@ front_back bytes size flags number fits long is stated some =
 
 -- ---- which content a datagram has
 
-abbrev is_term : Content → Bool
-is_term (contents.frames f) = true
-is_term (contents.beat h) = true
-is_term (contents.nak n) = false
-is_term (contents.status s) = false
-is_term (contents.setup s) = false
+-- what was read, of a datagram of that kind and content
+abbrev pub IsRead : List ℕ → FrameType → Content → Type 0
+IsRead bytes kind (contents.frames frames) = frames_of bytes ≡ Ok frames
+IsRead bytes kind (contents.beat h) = (kind ≡ types.Data) × (length bytes ≡ 32) × (number_at 0 bytes ≡ 0) × (beat_of bytes ≡ Ok h)
+IsRead bytes kind (contents.nak n) = (kind ≡ types.Nak) × (nak_of bytes ≡ Ok n)
+IsRead bytes kind (contents.status s) = (kind ≡ types.StatusMessage) × (status_of bytes ≡ Ok s)
+IsRead bytes kind (contents.setup s) = (kind ≡ types.Setup) × (setup_of bytes ≡ Ok s)
 
-term_is : (r : Result (List Sent) BadPacket) (c : Content) → (r >>= λ sent. Ok (contents.frames sent)) ≡ Ok c → is_term c ≡ true
-term_is r c e = elim (bind_ok r (λ sent. Ok (contents.frames sent)) c e) [ step x is after ↦ sym (ap is_term (ok_is (contents.frames x) c after)) ∙ refl ]
+term_read : (bytes : List ℕ) (kind : FrameType) (c : Content) → (frames_of bytes >>= λ sent. Ok (contents.frames sent)) ≡ Ok c → IsRead bytes kind c
+term_read bytes kind c e = elim (bind_ok (frames_of bytes) (λ sent. Ok (contents.frames sent)) c e) [
+  | step x is after ↦ subst (IsRead bytes kind) (ok_is (contents.frames x) c after) is
+]
 
-beat_is : (r : Result Header BadPacket) (c : Content) → (r >>= λ header. Ok (contents.beat header)) ≡ Ok c → is_term c ≡ true
-beat_is r c e = elim (bind_ok r (λ header. Ok (contents.beat header)) c e) [ step x is after ↦ sym (ap is_term (ok_is (contents.beat x) c after)) ∙ refl ]
+data_read_by : (a b : Bool) (bytes : List ℕ) (c : Content) → (length bytes == 32) ≡ a → (number_at 0 bytes == 0) ≡ b
+    → cond (not a) (frames_of bytes >>= λ sent. Ok (contents.frames sent)) (cond (not b) (frames_of bytes >>= λ sent. Ok (contents.frames sent)) (beat_of bytes >>= λ header. Ok (contents.beat header))) ≡ Ok c
+    → IsRead bytes types.Data c
+data_read_by false b bytes c size none e = term_read bytes types.Data c e
+data_read_by true false bytes c size none e = term_read bytes types.Data c e
+data_read_by true true bytes c size none e = elim (bind_ok (beat_of bytes) (λ header. Ok (contents.beat header)) c e) [
+  | step x is after ↦ subst (IsRead bytes types.Data) (ok_is (contents.beat x) c after) (refl, eqb-true (length bytes) 32 size, eqb-true (number_at 0 bytes) 0 none, is)
+]
 
-data_is : (a b : Bool) (r : Result (List Sent) BadPacket) (q : Result Header BadPacket) (c : Content)
-    → cond (not a) (r >>= λ sent. Ok (contents.frames sent)) (cond (not b) (r >>= λ sent. Ok (contents.frames sent)) (q >>= λ header. Ok (contents.beat header))) ≡ Ok c → is_term c ≡ true
-data_is false b r q c e = term_is r c e
-data_is true false r q c e = term_is r c e
-data_is true true r q c e = beat_is q c e
-
-data_content_is : (bytes : List ℕ) (c : Content) → data_content bytes ≡ Ok c → is_term c ≡ true
+data_read : (bytes : List ℕ) (c : Content) → data_content bytes ≡ Ok c → IsRead bytes types.Data c
 unfolding data_content
-data_content_is bytes c e = data_is (length bytes == 32) (number_at 0 bytes == 0) (frames_of bytes) (beat_of bytes) c e
+data_read bytes c e = data_read_by (length bytes == 32) (number_at 0 bytes == 0) bytes c refl refl e
 
--- what it is, if it is no frames of a term
-abbrev Other : List ℕ → FrameType → Content → Type 0
-Other bytes kind (contents.frames f) = Unit {0}
-Other bytes kind (contents.beat h) = Unit {0}
-Other bytes kind (contents.nak n) = (kind ≡ types.Nak) × (nak_of bytes ≡ Ok n)
-Other bytes kind (contents.status s) = (kind ≡ types.StatusMessage) × (status_of bytes ≡ Ok s)
-Other bytes kind (contents.setup s) = (kind ≡ types.Setup) × (setup_of bytes ≡ Ok s)
-
-term_other : (bytes : List ℕ) (kind : FrameType) (c : Content) → is_term c ≡ true → Other bytes kind c
-term_other bytes kind (contents.frames f) e = tt
-term_other bytes kind (contents.beat h) e = tt
-term_other bytes kind (contents.nak n) e = absurd cc
-term_other bytes kind (contents.status s) e = absurd cc
-term_other bytes kind (contents.setup s) e = absurd cc
-
-other : (bytes : List ℕ) (kind : FrameType) (c : Content) → content_as bytes kind ≡ Ok c → Other bytes kind c
-other bytes types.Pad c e = term_other bytes types.Pad c (term_is (frames_of bytes) c e)
-other bytes types.Data c e = term_other bytes types.Data c (data_content_is bytes c e)
-other bytes types.Nak c e = elim (bind_ok (nak_of bytes) (λ fields. Ok (contents.nak fields)) c e) [
-  | step x is after ↦ subst (Other bytes types.Nak) (ok_is (contents.nak x) c after) (refl, is)
+content_read : (bytes : List ℕ) (kind : FrameType) (c : Content) → content_as bytes kind ≡ Ok c → IsRead bytes kind c
+content_read bytes types.Pad c e = term_read bytes types.Pad c e
+content_read bytes types.Data c e = data_read bytes c e
+content_read bytes types.Nak c e = elim (bind_ok (nak_of bytes) (λ fields. Ok (contents.nak fields)) c e) [
+  | step x is after ↦ subst (IsRead bytes types.Nak) (ok_is (contents.nak x) c after) (refl, is)
 ]
-other bytes types.StatusMessage c e = elim (bind_ok (status_of bytes) (λ fields. Ok (contents.status fields)) c e) [
-  | step x is after ↦ subst (Other bytes types.StatusMessage) (ok_is (contents.status x) c after) (refl, is)
+content_read bytes types.StatusMessage c e = elim (bind_ok (status_of bytes) (λ fields. Ok (contents.status fields)) c e) [
+  | step x is after ↦ subst (IsRead bytes types.StatusMessage) (ok_is (contents.status x) c after) (refl, is)
 ]
-other bytes types.Setup c e = elim (bind_ok (setup_of bytes) (λ fields. Ok (contents.setup fields)) c e) [
-  | step x is after ↦ subst (Other bytes types.Setup) (ok_is (contents.setup x) c after) (refl, is)
+content_read bytes types.Setup c e = elim (bind_ok (setup_of bytes) (λ fields. Ok (contents.setup fields)) c e) [
+  | step x is after ↦ subst (IsRead bytes types.Setup) (ok_is (contents.setup x) c after) (refl, is)
 ]
 
--- the kind and the front of a datagram of other content
+-- the kind of a datagram, its front, and what was read
 pub record Found (bytes : List ℕ) (c : Content) : Type 0 where
   pub kind : FrameType
   pub front : IsFront bytes (type_number kind)
-  pub is : Other bytes kind c
+  pub is : IsRead bytes kind c
 
-found : (bytes : List ℕ) (c : Content) → packet_of bytes ≡ Ok c → Found bytes c
+pub found : (bytes : List ℕ) (c : Content) → packet_of bytes ≡ Ok c → Found bytes c
 unfolding packet_of
 found bytes c e = elim (bind_ok (type_of bytes) (content_as bytes) c e) [
-  | step kind kind_is after ↦ record { kind = kind; front = type_ok bytes kind kind_is; is = other bytes kind c after }
+  | step kind kind_is after ↦ record { kind = kind; front = type_ok bytes kind kind_is; is = content_read bytes kind c after }
 ]
 
 -- ---- NAKs

@@ -1,6 +1,6 @@
 -- Fields that are written one behind the other.
-use Rattle.std.proofs.Common.{◌≡◌, ℕ, ℤ, zero, suc, ◌+◌, ◌≤◌, List, [], ◌∷◌, ◌++◌, length, take, drop, refl, sym, ap, ◌∙◌, append_assoc, arith, length-append, ap₂, ◌-◌}
-use Rattle.std.proofs.lemmas.List.{drop-drop, take-append-drop, drop_at, take_at}
+use Rattle.std.proofs.Common.{◌≡◌, ℕ, ℤ, ◌+◌, List, [], ◌++◌, length, take, drop, refl, sym, ap, ◌∙◌, arith, length-append, ap₂, ◌-◌}
+use Rattle.std.proofs.lemmas.List.{drop-drop, drop_at, take_at}
 use Rattle.byteorder.specs.Numbers.{length-bytes_low_first}
 use Rattle.std.specs.Prelude.{replicate}
 use Rattle.frame_codec.specs.Frame.{padded}

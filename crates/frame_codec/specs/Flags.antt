@@ -1,5 +1,5 @@
 -- The flags byte of a frame (Aeron Transport Protocol Specification, frame headers).
-use Rattle.std.specs.Prelude.{ℕ, Bool, ◌==◌, bit_and}
+use Rattle.std.specs.Prelude.{Bool, ◌==◌, bit_and}
 use Rattle.frame_codec.specs.declared.flags.Flags.{Flags}
 
 -- all bits of the second are set in the first

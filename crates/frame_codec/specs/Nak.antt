@@ -1,5 +1,5 @@
 -- NAK frames: a receiver asks for bytes of a term again (Aeron Transport Protocol Specification, NAK frame).
-use Rattle.std.specs.Prelude.{ℕ, List, ◌++◌, Result, Ok, Err}
+use Rattle.std.specs.Prelude.{ℕ, List, ◌++◌, Result, Ok}
 use Rattle.frame_codec.specs.declared.fault.BadPacket.{BadPacket}
 use Rattle.frame_codec.specs.declared.nak.Nak.{Nak}
 use Rattle.frame_codec.specs.Steps.{◌>>=◌}

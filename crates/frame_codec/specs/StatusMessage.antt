@@ -1,6 +1,6 @@
 -- Status messages: a receiver tells what it has taken, and for how much more it has room
 -- (Aeron Transport Protocol Specification, status message).
-use Rattle.std.specs.Prelude.{ℕ, List, ◌++◌, Result, Ok, Err}
+use Rattle.std.specs.Prelude.{ℕ, List, ◌++◌, Result, Ok}
 use Rattle.frame_codec.specs.declared.fault.BadPacket.{BadPacket}
 use Rattle.frame_codec.specs.declared.status_message.StatusMessage.{StatusMessage}
 use Rattle.frame_codec.specs.Steps.{◌>>=◌}

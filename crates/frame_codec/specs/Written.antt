@@ -1,7 +1,8 @@
--- What can be written and is then read back.
-use Rattle.std.specs.Prelude.{◌≡◌, ℕ, pos, ◌+◌, ◌%◌, ◌<◌, ◌^◌, true, List, [], ◌∷◌, ◌++◌, length, drop, FitsSigned}
+-- What can be written and is then read back, and what was read and is then written again.
+use Rattle.std.specs.Prelude.{◌≡◌, ℕ, pos, ◌+◌, ◌-◌, ◌%◌, ◌<◌, ◌^◌, true, List, [], ◌∷◌, ◌++◌, length, take, drop, replicate, FitsSigned}
 use Rattle.std.specs.Int.{w32}
 use Rattle.frame_codec.specs.declared.flags.Flags.{Flags}
+use Rattle.frame_codec.specs.declared.header.Kind.{Kind}
 use Rattle.frame_codec.specs.declared.header.Kind.TheVariants.{Data, Pad}
 use Rattle.frame_codec.specs.declared.header.TermPlace.{TermPlace}
 use Rattle.frame_codec.specs.declared.header.Header.{Header}
@@ -9,8 +10,8 @@ use Rattle.frame_codec.specs.declared.nak.Nak.{Nak}
 use Rattle.frame_codec.specs.declared.status_message.StatusMessage.{StatusMessage}
 use Rattle.frame_codec.specs.declared.setup.Setup.{Setup}
 use Rattle.frame_codec.specs.Header.{header_bytes, plain_header}
-use Rattle.frame_codec.specs.Frame.{Sent, data_header, data_bytes, pad_bytes}
-use Rattle.frame_codec.specs.Frames.{follows}
+use Rattle.frame_codec.specs.Frame.{Sent, padded, data_header, data_bytes, pad_bytes}
+use Rattle.frame_codec.specs.Frames.{follows, behind}
 
 -- ---- each number fits its field; offsets are multiples of 32; what is written as 0 here is 0
 
@@ -94,3 +95,34 @@ IsKept frame = header_bytes frame.header ++ drop 32 frame.bytes ≡ frame.bytes
 abbrev pub AreKept : List Sent → Type 0
 AreKept [] = Unit {0}
 AreKept (frame ∷ later) = IsKept frame × AreKept later
+
+-- ---- datagrams of frames
+
+-- the bytes of these frames stand one behind the other, each with its filling, to the last byte; the filling of the
+-- last may be cut off
+abbrev pub StandIn : List Sent → List ℕ → Type 0
+StandIn [] bytes = bytes ≡ []
+StandIn (frame ∷ later) bytes = (take (length frame.bytes) bytes ≡ frame.bytes) × StandIn later (behind frame bytes)
+
+-- how many bytes fill the place of a frame up to the next multiple of 32
+abbrev pub fill_length : Sent → ℕ
+fill_length frame = padded (length frame.bytes) - length frame.bytes
+
+-- the filling behind a frame that stands at the front
+abbrev pub filling : Sent → List ℕ → List ℕ
+filling frame bytes = take (fill_length frame) (drop (length frame.bytes) bytes)
+
+-- the frames are as they are written here: their reserved values are 0, and behind each is all its filling, of zeros
+abbrev pub ArePlain : List Sent → List ℕ → Type 0
+ArePlain [] bytes = Unit {0}
+ArePlain (frame ∷ later) bytes =
+    (frame.header.reserved_value ≡ 0) × (filling frame bytes ≡ replicate (fill_length frame) 0) × ArePlain later (behind frame bytes)
+
+-- a frame that was read, to be written again
+abbrev pub written_as : Kind → Sent → Written
+written_as Data frame = part frame.header.flags frame.header.place (drop 32 frame.bytes)
+written_as Pad frame = padding frame.header.flags frame.header.place frame.header.length
+
+abbrev pub all_written : List Sent → List Written
+all_written [] = []
+all_written (frame ∷ later) = written_as frame.header.kind frame ∷ all_written later

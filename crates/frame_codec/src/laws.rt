@@ -11,8 +11,9 @@ ghost use Rattle.frame_codec.specs.Nak.{nak_bytes};
 ghost use Rattle.frame_codec.specs.Position.{position_of, term_id_of};
 ghost use Rattle.frame_codec.specs.Setup.{setup_bytes};
 ghost use Rattle.frame_codec.specs.StatusMessage.{status_bytes};
-ghost use Rattle.frame_codec.specs.Written.{AreBehind, AreKept, IsNak, IsPlace, IsSetup, IsStatusMessage, IsWritten, Written, all_bytes, all_frames, written_frame};
+ghost use Rattle.frame_codec.specs.Written.{AreBehind, AreKept, ArePlain, IsNak, IsPlace, IsSetup, IsStatusMessage, IsWritten, StandIn, Written, all_bytes, all_frames, all_written, written_frame};
 ghost use Rattle.frame_codec.specs.declared.flags.Flags.{Flags};
+ghost use Rattle.frame_codec.specs.declared.header.Header.{Header};
 ghost use Rattle.frame_codec.specs.declared.header.Kind.TheVariants.{Data};
 ghost use Rattle.frame_codec.specs.declared.header.TermPlace.{TermPlace};
 ghost use Rattle.frame_codec.specs.declared.nak.Nak.{Nak};
@@ -50,6 +51,31 @@ pub fn setups_read_back()
 /// The bytes of each data frame and pad that was read are those that its header is written with, and then its payload.
 pub fn frames_write_back()
     ensures { (bytes : List ℕ) (frames : List Sent) → IsBytes bytes → packet_of bytes ≡ Ok (contents.frames frames) → AreKept frames }
+{}
+
+/// The bytes of a datagram of data frames and pads are those of its frames, in order, each with its filling behind it up
+/// to the next multiple of 32; behind the last the filling may be cut off.
+pub fn frames_stand_in_datagrams()
+    ensures { (bytes : List ℕ) (frames : List Sent) → packet_of bytes ≡ Ok (contents.frames frames) → StandIn frames bytes }
+{}
+
+/// Data frames and pads that are written one behind the other have the reserved values and the filling that frames are
+/// written with here.
+pub fn written_frames_are_plain()
+    ensures { (frames : List Written) → ArePlain (all_frames frames) (all_bytes frames) }
+{}
+
+/// A datagram of data frames and pads that was read, and has the reserved values and the filling that frames are written
+/// with here, is written, frame by frame, as the same bytes.
+pub fn datagrams_write_back()
+    ensures { (bytes : List ℕ) (frames : List Sent) → IsBytes bytes → packet_of bytes ≡ Ok (contents.frames frames)
+        → ArePlain frames bytes → all_bytes (all_written frames) ≡ bytes }
+{}
+
+/// A heartbeat that was read, and has the reserved value that one is written with here, is written as the same bytes.
+pub fn heartbeats_write_back()
+    ensures { (bytes : List ℕ) (header : Header) → IsBytes bytes → packet_of bytes ≡ Ok (contents.beat header)
+        → header.reserved_value ≡ 0 → beat_bytes header.flags header.place ≡ bytes }
 {}
 
 /// A NAK that was read, and has the length and flags that a NAK is written with here, is written as the same bytes.

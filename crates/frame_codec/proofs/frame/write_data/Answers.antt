@@ -1,5 +1,5 @@
 -- The header, the payload, and zeros up to the end.
-use Rattle.std.proofs.Common.{◌≡◌, ◌+◌, ◌++◌, length, refl, ◌∙◌, rules}
+use Rattle.std.proofs.Common.{◌+◌, ◌++◌, length, refl, ◌∙◌}
 use Rattle.std.proofs.lemmas.List.{length-replicate}
 use Rattle.frame_codec.specs.Header.{header_bytes}
 use Rattle.frame_codec.specs.Frame.{data_bytes, data_header}

@@ -1,5 +1,5 @@
 -- A frame more was read, or one is refused.
-use Rattle.std.proofs.Common.{◌≡◌, ◌<◌, length, Option, Some, sym, ap, ◌∙◌, arith, rules}
+use Rattle.std.proofs.Common.{◌<◌, length, sym, ap, ◌∙◌, arith, rules}
 use Rattle.std.proofs.lemmas.Bool.Decides.{nat_tests}
 use Rattle.frame_codec.specs.Frame.{sent}
 use Rattle.frame_codec.specs.Frames.{all_later}

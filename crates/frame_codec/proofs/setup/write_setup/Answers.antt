@@ -1,5 +1,5 @@
 -- The fields, one behind the other.
-use Rattle.std.proofs.Common.{◌≡◌, refl, ◌∙◌, rules}
+use Rattle.std.proofs.Common.{◌∙◌, rules}
 use Rattle.frame_codec.specs.Setup.{setup_bytes}
 use Rattle.frame_codec.proofs.WritingLemmas.{put_more, length-number_bytes, length-signed_bytes}
 use Rattle.frame_codec.proofs.setup.write_setup.Goals as goal

@@ -1,4 +1,4 @@
-use Rattle.std.proofs.Common.{◌≡◌, refl, ◌∙◌, rules}
+use Rattle.std.proofs.Common.{refl}
 use Rattle.frame_codec.specs.Writing.{front_bytes}
 use Rattle.frame_codec.proofs.WritingLemmas.{put_none, put_more, length-number_bytes}
 use Rattle.frame_codec.proofs.writing.put_front.Goals as goal

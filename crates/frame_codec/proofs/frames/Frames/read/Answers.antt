@@ -1,7 +1,7 @@
 -- All frames were read, or the first fault among them stands.
-use Rattle.std.proofs.Common.{◌≡◌, Ok, Err, sym, ap, ◌∙◌, rules}
+use Rattle.std.proofs.Common.{sym, ap, ◌∙◌, rules}
 use Rattle.frame_codec.specs.Frame.{sent}
-use Rattle.frame_codec.specs.Frames.{frames_of, frames_left, all_later}
+use Rattle.frame_codec.specs.Frames.{frames_left, all_later}
 use Rattle.frame_codec.specs.Steps.{fault_of}
 use Rattle.frame_codec.proofs.FramesLemmas.{first_refused, frames_read, frames_refused}
 use Rattle.frame_codec.proofs.frames.Frames.read.Goals as goal

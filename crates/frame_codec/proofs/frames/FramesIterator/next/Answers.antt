@@ -1,6 +1,6 @@
 -- The first of what is left was read, or nothing is left.
-use Rattle.std.proofs.Common.{◌≡◌, ◌∷◌, length, Ok, sym, ap, ◌∙◌, arith, rules}
-use Rattle.frame_codec.specs.Frame.{frame_of, sent}
+use Rattle.std.proofs.Common.{◌∷◌, length, sym, ap, ◌∙◌, arith, rules}
+use Rattle.frame_codec.specs.Frame.{sent}
 use Rattle.frame_codec.specs.Frames.{frames_in, frames_left}
 use Rattle.frame_codec.proofs.FramesLemmas.{frames_first, frames_none}
 use Rattle.frame_codec.proofs.frames.FramesIterator.next.Goals as goal

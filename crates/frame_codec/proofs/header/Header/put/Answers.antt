@@ -1,5 +1,5 @@
 -- The fields, one behind the other.
-use Rattle.std.proofs.Common.{◌≡◌, refl, ◌∙◌, rules}
+use Rattle.std.proofs.Common.{◌∙◌, rules}
 use Rattle.frame_codec.specs.Header.{header_bytes}
 use Rattle.frame_codec.proofs.WritingLemmas.{put_more, length-number_bytes, length-signed_bytes, length-header_bytes}
 use Rattle.frame_codec.proofs.header.Header.put.Goals as goal
