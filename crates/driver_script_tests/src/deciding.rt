@@ -180,13 +180,9 @@ fn principals_are_nobody_and_p1_to_p63(rt: HostRuntime) -> Result<(), Fail> {
                 1,
             )?;
             if name == asker {
-                assert_eq!(rt; text.as_str(), "allowed by rule 1 in policy 1", "{asker}");
+                assert_eq!(rt; text.as_str(), "allowed by rule 1 in policy 1");
             } else {
-                assert_eq!(rt;
-                    text.as_str(),
-                    "denied by default in policy 1",
-                    "{asker} as {name}"
-                );
+                assert_eq!(rt; text.as_str(), "denied by default in policy 1");
             }
         }
     }
@@ -364,7 +360,7 @@ fn acts_of_a_question(rt: HostRuntime) -> Result<(), Fail> {
         if act == "offer" {
             assert_eq!(rt; text.as_str(), "allowed by rule 1 in policy 1");
         } else {
-            assert_eq!(rt; text.as_str(), "denied by default in policy 1", "{act}");
+            assert_eq!(rt; text.as_str(), "denied by default in policy 1");
         }
     }
     for act in ["", "fly", "Offer", "offer ", "*"] {

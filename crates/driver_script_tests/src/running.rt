@@ -144,26 +144,32 @@ reply 1 010f00000e000000000000000200000014000000756e6b6e6f776e207375627363726970
 
 #[test]
 fn refused_policies_are_no_events(rt: HostRuntime) -> Result<(), Fail> {
-    for (policy, answer) in [
-        ("version = 1\ndefault = \"allow\"\n", "policy 2"),
-        ("", "policy refused: bad version"),
-        ("version\n", "policy refused: not toml"),
+    for (policy, answer, number) in [
+        ("version = 1\ndefault = \"allow\"\n", "policy 2", 3),
+        ("", "policy refused: bad version", 2),
+        ("version\n", "policy refused: not toml", 2),
         (
             "version = 2\ndefault = \"allow\"\n",
             "policy refused: bad version",
+            2,
         ),
-        ("version = 1\n", "policy refused: rule 0: bad field default"),
+        (
+            "version = 1\n",
+            "policy refused: rule 0: bad field default",
+            2,
+        ),
         (
             "version = 1\ndefault = \"deny\"\n[[rule]]\nname = \"a\"\nprincipal = \"bob\"\n",
             "policy refused: rule 1: unknown principal",
+            2,
         ),
         (
             "version = 1\ndefault = \"deny\"\n[[rule]]\nname = \"a\"\nprincipal = \"alice\"\nact = \"fly\"\n",
             "policy refused: rule 1: unknown act",
+            2,
         ),
     ] {
-        // The next number is drawn only by a policy that is put in force.
-        let number = if answer == "policy 2" { 3 } else { 2 };
+        // The number of the next policy: one is drawn only by a policy that is put in force.
         let script = format!(in rt.alloc();
             "principal alice 7\n{HEAD}attach 0 7\npolicy\n{policy}.\nattach 0 7\n{ALLOWED}"
         )?;
