@@ -2,6 +2,7 @@ use super::*;
 use byte_strings::{Bytes, Text};
 use channel_uri::Pattern;
 use policy_core::{Acts, Policy, Principals, Rule};
+use std::alloc::{AllocError, Global};
 use std::test::Fail;
 
 /// A counter of this number, client and type id, in the list.
