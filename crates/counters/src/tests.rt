@@ -18,6 +18,14 @@ fn add(
     Ok(counters.add(number, client, type_id, key, label))
 }
 
+/// The value of the counter of this number.
+fn value_of(counters: &Counters, number: u64) -> Option<i64> {
+    match counters.get(number) {
+        Some(counter) => Some(counter.value),
+        None => None,
+    }
+}
+
 #[test]
 fn a_counter_comes_is_set_and_goes(rt: HostRuntime) -> Result<(), Fail> {
     let mut counters = Counters::new(rt.alloc());
@@ -26,8 +34,9 @@ fn a_counter_comes_is_set_and_goes(rt: HostRuntime) -> Result<(), Fail> {
     assert_eq!(rt; counters.set(1, 4, -7), Ok(()));
     assert_eq!(rt; counters.set(1, 5, 9), Err(CounterFault::UnknownCounter));
     assert_eq!(rt; counters.set(3, 6, 9), Err(CounterFault::UnknownCounter));
-    assert_eq!(rt; counters.rows()[0].value, -7);
-    assert_eq!(rt; counters.rows()[1].value, 0);
+    assert_eq!(rt; value_of(&counters, 4), Some(-7));
+    assert_eq!(rt; value_of(&counters, 5), Some(0));
+    assert_eq!(rt; value_of(&counters, 6), None);
     assert_eq!(rt; counters.remove(1, 5), Err(CounterFault::UnknownCounter));
     assert_eq!(rt; counters.remove(2, 5), Ok(()));
     assert!(rt; counters.get(5).is_none());
