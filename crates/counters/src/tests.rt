@@ -2,6 +2,7 @@ use super::*;
 use byte_strings::{Bytes, Text};
 use channel_uri::Pattern;
 use policy_core::{Acts, Policy, Principals, Rule};
+use std::alloc::{AllocError, Global};
 use std::test::Fail;
 
 /// A counter of this number, client and type id, in the list.
@@ -17,6 +18,14 @@ fn add(
     Ok(counters.add(number, client, type_id, key, label))
 }
 
+/// The value of the counter of this number.
+fn value_of(counters: &Counters, number: u64) -> Option<i64> {
+    match counters.get(number) {
+        Some(counter) => Some(counter.value),
+        None => None,
+    }
+}
+
 #[test]
 fn a_counter_comes_is_set_and_goes(rt: HostRuntime) -> Result<(), Fail> {
     let mut counters = Counters::new(rt.alloc());
@@ -25,8 +34,9 @@ fn a_counter_comes_is_set_and_goes(rt: HostRuntime) -> Result<(), Fail> {
     assert_eq!(rt; counters.set(1, 4, -7), Ok(()));
     assert_eq!(rt; counters.set(1, 5, 9), Err(CounterFault::UnknownCounter));
     assert_eq!(rt; counters.set(3, 6, 9), Err(CounterFault::UnknownCounter));
-    assert_eq!(rt; counters.rows()[0].value, -7);
-    assert_eq!(rt; counters.rows()[1].value, 0);
+    assert_eq!(rt; value_of(&counters, 4), Some(-7));
+    assert_eq!(rt; value_of(&counters, 5), Some(0));
+    assert_eq!(rt; value_of(&counters, 6), None);
     assert_eq!(rt; counters.remove(1, 5), Err(CounterFault::UnknownCounter));
     assert_eq!(rt; counters.remove(2, 5), Ok(()));
     assert!(rt; counters.get(5).is_none());
