@@ -3,6 +3,7 @@ use frame_codec::{
     TermPlace, padded_length, position, term_of, write_beat, write_data, write_nak, write_pad,
     write_setup, write_sm,
 };
+use std::alloc::Global;
 use std::test::Fail;
 
 /// A SETUP of session 9, stream 10: terms of 64 KiB from term 5 on, MTU 1408.
@@ -62,6 +63,47 @@ fn at(term_offset: u32) -> TermPlace {
         term_id: 5,
         term_offset,
     }
+}
+
+/// The first bytes of these, or all where there are fewer.
+fn front(bytes: &[u8], size: usize) -> &[u8] {
+    let (front, _) = bytes.split_at(size.min(bytes.len()));
+    front
+}
+
+/// A data frame of `abc` with its filling.
+fn abc_at(offset: u32, flags: Flags) -> [u8; 64] {
+    let mut out = [0xff; 64];
+    write_data(&mut out, flags, &at(offset), b"abc");
+    out
+}
+
+/// A data frame without a payload.
+fn empty_at(offset: u32, flags: Flags) -> [u8; 32] {
+    let mut out = [0xff; 32];
+    write_data(&mut out, flags, &at(offset), &[]);
+    out
+}
+
+/// A pad of that length.
+fn pad_at(offset: u32, size: u32) -> [u8; 32] {
+    let mut out = [0xff; 32];
+    write_pad(&mut out, Flags::UNFRAGMENTED, &at(offset), size);
+    out
+}
+
+/// The SETUP, and a byte behind it that is not written.
+fn written_setup(setup: &Setup) -> [u8; 41] {
+    let mut out = [0xff; 41];
+    write_setup(&mut out, setup);
+    out
+}
+
+/// A data frame of `abc`, and a byte behind it that is not written.
+fn written_data() -> [u8; 65] {
+    let mut out = [0xff; 65];
+    write_data(&mut out, Flags::UNFRAGMENTED, &at(0), b"abc");
+    out
 }
 
 /// What a datagram is read as, or the word for its fault.
@@ -133,9 +175,8 @@ fn setup_and_data(rt: HostRuntime) {
         Ok(Packet::Setup(read)) => assert_eq!(rt; read, setup),
         _ => assert!(rt; false),
     }
-    let mut out = [0xff; 41];
-    write_setup(&mut out, &setup);
-    assert_eq!(rt; &out[..40], SETUP.as_slice());
+    let out = written_setup(&setup);
+    assert_eq!(rt; front(&out, 40), SETUP.as_slice());
     assert_eq!(rt; out[40], 0xff);
 
     let Some(mut found) = frames(&DATA) else {
@@ -161,9 +202,8 @@ fn setup_and_data(rt: HostRuntime) {
     assert!(rt; !frame.header.flags.contains(Flags::END_OF_STREAM));
     assert!(rt; found.next().is_none());
 
-    let mut out = [0xff; 65];
-    write_data(&mut out, Flags::UNFRAGMENTED, &at(0), b"abc");
-    assert_eq!(rt; &out[..35], DATA.as_slice());
+    let out = written_data();
+    assert_eq!(rt; front(&out, 35), DATA.as_slice());
     assert!(rt; out[35..64].iter().all(|byte| *byte == 0));
     assert_eq!(rt; out[64], 0xff);
 }
@@ -374,19 +414,19 @@ fn each_byte_changed(rt: HostRuntime) -> Result<(), Fail> {
 }
 
 /// Two data frames and a pad, one behind the other: `abc` at 0, nothing at 64, and the pad at 96.
-fn run() -> [u8; 128] {
-    let mut out = [0xff; 128];
-    write_data(&mut out, Flags::BEGIN, &at(0), b"abc");
-    write_data(&mut out[64..], Flags::END, &at(64), &[]);
-    write_pad(&mut out[96..], Flags::UNFRAGMENTED, &at(96), 64);
-    out
+fn run(alloc: Global) -> Result<Vec<u8>, Fail> {
+    let mut bytes = Vec::from_slice(alloc, &abc_at(0, Flags::BEGIN))?;
+    bytes.extend_from_slice(&empty_at(64, Flags::END))?;
+    bytes.extend_from_slice(&pad_at(96, 64))?;
+    Ok(bytes)
 }
 
 #[test]
 fn several_frames(rt: HostRuntime) -> Result<(), Fail> {
-    let bytes = run();
+    let bytes = run(rt.alloc())?;
+    let bytes = bytes.as_slice();
     let mut seen = Vec::new(rt.alloc());
-    match frames(&bytes) {
+    match frames(bytes) {
         Some(found) => {
             for frame in found {
                 seen.push((
@@ -406,23 +446,23 @@ fn several_frames(rt: HostRuntime) -> Result<(), Fail> {
     ];
     assert_eq!(rt; seen.as_slice(), expected.as_slice());
     // The filling of the last frame may be missing.
-    assert_eq!(rt; word(&rt, &bytes[..35])?.as_str(), "data");
-    assert_eq!(rt; word(&rt, &bytes[..50])?.as_str(), "data");
-    assert_eq!(rt; word(&rt, &bytes[..64])?.as_str(), "data");
+    assert_eq!(rt; word(&rt, front(bytes, 35))?.as_str(), "data");
+    assert_eq!(rt; word(&rt, front(bytes, 50))?.as_str(), "data");
+    assert_eq!(rt; word(&rt, front(bytes, 64))?.as_str(), "data");
     // A rest behind it is a frame, or too short.
-    assert_eq!(rt; word(&rt, &bytes[..65])?.as_str(), "too-short");
-    assert_eq!(rt; word(&rt, &bytes[..95])?.as_str(), "too-short");
-    assert_eq!(rt; word(&rt, &bytes[..96])?.as_str(), "data");
+    assert_eq!(rt; word(&rt, front(bytes, 65))?.as_str(), "too-short");
+    assert_eq!(rt; word(&rt, front(bytes, 95))?.as_str(), "too-short");
+    assert_eq!(rt; word(&rt, front(bytes, 96))?.as_str(), "data");
     Ok(())
 }
 
 /// The run with one byte set.
 fn word_with(rt: &HostRuntime, place: usize, value: u8) -> Result<String, Fail> {
-    let mut bytes = run();
+    let mut bytes = run(rt.alloc())?;
     if place < bytes.len() {
         bytes[place] = value;
     }
-    word(rt, &bytes)
+    word(rt, bytes.as_slice())
 }
 
 #[test]
@@ -447,34 +487,38 @@ fn faults_of_later_frames(rt: HostRuntime) -> Result<(), Fail> {
 
 #[test]
 fn frames_of_other_types_behind_a_frame(rt: HostRuntime) -> Result<(), Fail> {
-    let mut bytes = [0; 104];
-    write_data(&mut bytes, Flags::UNFRAGMENTED, &at(0), b"abc");
-    bytes[64..].copy_from_slice(&SETUP);
-    assert_eq!(rt; word(&rt, &bytes)?.as_str(), "mixed");
+    let mut bytes = Vec::from_slice(rt.alloc(), &abc_at(0, Flags::UNFRAGMENTED))?;
+    bytes.extend_from_slice(&SETUP)?;
+    assert_eq!(rt; word(&rt, bytes.as_slice())?.as_str(), "mixed");
     // Its own faults come first.
-    bytes[64 + 8] = 1;
-    assert_eq!(rt; word(&rt, &bytes)?.as_str(), "unaligned");
-    bytes[64 + 8] = 0;
-    bytes[64] = 39;
-    assert_eq!(rt; word(&rt, &bytes)?.as_str(), "bad-length");
+    let mut unaligned = SETUP;
+    unaligned[8] = 1;
+    let mut bytes = Vec::from_slice(rt.alloc(), &abc_at(0, Flags::UNFRAGMENTED))?;
+    bytes.extend_from_slice(&unaligned)?;
+    assert_eq!(rt; word(&rt, bytes.as_slice())?.as_str(), "unaligned");
+    let mut short = SETUP;
+    short[0] = 39;
+    let mut bytes = Vec::from_slice(rt.alloc(), &abc_at(0, Flags::UNFRAGMENTED))?;
+    bytes.extend_from_slice(&short)?;
+    assert_eq!(rt; word(&rt, bytes.as_slice())?.as_str(), "bad-length");
     Ok(())
 }
 
 #[test]
 fn bytes_behind_a_pad(rt: HostRuntime) -> Result<(), Fail> {
-    let mut bytes = [0; 96];
-    write_pad(&mut bytes, Flags::UNFRAGMENTED, &at(0), 32);
-    write_data(&mut bytes[32..], Flags::UNFRAGMENTED, &at(32), b"abc");
-    assert_eq!(rt; word(&rt, &bytes[..32])?.as_str(), "data");
+    let mut all = Vec::from_slice(rt.alloc(), &pad_at(0, 32))?;
+    all.extend_from_slice(&abc_at(32, Flags::UNFRAGMENTED))?;
+    let bytes = all.as_slice();
+    assert_eq!(rt; word(&rt, front(bytes, 32))?.as_str(), "data");
     for size in 33..64 {
         assert_eq!(rt;
-            word(&rt, &bytes[..size])?.as_str(),
+            word(&rt, front(bytes, size))?.as_str(),
             "too-short",
             "at {size}"
         );
     }
-    assert_eq!(rt; word(&rt, &bytes[..66])?.as_str(), "bad-length");
-    assert_eq!(rt; word(&rt, &bytes)?.as_str(), "mixed");
+    assert_eq!(rt; word(&rt, front(bytes, 66))?.as_str(), "bad-length");
+    assert_eq!(rt; word(&rt, bytes)?.as_str(), "mixed");
     Ok(())
 }
 
