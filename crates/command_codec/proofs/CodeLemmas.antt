@@ -1,6 +1,6 @@
 -- A code is told by its number.
-use Rattle.std.proofs.Common.{◌≡◌, ℤ, Bool, true, false, cond, List, [], ◌∷◌, Option, Some, refl, sym, ap, ◌∙◌, ◌⊎◌, inl, inr, ◌↔◌}
-use Rattle.std.specs.Prelude.{find, FitsSigned}
+use Rattle.std.proofs.Common.{◌≡◌, ℤ, Some, refl, ap, ◌∙◌, ◌↔◌}
+use Rattle.std.specs.Prelude.{FitsSigned}
 use Rattle.std.specs.Int.{w32}
 use Rattle.std.specs.Ordering.{int_eq}
 use Rattle.std.proofs.Math.Facts.{sfits_lit}
@@ -8,6 +8,7 @@ use Rattle.std.proofs.lemmas.Bool.Decides.{Decides-int_eq}
 use Rattle.command_codec.specs.declared.error_code.ErrorCode.{ErrorCode}
 use Rattle.command_codec.specs.declared.error_code.ErrorCode.TheVariants.{InvalidChannel, UnknownSubscription, UnknownPublication, UnknownCounter, UnknownCommandType, MalformedCommand, Denied, NoMemory, Full, WrongClient, Conflict, NoRoom}
 use Rattle.command_codec.specs.ErrorCode.{all_codes, code_number, code_of}
+use Rattle.command_codec.proofs.Finding.{found_passes}
 
 pub code_again : (code : ErrorCode) → code_of (code_number code) ≡ Some code
 unfolding code_of code_number
@@ -38,22 +39,6 @@ code_fits Full = sfits_lit tt
 code_fits WrongClient = sfits_lit tt
 code_fits Conflict = sfits_lit tt
 code_fits NoRoom = sfits_lit tt
-
-some_is : (x y : ErrorCode) → Some x ≡ Some y → x ≡ y
-some_is x y e = cc
-
--- the first that passes, or one after it
-first_or_later : (b : Bool) (x y : ErrorCode) (later : Option ErrorCode) → cond b (Some x) later ≡ Some y → ((b ≡ true) × (x ≡ y)) ⊎ (later ≡ Some y)
-first_or_later true x y later e = inl (refl, some_is x y e)
-first_or_later false x y later e = inr e
-
-found_passes : (p : ErrorCode → Bool) (xs : List ErrorCode) (y : ErrorCode) → find p xs ≡ Some y → p y ≡ true
-found_passes p [] y e = absurd cc
-found_passes p (x ∷ xs) y e =
-    elim (first_or_later (p x) x y (find p xs) e) [
-      | inl here ↦ ap p (sym here.1) ∙ here.0
-      | inr later ↦ found_passes p xs y later
-    ]
 
 pub code_takes : (number : ℤ) (code : ErrorCode) → code_of number ≡ Some code → number ≡ code_number code
 unfolding code_of

@@ -1,6 +1,6 @@
 -- Commands are read as they were written, and written as they were read.
-use Rattle.std.proofs.Common.{◌≡◌, ℕ, ◌^◌, ◌<◌, ◌≤◌, false, eqb, ltb, cond, List, ◌++◌, length, drop, Ok, Err, inl, inr, refl, sym, ap, subst, ◌∙◌, append_assoc, arith}
-use Rattle.std.proofs.lemmas.Bool.{eqb-true, ltb-false, le-ltb}
+use Rattle.std.proofs.Common.{◌≡◌, ℕ, ◌^◌, ◌<◌, ◌≤◌, false, ltb, List, ◌++◌, length, drop, Ok, refl, sym, ap, subst, ◌∙◌, append_assoc, arith}
+use Rattle.std.proofs.lemmas.Bool.{ltb-false, le-ltb}
 use Rattle.std.proofs.lemmas.List.{drop-drop, length-drop}
 use Rattle.command_codec.specs.declared.fault.CommandFault.TheVariants.{Unknown, Malformed}
 use Rattle.command_codec.specs.declared.command.Command.{Command}
@@ -12,74 +12,106 @@ use Rattle.command_codec.specs.Gives.{◌>>=◌}
 use Rattle.command_codec.specs.Fields.{number_in, number_at, number_bytes, IsBytes}
 use Rattle.command_codec.specs.AddSubscription.{add_subscription_of}
 use Rattle.command_codec.specs.Removal.{removal_of}
-use Rattle.command_codec.specs.Command.{kind_of, fields_of, type_number, fields_bytes, AreFields, command_of, command_bytes, correlation_of, IsCommand}
-use Rattle.command_codec.proofs.FieldLemmas.{bind_ok, step, guard_ok, chosen, wanted_ok, ok_is, Takes, Takes-then, number_takes, number_again}
+use Rattle.command_codec.specs.AddCounter.{add_counter_of}
+use Rattle.command_codec.specs.TerminateDriver.{terminate_driver_of}
+use Rattle.command_codec.specs.SetCounter.{set_counter_of}
+use Rattle.command_codec.specs.Command.{all_kinds, kind_number, kind_of, kind_in, fields_of, fields_bytes, AreFields, command_of, command_bytes, correlation_of, IsCommand}
+use Rattle.command_codec.proofs.FieldLemmas.{bind_ok, step, guard_ok, made_from, ok_is, Takes, Takes-then, number_takes, number_again, ended_takes}
+use Rattle.command_codec.proofs.Finding.{found_by_number}
 use Rattle.command_codec.proofs.AddSubscriptionLemmas.{add_subscription_takes, add_subscription_again}
 use Rattle.command_codec.proofs.RemovalLemmas.{removal_takes, removal_again}
+use Rattle.command_codec.proofs.AddCounterLemmas.{add_counter_takes, add_counter_again}
+use Rattle.command_codec.proofs.TerminateDriverLemmas.{terminate_driver_takes, terminate_driver_again}
+use Rattle.command_codec.proofs.SetCounterLemmas.{set_counter_takes, set_counter_again}
 
 -- ---- a line for each kind of command
 
--- the kind whose body it is
-kind_in : Body → Kind
-kind_in (bodies.AddSubscription fields) = kinds.AddSubscription
-kind_in (bodies.RemoveSubscription fields) = kinds.RemoveSubscription
+kind_again : (kind : Kind) → kind_of (kind_number kind) ≡ Ok kind
+unfolding kind_of kind_number
+kind_again kinds.AddSubscription = refl
+kind_again kinds.RemoveSubscription = refl
+kind_again kinds.ClientKeepalive = refl
+kind_again kinds.AddCounter = refl
+kind_again kinds.RemoveCounter = refl
+kind_again kinds.ClientClose = refl
+kind_again kinds.TerminateDriver = refl
+kind_again kinds.SetCounter = refl
 
-kind_again : (body : Body) → kind_of (type_number body) ≡ Ok (kind_in body)
-unfolding kind_in
-kind_again (bodies.AddSubscription fields) = refl
-kind_again (bodies.RemoveSubscription fields) = refl
+number_fits : (kind : Kind) → kind_number kind < 256 ^ 4
+unfolding kind_number
+number_fits kinds.AddSubscription = omega arith
+number_fits kinds.RemoveSubscription = omega arith
+number_fits kinds.ClientKeepalive = omega arith
+number_fits kinds.AddCounter = omega arith
+number_fits kinds.RemoveCounter = omega arith
+number_fits kinds.ClientClose = omega arith
+number_fits kinds.TerminateDriver = omega arith
+number_fits kinds.SetCounter = omega arith
 
 fields_again : (body : Body) → AreFields body → fields_of (kind_in body) (fields_bytes body) ≡ Ok body
-unfolding kind_in
+unfolding fields_of fields_bytes
 fields_again (bodies.AddSubscription fields) h = rw (add_subscription_again fields h) refl
 fields_again (bodies.RemoveSubscription fields) h = rw (removal_again fields h) refl
+fields_again bodies.ClientKeepalive h = refl
+fields_again (bodies.AddCounter fields) h = rw (add_counter_again fields h) refl
+fields_again (bodies.RemoveCounter fields) h = rw (removal_again fields h) refl
+fields_again bodies.ClientClose h = refl
+fields_again (bodies.TerminateDriver fields) h = rw (terminate_driver_again fields h) refl
+fields_again (bodies.SetCounter fields) h = rw (set_counter_again fields h) refl
 
-number_fits : (body : Body) → type_number body < 256 ^ 4
-number_fits (bodies.AddSubscription fields) = omega arith
-number_fits (bodies.RemoveSubscription fields) = omega arith
+number_known : (number : ℕ) (kind : Kind) → kind_of number ≡ Ok kind → number ≡ kind_number kind
+unfolding kind_of
+number_known number kind e = found_by_number kind_number all_kinds Unknown number kind e
 
--- the number of a kind
-number_of : Kind → ℕ
-number_of kinds.AddSubscription = 4
-number_of kinds.RemoveSubscription = 5
+-- what was read as a kind's fields
+record Reads (kind : Kind) (bytes : List ℕ) (body : Body) : Type 0 where
+  is_kind : kind ≡ kind_in body
+  spelt : bytes ≡ fields_bytes body
+  sound : AreFields body
 
-number_known : (number : ℕ) (kind : Kind) → kind_of number ≡ Ok kind → number ≡ number_of kind
-unfolding number_of
-number_known number kind e =
-    elim (chosen (eqb number 4) (Ok kinds.AddSubscription) (cond (eqb number 5) (Ok kinds.RemoveSubscription) (Err Unknown)) kind e) [
-      | inl (is, same) ↦ subst (λ (k : Kind). number ≡ number_of k) (ok_is kinds.AddSubscription kind same) (eqb-true number 4 is)
-      | inr (other, later) ↦
-          let last = wanted_ok (eqb number 5) Unknown (Ok kinds.RemoveSubscription) kind later in
-          subst (λ (k : Kind). number ≡ number_of k) (ok_is kinds.RemoveSubscription kind last.1) (eqb-true number 5 last.0)
-    ]
-
-fields_take : (number : ℕ) (kind : Kind) (bytes : List ℕ) (body : Body) → IsBytes bytes → kind_of number ≡ Ok kind → fields_of kind bytes ≡ Ok body → (number ≡ type_number body) × (bytes ≡ fields_bytes body) × AreFields body
-unfolding number_of
-fields_take number kinds.AddSubscription bytes body fits known e =
-    let n = number_known number kinds.AddSubscription known in
-    elim (bind_ok (add_subscription_of bytes) (λ fields. Ok (bodies.AddSubscription fields)) body e) [
-      | step fields is made ↦
-          let t = add_subscription_takes bytes fields fits is in
-          subst (λ (b : Body). (number ≡ type_number b) × (bytes ≡ fields_bytes b) × AreFields b) (ok_is (bodies.AddSubscription fields) body made) (n, t.0, t.1)
-    ]
-fields_take number kinds.RemoveSubscription bytes body fits known e =
-    let n = number_known number kinds.RemoveSubscription known in
-    elim (bind_ok (removal_of bytes) (λ fields. Ok (bodies.RemoveSubscription fields)) body e) [
-      | step fields is made ↦
-          let t = removal_takes bytes fields fits is in
-          subst (λ (b : Body). (number ≡ type_number b) × (bytes ≡ fields_bytes b) × AreFields b) (ok_is (bodies.RemoveSubscription fields) body made) (n, t.0, t.1)
-    ]
+fields_take : (kind : Kind) (bytes : List ℕ) (body : Body) → IsBytes bytes → fields_of kind bytes ≡ Ok body → Reads kind bytes body
+unfolding fields_of fields_bytes
+fields_take kinds.AddSubscription bytes body fits e =
+    made_from (add_subscription_of bytes) (λ fields. bodies.AddSubscription fields) (Reads kinds.AddSubscription bytes) body (λ fields is.
+    let t = add_subscription_takes bytes fields fits is in
+    record { is_kind = refl; spelt = t.0; sound = t.1 }) e
+fields_take kinds.RemoveSubscription bytes body fits e =
+    made_from (removal_of bytes) (λ fields. bodies.RemoveSubscription fields) (Reads kinds.RemoveSubscription bytes) body (λ fields is.
+    let t = removal_takes bytes fields fits is in
+    record { is_kind = refl; spelt = t.0; sound = t.1 }) e
+fields_take kinds.ClientKeepalive bytes body fits e =
+    let t = ended_takes bodies.ClientKeepalive body bytes e in
+    subst (Reads kinds.ClientKeepalive bytes) t.0 (record { is_kind = refl; spelt = t.1; sound = tt })
+fields_take kinds.AddCounter bytes body fits e =
+    made_from (add_counter_of bytes) (λ fields. bodies.AddCounter fields) (Reads kinds.AddCounter bytes) body (λ fields is.
+    let t = add_counter_takes bytes fields fits is in
+    record { is_kind = refl; spelt = t.0; sound = t.1 }) e
+fields_take kinds.RemoveCounter bytes body fits e =
+    made_from (removal_of bytes) (λ fields. bodies.RemoveCounter fields) (Reads kinds.RemoveCounter bytes) body (λ fields is.
+    let t = removal_takes bytes fields fits is in
+    record { is_kind = refl; spelt = t.0; sound = t.1 }) e
+fields_take kinds.ClientClose bytes body fits e =
+    let t = ended_takes bodies.ClientClose body bytes e in
+    subst (Reads kinds.ClientClose bytes) t.0 (record { is_kind = refl; spelt = t.1; sound = tt })
+fields_take kinds.TerminateDriver bytes body fits e =
+    made_from (terminate_driver_of bytes) (λ fields. bodies.TerminateDriver fields) (Reads kinds.TerminateDriver bytes) body (λ fields is.
+    let t = terminate_driver_takes bytes fields fits is in
+    record { is_kind = refl; spelt = t.0; sound = t.1 }) e
+fields_take kinds.SetCounter bytes body fits e =
+    made_from (set_counter_of bytes) (λ fields. bodies.SetCounter fields) (Reads kinds.SetCounter bytes) body (λ fields is.
+    let t = set_counter_takes bytes fields fits is in
+    record { is_kind = refl; spelt = t.0; sound = t.1 }) e
 
 -- ---- commands
 
 -- the head and the fields that were read, and what each took
-taken : (c : Command) (number : ℕ) (bytes after_number after_client after : List ℕ) → Takes bytes (number_bytes 4 number) after_number → Takes after_number (number_bytes 8 c.client) after_client → Takes after_client (number_bytes 8 c.correlation) after → number ≡ type_number c.body → after ≡ fields_bytes c.body → command_bytes c ≡ bytes
+taken : (c : Command) (number : ℕ) (bytes after_number after_client after : List ℕ) → Takes bytes (number_bytes 4 number) after_number → Takes after_number (number_bytes 8 c.client) after_client → Takes after_client (number_bytes 8 c.correlation) after → number ≡ kind_number (kind_in c.body) → after ≡ fields_bytes c.body → command_bytes c ≡ bytes
 unfolding command_bytes
 taken c number bytes after_number after_client after p q r number_is after_is =
     let two = Takes-then bytes (number_bytes 4 number) after_number (number_bytes 8 c.client) after_client p q in
     let three = Takes-then bytes (number_bytes 4 number ++ number_bytes 8 c.client) after_client (number_bytes 8 c.correlation) after two r in
     let spelt = three.parts ∙ ap (λ (n : ℕ). number_bytes 4 n ++ number_bytes 8 c.client ++ number_bytes 8 c.correlation ++ after) number_is in
-    sym (spelt ∙ ap (λ (w : List ℕ). number_bytes 4 (type_number c.body) ++ number_bytes 8 c.client ++ number_bytes 8 c.correlation ++ w) after_is)
+    sym (spelt ∙ ap (λ (w : List ℕ). number_bytes 4 (kind_number (kind_in c.body)) ++ number_bytes 8 c.client ++ number_bytes 8 c.correlation ++ w) after_is)
 
 pub command_takes : (bytes : List ℕ) (c : Command) → IsBytes bytes → command_of bytes ≡ Ok c → (command_bytes c ≡ bytes) × IsCommand c
 unfolding command_of
@@ -98,8 +130,9 @@ command_takes bytes c fits e =
                                   let t0 = number_takes 4 bytes n fits n_is in
                                   let t1 = number_takes 8 n.1 l t0.0.rest_fits l_is in
                                   let t2 = number_takes 8 l.1 r t1.0.rest_fits r_is in
-                                  let t3 = fields_take n.0 kind r.1 body t2.0.rest_fits kind_is body_is in
-                                  subst (λ (x : Command). (command_bytes x ≡ bytes) × IsCommand x) (ok_is made c made_is) (taken made n.0 bytes n.1 l.1 r.1 t0.0 t1.0 t2.0 t3.0 t3.1, record { client = t1.1; correlation = t2.1; body = t3.2 })
+                                  let t3 = fields_take kind r.1 body t2.0.rest_fits body_is in
+                                  let number = number_known n.0 kind kind_is ∙ ap kind_number t3.is_kind in
+                                  subst (λ (x : Command). (command_bytes x ≡ bytes) × IsCommand x) (ok_is made c made_is) (taken made n.0 bytes n.1 l.1 r.1 t0.0 t1.0 t2.0 number t3.spelt, record { client = t1.1; correlation = t2.1; body = t3.sound })
                             ]
                       ]
                 ]
@@ -109,12 +142,12 @@ command_takes bytes c fits e =
 pub command_again : (c : Command) → IsCommand c → command_of (command_bytes c) ≡ Ok c
 unfolding command_of command_bytes
 command_again c fits =
-    let number = number_bytes 4 (type_number c.body) in
+    let number = number_bytes 4 (kind_number (kind_in c.body)) in
     let client = number_bytes 8 c.client in
     let correlation = number_bytes 8 c.correlation in
     let fields = fields_bytes c.body in
     let regrouped : command_bytes c ≡ number ++ (client ++ (correlation ++ fields)) = append_assoc (number ++ client) correlation fields ∙ append_assoc number client (correlation ++ fields) in
-    ap command_of regrouped ∙ rw (number_again 4 (type_number c.body) (client ++ (correlation ++ fields)) (number_fits c.body), kind_again c.body, number_again 8 c.client (correlation ++ fields) fits.client, number_again 8 c.correlation fields fits.correlation, fields_again c.body fits.body) refl
+    ap command_of regrouped ∙ rw (number_again 4 (kind_number (kind_in c.body)) (client ++ (correlation ++ fields)) (number_fits (kind_in c.body)), kind_again (kind_in c.body), number_again 8 c.client (correlation ++ fields) fits.client, number_again 8 c.correlation fields fits.correlation, fields_again c.body fits.body) refl
 
 -- ---- where the correlation id stands
 

@@ -1,10 +1,10 @@
 -- A field that is read is the field that was written, and what was written is read again.
-use Rattle.std.proofs.Common.{◌≡◌, ℕ, ℤ, ◌+◌, ◌^◌, ◌<◌, ◌≤◌, Bool, true, false, not, cond, ltb, List, [], ◌++◌, length, take, drop, Result, Ok, Err, refl, sym, ap, subst, ◌∙◌, append_assoc, arith, ◌⊎◌, inl, inr}
+use Rattle.std.proofs.Common.{◌≡◌, ℕ, ℤ, ◌+◌, ◌^◌, ◌<◌, ◌≤◌, Bool, true, false, cond, ltb, List, [], ◌++◌, length, take, drop, Option, Some, None, ok_or, Result, Ok, Err, refl, sym, ap, subst, ◌∙◌, append_assoc, arith, ◌⊎◌, inl, inr}
 use Rattle.std.specs.Prelude.{FitsSigned}
 use Rattle.std.specs.Char.{is_ascii}
 use Rattle.std.specs.List.{list_all}
-use Rattle.std.specs.Int.{w32, cast_signed, cast_unsigned}
-use Rattle.std.proofs.lemmas.Bool.{ltb-false, ltb-true, le-ltb, lt-ltb}
+use Rattle.std.specs.Int.{Width, w32, w64, cast_signed, cast_unsigned}
+use Rattle.std.proofs.lemmas.Bool.{ltb-false, le-ltb}
 use Rattle.std.proofs.lemmas.List.{take_at, drop_at, take-append-drop, length-append, length-take, get_or-drop, nil_from_length, append-nil}
 use Rattle.std.proofs.lemmas.Int.{of_z-to_z, to_z-of_z}
 use Rattle.std.proofs.Math.Facts.{sfits_to_z, Fits-of_z}
@@ -12,7 +12,7 @@ use Rattle.byteorder.specs.Numbers.{little_from-lt, little_number-reads_back, le
 use Rattle.command_codec.specs.declared.fault.CommandFault.{CommandFault}
 use Rattle.command_codec.specs.declared.fault.CommandFault.TheVariants.{Malformed}
 use Rattle.command_codec.specs.Gives.{◌>>=◌}
-use Rattle.command_codec.specs.Fields.{number_in, number_at, signed_at, text_at, ended, number_bytes, signed_bytes, text_bytes, IsBytes, IsText}
+use Rattle.command_codec.specs.Fields.{number_in, number_at, signed_at, longest, bytes_at, text_at, ended, one_number, two_numbers, number_bytes, signed_bytes, with_length, IsBytes, IsText}
 use Rattle.command_codec.proofs.Numbers.{bytes_of_number}
 
 -- ---- steps that did not fail
@@ -44,9 +44,16 @@ done x = Ok x
 pub ok_is : {A : Type 0} (x y : A) → done x ≡ done y → x ≡ y
 ok_is x y e = cc
 
-not_false : (b : Bool) → not b ≡ false → b ≡ true
-not_false true e = refl
-not_false false e = absurd cc
+pub was_some : {A : Type 0} (o : Option A) (fault : CommandFault) (x : A) → ok_or o fault ≡ Ok x → o ≡ Some x
+was_some None fault x e = absurd cc
+was_some (Some y) fault x e = ap (λ z. Some z) (ok_is y x e)
+
+-- what holds of each value that a step could give holds of the one that it gave
+pub made_from : {A B : Type 0} (r : Result A CommandFault) (make : A → B) (P : B → Type 0) (y : B) → ((x : A) → r ≡ Ok x → P (make x)) → (r >>= λ x. Ok (make x)) ≡ Ok y → P y
+made_from r make P y each e =
+    elim (bind_ok r (λ x. Ok (make x)) y e) [
+      | step x is made ↦ subst P (ok_is (make x) y made) (each x is)
+    ]
 
 -- ---- what a reader took from the front
 
@@ -94,58 +101,81 @@ number_again n x rest h =
 
 -- ---- signed numbers
 
-pub signed_takes : (bytes : List ℕ) (x : ℤ × List ℕ) → IsBytes bytes → signed_at bytes ≡ Ok x → Takes bytes (signed_bytes x.0) x.1 × FitsSigned w32 x.0
-signed_takes bytes x fits e =
-    elim (bind_ok (number_at 4 bytes) (λ n. Ok (cast_signed w32 n.0, n.1)) x e) [
-      | step n is after ↦
-          let t = number_takes 4 bytes n fits is in
-          let fit : n.0 < 2 ^ 32 = t.1 in
-          let back = of_z-to_z w32 n.0 fit in
-          subst (λ (y : ℤ × List ℕ). Takes bytes (signed_bytes y.0) y.1 × FitsSigned w32 y.0) (ok_is (cast_signed w32 n.0, n.1) x after) (rw back t.0, sfits_to_z (record { fits = fit }))
-    ]
+-- a signed number of the width w in n bytes, where as many bits as these bytes have fit the width
+signed_takes : (w : Width) (n : ℕ) → ((k : ℕ) → k < 256 ^ n → cast_unsigned w (cast_signed w k) ≡ k) → ((k : ℕ) → k < 256 ^ n → FitsSigned w (cast_signed w k)) → (bytes : List ℕ) (x : ℤ × List ℕ) → IsBytes bytes → signed_at w n bytes ≡ Ok x → Takes bytes (signed_bytes w n x.0) x.1 × FitsSigned w x.0
+signed_takes w n back sound bytes x fits e =
+    made_from (number_at n bytes) (λ k. (cast_signed w k.0, k.1)) (λ (y : ℤ × List ℕ). Takes bytes (signed_bytes w n y.0) y.1 × FitsSigned w y.0) x (λ k is.
+    let t = number_takes n bytes k fits is in
+    (subst (λ (m : ℕ). Takes bytes (number_bytes n m) k.1) (sym (back k.0 t.1)) t.0, sound k.0 t.1)) e
 
-pub signed_again : (z : ℤ) (rest : List ℕ) → FitsSigned w32 z → signed_at (signed_bytes z ++ rest) ≡ Ok (z, rest)
-signed_again z rest h =
-    let fit : cast_unsigned w32 z < 256 ^ 4 = (Fits-of_z h).fits in
-    let back = to_z-of_z w32 z h in
-    rw (number_again 4 (cast_unsigned w32 z) rest fit, back) refl
+signed_again : (w : Width) (n : ℕ) (z : ℤ) (rest : List ℕ) → cast_unsigned w z < 256 ^ n → FitsSigned w z → signed_at w n (signed_bytes w n z ++ rest) ≡ Ok (z, rest)
+signed_again w n z rest fit h =
+    let back = to_z-of_z w z h in
+    rw (number_again n (cast_unsigned w z) rest fit, back) refl
 
--- ---- texts
+pub signed32_takes : (bytes : List ℕ) (x : ℤ × List ℕ) → IsBytes bytes → signed_at w32 4 bytes ≡ Ok x → Takes bytes (signed_bytes w32 4 x.0) x.1 × FitsSigned w32 x.0
+signed32_takes = signed_takes w32 4 (λ k h. of_z-to_z w32 k h) (λ k h. sfits_to_z (record { fits = h }))
 
--- a text behind a length that was read
-text_behind : (bytes : List ℕ) (n : ℕ × List ℕ) (x : List ℕ × List ℕ) → Takes bytes (number_bytes 4 n.0) n.1
-    → cond (not (ltb n.0 (2 ^ 31))) (Err Malformed) (cond (ltb (length n.1) n.0) (Err Malformed) (cond (list_all is_ascii (take n.0 n.1)) (Ok (take n.0 n.1, drop n.0 n.1)) (Err Malformed))) ≡ Ok x
-    → Takes bytes (text_bytes x.0) x.1 × IsText x.0
-text_behind bytes n x t e =
+pub signed32_again : (z : ℤ) (rest : List ℕ) → FitsSigned w32 z → signed_at w32 4 (signed_bytes w32 4 z ++ rest) ≡ Ok (z, rest)
+signed32_again z rest h = signed_again w32 4 z rest (Fits-of_z h).fits h
+
+pub signed64_takes : (bytes : List ℕ) (x : ℤ × List ℕ) → IsBytes bytes → signed_at w64 8 bytes ≡ Ok x → Takes bytes (signed_bytes w64 8 x.0) x.1 × FitsSigned w64 x.0
+signed64_takes = signed_takes w64 8 (λ k h. of_z-to_z w64 k h) (λ k h. sfits_to_z (record { fits = h }))
+
+pub signed64_again : (z : ℤ) (rest : List ℕ) → FitsSigned w64 z → signed_at w64 8 (signed_bytes w64 8 z ++ rest) ≡ Ok (z, rest)
+signed64_again z rest h = signed_again w64 8 z rest (Fits-of_z h).fits h
+
+-- ---- byte strings
+
+-- bytes behind a length that was read
+bytes_behind : (greatest : ℕ) (bytes : List ℕ) (n : ℕ × List ℕ) (x : List ℕ × List ℕ) → Takes bytes (number_bytes 4 n.0) n.1
+    → cond (ltb greatest n.0) (Err Malformed) (cond (ltb (length n.1) n.0) (Err Malformed) (Ok (take n.0 n.1, drop n.0 n.1))) ≡ Ok x
+    → Takes bytes (with_length x.0) x.1 × (length x.0 ≤ greatest)
+bytes_behind greatest bytes n x t e =
     let made : List ℕ × List ℕ = (take n.0 n.1, drop n.0 n.1) in
-    let found = cond (list_all is_ascii (take n.0 n.1)) (done made) (Err Malformed) in
-    let positive = guard_ok (not (ltb n.0 (2 ^ 31))) Malformed (cond (ltb (length n.1) n.0) (Err Malformed) found) x e in
-    let within = guard_ok (ltb (length n.1) n.0) Malformed found x positive.1 in
-    let ascii = wanted_ok (list_all is_ascii (take n.0 n.1)) Malformed (done made) x within.1 in
+    let bounded = guard_ok (ltb greatest n.0) Malformed (cond (ltb (length n.1) n.0) (Err Malformed) (done made)) x e in
+    let within = guard_ok (ltb (length n.1) n.0) Malformed (done made) x bounded.1 in
+    let small : n.0 ≤ greatest = ltb-false _ _ bounded.0 in
     let long : n.0 ≤ length n.1 = ltb-false _ _ within.0 in
-    let small : n.0 < 2 ^ 31 = ltb-true _ _ (not_false (ltb n.0 (2 ^ 31)) positive.0) in
     let len : length (take n.0 n.1) ≡ n.0 = omega (arith, length-take n.0 n.1) in
     let second : Takes n.1 (take n.0 n.1) (drop n.0 n.1) = record { parts = sym (take-append-drop n.0 n.1); rest_fits = IsBytes-drop n.0 n.1 t.rest_fits } in
     let both = Takes-then bytes (number_bytes 4 n.0) n.1 (take n.0 n.1) (drop n.0 n.1) t second in
-    let whole : Takes bytes (text_bytes (take n.0 n.1)) (drop n.0 n.1) = subst (λ (k : ℕ). Takes bytes (number_bytes 4 k ++ take n.0 n.1) (drop n.0 n.1)) (sym len) both in
-    subst (λ (y : List ℕ × List ℕ). Takes bytes (text_bytes y.0) y.1 × IsText y.0) (ok_is made x ascii.1) (whole, record { ascii = ascii.0; length_fits = omega (arith, len, small) })
+    let whole : Takes bytes (with_length (take n.0 n.1)) (drop n.0 n.1) = subst (λ (k : ℕ). Takes bytes (number_bytes 4 k ++ take n.0 n.1) (drop n.0 n.1)) (sym len) both in
+    subst (λ (y : List ℕ × List ℕ). Takes bytes (with_length y.0) y.1 × (length y.0 ≤ greatest)) (ok_is made x within.1) (whole, omega (arith, len, small))
 
-pub text_takes : (bytes : List ℕ) (x : List ℕ × List ℕ) → IsBytes bytes → text_at bytes ≡ Ok x → Takes bytes (text_bytes x.0) x.1 × IsText x.0
-unfolding text_at
-text_takes bytes x fits e =
-    elim (bind_ok (number_at 4 bytes) (λ n. cond (not (ltb n.0 (2 ^ 31))) (Err Malformed) (cond (ltb (length n.1) n.0) (Err Malformed) (cond (list_all is_ascii (take n.0 n.1)) (Ok (take n.0 n.1, drop n.0 n.1)) (Err Malformed)))) x e) [
-      | step n is after ↦ text_behind bytes n x (number_takes 4 bytes n fits is).0 after
+pub bytes_takes : (greatest : ℕ) (bytes : List ℕ) (x : List ℕ × List ℕ) → IsBytes bytes → bytes_at greatest bytes ≡ Ok x → Takes bytes (with_length x.0) x.1 × (length x.0 ≤ greatest)
+unfolding bytes_at
+bytes_takes greatest bytes x fits e =
+    elim (bind_ok (number_at 4 bytes) (λ n. cond (ltb greatest n.0) (Err Malformed) (cond (ltb (length n.1) n.0) (Err Malformed) (Ok (take n.0 n.1, drop n.0 n.1)))) x e) [
+      | step n is after ↦ bytes_behind greatest bytes n x (number_takes 4 bytes n fits is).0 after
     ]
 
-pub text_again : (text rest : List ℕ) → IsText text → text_at (text_bytes text ++ rest) ≡ Ok (text, rest)
+pub bytes_again : (greatest : ℕ) (string rest : List ℕ) → greatest < 256 ^ 4 → length string ≤ greatest → bytes_at greatest (with_length string ++ rest) ≡ Ok (string, rest)
+unfolding bytes_at
+bytes_again greatest string rest fit h =
+    let regrouped : with_length string ++ rest ≡ number_bytes 4 (length string) ++ (string ++ rest) = append_assoc (number_bytes 4 (length string)) string rest in
+    let small : length string < 256 ^ 4 = omega (arith, fit, h) in
+    let bounded : ltb greatest (length string) ≡ false = le-ltb _ _ h in
+    let within : ltb (length (string ++ rest)) (length string) ≡ false = le-ltb _ _ (omega (arith, length-append string rest)) in
+    ap (bytes_at greatest) regrouped ∙ rw (number_again 4 (length string) (string ++ rest) small, bounded, within, take_at string rest (length string) refl, drop_at string rest (length string) refl) refl
+
+-- ---- texts
+
+pub text_takes : (greatest : ℕ) (bytes : List ℕ) (x : List ℕ × List ℕ) → IsBytes bytes → text_at greatest bytes ≡ Ok x → Takes bytes (with_length x.0) x.1 × IsText greatest x.0
 unfolding text_at
-text_again text rest h =
-    let regrouped : text_bytes text ++ rest ≡ number_bytes 4 (length text) ++ (text ++ rest) = append_assoc (number_bytes 4 (length text)) text rest in
-    let fit : length text < 256 ^ 4 = omega (arith, h.length_fits) in
-    let positive : ltb (length text) (2 ^ 31) ≡ true = lt-ltb _ _ h.length_fits in
-    let within : ltb (length (text ++ rest)) (length text) ≡ false = le-ltb _ _ (omega (arith, length-append text rest)) in
+text_takes greatest bytes x fits e =
+    elim (bind_ok (bytes_at greatest bytes) (λ text. cond (list_all is_ascii text.0) (Ok text) (Err Malformed)) x e) [
+      | step t is after ↦
+          let b = bytes_takes greatest bytes t fits is in
+          let ascii = wanted_ok (list_all is_ascii t.0) Malformed (done t) x after in
+          subst (λ (y : List ℕ × List ℕ). Takes bytes (with_length y.0) y.1 × IsText greatest y.0) (ok_is t x ascii.1) (b.0, record { ascii = ascii.0; length_fits = b.1 })
+    ]
+
+pub text_again : (greatest : ℕ) (text rest : List ℕ) → greatest < 256 ^ 4 → IsText greatest text → text_at greatest (with_length text ++ rest) ≡ Ok (text, rest)
+unfolding text_at
+text_again greatest text rest fit h =
     let ascii = h.ascii in
-    ap text_at regrouped ∙ rw (number_again 4 (length text) (text ++ rest) fit, positive, within, take_at text rest (length text) refl, drop_at text rest (length text) refl, ascii) refl
+    rw (bytes_again greatest text rest fit h.length_fits, ascii) refl
 
 -- ---- the end
 
@@ -164,5 +194,42 @@ Takes-all bytes front rest t e = t.parts ∙ ap (λ (r : List ℕ). front ++ r) 
 pub number_last : (n x : ℕ) → x < 256 ^ n → number_at n (number_bytes n x) ≡ Ok (x, [])
 number_last n x h = ap (number_at n) (sym (append-nil (number_bytes n x))) ∙ number_again n x [] h
 
-pub text_last : (text : List ℕ) → IsText text → text_at (text_bytes text) ≡ Ok (text, [])
-text_last text h = ap text_at (sym (append-nil (text_bytes text))) ∙ text_again text [] h
+pub signed64_last : (z : ℤ) → FitsSigned w64 z → signed_at w64 8 (signed_bytes w64 8 z) ≡ Ok (z, [])
+signed64_last z h = ap (signed_at w64 8) (sym (append-nil (signed_bytes w64 8 z))) ∙ signed64_again z [] h
+
+pub bytes_last : (greatest : ℕ) (string : List ℕ) → greatest < 256 ^ 4 → length string ≤ greatest → bytes_at greatest (with_length string) ≡ Ok (string, [])
+bytes_last greatest string fit h = ap (bytes_at greatest) (sym (append-nil (with_length string))) ∙ bytes_again greatest string [] fit h
+
+pub text_last : (greatest : ℕ) (text : List ℕ) → greatest < 256 ^ 4 → IsText greatest text → text_at greatest (with_length text) ≡ Ok (text, [])
+text_last greatest text fit h = ap (text_at greatest) (sym (append-nil (with_length text))) ∙ text_again greatest text [] fit h
+
+-- ---- numbers where nothing else stands
+
+pub one_number_takes : (bytes : List ℕ) (x : ℕ) → IsBytes bytes → one_number bytes ≡ Ok x → (bytes ≡ number_bytes 8 x) × (x < 2 ^ 64)
+unfolding one_number
+one_number_takes bytes x fits e =
+    elim (bind_ok (number_at 8 bytes) (λ n. ended n.0 n.1) x e) [
+      | step n is after ↦
+          let t = number_takes 8 bytes n fits is in
+          let last = ended_takes n.0 x n.1 after in
+          subst (λ (y : ℕ). (bytes ≡ number_bytes 8 y) × (y < 2 ^ 64)) last.0 (Takes-all bytes (number_bytes 8 n.0) n.1 t.0 last.1, t.1)
+    ]
+
+pub one_number_again : (x : ℕ) → x < 2 ^ 64 → one_number (number_bytes 8 x) ≡ Ok x
+unfolding one_number
+one_number_again x h = rw (number_last 8 x h) refl
+
+pub two_numbers_take : (bytes : List ℕ) (x : ℕ × ℕ) → IsBytes bytes → two_numbers bytes ≡ Ok x → (bytes ≡ number_bytes 8 x.0 ++ number_bytes 8 x.1) × (x.0 < 2 ^ 64) × (x.1 < 2 ^ 64)
+unfolding two_numbers
+two_numbers_take bytes x fits e =
+    elim (bind_ok (number_at 8 bytes) (λ first. one_number first.1 >>= λ second. Ok (first.0, second)) x e) [
+      | step f f_is after ↦
+          made_from (one_number f.1) (λ (second : ℕ). (f.0, second)) (λ (y : ℕ × ℕ). (bytes ≡ number_bytes 8 y.0 ++ number_bytes 8 y.1) × (y.0 < 2 ^ 64) × (y.1 < 2 ^ 64)) x (λ second is.
+          let t0 = number_takes 8 bytes f fits f_is in
+          let t1 = one_number_takes f.1 second t0.0.rest_fits is in
+          (t0.0.parts ∙ ap (λ (rest : List ℕ). number_bytes 8 f.0 ++ rest) t1.0, t0.1, t1.1)) after
+    ]
+
+pub two_numbers_again : (x y : ℕ) → x < 2 ^ 64 → y < 2 ^ 64 → two_numbers (number_bytes 8 x ++ number_bytes 8 y) ≡ Ok (x, y)
+unfolding two_numbers
+two_numbers_again x y p q = rw (number_again 8 x (number_bytes 8 y) p, one_number_again y q) refl

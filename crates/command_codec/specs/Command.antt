@@ -1,6 +1,6 @@
 -- Commands as bytes: type, client id, correlation id, then the fields of the type, and nothing after them.
 -- (Layouts and type numbers are this project's own.)
-use Rattle.std.specs.Prelude.{ℕ, ◌<◌, ◌^◌, ◌==◌, nat_lt, if◌then◌else◌, Bool, true, false, List, ◌++◌, length, drop, Result, Ok, Err}
+use Rattle.std.specs.Prelude.{ℕ, ◌<◌, ◌^◌, ◌==◌, nat_lt, if◌then◌else◌, Bool, true, false, List, [], ◌∷◌, ◌++◌, length, drop, find, ok_or, Result, Ok}
 use Rattle.command_codec.specs.declared.fault.CommandFault.{CommandFault}
 use Rattle.command_codec.specs.declared.fault.CommandFault.TheVariants.{Unknown}
 use Rattle.command_codec.specs.declared.command.Command.{Command}
@@ -9,38 +9,88 @@ use Rattle.command_codec.specs.declared.command.Body.TheVariants as bodies
 use Rattle.command_codec.specs.declared.command.Kind.{Kind}
 use Rattle.command_codec.specs.declared.command.Kind.TheVariants as kinds
 use Rattle.command_codec.specs.Gives.{◌>>=◌}
-use Rattle.command_codec.specs.Fields.{number_in, number_at, number_bytes}
+use Rattle.command_codec.specs.Fields.{number_in, number_at, ended, number_bytes}
 use Rattle.command_codec.specs.AddSubscription.{add_subscription_of, add_subscription_bytes, IsAddSubscription}
 use Rattle.command_codec.specs.Removal.{removal_of, removal_bytes, IsRemoval}
+use Rattle.command_codec.specs.AddCounter.{add_counter_of, add_counter_bytes, IsAddCounter}
+use Rattle.command_codec.specs.TerminateDriver.{terminate_driver_of, terminate_driver_bytes, IsTerminateDriver}
+use Rattle.command_codec.specs.SetCounter.{set_counter_of, set_counter_bytes, IsSetCounter}
 
 -- ---- the kinds of commands, a line each
 
-abbrev pub kind_of : ℕ → Result Kind CommandFault
-kind_of number =
-    if number == 4 then Ok kinds.AddSubscription
-    else if number == 5 then Ok kinds.RemoveSubscription
-    else Err Unknown
+abbrev pub all_kinds : List Kind
+all_kinds =
+    kinds.AddSubscription ∷ kinds.RemoveSubscription ∷ kinds.ClientKeepalive ∷ kinds.AddCounter ∷ kinds.RemoveCounter
+    ∷ kinds.ClientClose ∷ kinds.TerminateDriver ∷ kinds.SetCounter ∷ []
 
-abbrev pub fields_of : Kind → List ℕ → Result Body CommandFault
+-- the number of a kind
+unfoldable pub kind_number : Kind → ℕ
+kind_number kinds.AddSubscription = 4
+kind_number kinds.RemoveSubscription = 5
+kind_number kinds.ClientKeepalive = 6
+kind_number kinds.AddCounter = 9
+kind_number kinds.RemoveCounter = 0x0A
+kind_number kinds.ClientClose = 0x0B
+kind_number kinds.TerminateDriver = 0x0E
+kind_number kinds.SetCounter = 0x1001
+
+-- the kind that has this number
+unfoldable pub kind_of : ℕ → Result Kind CommandFault
+kind_of number = ok_or (find (λ kind. number == kind_number kind) all_kinds) Unknown
+
+-- the kind of a command, by what it asks for
+abbrev pub kind_in : Body → Kind
+kind_in (bodies.AddSubscription fields) = kinds.AddSubscription
+kind_in (bodies.RemoveSubscription fields) = kinds.RemoveSubscription
+kind_in bodies.ClientKeepalive = kinds.ClientKeepalive
+kind_in (bodies.AddCounter fields) = kinds.AddCounter
+kind_in (bodies.RemoveCounter fields) = kinds.RemoveCounter
+kind_in bodies.ClientClose = kinds.ClientClose
+kind_in (bodies.TerminateDriver fields) = kinds.TerminateDriver
+kind_in (bodies.SetCounter fields) = kinds.SetCounter
+
+-- what the bytes behind a command's head ask for
+unfoldable pub fields_of : Kind → List ℕ → Result Body CommandFault
 fields_of kinds.AddSubscription bytes = add_subscription_of bytes >>= λ fields. Ok (bodies.AddSubscription fields)
 fields_of kinds.RemoveSubscription bytes = removal_of bytes >>= λ fields. Ok (bodies.RemoveSubscription fields)
+fields_of kinds.ClientKeepalive bytes = ended bodies.ClientKeepalive bytes
+fields_of kinds.AddCounter bytes = add_counter_of bytes >>= λ fields. Ok (bodies.AddCounter fields)
+fields_of kinds.RemoveCounter bytes = removal_of bytes >>= λ fields. Ok (bodies.RemoveCounter fields)
+fields_of kinds.ClientClose bytes = ended bodies.ClientClose bytes
+fields_of kinds.TerminateDriver bytes = terminate_driver_of bytes >>= λ fields. Ok (bodies.TerminateDriver fields)
+fields_of kinds.SetCounter bytes = set_counter_of bytes >>= λ fields. Ok (bodies.SetCounter fields)
 
-abbrev pub type_number : Body → ℕ
-type_number (bodies.AddSubscription fields) = 4
-type_number (bodies.RemoveSubscription fields) = 5
-
-abbrev pub fields_bytes : Body → List ℕ
+unfoldable pub fields_bytes : Body → List ℕ
 fields_bytes (bodies.AddSubscription fields) = add_subscription_bytes fields
 fields_bytes (bodies.RemoveSubscription fields) = removal_bytes fields
+fields_bytes bodies.ClientKeepalive = []
+fields_bytes (bodies.AddCounter fields) = add_counter_bytes fields
+fields_bytes (bodies.RemoveCounter fields) = removal_bytes fields
+fields_bytes bodies.ClientClose = []
+fields_bytes (bodies.TerminateDriver fields) = terminate_driver_bytes fields
+fields_bytes (bodies.SetCounter fields) = set_counter_bytes fields
 
+-- what can be read again
 abbrev pub AreFields : Body → Type 0
 AreFields (bodies.AddSubscription fields) = IsAddSubscription fields
 AreFields (bodies.RemoveSubscription fields) = IsRemoval fields
+AreFields bodies.ClientKeepalive = Unit {0}
+AreFields (bodies.AddCounter fields) = IsAddCounter fields
+AreFields (bodies.RemoveCounter fields) = IsRemoval fields
+AreFields bodies.ClientClose = Unit {0}
+AreFields (bodies.TerminateDriver fields) = IsTerminateDriver fields
+AreFields (bodies.SetCounter fields) = IsSetCounter fields
 
--- whether a command's fields have a text
-abbrev pub has_text : Body → Bool
-has_text (bodies.AddSubscription fields) = true
-has_text (bodies.RemoveSubscription fields) = false
+-- whether a command's fields have a text or a byte string
+abbrev pub has_bytes : Body → Bool
+has_bytes (bodies.AddSubscription fields) = true
+has_bytes (bodies.RemoveSubscription fields) = false
+has_bytes bodies.ClientKeepalive = false
+has_bytes (bodies.AddCounter fields) = true
+has_bytes (bodies.RemoveCounter fields) = false
+has_bytes bodies.ClientClose = false
+has_bytes (bodies.TerminateDriver fields) = true
+has_bytes (bodies.SetCounter fields) = false
 
 -- ---- commands
 
@@ -55,13 +105,14 @@ command_of bytes = do
   Ok (record { client = client.0; correlation = correlation.0; body = body })
 
 unfoldable pub command_bytes : Command → List ℕ
-command_bytes c = number_bytes 4 (type_number c.body) ++ number_bytes 8 c.client ++ number_bytes 8 c.correlation ++ fields_bytes c.body
+command_bytes c = number_bytes 4 (kind_number (kind_in c.body)) ++ number_bytes 8 c.client ++ number_bytes 8 c.correlation ++ fields_bytes c.body
 
 -- the correlation id that an error tells of, whether the bytes are a command or not
 unfoldable pub correlation_of : List ℕ → ℕ
 correlation_of bytes = if nat_lt (length bytes) 20 then 0 else number_in 8 (drop 12 bytes)
 
--- what can be read again: each number fits its field, a text is ASCII and shorter than 2 ^ 31 bytes
+-- what can be read again: each number fits its field, a text is ASCII, and no text or byte string is longer than its
+-- field allows
 pub record IsCommand (c : Command) : Type 0 where
   pub client : c.client < 2 ^ 64
   pub correlation : c.correlation < 2 ^ 64

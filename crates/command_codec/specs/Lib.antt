@@ -3,8 +3,14 @@ pub mod Fields
 pub mod ErrorCode
 pub mod AddSubscription
 pub mod Removal
+pub mod AddCounter
+pub mod SetCounter
+pub mod TerminateDriver
 pub mod Command
 pub mod ErrorReply
 pub mod OperationSuccess
 pub mod SubscriptionReady
+pub mod CounterReady
+pub mod UnavailableCounter
+pub mod ClientTimeout
 pub mod Reply

@@ -1,16 +1,13 @@
 -- The fields of ON_SUBSCRIPTION_READY. (The layout is this project's own.)
-use Rattle.std.specs.Prelude.{ℕ, ◌<◌, ◌^◌, List, ◌++◌, Result}
+use Rattle.std.specs.Prelude.{ℕ, ◌<◌, ◌^◌, List, ◌++◌, Result, Ok}
 use Rattle.command_codec.specs.declared.fault.CommandFault.{CommandFault}
 use Rattle.command_codec.specs.declared.subscription_ready.SubscriptionReady.{SubscriptionReady}
 use Rattle.command_codec.specs.Gives.{◌>>=◌}
-use Rattle.command_codec.specs.Fields.{number_at, ended, number_bytes}
+use Rattle.command_codec.specs.Fields.{two_numbers, number_bytes}
 
 -- correlation id of the command, registration of the subscription
 unfoldable pub subscription_ready_of : List ℕ → Result SubscriptionReady CommandFault
-subscription_ready_of bytes = do
-  correlation ← number_at 8 bytes
-  registration ← number_at 8 correlation.1
-  ended (record { correlation = correlation.0; registration = registration.0 }) registration.1
+subscription_ready_of bytes = two_numbers bytes >>= λ numbers. Ok (record { correlation = numbers.0; registration = numbers.1 })
 
 unfoldable pub subscription_ready_bytes : SubscriptionReady → List ℕ
 subscription_ready_bytes r = number_bytes 8 r.correlation ++ number_bytes 8 r.registration

@@ -28,7 +28,7 @@ impl AddSubscription {
     {
         let (registration_correlation, rest) = fields::u64_at(bytes)?;
         let (stream, rest) = fields::i32_at(rest)?;
-        let (channel, rest) = fields::text_at(rest)?;
+        let (channel, rest) = fields::text_at(rest, fields::LONGEST)?;
         fields::end(rest)?;
         Ok(AddSubscription {
             registration_correlation,

@@ -1,10 +1,13 @@
 ghost use Rattle.std.specs.Prelude.{◌≡◌, ◌++◌, false, true, IfOk, OnOk};
-ghost use Rattle.command_codec.specs.Gives.{Equals, Gives, takes_memory};
+ghost use Rattle.command_codec.specs.Gives.{Gives, takes_memory};
 
+use crate::add_counter::AddCounter;
 use crate::add_subscription::AddSubscription;
 use crate::fault::CommandFault;
 use crate::fields;
 use crate::removal::Removal;
+use crate::set_counter::SetCounter;
+use crate::terminate_driver::TerminateDriver;
 use byte_strings::Bytes;
 use byteorder::{ByteOrder, LittleEndian};
 use std::alloc::{AllocError, Global};
@@ -24,6 +27,14 @@ pub struct Command {
 pub enum Body {
     AddSubscription(AddSubscription),
     RemoveSubscription(Removal),
+    /// The client is there still (CLIENT_KEEPALIVE).
+    ClientKeepalive,
+    AddCounter(AddCounter),
+    RemoveCounter(Removal),
+    /// The client goes (CLIENT_CLOSE).
+    ClientClose,
+    TerminateDriver(TerminateDriver),
+    SetCounter(SetCounter),
 }
 
 /// The types of commands that have a number here.
@@ -31,57 +42,89 @@ pub enum Body {
 enum Kind {
     AddSubscription,
     RemoveSubscription,
+    ClientKeepalive,
+    AddCounter,
+    RemoveCounter,
+    ClientClose,
+    TerminateDriver,
+    SetCounter,
 }
 
 impl Kind {
-    ghost use Rattle.command_codec.specs.Command.{fields_of, has_text, kind_of};
+    ghost use Rattle.command_codec.specs.Command.{fields_of, has_bytes, kind_of};
 
+    #[tactic(auto, unfolding(crate::specs::Command::kind_of, crate::specs::Command::kind_number))]
     fn from_number(number: u32) -> Result<Kind, CommandFault>
-        ensures { Equals (λ kind. kind) result (kind_of number) }
+        ensures { result ≡ kind_of number }
     {
         match number {
             4 => Ok(Kind::AddSubscription),
             5 => Ok(Kind::RemoveSubscription),
+            6 => Ok(Kind::ClientKeepalive),
+            9 => Ok(Kind::AddCounter),
+            0x0A => Ok(Kind::RemoveCounter),
+            0x0B => Ok(Kind::ClientClose),
+            0x0E => Ok(Kind::TerminateDriver),
+            0x1001 => Ok(Kind::SetCounter),
             _ => Err(CommandFault::Unknown),
         }
     }
 
+    #[tactic(auto, unfolding(crate::specs::Command::fields_of))]
     fn read(self, alloc: Global, bytes: &[u8]) -> Result<Body, CommandFault>
         ensures exact { Gives result (fields_of self bytes.now) }
-        ensures without_memory { takes_memory has_text (fields_of self bytes.now) ≡ false
+        ensures without_memory { takes_memory has_bytes (fields_of self bytes.now) ≡ false
             → result ≡ fields_of self bytes.now }
     {
         match self {
-            Kind::AddSubscription => {
-                let fields = AddSubscription::read(alloc, bytes)?;
-                Ok(Body::AddSubscription(fields))
-            }
-            Kind::RemoveSubscription => {
-                let fields = Removal::read(bytes)?;
-                Ok(Body::RemoveSubscription(fields))
-            }
+            Kind::AddSubscription => Ok(Body::AddSubscription(AddSubscription::read(
+                alloc, bytes,
+            )?)),
+            Kind::RemoveSubscription => Ok(Body::RemoveSubscription(Removal::read(bytes)?)),
+            Kind::ClientKeepalive => fields::end(bytes).map(|()| Body::ClientKeepalive),
+            Kind::AddCounter => Ok(Body::AddCounter(AddCounter::read(alloc, bytes)?)),
+            Kind::RemoveCounter => Ok(Body::RemoveCounter(Removal::read(bytes)?)),
+            Kind::ClientClose => fields::end(bytes).map(|()| Body::ClientClose),
+            Kind::TerminateDriver => Ok(Body::TerminateDriver(TerminateDriver::read(
+                alloc, bytes,
+            )?)),
+            Kind::SetCounter => Ok(Body::SetCounter(SetCounter::read(bytes)?)),
         }
     }
 }
 
 impl Body {
-    ghost use Rattle.command_codec.specs.Command.{fields_bytes, type_number};
+    ghost use Rattle.command_codec.specs.Command.{fields_bytes, kind_in, kind_number};
 
+    #[tactic(auto, unfolding(crate::specs::Command::kind_number))]
     fn type_number(&self) -> u32
-        ensures { result ≡ type_number self.now }
+        ensures { result ≡ kind_number (kind_in self.now) }
     {
         match self {
             Body::AddSubscription(_) => 4,
             Body::RemoveSubscription(_) => 5,
+            Body::ClientKeepalive => 6,
+            Body::AddCounter(_) => 9,
+            Body::RemoveCounter(_) => 0x0A,
+            Body::ClientClose => 0x0B,
+            Body::TerminateDriver(_) => 0x0E,
+            Body::SetCounter(_) => 0x1001,
         }
     }
 
+    #[tactic(auto, unfolding(crate::specs::Command::fields_bytes))]
     fn put(&self, out: &mut Vec<u8>) -> Result<(), AllocError>
         ensures { OnOk result (out.new.items ≡ out.old.items ++ fields_bytes self.now) }
     {
         match self {
             Body::AddSubscription(fields) => fields.put(out),
             Body::RemoveSubscription(fields) => fields.put(out),
+            Body::ClientKeepalive => Ok(()),
+            Body::AddCounter(fields) => fields.put(out),
+            Body::RemoveCounter(fields) => fields.put(out),
+            Body::ClientClose => Ok(()),
+            Body::TerminateDriver(fields) => fields.put(out),
+            Body::SetCounter(fields) => fields.put(out),
         }
     }
 
@@ -91,19 +134,25 @@ impl Body {
         match self {
             Body::AddSubscription(fields) => Ok(Body::AddSubscription(fields.copy(alloc)?)),
             Body::RemoveSubscription(fields) => Ok(Body::RemoveSubscription(*fields)),
+            Body::ClientKeepalive => Ok(Body::ClientKeepalive),
+            Body::AddCounter(fields) => Ok(Body::AddCounter(fields.copy(alloc)?)),
+            Body::RemoveCounter(fields) => Ok(Body::RemoveCounter(*fields)),
+            Body::ClientClose => Ok(Body::ClientClose),
+            Body::TerminateDriver(fields) => Ok(Body::TerminateDriver(fields.copy(alloc)?)),
+            Body::SetCounter(fields) => Ok(Body::SetCounter(*fields)),
         }
     }
 }
 
 impl Command {
-    ghost use Rattle.command_codec.specs.Command.{command_bytes, command_of, correlation_of, has_text};
+    ghost use Rattle.command_codec.specs.Command.{command_bytes, command_of, correlation_of, has_bytes};
 
     /// The command that the bytes are. Its type is looked at first, so a type that is not known is `Unknown` whatever
-    /// follows it. Memory is taken for a text, and only once all of the bytes are found sound.
+    /// follows it. Memory is taken for a text or a byte string, and only once all of the bytes are found sound.
     #[tactic(auto, unfolding(crate::specs::Command::command_of))]
     pub fn read(alloc: Global, bytes: &[u8]) -> Result<Command, CommandFault>
         ensures exact { Gives result (command_of bytes.now) }
-        ensures without_memory { takes_memory (λ command. has_text command.body) (command_of bytes.now) ≡ false
+        ensures without_memory { takes_memory (λ command. has_bytes command.body) (command_of bytes.now) ≡ false
             → result ≡ command_of bytes.now }
     {
         let (number, rest) = fields::u32_at(bytes)?;
@@ -118,8 +167,9 @@ impl Command {
         })
     }
 
-    /// The bytes of the command. They are read again as the same command if its texts are ASCII and shorter than
-    /// 2^31 bytes. (Of a longer text's length the lowest four bytes are written.)
+    /// The bytes of the command. They are read again as the same command if its texts are ASCII, a channel is shorter
+    /// than 2^31 bytes, and a key, a label or a token is no longer than its field allows. (Each is written whole
+    /// whatever its length, of which the lowest four bytes are written.)
     #[tactic(auto, unfolding(crate::specs::Command::command_bytes))]
     pub fn write(&self, alloc: Global) -> Result<Bytes, AllocError>
         ensures { IfOk result (λ bytes. bytes ≡ command_bytes self.now) }

@@ -32,7 +32,7 @@ impl ErrorReply {
         let Some(code) = ErrorCode::from_number(number) else {
             return Err(CommandFault::Malformed);
         };
-        let (text, rest) = fields::text_at(rest)?;
+        let (text, rest) = fields::text_at(rest, fields::LONGEST)?;
         fields::end(rest)?;
         Ok(ErrorReply {
             correlation,

@@ -9,9 +9,10 @@ pub enum CommandFault {
     /// The type number is of no command (or of no reply).
     Unknown,
     /// There are fewer than four bytes; or the type is known, and a field does not fit the layout: it passes the end,
-    /// a text's length is negative, a text is not ASCII, a code is of no error, or bytes stand after the last field.
+    /// the length of a text or a byte string is negative or past its bound, a text is not ASCII, a code is of no error,
+    /// or bytes stand after the last field.
     Malformed,
-    /// The bytes are sound, and there is no memory for a text in them.
+    /// The bytes are sound, and there is no memory for a text or a byte string in them.
     NoMemory,
 }
 

@@ -5,8 +5,11 @@
 //! what was read is written as the same bytes.
 #![tactic(auto)]
 
+mod add_counter;
 mod add_subscription;
+mod client_timeout;
 mod command;
+mod counter_ready;
 mod error_code;
 mod error_reply;
 mod fault;
@@ -15,10 +18,16 @@ mod laws;
 mod operation_success;
 mod removal;
 mod reply;
+mod set_counter;
 mod subscription_ready;
+mod terminate_driver;
+mod unavailable_counter;
 
+pub use add_counter::AddCounter;
 pub use add_subscription::AddSubscription;
+pub use client_timeout::ClientTimeout;
 pub use command::{Body, Command};
+pub use counter_ready::CounterReady;
 pub use error_code::ErrorCode;
 pub use error_reply::ErrorReply;
 pub use fault::CommandFault;
@@ -29,7 +38,16 @@ pub use laws::{
 pub use operation_success::OperationSuccess;
 pub use removal::Removal;
 pub use reply::Reply;
+pub use set_counter::SetCounter;
 pub use subscription_ready::SubscriptionReady;
+pub use terminate_driver::TerminateDriver;
+pub use unavailable_counter::UnavailableCounter;
 
+#[cfg(test)]
+mod client_tests;
+#[cfg(test)]
+mod counter_tests;
+#[cfg(test)]
+mod test_bytes;
 #[cfg(test)]
 mod tests;

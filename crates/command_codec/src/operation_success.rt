@@ -19,8 +19,7 @@ impl OperationSuccess {
     pub(crate) fn read(bytes: &[u8]) -> Result<OperationSuccess, CommandFault>
         ensures { result ≡ operation_success_of bytes.now }
     {
-        let (correlation, rest) = fields::u64_at(bytes)?;
-        fields::end(rest)?;
+        let correlation = fields::one_u64(bytes)?;
         Ok(OperationSuccess { correlation })
     }
 

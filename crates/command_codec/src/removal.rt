@@ -4,7 +4,7 @@ use crate::fault::CommandFault;
 use crate::fields;
 use std::alloc::AllocError;
 
-/// A client asks that what stands under a registration be removed (REMOVE_SUBSCRIPTION).
+/// A client asks that what stands under a registration be removed (REMOVE_SUBSCRIPTION, REMOVE_COUNTER).
 #[derive(Clone, Copy, Debug, PartialEq, Eq)]
 pub struct Removal {
     /// The number under which it was registered.
@@ -19,8 +19,7 @@ impl Removal {
     pub(crate) fn read(bytes: &[u8]) -> Result<Removal, CommandFault>
         ensures { result ≡ removal_of bytes.now }
     {
-        let (registration, rest) = fields::u64_at(bytes)?;
-        fields::end(rest)?;
+        let registration = fields::one_u64(bytes)?;
         Ok(Removal { registration })
     }
 

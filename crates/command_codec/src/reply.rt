@@ -1,11 +1,14 @@
 ghost use Rattle.std.specs.Prelude.{◌≡◌, ◌++◌, false, IfOk, OnOk};
 ghost use Rattle.command_codec.specs.Gives.{Gives, takes_memory};
 
+use crate::client_timeout::ClientTimeout;
+use crate::counter_ready::CounterReady;
 use crate::error_reply::ErrorReply;
 use crate::fault::CommandFault;
 use crate::fields;
 use crate::operation_success::OperationSuccess;
 use crate::subscription_ready::SubscriptionReady;
+use crate::unavailable_counter::UnavailableCounter;
 use byte_strings::Bytes;
 use std::alloc::{AllocError, Global};
 
@@ -15,10 +18,63 @@ pub enum Reply {
     Error(ErrorReply),
     OperationSuccess(OperationSuccess),
     SubscriptionReady(SubscriptionReady),
+    CounterReady(CounterReady),
+    UnavailableCounter(UnavailableCounter),
+    ClientTimeout(ClientTimeout),
+}
+
+/// The types of replies that have a number here.
+#[derive(Clone, Copy)]
+enum Kind {
+    Error,
+    OperationSuccess,
+    SubscriptionReady,
+    CounterReady,
+    UnavailableCounter,
+    ClientTimeout,
+}
+
+impl Kind {
+    ghost use Rattle.command_codec.specs.Reply.{reply_fields_of, reply_has_text, reply_kind_of};
+
+    #[tactic(auto, unfolding(crate::specs::Reply::reply_kind_of, crate::specs::Reply::reply_number))]
+    fn from_number(number: u32) -> Result<Kind, CommandFault>
+        ensures { result ≡ reply_kind_of number }
+    {
+        match number {
+            0x0F01 => Ok(Kind::Error),
+            0x0F04 => Ok(Kind::OperationSuccess),
+            0x0F07 => Ok(Kind::SubscriptionReady),
+            0x0F08 => Ok(Kind::CounterReady),
+            0x0F09 => Ok(Kind::UnavailableCounter),
+            0x0F0A => Ok(Kind::ClientTimeout),
+            _ => Err(CommandFault::Unknown),
+        }
+    }
+
+    #[tactic(auto, unfolding(crate::specs::Reply::reply_fields_of))]
+    fn read(self, alloc: Global, bytes: &[u8]) -> Result<Reply, CommandFault>
+        ensures exact { Gives result (reply_fields_of self bytes.now) }
+        ensures without_memory { takes_memory reply_has_text (reply_fields_of self bytes.now) ≡ false
+            → result ≡ reply_fields_of self bytes.now }
+    {
+        match self {
+            Kind::Error => Ok(Reply::Error(ErrorReply::read(alloc, bytes)?)),
+            Kind::OperationSuccess => Ok(Reply::OperationSuccess(OperationSuccess::read(bytes)?)),
+            Kind::SubscriptionReady => Ok(Reply::SubscriptionReady(SubscriptionReady::read(
+                bytes,
+            )?)),
+            Kind::CounterReady => Ok(Reply::CounterReady(CounterReady::read(bytes)?)),
+            Kind::UnavailableCounter => Ok(Reply::UnavailableCounter(UnavailableCounter::read(
+                bytes,
+            )?)),
+            Kind::ClientTimeout => Ok(Reply::ClientTimeout(ClientTimeout::read(bytes)?)),
+        }
+    }
 }
 
 impl Reply {
-    ghost use Rattle.command_codec.specs.Reply.{reply_bytes, reply_fields_of, reply_has_text, reply_of};
+    ghost use Rattle.command_codec.specs.Reply.{reply_bytes, reply_fields_bytes, reply_has_text, reply_kind_in, reply_number, reply_of};
 
     /// The reply that the bytes are. Its type is looked at first, so a type that is not known is `Unknown` whatever
     /// follows it. Memory is taken for a text, and only once all of the bytes are found sound.
@@ -29,28 +85,35 @@ impl Reply {
             → result ≡ reply_of bytes.now }
     {
         let (number, rest) = fields::u32_at(bytes)?;
-        Reply::read_fields(alloc, number, rest)
+        let kind = Kind::from_number(number)?;
+        kind.read(alloc, rest)
     }
 
-    fn read_fields(alloc: Global, number: u32, bytes: &[u8]) -> Result<Reply, CommandFault>
-        ensures exact { Gives result (reply_fields_of number bytes.now) }
-        ensures without_memory { takes_memory reply_has_text (reply_fields_of number bytes.now) ≡ false
-            → result ≡ reply_fields_of number bytes.now }
+    #[tactic(auto, unfolding(crate::specs::Reply::reply_number))]
+    fn type_number(&self) -> u32
+        ensures { result ≡ reply_number (reply_kind_in self.now) }
     {
-        match number {
-            0x0F01 => {
-                let fields = ErrorReply::read(alloc, bytes)?;
-                Ok(Reply::Error(fields))
-            }
-            0x0F04 => {
-                let fields = OperationSuccess::read(bytes)?;
-                Ok(Reply::OperationSuccess(fields))
-            }
-            0x0F07 => {
-                let fields = SubscriptionReady::read(bytes)?;
-                Ok(Reply::SubscriptionReady(fields))
-            }
-            _ => Err(CommandFault::Unknown),
+        match self {
+            Reply::Error(_) => 0x0F01,
+            Reply::OperationSuccess(_) => 0x0F04,
+            Reply::SubscriptionReady(_) => 0x0F07,
+            Reply::CounterReady(_) => 0x0F08,
+            Reply::UnavailableCounter(_) => 0x0F09,
+            Reply::ClientTimeout(_) => 0x0F0A,
+        }
+    }
+
+    #[tactic(auto, unfolding(crate::specs::Reply::reply_fields_bytes))]
+    fn put(&self, out: &mut Vec<u8>) -> Result<(), AllocError>
+        ensures { OnOk result (out.new.items ≡ out.old.items ++ reply_fields_bytes self.now) }
+    {
+        match self {
+            Reply::Error(fields) => fields.put(out),
+            Reply::OperationSuccess(fields) => fields.put(out),
+            Reply::SubscriptionReady(fields) => fields.put(out),
+            Reply::CounterReady(fields) => fields.put(out),
+            Reply::UnavailableCounter(fields) => fields.put(out),
+            Reply::ClientTimeout(fields) => fields.put(out),
         }
     }
 
@@ -61,20 +124,8 @@ impl Reply {
         ensures { IfOk result (λ bytes. bytes ≡ reply_bytes self.now) }
     {
         let mut out = Vec::new(alloc);
-        match self {
-            Reply::Error(fields) => {
-                fields::put_u32(&mut out, 0x0F01)?;
-                fields.put(&mut out)?;
-            }
-            Reply::OperationSuccess(fields) => {
-                fields::put_u32(&mut out, 0x0F04)?;
-                fields.put(&mut out)?;
-            }
-            Reply::SubscriptionReady(fields) => {
-                fields::put_u32(&mut out, 0x0F07)?;
-                fields.put(&mut out)?;
-            }
-        }
+        fields::put_u32(&mut out, self.type_number())?;
+        self.put(&mut out)?;
         Ok(Bytes::from(out))
     }
 
@@ -86,6 +137,9 @@ impl Reply {
             Reply::Error(fields) => Reply::Error(fields.copy(alloc)?),
             Reply::OperationSuccess(fields) => Reply::OperationSuccess(*fields),
             Reply::SubscriptionReady(fields) => Reply::SubscriptionReady(*fields),
+            Reply::CounterReady(fields) => Reply::CounterReady(*fields),
+            Reply::UnavailableCounter(fields) => Reply::UnavailableCounter(*fields),
+            Reply::ClientTimeout(fields) => Reply::ClientTimeout(*fields),
         })
     }
 }

@@ -1,5 +1,4 @@
 ghost use Rattle.std.specs.Prelude.{◌≡◌, ◌++◌, OnOk};
-ghost use Rattle.command_codec.specs.Gives.{Equals};
 
 use crate::fault::CommandFault;
 use crate::fields;
@@ -22,9 +21,7 @@ impl SubscriptionReady {
     pub(crate) fn read(bytes: &[u8]) -> Result<SubscriptionReady, CommandFault>
         ensures { result ≡ subscription_ready_of bytes.now }
     {
-        let (correlation, rest) = fields::u64_at(bytes)?;
-        let (registration, rest) = fields::u64_at(rest)?;
-        fields::end(rest)?;
+        let (correlation, registration) = fields::two_u64(bytes)?;
         Ok(SubscriptionReady {
             correlation,
             registration,

@@ -110,7 +110,7 @@ fn faulty_replies(rt: HostRuntime) {
     }
     // The type of no reply, a code of no error, a text that is not ASCII.
     for (place, byte, fault) in [
-        (0, 0x09, CommandFault::Unknown),
+        (0, 0x0b, CommandFault::Unknown),
         (12, 0xef, CommandFault::Malformed),
         (48, 0x80, CommandFault::Malformed),
     ] {
