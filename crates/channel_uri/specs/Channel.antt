@@ -43,3 +43,7 @@ takes_memory text =
 -- the subject of a rule on counters
 abbrev pub counter_shape : Shape
 counter_shape = record { spy = false; media = Counter; keys = [] }
+
+-- shared memory without any key
+abbrev pub ipc_shape : Shape
+ipc_shape = record { spy = false; media = Ipc; keys = [] }

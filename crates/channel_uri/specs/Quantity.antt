@@ -31,15 +31,21 @@ duration_units =
 unfoldable pub size_of : List ℕ → Option ℕ
 size_of text = measured size_units text
 
--- a size for `mtu`: a multiple of 32 from 64 to 65504
-unfoldable pub mtu_of : List ℕ → Option ℕ
-mtu_of text = size_of text >>? λ size.
+-- a size that `mtu` may be: a multiple of 32 from 64 to 65504
+unfoldable pub mtu_from : ℕ → Option ℕ
+mtu_from size =
     if nat_le 64 size then if nat_le size 65504 then if size % 32 == 0 then Some size else None else None else None
 
--- a size for `term-length`: a power of two from 64 KiB to 16 MiB; own: the upper bound
-unfoldable pub term_length_of : List ℕ → Option ℕ
-term_length_of text = size_of text >>? λ size.
+unfoldable pub mtu_of : List ℕ → Option ℕ
+mtu_of text = size_of text >>? mtu_from
+
+-- a size that `term-length` may be: a power of two from 64 KiB to 16 MiB; own: the upper bound
+unfoldable pub term_length_from : ℕ → Option ℕ
+term_length_from size =
     if nat_le 65536 size then if nat_le size 16777216 then if is_power_of_two size then Some size else None else None else None
+
+unfoldable pub term_length_of : List ℕ → Option ℕ
+term_length_of text = size_of text >>? term_length_from
 
 -- a duration for `linger`
 unfoldable pub linger_of : List ℕ → Option ℕ

@@ -69,9 +69,10 @@ fn port_of(text: &str) -> Option<u16>
     Some(port as u16)
 }
 
-/// The address that the text is.
+/// The address that the text is: four numbers from 0 to 255 with dots between them, the first not from 224 to 239, then
+/// `:` and a port from 1 to 65535. None of them has leading zeros.
 #[tactic(auto, unfolding(crate::specs::Address::address_of))]
-pub(crate) fn address_of(text: &str) -> Option<Address>
+pub fn address_of(text: &str) -> Option<Address>
     ensures { result ≡ address_of text.now }
 {
     let (host, port) = cut(text, ':')?;

@@ -49,7 +49,7 @@ fn media_of(spy: bool, word: &str) -> Result<Media, UriError>
 
 impl Channel {
     ghost use Rattle.channel_uri.specs.Canonical.{canonical_of};
-    ghost use Rattle.channel_uri.specs.Channel.{denotes, takes_memory, counter_shape};
+    ghost use Rattle.channel_uri.specs.Channel.{denotes, takes_memory, counter_shape, ipc_shape};
     ghost use Rattle.channel_uri.specs.Place.{spot_of, spot_at};
 
     /// Reads a channel's text: `aeron:udp` or `aeron:ipc`, for a spy of `udp` behind `aeron-spy:`, and then perhaps a
@@ -85,6 +85,17 @@ impl Channel {
         Channel {
             spy: false,
             media: Media::Counter,
+            keys: Keys::new(alloc),
+        }
+    }
+
+    /// Shared memory, without any key: the channel of the text `aeron:ipc`. It takes no memory.
+    pub fn ipc(alloc: Global) -> Channel
+        ensures { result ≡ ipc_shape }
+    {
+        Channel {
+            spy: false,
+            media: Media::Ipc,
             keys: Keys::new(alloc),
         }
     }

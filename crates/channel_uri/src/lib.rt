@@ -21,7 +21,7 @@ mod session;
 mod syntax;
 mod values;
 
-pub use address::Address;
+pub use address::{Address, address_of};
 pub use channel::Channel;
 pub use error::UriError;
 pub use key::Key;
@@ -33,3 +33,5 @@ pub use laws::{
 pub use media::Media;
 pub use pattern::Pattern;
 pub use place::Place;
+pub use quantity::{mtu_from, term_length_from};
+pub use session::session_id_of;

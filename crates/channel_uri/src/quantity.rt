@@ -1,4 +1,4 @@
-ghost use Rattle.channel_uri.specs.Quantity.{linger_of, measured, mtu_of, size_of, term_length_of, times};
+ghost use Rattle.channel_uri.specs.Quantity.{linger_of, measured, mtu_from, mtu_of, size_of, term_length_from, term_length_of, times};
 ghost use Rattle.std.specs.Prelude.{◌≡◌, map};
 
 use crate::number::number_below;
@@ -44,12 +44,11 @@ fn size_of(text: &str) -> Option<u64>
     measured(&units, text)
 }
 
-/// The greatest length of a datagram, in bytes: a multiple of 32 from 64 to 65504.
-#[tactic(auto, unfolding(crate::specs::Quantity::mtu_of))]
-pub(crate) fn mtu_of(text: &str) -> Option<u32>
-    ensures { result ≡ mtu_of text.now }
+/// The greatest length of a datagram that is so many bytes: a multiple of 32 from 64 to 65504.
+#[tactic(auto, unfolding(crate::specs::Quantity::mtu_from))]
+pub fn mtu_from(size: u64) -> Option<u32>
+    ensures { result ≡ mtu_from size }
 {
-    let size = size_of(text)?;
     if size < 64 {
         return None;
     }
@@ -63,12 +62,19 @@ pub(crate) fn mtu_of(text: &str) -> Option<u32>
     }
 }
 
-/// The length of a term, in bytes: a power of two from 64 KiB to 16 MiB.
-#[tactic(auto, unfolding(crate::specs::Quantity::term_length_of))]
-pub(crate) fn term_length_of(text: &str) -> Option<u32>
-    ensures { result ≡ term_length_of text.now }
+/// The greatest length of a datagram, in bytes.
+#[tactic(auto, unfolding(crate::specs::Quantity::mtu_of))]
+pub(crate) fn mtu_of(text: &str) -> Option<u32>
+    ensures { result ≡ mtu_of text.now }
 {
-    let size = size_of(text)?;
+    mtu_from(size_of(text)?)
+}
+
+/// The length of a term that is so many bytes: a power of two from 64 KiB to 16 MiB.
+#[tactic(auto, unfolding(crate::specs::Quantity::term_length_from))]
+pub fn term_length_from(size: u64) -> Option<u32>
+    ensures { result ≡ term_length_from size }
+{
     if size < 65_536 {
         return None;
     }
@@ -80,6 +86,14 @@ pub(crate) fn term_length_of(text: &str) -> Option<u32>
     } else {
         None
     }
+}
+
+/// The length of a term, in bytes.
+#[tactic(auto, unfolding(crate::specs::Quantity::term_length_of))]
+pub(crate) fn term_length_of(text: &str) -> Option<u32>
+    ensures { result ≡ term_length_of text.now }
+{
+    term_length_from(size_of(text)?)
 }
 
 /// For how long a log lingers, in nanoseconds.

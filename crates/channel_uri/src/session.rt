@@ -3,9 +3,9 @@ ghost use Rattle.std.specs.Prelude.{◌≡◌};
 
 use crate::number::number_below;
 
-/// A signed decimal of 32 bits.
+/// The signed decimal of 32 bits that the text is. Leading zeros may stand, and `-0` is 0.
 #[tactic(auto, unfolding(crate::specs::Session::session_id_of))]
-pub(crate) fn session_id_of(text: &str) -> Option<i32>
+pub fn session_id_of(text: &str) -> Option<i32>
     ensures { result ≡ session_id_of text.now }
 {
     match text.strip_prefix("-") {

@@ -218,6 +218,8 @@ fn a_place_is_the_first_that_fits(rt: HostRuntime) -> Result<(), Fail> {
     }
     assert!(rt; Channel::parse(alloc, "aeron:udp?a=1")?.place().is_none());
     assert!(rt; Channel::counter(alloc).place().is_none());
+    let plain = Channel::ipc(alloc).canonical(alloc)?;
+    assert_eq!(rt; plain.as_str(), "aeron:ipc");
     Ok(())
 }
 

@@ -1,7 +1,7 @@
 ghost use Rattle.counters.specs.Counters.{has_room, made, counter_at, has, is_another, is_of_another, set_one, is_visible};
 ghost use Rattle.counters.specs.declared.fault.CounterFault.TheVariants.{UnknownCounter, Full, NoMemory};
 ghost use Rattle.std.specs.Option.{option_copied};
-ghost use Rattle.std.specs.Prelude.{◌≡◌, ◌↔◌, ◌++◌, ◌∷◌, [], IfOk, IfErr, IsOk, OnOk, OnErr, Err, true, false, filter, map};
+ghost use Rattle.std.specs.Prelude.{◌≡◌, ◌↔◌, ◌++◌, ◌∷◌, [], IfOk, IfErr, IsOk, OnOk, OnErr, Err, true, false, not, filter, map};
 
 use crate::counter::Counter;
 use crate::fault::CounterFault;
@@ -115,6 +115,13 @@ impl Counters {
         self.rows.as_slice()
     }
 
+    /// Whether there are as many counters as there may be.
+    pub fn is_full(&self) -> bool
+        ensures { result ≡ not (has_room self.now) }
+    {
+        self.rows.len() >= COUNTERS
+    }
+
     /// A client's counter comes, under this registration number. Its value is 0.
     ///
     /// # Errors
@@ -132,7 +139,7 @@ impl Counters {
         ensures added { OnOk result (self.new ≡ self.old ++ made number client type_id key label ∷ []) }
         ensures err { OnErr result (self.new ≡ self.old) }
     {
-        if self.rows.len() >= COUNTERS {
+        if self.is_full() {
             return Err(CounterFault::Full);
         }
         let counter = Counter {

@@ -67,8 +67,10 @@ fn counters_go_with_their_client(rt: HostRuntime) -> Result<(), Fail> {
 fn there_are_1024_counters_at_most(rt: HostRuntime) -> Result<(), Fail> {
     let mut counters = Counters::new(rt.alloc());
     for number in 1..1025u64 {
+        assert!(rt; !counters.is_full());
         assert_eq!(rt; add(rt.alloc(), &mut counters, number, 1, 1001)?, Ok(()));
     }
+    assert!(rt; counters.is_full());
     assert_eq!(rt;
         add(rt.alloc(), &mut counters, 1025, 1, 1001)?,
         Err(CounterFault::Full)
