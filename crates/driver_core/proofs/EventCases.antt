@@ -1,33 +1,45 @@
 -- What holds of the change that each case of an event makes holds of the event's.
-use Rattle.std.proofs.Common.{◌≡◌, ℕ, ℤ, ◌==◌, Bool, true, false, not, List, [], ◌∷◌, Option, Some, None, Result, Ok, Err, refl, ap, ◌∙◌}
+use Rattle.std.proofs.Common.{◌≡◌, ℕ, ℤ, pos, ◌==◌, Bool, true, false, not, List, [], ◌∷◌, Option, Some, None, Result, Ok, Err, inl, inr, refl, ap, ◌∙◌}
 use Rattle.std.proofs.lemmas.Bool.{eqb-true, cond_both, not-true, not-false}
 use Rattle.driver_core.specs.declared.change.Change.{Change}
 use Rattle.driver_core.specs.declared.event.Event.TheVariants.{Command}
 use Rattle.driver_core.specs.declared.event.Inputs.{Inputs}
 use Rattle.driver_core.specs.declared.outcome.Response.TheVariants as response
 use Rattle.driver_core.specs.declared.refusal.Refusal.{Refusal}
-use Rattle.driver_core.specs.declared.refusal.Refusal.TheVariants.{WrongClient, InvalidChannel, UnknownSubscription, Denied, Full}
-use Rattle.driver_core.specs.declared.rows.Client.{Client}
-use Rattle.driver_core.specs.Attaching.{attach, attached, has_room_for_client}
+use Rattle.driver_core.specs.declared.refusal.Refusal.TheVariants.{WrongClient, InvalidChannel, UnknownSubscription, UnknownCounter, Denied, Full}
+use Rattle.client_registry.specs.declared.client.Client.{Client}
+use Rattle.driver_core.specs.Attaching.{attach, attached}
 use Rattle.driver_core.specs.Change.{answered, refused}
-use Rattle.driver_core.specs.Commands.{client_at, heard, requested, asked, asked_by, command, command_from, body_change, refusal_for}
+use Rattle.driver_core.specs.Closing.{keep_alive, close}
+use Rattle.driver_core.specs.Counting.{add_counter, counted, counter_decision, has_room_for_counter, set_counter, valued, remove_counter, uncounted}
+use Rattle.driver_core.specs.Deciding.{decision_by, question_by}
+use Rattle.client_registry.specs.Clients.{client_at, has_room}
+use Rattle.counters.specs.Counters.{has}
+use Rattle.driver_core.specs.Commands.{heard, requested, asked, asked_by, command, command_from, body_change, refusal_for}
 use Rattle.driver_core.specs.Conduct.{conduct}
-use Rattle.driver_core.specs.Laws.{SubscriptionRequest, AsksToSubscribe, is_heard}
+use Rattle.driver_core.specs.Laws.{is_heard}
 use Rattle.driver_core.specs.Reloading.{reload, reloaded, has_room_for_policy}
-use Rattle.driver_core.specs.RemovalLaws.{RemovalRequest, AsksToRemove}
+use Rattle.driver_core.specs.Requests.{Asks, SubscriptionRequest, AsksToSubscribe, RemovalRequest, AsksToRemove, IsAsked}
 use Rattle.driver_core.specs.State.{State, at_moment}
 use Rattle.driver_core.specs.Subscribing.{is_subscribable, subscribe, subscribe_on, add_subscription, subscribed, decision_of, has_room_for_subscription}
+use Rattle.driver_core.specs.Terminating.{terminate, terminated, termination_decision}
 use Rattle.driver_core.specs.Unsubscribing.{remove_subscription, unsubscribed, has_subscription}
 use Rattle.channel_uri.specs.declared.error.UriError.{UriError}
-use Rattle.channel_uri.specs.Channel.{Shape, denotes}
+use Rattle.channel_uri.specs.Channel.{Shape, denotes, counter_shape, ipc_shape}
 use Rattle.command_codec.specs.declared.add_subscription.AddSubscription.{AddSubscription}
 use Rattle.command_codec.specs.declared.command.Body.{Body}
-use Rattle.command_codec.specs.declared.command.Body.TheVariants.{AddSubscription as Adds, RemoveSubscription as Removes}
+use Rattle.command_codec.specs.declared.command.Body.TheVariants.{AddSubscription as Adds, RemoveSubscription as Removes, ClientKeepalive as Keeps, AddCounter as AddsCounter, RemoveCounter as RemovesCounter, ClientClose as Closes, TerminateDriver as Terminates, SetCounter as Sets}
 use Rattle.command_codec.specs.declared.command.Command.{Command as Read}
 use Rattle.command_codec.specs.declared.fault.CommandFault.{CommandFault}
 use Rattle.command_codec.specs.declared.fault.CommandFault.TheVariants.{Unknown, Malformed, NoMemory}
+use Rattle.command_codec.specs.declared.add_counter.AddCounter.{AddCounter}
 use Rattle.command_codec.specs.declared.removal.Removal.{Removal}
+use Rattle.command_codec.specs.declared.set_counter.SetCounter.{SetCounter}
+use Rattle.command_codec.specs.declared.terminate_driver.TerminateDriver.{TerminateDriver}
 use Rattle.command_codec.specs.Command.{command_of, correlation_of}
+use Rattle.policy_core.specs.declared.act.Act.{Act}
+use Rattle.policy_core.specs.declared.act.Act.TheVariants.{Counter as MakeCounter, Terminate}
+use Rattle.policy_core.specs.declared.decision.Decision.{Decision}
 use Rattle.policy_core.specs.RuleList.{Rules}
 
 -- a refusal for which the policy is not asked
@@ -40,15 +52,45 @@ pub record Cases (P : Change → Type 0) (s : State) (handle : ℕ) (bytes : Lis
   pub unheard :
       (correlation : ℕ) (refusal : Refusal) → IsPlain refusal → is_heard s handle bytes ≡ false →
       P (refused s [] handle correlation refusal)
-  pub no_channel :
-      (client : Client) (correlation : ℕ) → is_heard s handle bytes ≡ true →
-      P (refused (heard s handle) [] client.number correlation InvalidChannel)
-  pub decided :
+  pub refusal :
+      (decisions : List Decision) (client : Client) (correlation : ℕ) (refusal : Refusal) → IsPlain refusal →
+      is_heard s handle bytes ≡ true → P (refused (heard s handle) decisions client.number correlation refusal)
+  pub denial :
+      (client : Client) (correlation : ℕ) (act : Act) (channel : Shape) (stream : ℤ) → is_heard s handle bytes ≡ true →
+      client_at s.clients.rows handle ≡ Some client →
+      IsAsked s handle bytes correlation (question_by client act channel stream) →
+      (decision_by (heard s handle) client act channel stream).verdict.allow ≡ false →
+      P (refused (heard s handle) (decision_by (heard s handle) client act channel stream ∷ []) client.number correlation
+      (Denied (decision_by (heard s handle) client act channel stream).verdict))
+  pub subscription :
       (request : SubscriptionRequest) → is_heard s handle bytes ≡ true → AsksToSubscribe s handle bytes request →
-      P (subscribe (heard s handle) request.client request.correlation request.channel request.fields.stream)
+      (decision_of (heard s handle) request.client request.channel request.fields.stream).verdict.allow ≡ true →
+      has_room_for_subscription (heard s handle) ≡ true →
+      P (subscribed (heard s handle) request.client request.correlation request.channel request.fields.stream)
   pub removal :
       (request : RemovalRequest) → is_heard s handle bytes ≡ true → AsksToRemove s handle bytes request →
-      P (remove_subscription (heard s handle) request.client request.correlation request.fields)
+      P (unsubscribed (heard s handle) request.client request.correlation request.fields.registration)
+  pub keepalive : is_heard s handle bytes ≡ true → P (keep_alive (heard s handle))
+  pub counter :
+      (client : Client) (correlation : ℕ) (fields : AddCounter) → is_heard s handle bytes ≡ true →
+      Asks s handle bytes client correlation (AddsCounter fields) →
+      (counter_decision (heard s handle) client fields).verdict.allow ≡ true →
+      has_room_for_counter (heard s handle) ≡ true → P (counted (heard s handle) client correlation fields)
+  pub value :
+      (client : Client) (correlation : ℕ) (fields : SetCounter) → is_heard s handle bytes ≡ true →
+      Asks s handle bytes client correlation (Sets fields) → P (valued (heard s handle) client correlation fields)
+  pub counter_removal :
+      (client : Client) (correlation : ℕ) (fields : Removal) → is_heard s handle bytes ≡ true →
+      Asks s handle bytes client correlation (RemovesCounter fields) →
+      P (uncounted (heard s handle) client correlation fields.registration)
+  pub closing :
+      (client : Client) (correlation : ℕ) → is_heard s handle bytes ≡ true →
+      Asks s handle bytes client correlation Closes → P (close (heard s handle) client correlation)
+  pub termination :
+      (client : Client) (correlation : ℕ) (fields : TerminateDriver) → is_heard s handle bytes ≡ true →
+      Asks s handle bytes client correlation (Terminates fields) →
+      (termination_decision (heard s handle) client).verdict.allow ≡ true →
+      P (terminated (heard s handle) client correlation)
 
 plain_fault : (fault : CommandFault) → IsPlain (refusal_for fault)
 plain_fault Unknown = tt
@@ -59,68 +101,6 @@ plain_fault NoMemory = tt
 whole : (read : Read) (handle : ℕ) (body : Body) → read.client ≡ handle → read.body ≡ body →
     read ≡ record { client = handle; correlation = read.correlation; body = body }
 whole read handle body own is = rw (← own, ← is) refl
-
--- ---- a client that is there
-
-channel_cases : (P : Change → Type 0) (s : State) (handle : ℕ) (bytes : List ℕ) (client : Client) (correlation : ℕ)
-    (fields : AddSubscription) → Cases P s handle bytes → is_heard s handle bytes ≡ true →
-    command_of bytes ≡ Ok (record { client = handle; correlation = correlation; body = Adds fields }) →
-    client_at s.clients handle ≡ Some client → (channel : Result Shape UriError) → denotes fields.channel ≡ channel →
-    P (subscribe_on (heard s handle) client correlation channel fields.stream)
-channel_cases P s handle bytes client correlation fields cases known is found (Err fault) denoted =
-    cases.no_channel client correlation known
-channel_cases P s handle bytes client correlation fields cases known is found (Ok channel) denoted =
-    cond_both (is_subscribable channel)
-    (subscribe (heard s handle) client correlation channel fields.stream)
-    (refused (heard s handle) [] client.number correlation InvalidChannel)
-    P
-    (λ takes.
-    cases.decided (record { client = client; correlation = correlation; fields = fields; channel = channel }) known
-    (record { command = is; attached = found; denotes_channel = denoted; takes_channel = takes }))
-    (λ other. cases.no_channel client correlation known)
-
-body_cases : (P : Change → Type 0) (s : State) (handle : ℕ) (bytes : List ℕ) (client : Client) (read : Read) →
-    Cases P s handle bytes → is_heard s handle bytes ≡ true → command_of bytes ≡ Ok read → read.client ≡ handle →
-    client_at s.clients handle ≡ Some client → (body : Body) → read.body ≡ body →
-    P (body_change (heard s handle) client read.correlation body)
-unfolding add_subscription
-body_cases P s handle bytes client read cases known is own found (Adds fields) same =
-    channel_cases P s handle bytes client read.correlation fields cases known
-    (is ∙ ap Ok (whole read handle (Adds fields) own same)) found (denotes fields.channel) refl
-body_cases P s handle bytes client read cases known is own found (Removes fields) same =
-    cases.removal (record { client = client; correlation = read.correlation; fields = fields }) known
-    (record { command = is ∙ ap Ok (whole read handle (Removes fields) own same); attached = found })
-
--- ---- any bytes
-
-found_cases : (P : Change → Type 0) (s : State) (handle : ℕ) (bytes : List ℕ) (read : Read) → Cases P s handle bytes →
-    command_of bytes ≡ Ok read → (read.client == handle) ≡ true → (found : Option Client) →
-    client_at s.clients handle ≡ found → P (asked_by s handle read found)
-unfolding requested
-found_cases P s handle bytes read cases is own None found =
-    cases.unheard read.correlation WrongClient tt (rw (is, own, found) refl)
-found_cases P s handle bytes read cases is own (Some client) found =
-    body_cases P s handle bytes client read cases (rw (is, own, found) refl) is (eqb-true read.client handle own) found
-    read.body refl
-
-read_cases : (P : Change → Type 0) (s : State) (handle : ℕ) (bytes : List ℕ) → Cases P s handle bytes →
-    (read : Result Read CommandFault) → command_of bytes ≡ read → P (command_from s handle bytes read)
-unfolding asked
-read_cases P s handle bytes cases (Err fault) is =
-    cases.unheard (correlation_of bytes) (refusal_for fault) (plain_fault fault) (rw is refl)
-read_cases P s handle bytes cases (Ok read) is =
-    cond_both (read.client == handle)
-    (asked_by s handle read (client_at s.clients handle))
-    (refused s [] handle read.correlation WrongClient)
-    P
-    (λ own. found_cases P s handle bytes read cases is own (client_at s.clients handle) refl)
-    (λ other. cases.unheard read.correlation WrongClient tt (rw (is, other) refl))
-
-pub command_cases : (P : Change → Type 0) (s : State) (now handle : ℕ) (bytes : List ℕ) (inputs : Inputs) →
-    Cases P (at_moment s now) handle bytes → P (conduct s (Command now handle bytes) inputs)
-unfolding conduct command
-command_cases P s now handle bytes inputs cases =
-    read_cases P (at_moment s now) handle bytes cases (command_of bytes) refl
 
 -- ---- the policy, and then the room
 
@@ -150,6 +130,172 @@ unfolding remove_subscription
 remove_cases P s client correlation fields known unknown =
     cond_both (has_subscription s client.number fields.registration) _ _ P known unknown
 
+-- ---- a counter
+
+pub add_counter_cases : (P : Change → Type 0) (s : State) (client : Client) (correlation : ℕ) (fields : AddCounter) →
+    ((counter_decision s client fields).verdict.allow ≡ true → has_room_for_counter s ≡ true →
+    P (counted s client correlation fields)) →
+    ((counter_decision s client fields).verdict.allow ≡ true → has_room_for_counter s ≡ false →
+    P (refused s (counter_decision s client fields ∷ []) client.number correlation Full)) →
+    ((counter_decision s client fields).verdict.allow ≡ false →
+    P (refused s (counter_decision s client fields ∷ []) client.number correlation
+    (Denied (counter_decision s client fields).verdict))) →
+    P (add_counter s client correlation fields)
+unfolding add_counter
+add_counter_cases P s client correlation fields granted full denied =
+    let allow : Bool = (counter_decision s client fields).verdict.allow in
+    cond_both (not allow) _ _ P (λ e. denied (not-true allow e))
+    (λ e. cond_both (has_room_for_counter s) _ _ P (granted (not-false allow e)) (full (not-false allow e)))
+
+set_counter_cases : (P : Change → Type 0) (s : State) (client : Client) (correlation : ℕ) (fields : SetCounter) →
+    P (valued s client correlation fields) → P (refused s [] client.number correlation UnknownCounter) →
+    P (set_counter s client correlation fields)
+unfolding set_counter
+set_counter_cases P s client correlation fields known unknown =
+    cond_both (has s.counters client.number fields.registration) _ _ P (λ e. known) (λ e. unknown)
+
+remove_counter_cases : (P : Change → Type 0) (s : State) (client : Client) (correlation : ℕ) (fields : Removal) →
+    P (uncounted s client correlation fields.registration) →
+    P (refused s [] client.number correlation UnknownCounter) → P (remove_counter s client correlation fields)
+unfolding remove_counter
+remove_counter_cases P s client correlation fields known unknown =
+    cond_both (has s.counters client.number fields.registration) _ _ P (λ e. known) (λ e. unknown)
+
+-- ---- the end of the driver
+
+pub terminate_cases : (P : Change → Type 0) (s : State) (client : Client) (correlation : ℕ) →
+    ((termination_decision s client).verdict.allow ≡ true → P (terminated s client correlation)) →
+    ((termination_decision s client).verdict.allow ≡ false →
+    P (refused s (termination_decision s client ∷ []) client.number correlation
+    (Denied (termination_decision s client).verdict))) →
+    P (terminate s client correlation)
+unfolding terminate
+terminate_cases P s client correlation granted denied =
+    let allow : Bool = (termination_decision s client).verdict.allow in
+    cond_both (not allow) _ _ P (λ e. denied (not-true allow e)) (λ e. granted (not-false allow e))
+
+-- ---- a client that is there
+
+decided_cases : (P : Change → Type 0) (s : State) (handle : ℕ) (bytes : List ℕ) (request : SubscriptionRequest) →
+    Cases P s handle bytes → is_heard s handle bytes ≡ true → AsksToSubscribe s handle bytes request →
+    P (subscribe (heard s handle) request.client request.correlation request.channel request.fields.stream)
+decided_cases P s handle bytes request cases known asks =
+    subscribe_cases P (heard s handle) request.client request.correlation request.channel request.fields.stream
+    (cases.subscription request known asks)
+    (λ allows full. cases.refusal _ request.client request.correlation Full tt known)
+    (cases.denial request.client request.correlation _ request.channel request.fields.stream known asks.attached
+    (inl (record { request = request; asks = asks; correlation_is = refl; question_is = refl })))
+
+channel_cases : (P : Change → Type 0) (s : State) (handle : ℕ) (bytes : List ℕ) (client : Client) (correlation : ℕ)
+    (fields : AddSubscription) → Cases P s handle bytes → is_heard s handle bytes ≡ true →
+    command_of bytes ≡ Ok (record { client = handle; correlation = correlation; body = Adds fields }) →
+    client_at s.clients.rows handle ≡ Some client → (channel : Result Shape UriError) → denotes fields.channel ≡ channel →
+    P (subscribe_on (heard s handle) client correlation channel fields.stream)
+channel_cases P s handle bytes client correlation fields cases known is found (Err fault) denoted =
+    cases.refusal [] client correlation InvalidChannel tt known
+channel_cases P s handle bytes client correlation fields cases known is found (Ok channel) denoted =
+    cond_both (is_subscribable channel)
+    (subscribe (heard s handle) client correlation channel fields.stream)
+    (refused (heard s handle) [] client.number correlation InvalidChannel)
+    P
+    (λ takes.
+    decided_cases P s handle bytes
+    (record { client = client; correlation = correlation; fields = fields; channel = channel }) cases known
+    (record { command = is; attached = found; denotes_channel = denoted; takes_channel = takes }))
+    (λ other. cases.refusal [] client correlation InvalidChannel tt known)
+
+counter_cases : (P : Change → Type 0) (s : State) (handle : ℕ) (bytes : List ℕ) (client : Client) (correlation : ℕ)
+    (fields : AddCounter) → Cases P s handle bytes → is_heard s handle bytes ≡ true →
+    Asks s handle bytes client correlation (AddsCounter fields) →
+    P (add_counter (heard s handle) client correlation fields)
+counter_cases P s handle bytes client correlation fields cases known asks =
+    add_counter_cases P (heard s handle) client correlation fields
+    (cases.counter client correlation fields known asks)
+    (λ allows full. cases.refusal _ client correlation Full tt known)
+    (cases.denial client correlation MakeCounter counter_shape fields.type_id known asks.attached
+    (inr (inl (record { client = client; fields = fields; asks = asks; question_is = refl }))))
+
+termination_cases : (P : Change → Type 0) (s : State) (handle : ℕ) (bytes : List ℕ) (client : Client) (correlation : ℕ)
+    (fields : TerminateDriver) → Cases P s handle bytes → is_heard s handle bytes ≡ true →
+    Asks s handle bytes client correlation (Terminates fields) → P (terminate (heard s handle) client correlation)
+termination_cases P s handle bytes client correlation fields cases known asks =
+    terminate_cases P (heard s handle) client correlation
+    (cases.termination client correlation fields known asks)
+    (cases.denial client correlation Terminate ipc_shape (pos 0) known asks.attached
+    (inr (inr (record { client = client; fields = fields; asks = asks; question_is = refl }))))
+
+-- the bytes ask for what their body says
+asks_for : (s : State) (handle : ℕ) (bytes : List ℕ) (client : Client) (read : Read) (body : Body) →
+    command_of bytes ≡ Ok read → read.client ≡ handle → client_at s.clients.rows handle ≡ Some client →
+    read.body ≡ body → Asks s handle bytes client read.correlation body
+asks_for s handle bytes client read body is own found same =
+    record { command = is ∙ ap Ok (whole read handle body own same); attached = found }
+
+body_cases : (P : Change → Type 0) (s : State) (handle : ℕ) (bytes : List ℕ) (client : Client) (read : Read) →
+    Cases P s handle bytes → is_heard s handle bytes ≡ true → command_of bytes ≡ Ok read → read.client ≡ handle →
+    client_at s.clients.rows handle ≡ Some client → (body : Body) → read.body ≡ body →
+    P (body_change (heard s handle) client read.correlation body)
+unfolding add_subscription
+body_cases P s handle bytes client read cases known is own found (Adds fields) same =
+    channel_cases P s handle bytes client read.correlation fields cases known
+    (is ∙ ap Ok (whole read handle (Adds fields) own same)) found (denotes fields.channel) refl
+body_cases P s handle bytes client read cases known is own found (Removes fields) same =
+    remove_cases P (heard s handle) client read.correlation fields
+    (λ there.
+    cases.removal (record { client = client; correlation = read.correlation; fields = fields }) known
+    (record { command = is ∙ ap Ok (whole read handle (Removes fields) own same); attached = found }))
+    (λ unknown. cases.refusal [] client read.correlation UnknownSubscription tt known)
+body_cases P s handle bytes client read cases known is own found Keeps same = cases.keepalive known
+body_cases P s handle bytes client read cases known is own found (AddsCounter fields) same =
+    counter_cases P s handle bytes client read.correlation fields cases known
+    (asks_for s handle bytes client read (AddsCounter fields) is own found same)
+body_cases P s handle bytes client read cases known is own found (RemovesCounter fields) same =
+    remove_counter_cases P (heard s handle) client read.correlation fields
+    (cases.counter_removal client read.correlation fields known
+    (asks_for s handle bytes client read (RemovesCounter fields) is own found same))
+    (cases.refusal [] client read.correlation UnknownCounter tt known)
+body_cases P s handle bytes client read cases known is own found Closes same =
+    cases.closing client read.correlation known (asks_for s handle bytes client read Closes is own found same)
+body_cases P s handle bytes client read cases known is own found (Terminates fields) same =
+    termination_cases P s handle bytes client read.correlation fields cases known
+    (asks_for s handle bytes client read (Terminates fields) is own found same)
+body_cases P s handle bytes client read cases known is own found (Sets fields) same =
+    set_counter_cases P (heard s handle) client read.correlation fields
+    (cases.value client read.correlation fields known
+    (asks_for s handle bytes client read (Sets fields) is own found same))
+    (cases.refusal [] client read.correlation UnknownCounter tt known)
+
+-- ---- any bytes
+
+found_cases : (P : Change → Type 0) (s : State) (handle : ℕ) (bytes : List ℕ) (read : Read) → Cases P s handle bytes →
+    command_of bytes ≡ Ok read → (read.client == handle) ≡ true → (found : Option Client) →
+    client_at s.clients.rows handle ≡ found → P (asked_by s handle read found)
+unfolding requested
+found_cases P s handle bytes read cases is own None found =
+    cases.unheard read.correlation WrongClient tt (rw (is, own, found) refl)
+found_cases P s handle bytes read cases is own (Some client) found =
+    body_cases P s handle bytes client read cases (rw (is, own, found) refl) is (eqb-true read.client handle own) found
+    read.body refl
+
+read_cases : (P : Change → Type 0) (s : State) (handle : ℕ) (bytes : List ℕ) → Cases P s handle bytes →
+    (read : Result Read CommandFault) → command_of bytes ≡ read → P (command_from s handle bytes read)
+unfolding asked
+read_cases P s handle bytes cases (Err fault) is =
+    cases.unheard (correlation_of bytes) (refusal_for fault) (plain_fault fault) (rw is refl)
+read_cases P s handle bytes cases (Ok read) is =
+    cond_both (read.client == handle)
+    (asked_by s handle read (client_at s.clients.rows handle))
+    (refused s [] handle read.correlation WrongClient)
+    P
+    (λ own. found_cases P s handle bytes read cases is own (client_at s.clients.rows handle) refl)
+    (λ other. cases.unheard read.correlation WrongClient tt (rw (is, other) refl))
+
+pub command_cases : (P : Change → Type 0) (s : State) (now handle : ℕ) (bytes : List ℕ) (inputs : Inputs) →
+    Cases P (at_moment s now) handle bytes → P (conduct s (Command now handle bytes) inputs)
+unfolding conduct command
+command_cases P s now handle bytes inputs cases =
+    read_cases P (at_moment s now) handle bytes cases (command_of bytes) refl
+
 -- ---- a policy that is put in force
 
 pub reload_cases : (P : Change → Type 0) (s : State) (policy : Rules) →
@@ -160,7 +306,9 @@ reload_cases P s policy done full = cond_both (has_room_for_policy s policy) _ _
 
 -- ---- a client that comes
 
-pub attach_cases : (P : Change → Type 0) (s : State) (principal : ℕ) → P (attached s principal) →
-    P (answered s response.Full) → P (attach s principal)
+pub attach_cases : (P : Change → Type 0) (s : State) (principal : ℕ) → P (answered s response.Stopped) →
+    P (attached s principal) → P (answered s response.Full) → P (attach s principal)
 unfolding attach
-attach_cases P s principal done full = cond_both (has_room_for_client s) _ _ P (λ e. done) (λ e. full)
+attach_cases P s principal stopped done full =
+    cond_both s.stopped _ _ P (λ e. stopped)
+    (λ e. cond_both (has_room s.clients) _ _ P (λ e'. done) (λ e'. full))

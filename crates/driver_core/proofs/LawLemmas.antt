@@ -3,28 +3,38 @@ use Rattle.std.proofs.Common.{◌≡◌, ℕ, ℤ, ◌==◌, Bool, true, false, 
 use Rattle.std.proofs.lemmas.Bool.{eqb-true, eq-eqb}
 use Rattle.std.proofs.lemmas.List.Elements.{Contains-push, Contains-push_cases}
 use Rattle.driver_core.specs.declared.event.Event.{Event}
-use Rattle.driver_core.specs.declared.event.Event.TheVariants.{Attach, Command, Reload}
+use Rattle.driver_core.specs.declared.event.Event.TheVariants.{Attach, Command, Reload, Tick}
 use Rattle.driver_core.specs.declared.event.Inputs.{Inputs}
 use Rattle.driver_core.specs.declared.refusal.Refusal.{Refusal}
-use Rattle.driver_core.specs.declared.refusal.Refusal.TheVariants.{InvalidChannel, Denied, Full}
+use Rattle.driver_core.specs.declared.refusal.Refusal.TheVariants.{Denied, Full}
 use Rattle.driver_core.specs.declared.outcome.Response.{Response}
-use Rattle.driver_core.specs.declared.rows.Client.{Client}
+use Rattle.client_registry.specs.declared.client.Client.{Client}
 use Rattle.driver_core.specs.declared.rows.Subscription.{Subscription}
 use Rattle.driver_core.specs.Attaching.{attached}
-use Rattle.driver_core.specs.Change.{answered, replied, refused}
-use Rattle.driver_core.specs.Commands.{client_at, heard, requested, asked, command}
+use Rattle.driver_core.specs.Change.{answered, told, replied, refused}
+use Rattle.client_registry.specs.Clients.{client_at}
+use Rattle.driver_core.specs.Commands.{heard, requested, asked, command}
+use Rattle.driver_core.specs.Closing.{keep_alive, close}
 use Rattle.driver_core.specs.Conduct.{conduct}
-use Rattle.driver_core.specs.Laws.{SubscriptionRequest, AsksToSubscribe, IsDecidedExactly, IsGranted, IsRefused, GrantsOnly, IsMadeBy, verdict_on, subscription_for}
+use Rattle.driver_core.specs.Counting.{counted, with_counter, valued, uncounted}
+use Rattle.driver_core.specs.Laws.{IsDecidedExactly, IsGranted, IsRefused, GrantsOnly, IsMadeBy, subscription_for}
+use Rattle.driver_core.specs.Deciding.{decision_by}
 use Rattle.driver_core.specs.Reloading.{in_force, reloaded}
-use Rattle.driver_core.specs.RemovalLaws.{RemovalRequest}
+use Rattle.driver_core.specs.Terminating.{terminated}
+use Rattle.driver_core.specs.Ticking.{tick, late}
+use Rattle.driver_core.specs.Requests.{SubscriptionRequest, AsksToSubscribe, RemovalRequest, question_of}
 use Rattle.driver_core.specs.State.{State, at_moment}
 use Rattle.driver_core.specs.Unsubscribing.{stays, unsubscribed}
+use Rattle.driver_core.specs.Verdicts.{verdict_on}
 use Rattle.channel_uri.specs.Channel.{Shape}
+use Rattle.command_codec.specs.declared.add_counter.AddCounter.{AddCounter}
+use Rattle.command_codec.specs.declared.set_counter.SetCounter.{SetCounter}
 use Rattle.policy_core.specs.declared.decision.Decision.{Decision}
 use Rattle.policy_core.specs.declared.verdict.Verdict.{Verdict}
 use Rattle.policy_core.specs.RuleList.{Rules}
-use Rattle.driver_core.proofs.EventCases.{Cases, command_cases, subscribe_cases, remove_cases, attach_cases, reload_cases}
-use Rattle.driver_core.proofs.ListLemmas.{left_was_there}
+use Rattle.driver_core.proofs.EventCases.{Cases, command_cases, attach_cases, reload_cases}
+use Rattle.driver_core.proofs.LeavingLemmas.{all_timeouts, left_was_subscribed, one_left_was_subscribed}
+use Rattle.driver_core.proofs.ListLemmas.{left_was_there, contains_none}
 use Rattle.driver_core.proofs.VerdictLemmas.{by_policy}
 use Rattle.driver_core.specs.Subscribing.{subscribe, add_subscription, subscribed, decision_of, has_room_for_subscription}
 
@@ -84,7 +94,7 @@ subscribe_denies s client correlation channel stream denies = rw denies refl
 granted_change : (s : State) (now handle : ℕ) (request : SubscriptionRequest) → request.client.number ≡ handle →
     IsGranted s now handle request (
     subscribed (at_request s now handle) request.client request.correlation request.channel request.fields.stream)
-unfolding subscribed decision_of replied heard at_moment
+unfolding subscribed decision_by replied heard at_moment
 granted_change s now handle request own =
     record { change_is = refl; stands = rw own refl; numbered = refl; told = rw own refl; decided = refl }
 
@@ -94,24 +104,24 @@ refused_change : (s : State) (now handle : ℕ) (request : SubscriptionRequest) 
     refused (at_request s now handle)
     (decision_of (at_request s now handle) request.client request.channel request.fields.stream ∷ [])
     request.client.number request.correlation refusal)
-unfolding decision_of refused replied heard at_moment
+unfolding decision_by refused replied heard at_moment
 refused_change s now handle request refusal own =
     record { after_is = refl; stands = refl; numbered = refl; told = rw own refl; decided = refl }
 
 denied_change : (s : State) (now handle : ℕ) (request : SubscriptionRequest) → request.client.number ≡ handle →
-    IsRefused s now handle request (Denied (verdict_on s request)) (
+    IsRefused s now handle request (Denied (verdict_on s (question_of request))) (
     refused (at_request s now handle)
     (decision_of (at_request s now handle) request.client request.channel request.fields.stream ∷ [])
     request.client.number request.correlation
     (Denied (decision_of (at_request s now handle) request.client request.channel request.fields.stream).verdict))
-unfolding decision_of heard at_moment
-denied_change s now handle request own = refused_change s now handle request (Denied (verdict_on s request)) own
+unfolding decision_by heard at_moment
+denied_change s now handle request own = refused_change s now handle request (Denied (verdict_on s (question_of request))) own
 
 -- what is decided of the request
 pub verdict_is : (s : State) (now handle : ℕ) (request : SubscriptionRequest) →
     (decision_of (at_request s now handle) request.client request.channel request.fields.stream).verdict
-    ≡ verdict_on s request
-unfolding decision_of heard at_moment
+    ≡ verdict_on s (question_of request)
+unfolding decision_by heard at_moment
 verdict_is s now handle request = refl
 
 pub room_is : (s : State) (now handle : ℕ) → has_room_for_subscription (at_request s now handle) ≡ has_room_for_subscription s
@@ -124,7 +134,7 @@ by_verdict : (s : State) (now handle : ℕ) (request : SubscriptionRequest) → 
 by_verdict s now handle request own =
     let word = ap (λ (v : Verdict). v.allow) (verdict_is s now handle request) in
     record {
-      by = by_policy s request;
+      by = by_policy s (question_of request);
       granted = λ allows room.
           rw (subscribe_grants (at_request s now handle) request.client request.correlation request.channel
           request.fields.stream (word ∙ allows) (room_is s now handle ∙ room))
@@ -146,7 +156,7 @@ pub decided_exactly : (s : State) (now handle : ℕ) (bytes : List ℕ) (inputs 
     IsDecidedExactly s now handle request (conduct s (Command now handle bytes) inputs)
 decided_exactly s now handle bytes inputs request asks =
     rw (request_is_decided s now handle bytes inputs request asks)
-    (by_verdict s now handle request (found_number s.clients handle request.client asks.attached))
+    (by_verdict s now handle request (found_number s.clients.rows handle request.client asks.attached))
 
 -- ---- granted only
 
@@ -194,12 +204,12 @@ reloaded_grants_only s event left policy same =
     record { told = tt; stands = λ subscription stands. inl (rw same at stands) }
 
 grant_grants_only : (s : State) (now handle : ℕ) (bytes : List ℕ) (request : SubscriptionRequest) →
-    AsksToSubscribe s handle bytes request → (verdict_on s request).allow ≡ true → has_room_for_subscription s ≡ true →
+    AsksToSubscribe s handle bytes request → (verdict_on s (question_of request)).allow ≡ true → has_room_for_subscription s ≡ true →
     GrantsOnly s (Command now handle bytes) (
     subscribed (at_request s now handle) request.client request.correlation request.channel request.fields.stream)
 unfolding subscribed replied heard at_moment
 grant_grants_only s now handle bytes request asks allows room =
-    let own : request.client.number ≡ handle = found_number s.clients handle request.client asks.attached in
+    let own : request.client.number ≡ handle = found_number s.clients.rows handle request.client asks.attached in
     let made : Subscription = subscription_for s handle request in
     let by : IsMadeBy s (Command now handle bytes) request.correlation made = record {
       moment = now;
@@ -207,7 +217,7 @@ grant_grants_only s now handle bytes request asks allows room =
       request = request;
       event_is = refl;
       asks = asks;
-      by = by_policy s request;
+      by = by_policy s (question_of request);
       allowed = allows;
       room = room;
       correlation_is = refl;
@@ -221,30 +231,81 @@ grant_grants_only s now handle bytes request asks allows room =
           (Contains-push_cases s.subscriptions made subscription stands);
     })
 
+-- what leaves the subscriptions as they are, or takes some away, and tells of none
+keepalive_grants_only : (s : State) (event : Event) (left : State) → left.subscriptions ≡ s.subscriptions →
+    GrantsOnly s event (keep_alive left)
+unfolding keep_alive told
+keepalive_grants_only s event left same = record { told = tt; stands = λ subscription stands. inl (rw same at stands) }
+
+closing_grants_only : (s : State) (event : Event) (now handle : ℕ) (client : Client) (correlation : ℕ) →
+    GrantsOnly s event (close (at_request s now handle) client correlation)
+unfolding close replied heard at_moment
+closing_grants_only s event now handle client correlation = record {
+  told = (tt, tt);
+  stands = λ subscription stands.
+      inl (one_left_was_subscribed (at_request s now handle) client.number subscription stands);
+}
+
+counter_grants_only : (s : State) (event : Event) (left : State) (client : Client) (correlation : ℕ) (fields : AddCounter) →
+    left.subscriptions ≡ s.subscriptions → GrantsOnly s event (counted left client correlation fields)
+unfolding counted with_counter replied
+counter_grants_only s event left client correlation fields same = record {
+  told = (tt, tt);
+  stands = λ subscription stands. inl (rw same at stands);
+}
+
+value_grants_only : (s : State) (event : Event) (left : State) (client : Client) (correlation : ℕ) (fields : SetCounter) →
+    left.subscriptions ≡ s.subscriptions → GrantsOnly s event (valued left client correlation fields)
+unfolding valued replied
+value_grants_only s event left client correlation fields same = record {
+  told = (tt, tt);
+  stands = λ subscription stands. inl (rw same at stands);
+}
+
+counter_removal_grants_only : (s : State) (event : Event) (left : State) (client : Client) (correlation number : ℕ) →
+    left.subscriptions ≡ s.subscriptions → GrantsOnly s event (uncounted left client correlation number)
+unfolding uncounted told
+counter_removal_grants_only s event left client correlation number same = record {
+  told = (tt, (tt, tt));
+  stands = λ subscription stands. inl (rw same at stands);
+}
+
+termination_grants_only : (s : State) (event : Event) (left : State) (client : Client) (correlation : ℕ) →
+    GrantsOnly s event (terminated left client correlation)
+unfolding terminated replied
+termination_grants_only s event left client correlation = record {
+  told = (tt, tt);
+  stands = λ subscription stands. absurd (contains_none subscription stands);
+}
+
 command_grants_only : (s : State) (now handle : ℕ) (bytes : List ℕ) →
     Cases (GrantsOnly s (Command now handle bytes)) (at_moment s now) handle bytes
 unfolding at_moment heard
-command_grants_only s now handle bytes = record {
-  unheard = λ correlation refusal plain not_heard.
-      refusal_grants_only s (Command now handle bytes) (at_moment s now) [] handle correlation refusal refl;
-  no_channel = λ client correlation was_heard.
-      refusal_grants_only s (Command now handle bytes) (at_request s now handle) [] client.number correlation
-      InvalidChannel refl;
-  decided = λ request was_heard asks'.
-      let asks : AsksToSubscribe s handle bytes request = asks_before s now handle bytes request asks' in
-      let word = ap (λ (v : Verdict). v.allow) (verdict_is s now handle request) in
-      subscribe_cases (GrantsOnly s (Command now handle bytes)) (at_request s now handle) request.client
-      request.correlation request.channel request.fields.stream
-      (λ allows room.
-      grant_grants_only s now handle bytes request asks (sym word ∙ allows) (sym (room_is s now handle) ∙ room))
-      (λ allows room. refusal_grants_only s (Command now handle bytes) (at_request s now handle) _ _ _ Full refl)
-      (λ denies. refusal_grants_only s (Command now handle bytes) (at_request s now handle) _ _ _ _ refl);
-  removal = λ request was_heard asks.
-      remove_cases (GrantsOnly s (Command now handle bytes)) (at_request s now handle) request.client request.correlation
-      request.fields
-      (λ known. removal_grants_only s (Command now handle bytes) (at_request s now handle) request refl)
-      (λ unknown. refusal_grants_only s (Command now handle bytes) (at_request s now handle) _ _ _ _ refl);
-}
+command_grants_only s now handle bytes =
+    let event = Command now handle bytes in
+    let left = at_request s now handle in
+    record {
+      unheard = λ correlation refusal plain not_heard.
+          refusal_grants_only s event (at_moment s now) [] handle correlation refusal refl;
+      refusal = λ decisions client correlation refusal plain was_heard.
+          refusal_grants_only s event left decisions client.number correlation refusal refl;
+      denial = λ client correlation act channel stream was_heard found asked denies.
+          refusal_grants_only s event left _ client.number correlation _ refl;
+      subscription = λ request was_heard asks allows room.
+          let word = ap (λ (v : Verdict). v.allow) (verdict_is s now handle request) in
+          grant_grants_only s now handle bytes request (asks_before s now handle bytes request asks) (sym word ∙ allows)
+          (sym (room_is s now handle) ∙ room);
+      removal = λ request was_heard asks. removal_grants_only s event left request refl;
+      keepalive = λ was_heard. keepalive_grants_only s event left refl;
+      counter = λ client correlation fields was_heard asks allows room.
+          counter_grants_only s event left client correlation fields refl;
+      value = λ client correlation fields was_heard asks. value_grants_only s event left client correlation fields refl;
+      counter_removal = λ client correlation fields was_heard asks.
+          counter_removal_grants_only s event left client correlation fields.registration refl;
+      closing = λ client correlation was_heard asks. closing_grants_only s event now handle client correlation;
+      termination = λ client correlation fields was_heard asks allows.
+          termination_grants_only s event left client correlation;
+    }
 
 attach_grants_only : (s : State) (now principal : ℕ) (inputs : Inputs) →
     GrantsOnly s (Attach now principal) (conduct s (Attach now principal) inputs)
@@ -253,6 +314,14 @@ attach_grants_only s now principal inputs =
     attach_cases (GrantsOnly s (Attach now principal)) (at_moment s now) principal
     (answer_grants_only s (Attach now principal) _ _ refl)
     (answer_grants_only s (Attach now principal) _ _ refl)
+    (answer_grants_only s (Attach now principal) _ _ refl)
+
+tick_grants_only : (s : State) (now : ℕ) (inputs : Inputs) → GrantsOnly s (Tick now) (conduct s (Tick now) inputs)
+unfolding conduct tick told at_moment
+tick_grants_only s now inputs = record {
+  told = all_timeouts _ (λ client. tt) (late (at_moment s now));
+  stands = λ subscription stands. inl (left_was_subscribed (at_moment s now) (late (at_moment s now)) subscription stands);
+}
 
 reload_grants_only : (s : State) (now : ℕ) (policy : Rules) (inputs : Inputs) →
     GrantsOnly s (Reload now policy) (conduct s (Reload now policy) inputs)
@@ -268,3 +337,4 @@ grants_only s (Command now handle bytes) inputs =
     command_cases (GrantsOnly s (Command now handle bytes)) s now handle bytes inputs
     (command_grants_only s now handle bytes)
 grants_only s (Reload now policy) inputs = reload_grants_only s now policy inputs
+grants_only s (Tick now) inputs = tick_grants_only s now inputs

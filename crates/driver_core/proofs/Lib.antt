@@ -1,7 +1,11 @@
 pub mod DenialLemmas
 pub mod EventCases
+pub mod GrantLemmas
+pub mod GrantOnlyLemmas
 pub mod LawLemmas
+pub mod LeavingLemmas
 pub mod ListLemmas
+pub mod ListingLemmas
 pub mod ReloadLemmas
 pub mod RemovalLemmas
 pub mod RefusalLemmas

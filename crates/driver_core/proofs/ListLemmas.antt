@@ -23,3 +23,7 @@ passes_are_left test (y ∷ ys) x passes has =
     Contains-append_left (filter test (y ∷ [])) (filter test ys) x (rw here first))
     (λ later. Contains-append_right (filter test (y ∷ [])) (filter test ys) x (passes_are_left test ys x passes later))
     (Contains-append_cases (y ∷ []) ys x has))
+
+-- nothing is in the empty list
+pub contains_none : {X : Type 0} (x : X) → Contains [] x → ⊥
+contains_none x has = omega (arith, has.1)

@@ -3,27 +3,34 @@ use Rattle.std.proofs.Common.{◌≡◌, ℕ, ◌+◌, true, false, List, [], re
 use Rattle.std.proofs.lemmas.Bool.{cond_both}
 use Rattle.driver_core.specs.declared.change.Change.{Change}
 use Rattle.driver_core.specs.declared.event.Event.{Event}
-use Rattle.driver_core.specs.declared.event.Event.TheVariants.{Attach, Command, Reload}
+use Rattle.driver_core.specs.declared.event.Event.TheVariants.{Attach, Command, Reload, Tick}
 use Rattle.driver_core.specs.declared.event.Inputs.{Inputs}
 use Rattle.driver_core.specs.declared.outcome.Response.{Response}
 use Rattle.driver_core.specs.declared.outcome.Response.TheVariants.{PolicyFull}
 use Rattle.driver_core.specs.declared.refusal.Refusal.{Refusal}
 use Rattle.driver_core.specs.Attaching.{attached}
-use Rattle.driver_core.specs.Change.{answered, replied, refused}
+use Rattle.driver_core.specs.Change.{answered, told, replied, refused}
+use Rattle.driver_core.specs.Closing.{keep_alive, close}
 use Rattle.driver_core.specs.Commands.{heard}
 use Rattle.driver_core.specs.Conduct.{conduct, state_after}
-use Rattle.driver_core.specs.Laws.{SubscriptionRequest}
+use Rattle.driver_core.specs.Counting.{counted, with_counter, valued, uncounted}
 use Rattle.driver_core.specs.Pairs.{pairs_of}
 use Rattle.driver_core.specs.ReloadLaws.{ClosesExactly, ClosesNothing, IsReloadedExactly, Numbered, in_force_at, newest_after}
 use Rattle.driver_core.specs.Reloading.{in_force, reloaded, has_room_for_policy, reload}
-use Rattle.driver_core.specs.RemovalLaws.{RemovalRequest}
+use Rattle.driver_core.specs.Requests.{SubscriptionRequest, RemovalRequest}
 use Rattle.driver_core.specs.State.{State, at_moment}
-use Rattle.driver_core.specs.Subscribing.{subscribe, subscribed}
-use Rattle.driver_core.specs.Unsubscribing.{remove_subscription, unsubscribed}
+use Rattle.driver_core.specs.Subscribing.{subscribed}
+use Rattle.driver_core.specs.Terminating.{terminated}
+use Rattle.driver_core.specs.Ticking.{tick, late}
+use Rattle.driver_core.specs.Unsubscribing.{unsubscribed}
+use Rattle.client_registry.specs.declared.client.Client.{Client}
+use Rattle.command_codec.specs.declared.add_counter.AddCounter.{AddCounter}
+use Rattle.command_codec.specs.declared.set_counter.SetCounter.{SetCounter}
 use Rattle.policy_core.specs.declared.decision.Decision.{Decision}
 use Rattle.policy_core.specs.RuleList.{Rules}
-use Rattle.driver_core.proofs.EventCases.{Cases, command_cases, subscribe_cases, remove_cases, attach_cases}
+use Rattle.driver_core.proofs.EventCases.{Cases, command_cases, attach_cases}
 use Rattle.driver_core.proofs.LawLemmas.{at_request}
+use Rattle.driver_core.proofs.LeavingLemmas.{left_in_force, one_left_in_force}
 
 -- ---- a reload closes exactly
 
@@ -90,20 +97,34 @@ removal_keeps : (s left : State) (request : RemovalRequest) → in_force_at left
 unfolding unsubscribed replied
 removal_keeps s left request same = record { same = same }
 
-subscribe_keeps : (s left : State) (request : SubscriptionRequest) → in_force_at left ≡ in_force_at s →
-    Keeps s (subscribe left request.client request.correlation request.channel request.fields.stream)
-subscribe_keeps s left request same =
-    subscribe_cases (Keeps s) left request.client request.correlation request.channel request.fields.stream
-    (λ allows room. grant_keeps s left request same)
-    (λ allows room. refusal_keeps s left _ _ _ _ same)
-    (λ denies. refusal_keeps s left _ _ _ _ same)
+keepalive_keeps : (s left : State) → in_force_at left ≡ in_force_at s → Keeps s (keep_alive left)
+unfolding keep_alive told
+keepalive_keeps s left same = record { same = same }
 
-remove_keeps : (s left : State) (request : RemovalRequest) → in_force_at left ≡ in_force_at s →
-    Keeps s (remove_subscription left request.client request.correlation request.fields)
-remove_keeps s left request same =
-    remove_cases (Keeps s) left request.client request.correlation request.fields
-    (λ known. removal_keeps s left request same)
-    (λ unknown. refusal_keeps s left _ _ _ _ same)
+closing_keeps : (s left : State) (client : Client) (correlation : ℕ) → in_force_at left ≡ in_force_at s →
+    Keeps s (close left client correlation)
+unfolding close replied
+closing_keeps s left client correlation same = record { same = one_left_in_force left client.number ∙ same }
+
+counter_keeps : (s left : State) (client : Client) (correlation : ℕ) (fields : AddCounter) →
+    in_force_at left ≡ in_force_at s → Keeps s (counted left client correlation fields)
+unfolding counted with_counter replied
+counter_keeps s left client correlation fields same = record { same = same }
+
+value_keeps : (s left : State) (client : Client) (correlation : ℕ) (fields : SetCounter) →
+    in_force_at left ≡ in_force_at s → Keeps s (valued left client correlation fields)
+unfolding valued replied
+value_keeps s left client correlation fields same = record { same = same }
+
+counter_removal_keeps : (s left : State) (client : Client) (correlation number : ℕ) →
+    in_force_at left ≡ in_force_at s → Keeps s (uncounted left client correlation number)
+unfolding uncounted told
+counter_removal_keeps s left client correlation number same = record { same = same }
+
+termination_keeps : (s left : State) (client : Client) (correlation : ℕ) → in_force_at left ≡ in_force_at s →
+    Keeps s (terminated left client correlation)
+unfolding terminated replied
+termination_keeps s left client correlation same = record { same = same }
 
 moment_keeps : (s : State) (now : ℕ) → in_force_at (at_moment s now) ≡ in_force_at s
 unfolding at_moment
@@ -114,14 +135,26 @@ unfolding at_moment heard
 request_keeps s now handle = refl
 
 command_keeps : (s : State) (now handle : ℕ) (bytes : List ℕ) → Cases (Keeps s) (at_moment s now) handle bytes
-command_keeps s now handle bytes = record {
-  unheard = λ correlation refusal plain not_heard.
-      refusal_keeps s (at_moment s now) [] handle correlation refusal (moment_keeps s now);
-  no_channel = λ client correlation was_heard.
-      refusal_keeps s (at_request s now handle) [] client.number correlation _ (request_keeps s now handle);
-  decided = λ request was_heard asks. subscribe_keeps s (at_request s now handle) request (request_keeps s now handle);
-  removal = λ request was_heard asks. remove_keeps s (at_request s now handle) request (request_keeps s now handle);
-}
+command_keeps s now handle bytes =
+    let left = at_request s now handle in
+    let same = request_keeps s now handle in
+    record {
+      unheard = λ correlation refusal plain not_heard.
+          refusal_keeps s (at_moment s now) [] handle correlation refusal (moment_keeps s now);
+      refusal = λ decisions client correlation refusal plain was_heard.
+          refusal_keeps s left decisions client.number correlation refusal same;
+      denial = λ client correlation act channel stream was_heard found asked denies.
+          refusal_keeps s left _ client.number correlation _ same;
+      subscription = λ request was_heard asks allows room. grant_keeps s left request same;
+      removal = λ request was_heard asks. removal_keeps s left request same;
+      keepalive = λ was_heard. keepalive_keeps s left same;
+      counter = λ client correlation fields was_heard asks allows room. counter_keeps s left client correlation fields same;
+      value = λ client correlation fields was_heard asks. value_keeps s left client correlation fields same;
+      counter_removal = λ client correlation fields was_heard asks.
+          counter_removal_keeps s left client correlation fields.registration same;
+      closing = λ client correlation was_heard asks. closing_keeps s left client correlation same;
+      termination = λ client correlation fields was_heard asks allows. termination_keeps s left client correlation same;
+    }
 
 command_newest : (s : State) (now handle : ℕ) (bytes : List ℕ) (inputs : Inputs) →
     Keeps s (conduct s (Command now handle bytes) inputs)
@@ -132,8 +165,14 @@ attach_newest : (s : State) (now principal : ℕ) (inputs : Inputs) → Keeps s 
 unfolding conduct
 attach_newest s now principal inputs =
     attach_cases (Keeps s) (at_moment s now) principal
+    (answer_keeps s (at_moment s now) _ (moment_keeps s now))
     (attached_keeps s (at_moment s now) principal (moment_keeps s now))
     (answer_keeps s (at_moment s now) _ (moment_keeps s now))
+
+tick_newest : (s : State) (now : ℕ) (inputs : Inputs) → Keeps s (conduct s (Tick now) inputs)
+unfolding conduct tick told
+tick_newest s now inputs =
+    record { same = left_in_force (at_moment s now) (late (at_moment s now)) ∙ moment_keeps s now }
 
 reloaded_newest : (s : State) (now : ℕ) (policy : Rules) →
     in_force_at (reloaded (at_moment s now) policy).after ≡ record { policy = policy; epoch = s.epoch + 1 }
@@ -158,3 +197,4 @@ pub newest_in_force : (s : State) (event : Event) (inputs : Inputs) →
 newest_in_force s (Attach now principal) inputs = (attach_newest s now principal inputs).same
 newest_in_force s (Command now handle bytes) inputs = (command_newest s now handle bytes inputs).same
 newest_in_force s (Reload now policy) inputs = reload_newest s now policy inputs
+newest_in_force s (Tick now) inputs = (tick_newest s now inputs).same

@@ -5,26 +5,40 @@ use Rattle.std.proofs.lemmas.Bool.{eqb-true, eq-eqb, and_parts, cases_Bool, not_
 use Rattle.std.proofs.lemmas.List.Elements.{Contains-append_left}
 use Rattle.driver_core.specs.declared.change.Change.{Change}
 use Rattle.driver_core.specs.declared.event.Event.{Event}
-use Rattle.driver_core.specs.declared.event.Event.TheVariants.{Attach, Command, Reload}
+use Rattle.driver_core.specs.declared.event.Event.TheVariants.{Attach, Command, Reload, Tick}
 use Rattle.driver_core.specs.declared.event.Inputs.{Inputs}
 use Rattle.driver_core.specs.declared.outcome.Response.{Response}
 use Rattle.driver_core.specs.declared.refusal.Refusal.{Refusal}
 use Rattle.driver_core.specs.declared.refusal.Refusal.TheVariants.{UnknownSubscription}
 use Rattle.driver_core.specs.declared.rows.Subscription.{Subscription}
 use Rattle.driver_core.specs.Attaching.{attached}
-use Rattle.driver_core.specs.Change.{answered, replied, refused}
+use Rattle.driver_core.specs.Change.{answered, told, replied, refused}
+use Rattle.driver_core.specs.Closing.{keep_alive, close}
 use Rattle.driver_core.specs.Commands.{heard, requested, asked, command}
 use Rattle.driver_core.specs.Conduct.{conduct, state_after}
-use Rattle.driver_core.specs.Laws.{SubscriptionRequest}
+use Rattle.driver_core.specs.Counting.{counted, with_counter, valued, uncounted}
+use Rattle.driver_core.specs.Deciding.{decision_by}
+use Rattle.driver_core.specs.LeavingLaws.{IsClosedBy}
 use Rattle.driver_core.specs.Reloading.{in_force, reloaded}
-use Rattle.driver_core.specs.RemovalLaws.{RemovalRequest, AsksToRemove, IsRemoved, IsUnknown, IsRemovedExactly, IsRemovedBy}
+use Rattle.driver_core.specs.Requests.{Asks, SubscriptionRequest, RemovalRequest, AsksToRemove, termination_question}
+use Rattle.driver_core.specs.RemovalLaws.{IsRemoved, IsUnknown, IsRemovedExactly, IsRemovedBy, Goes}
 use Rattle.driver_core.specs.State.{State, at_moment}
 use Rattle.driver_core.specs.Subscribing.{subscribed}
+use Rattle.driver_core.specs.Terminating.{terminated, termination_decision}
+use Rattle.driver_core.specs.Ticking.{tick, late}
 use Rattle.driver_core.specs.Unsubscribing.{is_own, stays, has_subscription, remove_subscription, unsubscribed}
+use Rattle.driver_core.specs.Verdicts.{verdict_on}
+use Rattle.client_registry.specs.declared.client.Client.{Client}
+use Rattle.command_codec.specs.declared.add_counter.AddCounter.{AddCounter}
+use Rattle.command_codec.specs.declared.set_counter.SetCounter.{SetCounter}
+use Rattle.command_codec.specs.declared.command.Body.{Body}
+use Rattle.command_codec.specs.declared.command.Body.TheVariants.{ClientClose as Closes, TerminateDriver as Terminates}
+use Rattle.command_codec.specs.declared.terminate_driver.TerminateDriver.{TerminateDriver}
 use Rattle.policy_core.specs.declared.decision.Decision.{Decision}
 use Rattle.policy_core.specs.RuleList.{Rules}
-use Rattle.driver_core.proofs.EventCases.{Cases, command_cases, subscribe_cases, remove_cases, attach_cases, reload_cases}
+use Rattle.driver_core.proofs.EventCases.{Cases, command_cases, attach_cases, reload_cases}
 use Rattle.driver_core.proofs.LawLemmas.{at_request, found_number}
+use Rattle.driver_core.proofs.LeavingLemmas.{left_or_stays, one_left_or_stays}
 use Rattle.driver_core.proofs.ListLemmas.{passes_are_left}
 
 -- ---- removed exactly
@@ -89,14 +103,14 @@ pub removed_exactly : (s : State) (now handle : ℕ) (bytes : List ℕ) (inputs 
     IsRemovedExactly s now handle request (conduct s (Command now handle bytes) inputs)
 removed_exactly s now handle bytes inputs request asks =
     rw (removal_is_decided s now handle bytes inputs request asks)
-    (by_number s now handle request (found_number s.clients handle request.client asks.attached))
+    (by_number s now handle request (found_number s.clients.rows handle request.client asks.attached))
 
 -- ---- removed only
 
--- each subscription stays, or the event is the request that it go
+-- each subscription stays, or the event is the request that it go, or takes its client away
 record Leaves (s : State) (event : Event) (change : Change) : Type 0 where
   on : (subscription : Subscription) → Contains s.subscriptions subscription →
-      Contains change.after.subscriptions subscription ⊎ IsRemovedBy s event subscription
+      Contains change.after.subscriptions subscription ⊎ Goes s event subscription
 
 all_stay : (s : State) (event : Event) (change : Change) → change.after.subscriptions ≡ s.subscriptions →
     Leaves s event change
@@ -165,8 +179,8 @@ stays_or_goes s now handle bytes request asks left same =
           ⊎_elim
           (λ own.
           let by = is_own_by request.client.number request.fields.registration subscription own in
-          let client = by.0 ∙ found_number s.clients handle request.client asks.attached in
-          inr (removed_by s now handle bytes request subscription asks client by.1))
+          let client = by.0 ∙ found_number s.clients.rows handle request.client asks.attached in
+          inr (inl (removed_by s now handle bytes request subscription asks client by.1)))
           (λ other.
           inl (passes_are_left (stays request.client.number request.fields.registration) left.subscriptions subscription
           (not_from_false (is_own request.client.number request.fields.registration subscription) other) (rw same has)))
@@ -181,27 +195,114 @@ request_same : (s : State) (now handle : ℕ) → (at_request s now handle).subs
 unfolding at_moment heard
 request_same s now handle = refl
 
+keepalive_stays : (s : State) (event : Event) (left : State) → left.subscriptions ≡ s.subscriptions →
+    Leaves s event (keep_alive left)
+unfolding keep_alive told
+keepalive_stays s event left same = all_stay s event _ same
+
+counter_stays : (s : State) (event : Event) (left : State) (client : Client) (correlation : ℕ) (fields : AddCounter) →
+    left.subscriptions ≡ s.subscriptions → Leaves s event (counted left client correlation fields)
+unfolding counted with_counter replied
+counter_stays s event left client correlation fields same = all_stay s event _ same
+
+value_stays : (s : State) (event : Event) (left : State) (client : Client) (correlation : ℕ) (fields : SetCounter) →
+    left.subscriptions ≡ s.subscriptions → Leaves s event (valued left client correlation fields)
+unfolding valued replied
+value_stays s event left client correlation fields same = all_stay s event _ same
+
+counter_removal_stays : (s : State) (event : Event) (left : State) (client : Client) (correlation number : ℕ) →
+    left.subscriptions ≡ s.subscriptions → Leaves s event (uncounted left client correlation number)
+unfolding uncounted told
+counter_removal_stays s event left client correlation number same = all_stay s event _ same
+
+-- the bytes ask for the same before the event's moment
+pub asks_the_same : (s : State) (now handle : ℕ) (bytes : List ℕ) (client : Client) (correlation : ℕ) (body : Body) →
+    Asks (at_moment s now) handle bytes client correlation body → Asks s handle bytes client correlation body
+unfolding at_moment
+asks_the_same s now handle bytes client correlation body asks =
+    record { command = asks.command; attached = asks.attached }
+
+closed_by : (s : State) (now handle : ℕ) (bytes : List ℕ) (client : Client) (correlation number : ℕ) →
+    Asks s handle bytes client correlation Closes → number ≡ handle → IsClosedBy s (Command now handle bytes) number
+closed_by s now handle bytes client correlation number asks own = record {
+  moment = now;
+  bytes = bytes;
+  row = client;
+  correlation = correlation;
+  event_is = rw own refl;
+  asks = rw own asks;
+}
+
+closing_stays : (s : State) (now handle : ℕ) (bytes : List ℕ) (client : Client) (correlation : ℕ) (left : State) →
+    Asks s handle bytes client correlation Closes → left.subscriptions ≡ s.subscriptions →
+    Leaves s (Command now handle bytes) (close left client correlation)
+unfolding close replied
+closing_stays s now handle bytes client correlation left asks same =
+    let own : client.number ≡ handle = found_number s.clients.rows handle client asks.attached in
+    record {
+      on = λ subscription has.
+          ⊎_elim
+          (λ stays. inl stays)
+          (λ gone.
+          inr (inr (inr (inl (closed_by s now handle bytes client correlation subscription.client asks (gone ∙ own))))))
+          (one_left_or_stays left client.number subscription (rw same has));
+    }
+
+pub allowed_before : (s : State) (now handle : ℕ) (client : Client) →
+    (termination_decision (at_request s now handle) client).verdict.allow ≡ true →
+    (verdict_on s (termination_question client)).allow ≡ true
+unfolding decision_by heard at_moment
+allowed_before s now handle client allows = allows
+
+termination_stays : (s : State) (now handle : ℕ) (bytes : List ℕ) (client : Client) (correlation : ℕ)
+    (fields : TerminateDriver) (left : State) → Asks s handle bytes client correlation (Terminates fields) →
+    (verdict_on s (termination_question client)).allow ≡ true →
+    Leaves s (Command now handle bytes) (terminated left client correlation)
+termination_stays s now handle bytes client correlation fields left asks allows =
+    record {
+      on = λ subscription has.
+          inr (inr (inr (inr (record {
+            moment = now;
+            handle = handle;
+            bytes = bytes;
+            client = client;
+            correlation = correlation;
+            fields = fields;
+            event_is = refl;
+            asks = asks;
+            allowed = allows;
+          }))));
+    }
+
 command_stays : (s : State) (now handle : ℕ) (bytes : List ℕ) →
     Cases (Leaves s (Command now handle bytes)) (at_moment s now) handle bytes
 command_stays s now handle bytes =
+    let event = Command now handle bytes in
+    let left = at_request s now handle in
     let same = request_same s now handle in
     record {
       unheard = λ correlation refusal plain not_heard.
-          refusal_stays s (Command now handle bytes) (at_moment s now) [] handle correlation refusal (moment_same s now);
-      no_channel = λ client correlation was_heard.
-          refusal_stays s (Command now handle bytes) (at_request s now handle) [] client.number correlation _ same;
-      decided = λ request was_heard asks.
-          subscribe_cases (Leaves s (Command now handle bytes)) (at_request s now handle) request.client
-          request.correlation request.channel request.fields.stream
-          (λ allows room. grant_stays s (Command now handle bytes) (at_request s now handle) request same)
-          (λ allows room. refusal_stays s (Command now handle bytes) (at_request s now handle) _ _ _ _ same)
-          (λ denies. refusal_stays s (Command now handle bytes) (at_request s now handle) _ _ _ _ same);
-      removal = λ request was_heard asks'.
-          let asks = asks_before s now handle bytes request asks' in
-          remove_cases (Leaves s (Command now handle bytes)) (at_request s now handle) request.client
-          request.correlation request.fields
-          (λ known. stays_or_goes s now handle bytes request asks (at_request s now handle) same)
-          (λ unknown. refusal_stays s (Command now handle bytes) (at_request s now handle) _ _ _ _ same);
+          refusal_stays s event (at_moment s now) [] handle correlation refusal (moment_same s now);
+      refusal = λ decisions client correlation refusal plain was_heard.
+          refusal_stays s event left decisions client.number correlation refusal same;
+      denial = λ client correlation act channel stream was_heard found asked denies.
+          refusal_stays s event left _ client.number correlation _ same;
+      subscription = λ request was_heard asks allows room. grant_stays s event left request same;
+      removal = λ request was_heard asks.
+          stays_or_goes s now handle bytes request (asks_before s now handle bytes request asks) left same;
+      keepalive = λ was_heard. keepalive_stays s event left same;
+      counter = λ client correlation fields was_heard asks allows room.
+          counter_stays s event left client correlation fields same;
+      value = λ client correlation fields was_heard asks. value_stays s event left client correlation fields same;
+      counter_removal = λ client correlation fields was_heard asks.
+          counter_removal_stays s event left client correlation fields.registration same;
+      closing = λ client correlation was_heard asks.
+          closing_stays s now handle bytes client correlation left
+          (asks_the_same s now handle bytes client correlation Closes asks) same;
+      termination = λ client correlation fields was_heard asks allows.
+          termination_stays s now handle bytes client correlation fields left
+          (asks_the_same s now handle bytes client correlation (Terminates fields) asks)
+          (allowed_before s now handle client allows);
     }
 
 attach_stays : (s : State) (now principal : ℕ) (inputs : Inputs) →
@@ -209,8 +310,20 @@ attach_stays : (s : State) (now principal : ℕ) (inputs : Inputs) →
 unfolding conduct
 attach_stays s now principal inputs =
     attach_cases (Leaves s (Attach now principal)) (at_moment s now) principal
+    (answer_stays s (Attach now principal) (at_moment s now) _ (moment_same s now))
     (attached_stays s (Attach now principal) (at_moment s now) principal (moment_same s now))
     (answer_stays s (Attach now principal) (at_moment s now) _ (moment_same s now))
+
+tick_stays : (s : State) (now : ℕ) (inputs : Inputs) → Leaves s (Tick now) (conduct s (Tick now) inputs)
+unfolding conduct tick told at_moment
+tick_stays s now inputs =
+    record {
+      on = λ subscription has.
+          ⊎_elim
+          (λ stays. inl stays)
+          (λ gone. inr (inr (inl (record { moment = now; event_is = refl; is_late = gone }))))
+          (left_or_stays (at_moment s now) (late (at_moment s now)) subscription has);
+    }
 
 reload_stays : (s : State) (now : ℕ) (policy : Rules) (inputs : Inputs) →
     Leaves s (Reload now policy) (conduct s (Reload now policy) inputs)
@@ -225,8 +338,9 @@ event_stays s (Attach now principal) inputs = attach_stays s now principal input
 event_stays s (Command now handle bytes) inputs =
     command_cases (Leaves s (Command now handle bytes)) s now handle bytes inputs (command_stays s now handle bytes)
 event_stays s (Reload now policy) inputs = reload_stays s now policy inputs
+event_stays s (Tick now) inputs = tick_stays s now inputs
 
 pub removed_only : (s : State) (event : Event) (inputs : Inputs) (subscription : Subscription) →
     Contains s.subscriptions subscription →
-    Contains (state_after s event inputs).subscriptions subscription ⊎ IsRemovedBy s event subscription
+    Contains (state_after s event inputs).subscriptions subscription ⊎ Goes s event subscription
 removed_only s event inputs subscription has = (event_stays s event inputs).on subscription has

@@ -1,15 +1,16 @@
 -- Runs are put together of steps.
-use Rattle.std.proofs.Common.{◌≡◌, List, [], ◌∷◌, ◌++◌, refl}
+use Rattle.std.proofs.Common.{◌≡◌, ℕ, List, [], ◌∷◌, ◌++◌, refl}
 use Rattle.driver_core.specs.declared.answer.Answer.{Answer}
-use Rattle.driver_core.specs.declared.answer.Answer.TheVariants.{NoMemory}
+use Rattle.driver_core.specs.declared.answer.Answer.TheVariants.{NoMemory, Attached, Full, Stopped, PolicyInForce, PolicyFull, Replies, Counters, Value as ValueIs, Denied, UnknownCounter, WrongClient}
 use Rattle.driver_core.specs.declared.event.Event.{Event}
 use Rattle.driver_core.specs.declared.outcome.Outcome.{Outcome}
 use Rattle.driver_core.specs.declared.outcome.Response.{Response}
 use Rattle.driver_core.specs.declared.outcome.Response.TheVariants as response
 use Rattle.driver_core.specs.declared.replies.Message.{Message}
 use Rattle.driver_core.specs.declared.step.Step.{Step}
-use Rattle.driver_core.specs.declared.step.Step.TheVariants.{Conductor}
+use Rattle.driver_core.specs.declared.step.Step.TheVariants.{Conductor, List as Lists, Value}
 use Rattle.driver_core.specs.Conduct.{outcome_of, state_after}
+use Rattle.driver_core.specs.Listing.{list, value}
 use Rattle.driver_core.specs.Runs.{RunEnd, Serves, Runs, Continues, IsAnswer, AreAnswers, after, end_of, moved, no_inputs, answered_by, answer_of}
 
 -- what an event is answered is never want of memory, so it is the step's answer and leaves what the step leaves
@@ -18,6 +19,7 @@ told : (e : RunEnd) (step : Step) (r : Response) (replies : List Message) → an
 told e step response.Nothing replies is = (is, refl)
 told e step (response.Attached number) replies is = (is, refl)
 told e step response.Full replies is = (is, refl)
+told e step response.Stopped replies is = (is, refl)
 told e step (response.PolicyInForce epoch) replies is = (is, refl)
 told e step response.PolicyFull replies is = (is, refl)
 
@@ -38,6 +40,41 @@ event_served old new event outcome answer state =
 pub refusal_served : (old new : RunEnd) (step : Step) → new.registry ≡ old.registry → Serves old new step NoMemory
 refusal_served old new step same =
     record { on = λ e stands. (tt, record { registry = rw same stands.registry }) }
+
+-- a step that leaves all as it was does so whatever it is answered
+looked : (e : RunEnd) (step : Step) (answer : Answer) → (moved e step).after ≡ e → answer ≡ (moved e step).answer →
+    IsAnswer e step answer × (after e step answer ≡ e)
+looked e step NoMemory same is = (tt, refl)
+looked e step (Attached number) same is = (is, same)
+looked e step Full same is = (is, same)
+looked e step Stopped same is = (is, same)
+looked e step (PolicyInForce epoch messages) same is = (is, same)
+looked e step PolicyFull same is = (is, same)
+looked e step (Replies messages) same is = (is, same)
+looked e step (Counters rows) same is = (is, same)
+looked e step (ValueIs number) same is = (is, same)
+looked e step (Denied verdict) same is = (is, same)
+looked e step UnknownCounter same is = (is, same)
+looked e step WrongClient same is = (is, same)
+
+-- a look at the counters of the registry serves a client's step
+pub list_served : (held : RunEnd) (now client : ℕ) (answer : Answer) → answer ≡ list held.registry client →
+    Serves held held (Lists now client) answer
+list_served held now client answer is =
+    record {
+      on = λ e stands.
+          let told' = looked e (Lists now client) answer refl (rw (← stands.registry) is) in
+          (told'.0, record { registry = rw told'.1 stands.registry });
+    }
+
+pub value_served : (held : RunEnd) (now client number : ℕ) (answer : Answer) →
+    answer ≡ value held.registry client number → Serves held held (Value now client number) answer
+value_served held now client number answer is =
+    record {
+      on = λ e stands.
+          let told' = looked e (Value now client number) answer refl (rw (← stands.registry) is) in
+          (told'.0, record { registry = rw told'.1 stands.registry });
+    }
 
 -- one list of answers behind another
 pub answers_append : (e : RunEnd) (steps more : List Step) (answers given : List Answer) →

@@ -2,9 +2,9 @@
 use Rattle.std.proofs.Common.{◌≡◌, ℕ, zero, suc, false, List, [], ◌∷◌, Option, Some, None, ◌⊎◌, inl, inr, refl, sym, ap, ◌∙◌, ⊎_elim}
 use Rattle.std.proofs.lemmas.Bool.{cases_Bool}
 use Rattle.driver_core.specs.declared.refusal.Refusal.TheVariants.{Denied}
-use Rattle.driver_core.specs.Laws.{SubscriptionRequest, IsByPolicy, denial_text, question_of, verdict_on}
 use Rattle.driver_core.specs.Replies.{refusal_text}
 use Rattle.driver_core.specs.State.{State}
+use Rattle.driver_core.specs.Verdicts.{IsByPolicy, denial_text, verdict_on}
 use Rattle.policy_core.specs.declared.rule.Rule.{Rule}
 use Rattle.policy_core.specs.declared.verdict.Verdict.{Verdict}
 use Rattle.policy_core.specs.Question.{Question}
@@ -36,28 +36,28 @@ some_or_none (rule ∷ rules) question =
 
 -- ---- the policy's verdict
 
-pub by_policy : (s : State) (request : SubscriptionRequest) → IsByPolicy s request (verdict_on s request)
-by_policy s request =
+pub by_policy : (s : State) (question : Question) → IsByPolicy s question (verdict_on s question)
+by_policy s question =
     ⊎_elim
     (λ some.
-    let first = some_first s.policy.rules (question_of request) some in
+    let first = some_first s.policy.rules question some in
     inl (record {
       index = first.0;
       rule = first.1;
       first = first.2;
-      verdict_is = first_decides s.policy s.epoch (question_of request) first.0 first.1 first.2;
+      verdict_is = first_decides s.policy s.epoch question first.0 first.1 first.2;
     }))
     (λ none.
-    inr (record { none_matches = none; verdict_is = none_defaults s.policy s.epoch (question_of request) none }))
-    (some_or_none s.policy.rules (question_of request))
+    inr (record { none_matches = none; verdict_is = none_defaults s.policy s.epoch question none }))
+    (some_or_none s.policy.rules question)
 
 -- it carries the number of the policy in force
-pub epoch_of : (s : State) (request : SubscriptionRequest) → (verdict_on s request).epoch ≡ s.epoch
-epoch_of s request =
+pub epoch_of : (s : State) (question : Question) → (verdict_on s question).epoch ≡ s.epoch
+epoch_of s question =
     ⊎_elim
     (λ by. ap (λ (v : Verdict). v.epoch) by.verdict_is)
     (λ by. ap (λ (v : Verdict). v.epoch) by.verdict_is)
-    (by_policy s request)
+    (by_policy s question)
 
 -- ---- a denial in words
 

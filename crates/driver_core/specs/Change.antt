@@ -4,6 +4,7 @@ use Rattle.driver_core.specs.declared.change.Change.{Change}
 use Rattle.driver_core.specs.declared.outcome.Response.{Response}
 use Rattle.driver_core.specs.declared.outcome.Response.TheVariants.{Nothing}
 use Rattle.driver_core.specs.declared.refusal.Refusal.{Refusal}
+use Rattle.driver_core.specs.declared.replies.Message.{Message}
 use Rattle.driver_core.specs.declared.replies.Reply.{Reply}
 use Rattle.driver_core.specs.declared.replies.Reply.TheVariants.{Error}
 use Rattle.driver_core.specs.State.{State}
@@ -17,6 +18,21 @@ answered after response = record {
     response = response;
     replies = [];
     decisions = [];
+    opens = None;
+    closes = [];
+    gone = [];
+    come = [];
+  };
+}
+
+-- these replies, after these decisions
+unfoldable pub told : State → List Decision → List Message → Change
+told after decisions replies = record {
+  after = after;
+  outcome = record {
+    response = Nothing;
+    replies = replies;
+    decisions = decisions;
     opens = None;
     closes = [];
     gone = [];

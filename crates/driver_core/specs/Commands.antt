@@ -1,38 +1,38 @@
 -- The bytes of a command come over a client's handle.
-use Rattle.std.specs.Prelude.{ℕ, ◌==◌, List, [], map, find, Option, Some, None, Result, Ok, Err, if◌then◌else◌}
+use Rattle.std.specs.Prelude.{ℕ, ◌==◌, List, [], Option, Some, None, Result, Ok, Err, if◌then◌else◌}
 use Rattle.driver_core.specs.declared.change.Change.{Change}
 use Rattle.driver_core.specs.declared.refusal.Refusal.{Refusal}
 use Rattle.driver_core.specs.declared.refusal.Refusal.TheVariants.{UnknownCommandType, MalformedCommand, WrongClient}
-use Rattle.driver_core.specs.declared.rows.Client.{Client}
 use Rattle.driver_core.specs.Change.{refused}
+use Rattle.driver_core.specs.Closing.{keep_alive, close}
+use Rattle.driver_core.specs.Counting.{add_counter, set_counter, remove_counter}
 use Rattle.driver_core.specs.State.{State}
 use Rattle.driver_core.specs.Subscribing.{add_subscription}
+use Rattle.driver_core.specs.Terminating.{terminate}
 use Rattle.driver_core.specs.Unsubscribing.{remove_subscription}
+use Rattle.client_registry.specs.declared.client.Client.{Client}
+use Rattle.client_registry.specs.Clients.{client_at, touched}
 use Rattle.command_codec.specs.declared.command.Command.{Command}
 use Rattle.command_codec.specs.declared.command.Body.{Body}
-use Rattle.command_codec.specs.declared.command.Body.TheVariants.{AddSubscription, RemoveSubscription}
+use Rattle.command_codec.specs.declared.command.Body.TheVariants.{AddSubscription, RemoveSubscription, ClientKeepalive, AddCounter, RemoveCounter, ClientClose, TerminateDriver, SetCounter}
 use Rattle.command_codec.specs.declared.fault.CommandFault.{CommandFault}
 use Rattle.command_codec.specs.declared.fault.CommandFault.TheVariants.{Unknown, Malformed, NoMemory}
 use Rattle.command_codec.specs.Command.{command_of, correlation_of}
 
--- the client of this id, if it is there
-abbrev pub client_at : List Client → ℕ → Option Client
-client_at clients number = find (λ client. client.number == number) clients
-
--- the client of this id was heard of at this moment
-abbrev pub heard_one : ℕ → ℕ → Client → Client
-heard_one number moment client = if client.number == number then record client { heard = moment } else client
-
-abbrev pub heard_by : ℕ → ℕ → List Client → List Client
-heard_by number moment clients = map (heard_one number moment) clients
-
+-- the client of this id was heard of now
 unfoldable pub heard : State → ℕ → State
-heard s number = record s { clients = heard_by number s.moment s.clients }
+heard s number = record s { clients = touched s.clients number s.moment }
 
 -- what is asked for by a client that is there
 abbrev pub body_change : State → Client → ℕ → Body → Change
 body_change s client correlation (AddSubscription fields) = add_subscription s client correlation fields
 body_change s client correlation (RemoveSubscription fields) = remove_subscription s client correlation fields
+body_change s client correlation ClientKeepalive = keep_alive s
+body_change s client correlation (AddCounter fields) = add_counter s client correlation fields
+body_change s client correlation (RemoveCounter fields) = remove_counter s client correlation fields
+body_change s client correlation ClientClose = close s client correlation
+body_change s client correlation (TerminateDriver fields) = terminate s client correlation
+body_change s client correlation (SetCounter fields) = set_counter s client correlation fields
 
 unfoldable pub requested : State → Client → Command → Change
 requested s client command = body_change s client command.correlation command.body
@@ -45,7 +45,7 @@ asked_by s handle command (Some client) = requested (heard s handle) client comm
 unfoldable pub asked : State → ℕ → Command → Change
 asked s handle command =
     if command.client == handle
-    then asked_by s handle command (client_at s.clients handle)
+    then asked_by s handle command (client_at s.clients.rows handle)
     else refused s [] handle command.correlation WrongClient
 
 -- the refusal of bytes that are no command

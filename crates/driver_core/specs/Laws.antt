@@ -1,12 +1,11 @@
 -- Laws over every list of events, from a registry in which nobody is.
-use Rattle.std.specs.Prelude.{◌≡◌, ℕ, ◌+◌, ◌==◌, ◌&&◌, max, Bool, true, false, List, [], ◌∷◌, ◌++◌, Contains, Option, Some, None, is_some, Result, Ok, Err, ◌⊎◌, codes, if◌then◌else◌}
-use Rattle.std.specs.Fmt.{decimal}
+use Rattle.std.specs.Prelude.{◌≡◌, ℕ, ◌+◌, ◌==◌, ◌&&◌, max, Bool, true, false, List, [], ◌∷◌, ◌++◌, Contains, Option, Some, None, is_some, Result, Ok, Err, ◌⊎◌, if◌then◌else◌}
 use Rattle.std.specs.List.{AllByRecursion}
 use Rattle.driver_core.specs.declared.answer.Answer.{Answer}
-use Rattle.driver_core.specs.declared.answer.Answer.TheVariants.{NoMemory, Attached, Full as IsFull, PolicyInForce, PolicyFull, Replies}
+use Rattle.driver_core.specs.declared.answer.Answer.TheVariants.{NoMemory, Attached, Full as IsFull, Stopped, PolicyInForce, PolicyFull, Replies, Counters, Value as ValueIs, Denied as DeniedBy, UnknownCounter, WrongClient}
 use Rattle.driver_core.specs.declared.change.Change.{Change}
 use Rattle.driver_core.specs.declared.event.Event.{Event}
-use Rattle.driver_core.specs.declared.event.Event.TheVariants.{Attach, Command, Reload}
+use Rattle.driver_core.specs.declared.event.Event.TheVariants.{Attach, Command, Reload, Tick}
 use Rattle.driver_core.specs.declared.event.Inputs.{Inputs}
 use Rattle.driver_core.specs.declared.outcome.Outcome.{Outcome}
 use Rattle.driver_core.specs.declared.outcome.Response.{Response}
@@ -15,30 +14,28 @@ use Rattle.driver_core.specs.declared.peer.Peer.{Peer}
 use Rattle.driver_core.specs.declared.refusal.Refusal.{Refusal}
 use Rattle.driver_core.specs.declared.refusal.Refusal.TheVariants.{Denied, Full}
 use Rattle.driver_core.specs.declared.replies.Reply.{Reply}
-use Rattle.driver_core.specs.declared.replies.Reply.TheVariants.{Error, OperationSuccess, SubscriptionReady}
-use Rattle.driver_core.specs.declared.rows.Client.{Client}
+use Rattle.driver_core.specs.declared.replies.Reply.TheVariants.{Error, OperationSuccess, SubscriptionReady, CounterReady, UnavailableCounter, ClientTimeout}
 use Rattle.driver_core.specs.declared.rows.Subscription.{Subscription}
 use Rattle.driver_core.specs.declared.settings.Settings.{Settings}
 use Rattle.driver_core.specs.declared.step.Step.{Step}
-use Rattle.driver_core.specs.declared.step.Step.TheVariants.{Conductor}
-use Rattle.driver_core.specs.Commands.{client_at, heard, heard_by}
+use Rattle.driver_core.specs.declared.step.Step.TheVariants.{Conductor, List as Lists, Value}
+use Rattle.driver_core.specs.Commands.{heard}
 use Rattle.driver_core.specs.Conduct.{conduct, outcome_of, state_after}
+use Rattle.driver_core.specs.Listing.{list, value}
 use Rattle.driver_core.specs.Replies.{refusal_text}
+use Rattle.driver_core.specs.Requests.{SubscriptionRequest, AsksToSubscribe, IsAsked, question_of}
 use Rattle.driver_core.specs.Runs.{opening_end, no_inputs, end_of, IsAnswer}
 use Rattle.driver_core.specs.State.{State, opened, at_moment}
-use Rattle.driver_core.specs.Subscribing.{is_subscribable, act_of, question_for, subscribed, has_room_for_subscription}
-use Rattle.channel_uri.specs.Channel.{Shape, denotes}
-use Rattle.command_codec.specs.declared.add_subscription.AddSubscription.{AddSubscription}
-use Rattle.command_codec.specs.declared.command.Body.TheVariants.{AddSubscription as Adds}
+use Rattle.driver_core.specs.Subscribing.{act_of, subscribed, has_room_for_subscription}
+use Rattle.driver_core.specs.Verdicts.{IsByPolicy, verdict_on, denial_text}
+use Rattle.client_registry.specs.Clients.{client_at, touched}
 use Rattle.command_codec.specs.declared.command.Command.{Command as Read}
 use Rattle.command_codec.specs.declared.fault.CommandFault.{CommandFault}
 use Rattle.command_codec.specs.Command.{command_of}
 use Rattle.policy_core.specs.declared.decision.Decision.{Decision}
-use Rattle.policy_core.specs.declared.rule.Rule.{Rule}
 use Rattle.policy_core.specs.declared.verdict.Verdict.{Verdict}
 use Rattle.policy_core.specs.Question.{Question}
 use Rattle.policy_core.specs.RuleList.{Rules}
-use Rattle.policy_core.specs.Rules.{verdict_of, IsFirstMatch, NoRuleMatches}
 use Rattle.policy_core.specs.Verdict.{verdict_text}
 
 -- the registry after these events, each with what the logs said at it
@@ -54,44 +51,6 @@ AfterAnyEvents P =
 
 -- ---- a request for a subscription
 
--- who asks, under which correlation id, with which fields, and on which channel
-pub record SubscriptionRequest : Type 0 where
-  pub client : Client
-  pub correlation : ℕ
-  pub fields : AddSubscription
-  pub channel : Shape
-
--- The bytes that come over a handle are this request: they are laid out as one and name the handle's own client, which is
--- there, and their text is a channel that a subscription takes.
-pub record AsksToSubscribe (s : State) (handle : ℕ) (bytes : List ℕ) (request : SubscriptionRequest) : Type 0 where
-  pub command : command_of bytes ≡ Ok (record { client = handle; correlation = request.correlation; body = Adds request.fields })
-  pub attached : client_at s.clients handle ≡ Some request.client
-  pub denotes_channel : denotes request.fields.channel ≡ Ok request.channel
-  pub takes_channel : is_subscribable request.channel ≡ true
-
--- what the policy in force is asked, and its verdict
-abbrev pub question_of : SubscriptionRequest → Question
-question_of request = question_for request.client request.channel request.fields.stream
-
-abbrev pub verdict_on : State → SubscriptionRequest → Verdict
-verdict_on s request = verdict_of s.policy s.epoch (question_of request)
-
--- by the first rule that matches, whose word and number it has
-pub record IsByRule (policy : Rules) (epoch : ℕ) (question : Question) (verdict : Verdict) : Type 0 where
-  pub index : ℕ
-  pub rule : Rule
-  pub first : IsFirstMatch policy.rules question index rule
-  pub verdict_is : verdict ≡ record { allow = rule.allow; rule = Some (index + 1); epoch = epoch }
-
--- by the default, where no rule matches
-pub record IsByDefault (policy : Rules) (epoch : ℕ) (question : Question) (verdict : Verdict) : Type 0 where
-  pub none_matches : NoRuleMatches policy.rules question
-  pub verdict_is : verdict ≡ record { allow = policy.default_allows; rule = None; epoch = epoch }
-
-abbrev pub IsByPolicy : State → SubscriptionRequest → Verdict → Type 0
-IsByPolicy s request verdict =
-    IsByRule s.policy s.epoch (question_of request) verdict ⊎ IsByDefault s.policy s.epoch (question_of request) verdict
-
 -- what is told of it to those who audit
 abbrev pub decision_on : State → SubscriptionRequest → Decision
 decision_on s request = record {
@@ -99,7 +58,7 @@ decision_on s request = record {
   act = act_of request.channel;
   subject = 0;
   stream = request.fields.stream;
-  verdict = verdict_on s request;
+  verdict = verdict_on s (question_of request);
 }
 
 -- the subscription that is asked for, under the next number
@@ -136,13 +95,13 @@ pub record IsRefused (s : State) (now handle : ℕ) (request : SubscriptionReque
 
 -- the verdict decides, which is the first matching rule's or the default's, and then the room
 pub record IsDecidedExactly (s : State) (now handle : ℕ) (request : SubscriptionRequest) (change : Change) : Type 0 where
-  pub by : IsByPolicy s request (verdict_on s request)
+  pub by : IsByPolicy s (question_of request) (verdict_on s (question_of request))
   pub granted :
-      (verdict_on s request).allow ≡ true → has_room_for_subscription s ≡ true → IsGranted s now handle request change
+      (verdict_on s (question_of request)).allow ≡ true → has_room_for_subscription s ≡ true → IsGranted s now handle request change
   pub full :
-      (verdict_on s request).allow ≡ true → has_room_for_subscription s ≡ false → IsRefused s now handle request Full change
+      (verdict_on s (question_of request)).allow ≡ true → has_room_for_subscription s ≡ false → IsRefused s now handle request Full change
   pub denied :
-      (verdict_on s request).allow ≡ false → IsRefused s now handle request (Denied (verdict_on s request)) change
+      (verdict_on s (question_of request)).allow ≡ false → IsRefused s now handle request (Denied (verdict_on s (question_of request))) change
 
 abbrev pub SubscriptionsAreGrantedExactly : Type 0
 SubscriptionsAreGrantedExactly =
@@ -160,8 +119,8 @@ pub record IsMadeBy (s : State) (event : Event) (correlation : ℕ) (made : Subs
   pub request : SubscriptionRequest
   pub event_is : event ≡ Command moment made.client bytes
   pub asks : AsksToSubscribe s made.client bytes request
-  pub by : IsByPolicy s request (verdict_on s request)
-  pub allowed : (verdict_on s request).allow ≡ true
+  pub by : IsByPolicy s (question_of request) (verdict_on s (question_of request))
+  pub allowed : (verdict_on s (question_of request)).allow ≡ true
   pub room : has_room_for_subscription s ≡ true
   pub correlation_is : correlation ≡ request.correlation
   pub made_is : made ≡ subscription_for s made.client request
@@ -176,6 +135,9 @@ IsGrantTold s event after client (SubscriptionReady correlation registration) =
     × IsMadeBy s event correlation made
 IsGrantTold s event after client (Error correlation refusal) = Unit {0}
 IsGrantTold s event after client (OperationSuccess correlation) = Unit {0}
+IsGrantTold s event after client (CounterReady correlation registration) = Unit {0}
+IsGrantTold s event after client (UnavailableCounter registration) = Unit {0}
+IsGrantTold s event after client (ClientTimeout number) = Unit {0}
 
 pub record GrantsOnly (s : State) (event : Event) (change : Change) : Type 0 where
   pub told :
@@ -190,21 +152,15 @@ SubscriptionsAreGrantedOnly =
 
 -- ---- denials are named
 
--- the text names the rule by its number, or the default
-abbrev pub denial_text : Option ℕ → ℕ → List ℕ
-denial_text (Some rule) epoch = codes "denied by rule " ++ (decimal rule ++ (codes " in policy " ++ decimal epoch))
-denial_text None epoch = codes "denied by default in policy " ++ decimal epoch
-
 -- the event is a request that the policy in force denies by this verdict
 pub record IsDeniedOn (s : State) (event : Event) (client correlation : ℕ) (verdict : Verdict) : Type 0 where
   pub moment : ℕ
   pub bytes : List ℕ
-  pub request : SubscriptionRequest
+  pub question : Question
   pub event_is : event ≡ Command moment client bytes
-  pub asks : AsksToSubscribe s client bytes request
-  pub correlation_is : correlation ≡ request.correlation
-  pub verdict_is : verdict ≡ verdict_on s request
-  pub by : IsByPolicy s request verdict
+  pub asks : IsAsked s client bytes correlation question
+  pub verdict_is : verdict ≡ verdict_on s question
+  pub by : IsByPolicy s question verdict
   pub denies : verdict.allow ≡ false
   pub words : refusal_text (Denied verdict) ≡ verdict_text verdict
   pub text : refusal_text (Denied verdict) ≡ denial_text verdict.rule s.epoch
@@ -217,6 +173,9 @@ abbrev pub IsDenialNamed : State → Event → ℕ → Reply → Type 0
 IsDenialNamed s event client (Error correlation refusal) = IsNamedRefusal s event client correlation refusal
 IsDenialNamed s event client (OperationSuccess correlation) = Unit {0}
 IsDenialNamed s event client (SubscriptionReady correlation registration) = Unit {0}
+IsDenialNamed s event client (CounterReady correlation registration) = Unit {0}
+IsDenialNamed s event client (UnavailableCounter registration) = Unit {0}
+IsDenialNamed s event client (ClientTimeout number) = Unit {0}
 
 abbrev pub DenialsAreNamed : Type 0
 DenialsAreNamed =
@@ -230,11 +189,15 @@ abbrev pub IsRefusal : Reply → Type 0
 IsRefusal (Error correlation refusal) = Unit {0}
 IsRefusal (OperationSuccess correlation) = ⊥
 IsRefusal (SubscriptionReady correlation registration) = ⊥
+IsRefusal (CounterReady correlation registration) = ⊥
+IsRefusal (UnavailableCounter registration) = ⊥
+IsRefusal (ClientTimeout number) = ⊥
 
 abbrev pub IsNoGrant : Response → Type 0
 IsNoGrant response.Nothing = Unit {0}
 IsNoGrant (response.Attached number) = ⊥
 IsNoGrant response.Full = Unit {0}
+IsNoGrant response.Stopped = Unit {0}
 IsNoGrant (response.PolicyInForce epoch) = ⊥
 IsNoGrant response.PolicyFull = Unit {0}
 
@@ -248,15 +211,16 @@ names handle (Ok command) = command.client == handle
 names handle (Err fault) = false
 
 abbrev pub is_heard : State → ℕ → List ℕ → Bool
-is_heard s handle bytes = names handle (command_of bytes) && is_some (client_at s.clients handle)
+is_heard s handle bytes = names handle (command_of bytes) && is_some (client_at s.clients.rows handle)
 
 -- the registry with no more than its moment and that of the client that was heard of set
 abbrev pub only_moments : State → Event → State
 only_moments s (Attach now principal) = record s { moment = max s.moment now }
 only_moments s (Reload now policy) = record s { moment = max s.moment now }
+only_moments s (Tick now) = record s { moment = max s.moment now }
 only_moments s (Command now handle bytes) = record s {
   moment = max s.moment now;
-  clients = if is_heard s handle bytes then heard_by handle (max s.moment now) s.clients else s.clients;
+  clients = if is_heard s handle bytes then touched s.clients handle (max s.moment now) else s.clients;
 }
 
 abbrev pub RefusalsChangeNoMoreThanMoments : Type 0
@@ -266,24 +230,38 @@ RefusalsChangeNoMoreThanMoments =
 
 -- ---- runs
 
--- the events that a run took: those of the steps that were not refused memory
+-- the events that a run took: those of the conductor's steps that were not refused memory
 abbrev pub taken : List Step → List Answer → List (Event × Inputs)
 taken [] answers = []
 taken (step ∷ steps) [] = []
 taken (step ∷ steps) (NoMemory ∷ answers) = taken steps answers
 taken (Conductor event ∷ steps) (answer ∷ answers) = (event, no_inputs) ∷ taken steps answers
+taken (Lists now client ∷ steps) (answer ∷ answers) = taken steps answers
+taken (Value now client number ∷ steps) (answer ∷ answers) = taken steps answers
 
 -- what an answer says is what the event tells; want of memory says nothing
 abbrev pub IsTold : Answer → Outcome → Type 0
 IsTold NoMemory outcome = Unit {0}
 IsTold (Attached number) outcome = outcome.response ≡ response.Attached number
 IsTold IsFull outcome = outcome.response ≡ response.Full
+IsTold Stopped outcome = outcome.response ≡ response.Stopped
 IsTold (PolicyInForce epoch messages) outcome =
     (outcome.response ≡ response.PolicyInForce epoch) × (messages ≡ outcome.replies)
 IsTold PolicyFull outcome = outcome.response ≡ response.PolicyFull
 IsTold (Replies messages) outcome = (outcome.response ≡ response.Nothing) × (messages ≡ outcome.replies)
+IsTold (Counters rows) outcome = ⊥
+IsTold (ValueIs number) outcome = ⊥
+IsTold (DeniedBy verdict) outcome = ⊥
+IsTold UnknownCounter outcome = ⊥
+IsTold WrongClient outcome = ⊥
 
--- at its end stands the registry that those events leave, and a further step is answered what its event tells
+-- what a look is told, unless there was no memory for it
+abbrev pub IsLook : Answer → Answer → Type 0
+IsLook NoMemory told = Unit {0}
+IsLook answer told = answer ≡ told
+
+-- at its end stands the registry that those events leave; a further event is answered what it tells, and a further look
+-- what that registry shows
 pub record TakesEvents (settings : Settings) (policy : Rules) (peers : List Peer) (steps : List Step) (answers : List Answer) : Type 0 where
   pub leaves :
       (end_of (opening_end settings policy peers) steps answers).registry
@@ -292,6 +270,14 @@ pub record TakesEvents (settings : Settings) (policy : Rules) (peers : List Peer
       (event : Event) (answer : Answer) →
       IsAnswer (end_of (opening_end settings policy peers) steps answers) (Conductor event) answer →
       IsTold answer (outcome_of (state_of (opened settings policy peers) (taken steps answers)) event no_inputs)
+  pub lists :
+      (now client : ℕ) (answer : Answer) →
+      IsAnswer (end_of (opening_end settings policy peers) steps answers) (Lists now client) answer →
+      IsLook answer (list (state_of (opened settings policy peers) (taken steps answers)) client)
+  pub values :
+      (now client number : ℕ) (answer : Answer) →
+      IsAnswer (end_of (opening_end settings policy peers) steps answers) (Value now client number) answer →
+      IsLook answer (value (state_of (opened settings policy peers) (taken steps answers)) client number)
 
 abbrev pub RunsTakeEvents : Type 0
 RunsTakeEvents =

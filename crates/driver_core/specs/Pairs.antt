@@ -3,10 +3,10 @@ use Rattle.std.specs.Prelude.{ℕ, ℤ, Bool, true, false, not, ◌==◌, ◌&&�
 use Rattle.std.specs.List.{flat_map, list_any}
 use Rattle.std.specs.Ordering.{int_eq}
 use Rattle.driver_core.specs.declared.outcome.Pair.{Pair}
-use Rattle.driver_core.specs.declared.rows.Client.{Client}
 use Rattle.driver_core.specs.declared.rows.Subscription.{Subscription}
-use Rattle.driver_core.specs.Commands.{client_at}
 use Rattle.driver_core.specs.State.{State}
+use Rattle.client_registry.specs.declared.client.Client.{Client}
+use Rattle.client_registry.specs.Clients.{client_at}
 use Rattle.channel_uri.specs.declared.media.Media.{Media}
 use Rattle.channel_uri.specs.declared.media.Media.TheVariants.{Udp, Ipc, Counter}
 use Rattle.channel_uri.specs.Channel.{Shape}
@@ -51,7 +51,7 @@ is_allowed_to s subscription (Some client) = (verdict_of s.policy s.epoch (image
 -- the two fit, and the policy in force allows it
 abbrev pub is_pair : State → Source → Subscription → Bool
 is_pair s source subscription =
-    fits source subscription && is_allowed_to s subscription (client_at s.clients subscription.client)
+    fits source subscription && is_allowed_to s subscription (client_at s.clients.rows subscription.client)
 
 abbrev pub pair_of : Source → Subscription → Pair
 pair_of source subscription = record { source = source.number; subscription = subscription.number }

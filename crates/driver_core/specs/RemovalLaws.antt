@@ -6,28 +6,14 @@ use Rattle.driver_core.specs.declared.event.Event.TheVariants.{Command}
 use Rattle.driver_core.specs.declared.event.Inputs.{Inputs}
 use Rattle.driver_core.specs.declared.refusal.Refusal.TheVariants.{UnknownSubscription}
 use Rattle.driver_core.specs.declared.replies.Reply.TheVariants.{Error, OperationSuccess}
-use Rattle.driver_core.specs.declared.rows.Client.{Client}
 use Rattle.driver_core.specs.declared.rows.Subscription.{Subscription}
-use Rattle.driver_core.specs.Commands.{client_at, heard}
+use Rattle.driver_core.specs.Commands.{heard}
 use Rattle.driver_core.specs.Conduct.{conduct, state_after}
 use Rattle.driver_core.specs.Laws.{AfterAnyEvents}
+use Rattle.driver_core.specs.LeavingLaws.{IsGoneBy}
+use Rattle.driver_core.specs.Requests.{RemovalRequest, AsksToRemove}
 use Rattle.driver_core.specs.State.{State, at_moment}
 use Rattle.driver_core.specs.Unsubscribing.{stays, has_subscription}
-use Rattle.command_codec.specs.declared.command.Body.TheVariants.{RemoveSubscription as Removes}
-use Rattle.command_codec.specs.declared.removal.Removal.{Removal}
-use Rattle.command_codec.specs.Command.{command_of}
-
--- who asks, under which correlation id, for which subscription to go
-pub record RemovalRequest : Type 0 where
-  pub client : Client
-  pub correlation : ℕ
-  pub fields : Removal
-
--- The bytes that come over a handle are this request: they are laid out as one and name the handle's own client, which is
--- there.
-pub record AsksToRemove (s : State) (handle : ℕ) (bytes : List ℕ) (request : RemovalRequest) : Type 0 where
-  pub command : command_of bytes ≡ Ok (record { client = handle; correlation = request.correlation; body = Removes request.fields })
-  pub attached : client_at s.clients handle ≡ Some request.client
 
 -- ---- removed exactly
 
@@ -72,8 +58,12 @@ pub record IsRemovedBy (s : State) (event : Event) (subscription : Subscription)
   pub asks : AsksToRemove s subscription.client bytes request
   pub number_is : subscription.number ≡ request.fields.registration
 
+-- or it takes the subscription's client away, and with it all that the client registered
+abbrev pub Goes : State → Event → Subscription → Type 0
+Goes s event subscription = IsRemovedBy s event subscription ⊎ IsGoneBy s event subscription.client
+
 abbrev pub SubscriptionsAreRemovedOnly : Type 0
 SubscriptionsAreRemovedOnly =
     AfterAnyEvents (λ s.
     (event : Event) (inputs : Inputs) (subscription : Subscription) → Contains s.subscriptions subscription →
-    Contains (state_after s event inputs).subscriptions subscription ⊎ IsRemovedBy s event subscription)
+    Contains (state_after s event inputs).subscriptions subscription ⊎ Goes s event subscription)

@@ -1,9 +1,9 @@
 -- How a reply is laid out.
 use Rattle.std.specs.Prelude.{ℕ, List, [], unwrap_or}
 use Rattle.driver_core.specs.declared.refusal.Refusal.{Refusal}
-use Rattle.driver_core.specs.declared.refusal.Refusal.TheVariants.{UnknownCommandType, MalformedCommand, WrongClient, InvalidChannel, UnknownSubscription, Denied, Full}
+use Rattle.driver_core.specs.declared.refusal.Refusal.TheVariants.{UnknownCommandType, MalformedCommand, WrongClient, InvalidChannel, UnknownSubscription, UnknownCounter, Denied, Full}
 use Rattle.driver_core.specs.declared.replies.Reply.{Reply}
-use Rattle.driver_core.specs.declared.replies.Reply.TheVariants.{Error, OperationSuccess, SubscriptionReady}
+use Rattle.driver_core.specs.declared.replies.Reply.TheVariants.{Error, OperationSuccess, SubscriptionReady, CounterReady, UnavailableCounter, ClientTimeout}
 use Rattle.command_codec.specs.declared.error_code.ErrorCode.{ErrorCode}
 use Rattle.command_codec.specs.declared.error_code.ErrorCode.TheVariants as code
 use Rattle.command_codec.specs.declared.reply.Reply.{Reply as Layout}
@@ -18,6 +18,7 @@ code_for MalformedCommand = code.MalformedCommand
 code_for WrongClient = code.WrongClient
 code_for InvalidChannel = code.InvalidChannel
 code_for UnknownSubscription = code.UnknownSubscription
+code_for UnknownCounter = code.UnknownCounter
 code_for (Denied verdict) = code.Denied
 code_for Full = code.Full
 
@@ -32,3 +33,7 @@ layout_of (Error correlation refusal) =
 layout_of (OperationSuccess correlation) = layout.OperationSuccess (record { correlation = correlation })
 layout_of (SubscriptionReady correlation registration) =
     layout.SubscriptionReady (record { correlation = correlation; registration = registration })
+layout_of (CounterReady correlation registration) =
+    layout.CounterReady (record { correlation = correlation; registration = registration })
+layout_of (UnavailableCounter registration) = layout.UnavailableCounter (record { registration = registration })
+layout_of (ClientTimeout client) = layout.ClientTimeout (record { client = client })

@@ -1,7 +1,7 @@
 -- Runs: any list of steps with their answers, from an opened world.
 use Rattle.std.specs.Prelude.{◌≡◌, List, [], ◌∷◌, ◌++◌}
 use Rattle.driver_core.specs.declared.answer.Answer.{Answer}
-use Rattle.driver_core.specs.declared.answer.Answer.TheVariants.{NoMemory, Attached, Full, PolicyInForce, PolicyFull, Replies}
+use Rattle.driver_core.specs.declared.answer.Answer.TheVariants.{NoMemory, Attached, Full, Stopped, PolicyInForce, PolicyFull, Replies}
 use Rattle.driver_core.specs.declared.event.Inputs.{Inputs}
 use Rattle.driver_core.specs.declared.outcome.Outcome.{Outcome}
 use Rattle.driver_core.specs.declared.outcome.Response.{Response}
@@ -10,8 +10,9 @@ use Rattle.driver_core.specs.declared.peer.Peer.{Peer}
 use Rattle.driver_core.specs.declared.replies.Message.{Message}
 use Rattle.driver_core.specs.declared.settings.Settings.{Settings}
 use Rattle.driver_core.specs.declared.step.Step.{Step}
-use Rattle.driver_core.specs.declared.step.Step.TheVariants.{Conductor}
+use Rattle.driver_core.specs.declared.step.Step.TheVariants.{Conductor, List as Lists, Value}
 use Rattle.driver_core.specs.Conduct.{outcome_of, state_after}
+use Rattle.driver_core.specs.Listing.{list, value}
 use Rattle.driver_core.specs.State.{State, opened}
 use Rattle.policy_core.specs.RuleList.{Rules}
 
@@ -32,6 +33,7 @@ abbrev pub answered_by : Response → List Message → Answer
 answered_by response.Nothing replies = Replies replies
 answered_by (response.Attached number) replies = Attached number
 answered_by response.Full replies = Full
+answered_by response.Stopped replies = Stopped
 answered_by (response.PolicyInForce epoch) replies = PolicyInForce epoch replies
 answered_by response.PolicyFull replies = PolicyFull
 
@@ -48,6 +50,8 @@ moved e (Conductor event) = record {
   after = record e { registry = state_after e.registry event no_inputs };
   answer = answer_of (outcome_of e.registry event no_inputs);
 }
+moved e (Lists now client) = record { after = e; answer = list e.registry client }
+moved e (Value now client number) = record { after = e; answer = value e.registry client number }
 
 -- a step that is refused memory leaves all as it was; any other leaves and is answered what `moved` says
 abbrev pub after : RunEnd → Step → Answer → RunEnd

@@ -1,23 +1,25 @@
 -- What the conductor knows, as plain data.
-use Rattle.std.specs.Prelude.{ℕ, List, [], max}
+use Rattle.std.specs.Prelude.{ℕ, Bool, false, List, [], max}
 use Rattle.driver_core.specs.declared.peer.Peer.{Peer}
-use Rattle.driver_core.specs.declared.rows.Client.{Client}
 use Rattle.driver_core.specs.declared.rows.Subscription.{Subscription}
 use Rattle.driver_core.specs.declared.settings.Settings.{Settings}
+use Rattle.client_registry.specs.Clients.{ClientList, opened as nobody}
+use Rattle.counters.specs.declared.counter.Counter.{Counter}
 use Rattle.policy_core.specs.RuleList.{Rules}
 
--- the policy in force with its number, the greatest moment seen, the clients and the subscriptions in the order in which
--- they came, and the ids that were drawn last
+-- the policy in force with its number, the greatest moment seen, the clients, their subscriptions and their counters in the
+-- order in which they came, the number that was drawn last, and whether the driver was stopped
 pub record State : Type 0 where
   pub settings : Settings
   pub peers : List Peer
   pub policy : Rules
   pub epoch : ℕ
   pub moment : ℕ
-  pub clients : List Client
-  pub last_client : ℕ
+  pub clients : ClientList
   pub subscriptions : List Subscription
+  pub counters : List Counter
   pub last_number : ℕ
+  pub stopped : Bool
 
 -- nobody is there, under policy 1
 unfoldable pub opened : Settings → Rules → List Peer → State
@@ -27,10 +29,11 @@ opened settings policy peers = record {
   policy = policy;
   epoch = 1;
   moment = 0;
-  clients = [];
-  last_client = 0;
+  clients = nobody settings.client_liveness;
   subscriptions = [];
+  counters = [];
   last_number = 0;
+  stopped = false;
 }
 
 -- at this moment; an earlier one counts as the one seen

@@ -3,9 +3,10 @@ use Rattle.std.specs.Prelude.{ℕ, ◌+◌, ℤ, Bool, true, false, not, ◌&&�
 use Rattle.driver_core.specs.declared.change.Change.{Change}
 use Rattle.driver_core.specs.declared.refusal.Refusal.TheVariants.{InvalidChannel, Denied, Full}
 use Rattle.driver_core.specs.declared.replies.Reply.TheVariants.{SubscriptionReady}
-use Rattle.driver_core.specs.declared.rows.Client.{Client}
 use Rattle.driver_core.specs.Change.{replied, refused}
+use Rattle.driver_core.specs.Deciding.{decision_by}
 use Rattle.driver_core.specs.State.{State}
+use Rattle.client_registry.specs.declared.client.Client.{Client}
 use Rattle.channel_uri.specs.declared.error.UriError.{UriError}
 use Rattle.channel_uri.specs.declared.media.Media.{Media}
 use Rattle.channel_uri.specs.declared.media.Media.TheVariants.{Udp, Ipc, Counter}
@@ -16,8 +17,6 @@ use Rattle.command_codec.specs.declared.add_subscription.AddSubscription.{AddSub
 use Rattle.policy_core.specs.declared.act.Act.{Act}
 use Rattle.policy_core.specs.declared.act.Act.TheVariants.{Subscribe, Spy}
 use Rattle.policy_core.specs.declared.decision.Decision.{Decision}
-use Rattle.policy_core.specs.Question.{Question}
-use Rattle.policy_core.specs.Rules.{verdict_of}
 
 -- without the prefix, any `ipc`, and `udp` with an endpoint and no control mode
 abbrev pub is_plainly_subscribable : Media → Shape → Bool
@@ -34,20 +33,9 @@ is_subscribable channel =
 abbrev pub act_of : Shape → Act
 act_of channel = if channel.spy then Spy else Subscribe
 
--- what the policy is asked
-abbrev pub question_for : Client → Shape → ℤ → Question
-question_for client channel stream =
-    record { principal = client.principal; act = act_of channel; channel = channel; stream = stream }
-
 -- what the policy in force decides
-unfoldable pub decision_of : State → Client → Shape → ℤ → Decision
-decision_of s client channel stream = record {
-  principal = client.principal;
-  act = act_of channel;
-  subject = 0;
-  stream = stream;
-  verdict = verdict_of s.policy s.epoch (question_for client channel stream);
-}
+abbrev pub decision_of : State → Client → Shape → ℤ → Decision
+decision_of s client channel stream = decision_by s client (act_of channel) channel stream
 
 -- the subscription stands, under the next number
 unfoldable pub subscribed : State → Client → ℕ → Shape → ℤ → Change

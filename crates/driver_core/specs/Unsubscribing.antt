@@ -4,10 +4,10 @@ use Rattle.std.specs.List.{list_any}
 use Rattle.driver_core.specs.declared.change.Change.{Change}
 use Rattle.driver_core.specs.declared.refusal.Refusal.TheVariants.{UnknownSubscription}
 use Rattle.driver_core.specs.declared.replies.Reply.TheVariants.{OperationSuccess}
-use Rattle.driver_core.specs.declared.rows.Client.{Client}
 use Rattle.driver_core.specs.declared.rows.Subscription.{Subscription}
 use Rattle.driver_core.specs.Change.{replied, refused}
 use Rattle.driver_core.specs.State.{State}
+use Rattle.client_registry.specs.declared.client.Client.{Client}
 use Rattle.command_codec.specs.declared.removal.Removal.{Removal}
 
 -- the client's subscription of this number

@@ -4,14 +4,11 @@ ghost use Rattle.std.specs.Prelude.{◌≡◌, IfOk};
 use crate::change::Change;
 use crate::outcome::Response;
 use crate::registry::Registry;
-use crate::rows::Client;
+use client_registry::AdmitError;
 use std::alloc::{AllocError, Global};
 
-/// How many clients a driver has at most.
-const CLIENTS: usize = 64;
-
 /// A client comes.
-#[tactic(auto, unfolding(crate::specs::Attaching::attach, crate::specs::Attaching::attached))]
+#[tactic(auto, unfolding(crate::specs::Attaching::attach, crate::specs::Attaching::attached, client_registry::specs::Clients::admission))]
 pub(crate) fn attach(
     registry: Registry,
     alloc: Global,
@@ -19,16 +16,13 @@ pub(crate) fn attach(
 ) -> Result<Change, AllocError>
     ensures { IfOk result (λ change. change ≡ attach registry principal) }
 {
-    if registry.clients.len() >= CLIENTS || registry.last_client == u64::MAX {
-        return Ok(Change::answered(alloc, registry, Response::Full));
+    if registry.stopped {
+        return Ok(Change::answered(alloc, registry, Response::Stopped));
     }
     let mut registry = registry;
-    let number = registry.last_client + 1;
-    registry.clients.push(Client {
-        number,
-        principal,
-        heard: registry.moment,
-    })?;
-    registry.last_client = number;
-    Ok(Change::answered(alloc, registry, Response::Attached(number)))
+    match registry.clients.admit(principal, registry.moment) {
+        Ok(number) => Ok(Change::answered(alloc, registry, Response::Attached(number))),
+        Err(AdmitError::Full) => Ok(Change::answered(alloc, registry, Response::Full)),
+        Err(AdmitError::NoMemory) => Err(AllocError),
+    }
 }

@@ -16,7 +16,7 @@ pub(crate) struct Change {
 }
 
 impl Change {
-    ghost use Rattle.driver_core.specs.Change.{answered, replied, refused};
+    ghost use Rattle.driver_core.specs.Change.{answered, told, replied, refused};
 
     /// A change that answers the event and tells nobody else. It takes no memory.
     #[tactic(auto, unfolding(crate::specs::Change::answered))]
@@ -37,8 +37,32 @@ impl Change {
         }
     }
 
+    /// A change that gives these replies, after these decisions. It takes no memory.
+    #[tactic(auto, unfolding(crate::specs::Change::told))]
+    pub(crate) fn told(
+        alloc: Global,
+        after: Registry,
+        decisions: Items<Decision>,
+        replies: Items<Message>,
+    ) -> Change
+        ensures { result ≡ told after decisions replies }
+    {
+        Change {
+            after,
+            outcome: Outcome {
+                response: Response::Nothing,
+                replies,
+                decisions,
+                opens: None,
+                closes: Items::new(alloc),
+                gone: Items::new(alloc),
+                come: Items::new(alloc),
+            },
+        }
+    }
+
     /// A change that gives one reply, after these decisions.
-    #[tactic(auto, unfolding(crate::specs::Change::replied))]
+    #[tactic(auto, unfolding(crate::specs::Change::replied, crate::specs::Change::told))]
     pub(crate) fn replied(
         alloc: Global,
         after: Registry,
@@ -50,18 +74,7 @@ impl Change {
     {
         let mut replies = Items::new(alloc);
         replies.push(Message { client, reply })?;
-        Ok(Change {
-            after,
-            outcome: Outcome {
-                response: Response::Nothing,
-                replies,
-                decisions,
-                opens: None,
-                closes: Items::new(alloc),
-                gone: Items::new(alloc),
-                come: Items::new(alloc),
-            },
-        })
+        Ok(Change::told(alloc, after, decisions, replies))
     }
 
     /// A command is refused, after these decisions.

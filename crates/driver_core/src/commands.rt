@@ -1,49 +1,14 @@
-ghost use Rattle.driver_core.specs.Commands.{client_at, heard_one, heard_by, requested, asked, command};
+ghost use Rattle.driver_core.specs.Commands.{requested, asked, command};
 ghost use Rattle.std.specs.Prelude.{◌≡◌, IfOk};
 
 use crate::change::Change;
 use crate::refusal::Refusal;
 use crate::registry::Registry;
-use crate::rows::Client;
-use crate::{subscribing, unsubscribing};
+use crate::{closing, counting, subscribing, terminating, unsubscribing};
 use byte_strings::Items;
+use client_registry::Client;
 use command_codec::{Body, Command, CommandFault};
 use std::alloc::{AllocError, Global};
-
-/// The client of this id.
-fn client_at(clients: &[Client], number: u64) -> Option<Client>
-    ensures { result ≡ client_at clients.now number }
-{
-    for client in clients {
-        if client.number == number {
-            return Some(*client);
-        }
-    }
-    None
-}
-
-/// The client as it is once this one was heard of.
-fn heard_one(client: Client, number: u64, moment: u64) -> Client
-    ensures { result ≡ heard_one number moment client }
-{
-    if client.number == number {
-        Client {
-            heard: moment,
-            ..client
-        }
-    } else {
-        client
-    }
-}
-
-/// Marks the client of this id as heard of.
-fn hear(clients: &mut [Client], number: u64, moment: u64)
-    ensures { clients.new ≡ heard_by number moment clients.old }
-{
-    for client in clients.iter_mut() {
-        *client = heard_one(*client, number, moment);
-    }
-}
 
 /// What the command of a client that is there asks for.
 #[tactic(auto, unfolding(crate::specs::Commands::requested))]
@@ -55,17 +20,26 @@ fn requested(
 ) -> Result<Change, AllocError>
     ensures { IfOk result (λ change. change ≡ requested registry client command.now) }
 {
+    let correlation = command.correlation;
     match &command.body {
         Body::AddSubscription(fields) => {
-            subscribing::add_subscription(registry, alloc, client, command.correlation, fields)
+            subscribing::add_subscription(registry, alloc, client, correlation, fields)
         }
-        Body::RemoveSubscription(fields) => unsubscribing::remove_subscription(
-            registry,
-            alloc,
-            client,
-            command.correlation,
-            *fields,
-        ),
+        Body::RemoveSubscription(fields) => {
+            unsubscribing::remove_subscription(registry, alloc, client, correlation, *fields)
+        }
+        Body::ClientKeepalive => Ok(closing::keep_alive(registry, alloc)),
+        Body::AddCounter(fields) => {
+            counting::add_counter(registry, alloc, client, correlation, fields)
+        }
+        Body::RemoveCounter(fields) => {
+            counting::remove_counter(registry, alloc, client, correlation, *fields)
+        }
+        Body::ClientClose => closing::close(registry, alloc, client, correlation),
+        Body::TerminateDriver(_) => { terminating::terminate(registry, alloc, client, correlation) }
+        Body::SetCounter(fields) => {
+            counting::set_counter(registry, alloc, client, correlation, *fields)
+        }
     }
 }
 
@@ -89,7 +63,7 @@ fn asked(
             Refusal::WrongClient,
         );
     }
-    let Some(client) = client_at(registry.clients.as_slice(), handle) else {
+    let Some(client) = registry.clients.get(handle) else {
         return Change::refused(
             alloc,
             registry,
@@ -101,7 +75,7 @@ fn asked(
     };
     let mut registry = registry;
     let moment = registry.moment;
-    hear(registry.clients.as_mut_slice(), handle, moment);
+    registry.clients.touch(handle, moment);
     requested(registry, alloc, client, command)
 }
 

@@ -14,6 +14,8 @@ pub enum Event {
     Command { now: u64, client: u64, bytes: Bytes },
     /// A policy is to be in force from here on, under the next number.
     Reload { now: u64, policy: Policy },
+    /// Time goes on.
+    Tick { now: u64 },
 }
 
 /// How far a log reaches.

@@ -1,5 +1,7 @@
 //! What holds over every list of events: each function does nothing, and its clause is the law.
 
+ghost use Rattle.driver_core.specs.GrantLaws.{CountersAreGrantedExactly, TerminationsAreGrantedExactly, CountersAndTerminationsAreGrantedOnly};
+ghost use Rattle.driver_core.specs.ListingLaws.{CountersAreShownExactly};
 ghost use Rattle.driver_core.specs.Laws.{SubscriptionsAreGrantedExactly, SubscriptionsAreGrantedOnly, DenialsAreNamed, RefusalsChangeNoMoreThanMoments, RunsTakeEvents};
 ghost use Rattle.driver_core.specs.ReloadLaws.{ReloadsCloseExactly, NewestPolicyIsInForce};
 ghost use Rattle.driver_core.specs.RemovalLaws.{SubscriptionsAreRemovedExactly, SubscriptionsAreRemovedOnly};
@@ -15,6 +17,29 @@ pub fn subscriptions_are_granted_only()
     ensures { SubscriptionsAreGrantedOnly }
 {}
 
+/// A client's well-formed request for a counter is granted where the first rule that matches allows it, or where none
+/// matches and the default does, and there is room; else it is refused, by the verdict or as full.
+pub fn counters_are_granted_exactly()
+    ensures { CountersAreGrantedExactly }
+{}
+
+/// A client's well-formed request that the driver end is granted where the first rule that matches allows it, or where
+/// none matches and the default does; then all clients are gone. Else it is refused, by the verdict.
+pub fn terminations_are_granted_exactly()
+    ensures { TerminationsAreGrantedExactly }
+{}
+
+/// A counter comes, and the driver ends, only where a well-formed request for it was allowed by the policy in force.
+pub fn counters_and_terminations_are_granted_only()
+    ensures { CountersAndTerminationsAreGrantedOnly }
+{}
+
+/// A client is listed exactly the counters that the policy in force shows it, and is told the value of one exactly where
+/// the policy shows that one; a denial names the least rule that matches, or the default where none does.
+pub fn counters_are_shown_exactly()
+    ensures { CountersAreShownExactly }
+{}
+
 /// A denial is told only of a request that the policy in force denies, and names the least rule that matches, or the
 /// default where none does.
 pub fn denials_are_named()
@@ -27,7 +52,8 @@ pub fn subscriptions_are_removed_exactly()
     ensures { SubscriptionsAreRemovedExactly }
 {}
 
-/// A subscription goes only where its own client asks for it.
+/// A subscription goes only where its own client asks for it, or goes itself: it was silent for too long, it closed, or
+/// the driver was ended by a request that the policy in force allowed.
 pub fn subscriptions_are_removed_only()
     ensures { SubscriptionsAreRemovedOnly }
 {}
@@ -49,7 +75,7 @@ pub fn refusals_change_no_more_than_moments()
 {}
 
 /// A run of a world leaves the registry that its events leave, those apart that were refused memory, and answers each
-/// step what its event tells: so what is said here of events holds of runs.
+/// event what it tells and each look what that registry shows: so what is said here of events holds of runs.
 pub fn runs_take_events()
     ensures { RunsTakeEvents }
 {}

@@ -10,6 +10,8 @@ pub enum Response {
     Attached(u64),
     /// A limit of the driver would be broken.
     Full,
+    /// The driver was stopped, and no client comes to it any more.
+    Stopped,
     /// The policy is in force, under this number.
     PolicyInForce(u64),
     /// A limit of the driver would be broken under the policy, which is not in force.

@@ -13,6 +13,8 @@ pub enum Refusal {
     InvalidChannel,
     /// The client has no subscription under this registration id, whoever else may have.
     UnknownSubscription,
+    /// The client has no counter under this registration number, whoever else may have.
+    UnknownCounter,
     /// The policy denies the request, by this verdict.
     Denied(Verdict),
     /// The command would break a limit of the driver.

@@ -4,14 +4,16 @@ use crate::change::Change;
 use crate::event::{Event, Inputs};
 use crate::outcome::Outcome;
 use crate::peer::Peer;
-use crate::rows::{Client, Subscription};
+use crate::rows::Subscription;
 use crate::settings::Settings;
-use crate::{attaching, commands, reloading};
+use crate::{attaching, commands, reloading, ticking};
+use client_registry::Clients;
+use counters::Counters;
 use policy_core::Policy;
 use std::alloc::{AllocError, Global};
 use std::marker::Model;
 
-/// What the conductor knows: its settings, the policy in force, the clients and their subscriptions.
+/// What the conductor knows: its settings, the policy in force, the clients, their subscriptions and their counters.
 #[derive(Drop)]
 pub struct Registry {
     pub(crate) settings: Settings,
@@ -19,10 +21,11 @@ pub struct Registry {
     pub(crate) policy: Policy,
     pub(crate) epoch: u64,
     pub(crate) moment: u64,
-    pub(crate) clients: Vec<Client>,
-    pub(crate) last_client: u64,
+    pub(crate) clients: Clients,
     pub(crate) subscriptions: Vec<Subscription>,
+    pub(crate) counters: Counters,
     pub(crate) last_number: u64,
+    pub(crate) stopped: bool,
 }
 
 impl Model for Registry {
@@ -36,10 +39,11 @@ impl Model for Registry {
       policy = registry.policy;
       epoch = registry.epoch;
       moment = registry.moment;
-      clients = registry.clients.items;
-      last_client = registry.last_client;
+      clients = registry.clients;
       subscriptions = registry.subscriptions.items;
+      counters = registry.counters;
       last_number = registry.last_number;
+      stopped = registry.stopped;
     } };
 }
 
@@ -74,10 +78,11 @@ impl Registry {
             policy,
             epoch: 1,
             moment: 0,
-            clients: Vec::new(alloc),
-            last_client: 0,
+            clients: Clients::new(alloc, settings.client_liveness),
             subscriptions: Vec::new(alloc),
+            counters: Counters::new(alloc),
             last_number: 0,
+            stopped: false,
         })
     }
 
@@ -91,10 +96,11 @@ impl Registry {
             policy: self.policy.copy(alloc)?,
             epoch: self.epoch,
             moment: self.moment,
-            clients: Vec::from_slice(alloc, self.clients.as_slice())?,
-            last_client: self.last_client,
+            clients: self.clients.copy(alloc)?,
             subscriptions: copies(alloc, self.subscriptions.as_slice())?,
+            counters: self.counters.copy(alloc)?,
             last_number: self.last_number,
+            stopped: self.stopped,
         })
     }
 
@@ -130,6 +136,10 @@ impl Registry {
             Event::Reload { now, policy } => {
                 let registry = self.at_moment(alloc, *now)?;
                 Ok(reloading::reload(registry, alloc, policy.copy(alloc)?))
+            }
+            Event::Tick { now } => {
+                let registry = self.at_moment(alloc, *now)?;
+                ticking::tick(registry, alloc)
             }
         }
     }

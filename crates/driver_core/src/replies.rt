@@ -4,7 +4,10 @@ ghost use Rattle.std.specs.Prelude.{◌≡◌, IfOk};
 
 use crate::refusal::Refusal;
 use byte_strings::{Bytes, Text};
-use command_codec::{ErrorCode, ErrorReply, OperationSuccess, SubscriptionReady};
+use command_codec::{
+    ClientTimeout, CounterReady, ErrorCode, ErrorReply, OperationSuccess, SubscriptionReady,
+    UnavailableCounter,
+};
 use std::alloc::{AllocError, Global};
 
 /// What a client is told. A denial keeps its verdict: it becomes a text only where the reply is written.
@@ -16,6 +19,12 @@ pub enum Reply {
     OperationSuccess { correlation: u64 },
     /// The subscription stands, under this registration id.
     SubscriptionReady { correlation: u64, registration: u64 },
+    /// The counter stands, under this registration number.
+    CounterReady { correlation: u64, registration: u64 },
+    /// The counter of this registration number is gone.
+    UnavailableCounter { registration: u64 },
+    /// Nothing was heard of the client of this id for too long, and it is gone.
+    ClientTimeout { client: u64 },
 }
 
 /// A reply with the client over whose handle it goes.
@@ -37,6 +46,7 @@ impl Refusal {
             Refusal::WrongClient => ErrorCode::WrongClient,
             Refusal::InvalidChannel => ErrorCode::InvalidChannel,
             Refusal::UnknownSubscription => ErrorCode::UnknownSubscription,
+            Refusal::UnknownCounter => ErrorCode::UnknownCounter,
             Refusal::Denied(_) => ErrorCode::Denied,
             Refusal::Full => ErrorCode::Full,
         }
@@ -84,6 +94,21 @@ impl Reply {
                 correlation: *correlation,
                 registration: *registration,
             })),
+            Reply::CounterReady {
+                correlation,
+                registration,
+            } => Ok(command_codec::Reply::CounterReady(CounterReady {
+                correlation: *correlation,
+                registration: *registration,
+            })),
+            Reply::UnavailableCounter { registration } => Ok(
+                command_codec::Reply::UnavailableCounter(UnavailableCounter {
+                    registration: *registration,
+                }),
+            ),
+            Reply::ClientTimeout { client } => {
+                Ok(command_codec::Reply::ClientTimeout(ClientTimeout { client: *client }))
+            }
         }
     }
 

@@ -3,17 +3,6 @@ ghost use Rattle.std.specs.Prelude.{◌≡◌, IfOk};
 use channel_uri::Channel;
 use std::alloc::AllocError;
 
-/// A client that is attached.
-#[derive(Clone, Copy, Debug, PartialEq, Eq)]
-pub struct Client {
-    /// The client's id, which no other client ever has.
-    pub number: u64,
-    /// Whom the client acts for.
-    pub principal: u32,
-    /// The moment at which the client was last heard of, in nanoseconds.
-    pub heard: u64,
-}
-
 /// A subscription of a client.
 #[derive(Debug, Drop)]
 pub struct Subscription {

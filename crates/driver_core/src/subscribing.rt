@@ -1,16 +1,17 @@
-ghost use Rattle.driver_core.specs.Subscribing.{is_subscribable, act_of, decision_of, subscribe, add_subscription};
-ghost use Rattle.policy_core.specs.declared.decision.Decision.{Decision};
-ghost use Rattle.std.specs.Prelude.{◌≡◌, ◌∷◌, [], IfOk};
+ghost use Rattle.driver_core.specs.Subscribing.{is_subscribable, act_of, subscribe, add_subscription};
+ghost use Rattle.std.specs.Prelude.{◌≡◌, IfOk};
 
 use crate::change::Change;
+use crate::deciding;
 use crate::refusal::Refusal;
 use crate::registry::Registry;
 use crate::replies::Reply;
-use crate::rows::{Client, Subscription};
+use crate::rows::Subscription;
 use byte_strings::Items;
 use channel_uri::{Channel, Media, UriError};
+use client_registry::Client;
 use command_codec::AddSubscription;
-use policy_core::{Act, Decision, Request};
+use policy_core::Act;
 use std::alloc::{AllocError, Global};
 
 /// How many subscriptions a driver has at most.
@@ -42,36 +43,6 @@ fn act_of(channel: &Channel) -> Act
     }
 }
 
-/// What the policy in force decides.
-#[tactic(auto, unfolding(crate::specs::Subscribing::decision_of))]
-fn decision_of(registry: &Registry, client: Client, channel: &Channel, stream: i32) -> Decision
-    ensures { result ≡ decision_of registry.now client channel.now stream }
-{
-    let act = act_of(channel);
-    let request = Request {
-        principal: client.principal,
-        act,
-        channel,
-        stream,
-    };
-    Decision {
-        principal: client.principal,
-        act,
-        subject: 0,
-        stream,
-        verdict: registry.policy.verdict(registry.epoch, &request),
-    }
-}
-
-/// A list of one decision.
-fn only(alloc: Global, decision: Decision) -> Result<Items<Decision>, AllocError>
-    ensures { IfOk result (λ decisions. decisions ≡ decision ∷ []) }
-{
-    let mut decisions = Items::new(alloc);
-    decisions.push(decision)?;
-    Ok(decisions)
-}
-
 /// A subscription on a channel that such a command takes.
 #[tactic(auto, unfolding(crate::specs::Subscribing::subscribe, crate::specs::Subscribing::subscribed))]
 fn subscribe(
@@ -84,8 +55,9 @@ fn subscribe(
 ) -> Result<Change, AllocError>
     ensures { IfOk result (λ change. change ≡ subscribe registry client correlation channel stream) }
 {
-    let decision = decision_of(&registry, client, &channel, stream);
-    let decisions = only(alloc, decision)?;
+    let act = act_of(&channel);
+    let decision = deciding::decide(&registry, client, act, &channel, stream);
+    let decisions = deciding::only(alloc, decision)?;
     if !decision.verdict.allow {
         return Change::refused(
             alloc,

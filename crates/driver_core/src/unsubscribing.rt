@@ -6,8 +6,9 @@ use crate::change::Change;
 use crate::refusal::Refusal;
 use crate::registry::Registry;
 use crate::replies::Reply;
-use crate::rows::{Client, Subscription};
+use crate::rows::Subscription;
 use byte_strings::Items;
+use client_registry::Client;
 use command_codec::Removal;
 use std::alloc::{AllocError, Global};
 

@@ -2,6 +2,7 @@ ghost use Rattle.std.specs.Prelude.{◌≡◌, IfOk, OnErr};
 
 use crate::answer::Answer;
 use crate::event::{Event, Inputs};
+use crate::listing;
 use crate::peer::Peer;
 use crate::registry::Registry;
 use crate::settings::Settings;
@@ -27,7 +28,7 @@ impl Model for World {
 
 impl World {
     ghost use Rattle.driver_core.specs.Runs.{opening_end, StandsFor, Serves, Runs, Continues};
-    ghost use Rattle.driver_core.specs.declared.step.Step.TheVariants.{Conductor};
+    ghost use Rattle.driver_core.specs.declared.step.Step.TheVariants.{Conductor, List as Lists, Value};
 
     /// A world in which nothing happened yet.
     #[tactic(auto, unfolding(crate::specs::Runs::opening_end))]
@@ -54,12 +55,35 @@ impl World {
         }
     }
 
+    /// A client looks at the counters that it may see.
+    fn list(&self, alloc: Global, _now: u64, client: u64) -> Answer
+        ensures { Serves self.now self.now (Lists _now client) result }
+    {
+        match listing::list(&self.registry, alloc, client) {
+            Ok(answer) => answer,
+            Err(_) => Answer::NoMemory,
+        }
+    }
+
+    /// A client looks at one counter. It takes no memory.
+    fn value(&self, alloc: Global, _now: u64, client: u64, number: u64) -> Answer
+        ensures { Serves self.now self.now (Value _now client number) result }
+    {
+        listing::value(&self.registry, alloc, client, number)
+    }
+
     /// Takes one step.
     pub fn step(&mut self, alloc: Global, step: &Step) -> Answer
         ensures { Serves self.old self.new step.now result }
     {
         match step {
             Step::Conductor(event) => self.conduct(alloc, event),
+            Step::List { now, client } => self.list(alloc, *now, *client),
+            Step::Value {
+                now,
+                client,
+                number,
+            } => self.value(alloc, *now, *client, *number),
         }
     }
 

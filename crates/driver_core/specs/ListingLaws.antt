@@ -1,0 +1,54 @@
+-- Over every list of events: which counters a client is shown.
+use Rattle.std.specs.Prelude.{◌≡◌, ℕ, Bool, true, false, map, filter, Some, None}
+use Rattle.driver_core.specs.declared.answer.Answer.{Answer}
+use Rattle.driver_core.specs.declared.answer.Answer.TheVariants.{Counters, Value, Denied, UnknownCounter, WrongClient}
+use Rattle.driver_core.specs.Laws.{AfterAnyEvents}
+use Rattle.driver_core.specs.Listing.{row_of, list, value}
+use Rattle.driver_core.specs.State.{State}
+use Rattle.driver_core.specs.Verdicts.{IsByPolicy, verdict_on, denial_text}
+use Rattle.client_registry.specs.declared.client.Client.{Client}
+use Rattle.client_registry.specs.Clients.{client_at}
+use Rattle.counters.specs.declared.counter.Counter.{Counter}
+use Rattle.counters.specs.Counters.{counter_at, question_for}
+use Rattle.policy_core.specs.Question.{Question}
+use Rattle.policy_core.specs.Verdict.{verdict_text}
+
+-- what the policy is asked before the client is shown the counter
+abbrev pub look_question : Client → Counter → Question
+look_question client counter = question_for client.principal counter
+
+-- the policy in force shows it
+abbrev pub is_shown_to : State → Client → Counter → Bool
+is_shown_to s client counter = (verdict_on s (look_question client counter)).allow
+
+-- the rows are those of the counters that the policy in force shows, each by the first rule that matches or the default
+pub record ListsExactly (s : State) (client : Client) (answer : Answer) : Type 0 where
+  pub answer_is : answer ≡ Counters (map row_of (filter (is_shown_to s client) s.counters))
+  pub by :
+      (counter : Counter) → IsByPolicy s (look_question client counter) (verdict_on s (look_question client counter))
+
+-- the value where the policy in force shows it, else the denial, which names the rule or the default
+pub record ShowsExactly (s : State) (client : Client) (counter : Counter) (answer : Answer) : Type 0 where
+  pub by : IsByPolicy s (look_question client counter) (verdict_on s (look_question client counter))
+  pub shown : is_shown_to s client counter ≡ true → answer ≡ Value counter.value
+  pub denied : is_shown_to s client counter ≡ false → answer ≡ Denied (verdict_on s (look_question client counter))
+  pub text :
+      is_shown_to s client counter ≡ false →
+      verdict_text (verdict_on s (look_question client counter))
+      ≡ denial_text (verdict_on s (look_question client counter)).rule s.epoch
+
+-- what a look is told, whoever looks
+pub record LooksExactly (s : State) (handle : ℕ) : Type 0 where
+  pub listed :
+      (client : Client) → client_at s.clients.rows handle ≡ Some client → ListsExactly s client (list s handle)
+  pub valued :
+      (client : Client) (number : ℕ) (counter : Counter) → client_at s.clients.rows handle ≡ Some client →
+      counter_at s.counters number ≡ Some counter → ShowsExactly s client counter (value s handle number)
+  pub unknown :
+      (client : Client) (number : ℕ) → client_at s.clients.rows handle ≡ Some client →
+      counter_at s.counters number ≡ None → value s handle number ≡ UnknownCounter
+  pub lists_nobody : client_at s.clients.rows handle ≡ None → list s handle ≡ WrongClient
+  pub values_nobody : (number : ℕ) → client_at s.clients.rows handle ≡ None → value s handle number ≡ WrongClient
+
+abbrev pub CountersAreShownExactly : Type 0
+CountersAreShownExactly = AfterAnyEvents (λ s. (handle : ℕ) → LooksExactly s handle)

@@ -1,0 +1,88 @@
+-- Well-formed requests of clients, and what the policy is asked about them.
+use Rattle.std.specs.Prelude.{◌≡◌, ℕ, pos, true, List, Some, Ok, ◌⊎◌}
+use Rattle.driver_core.specs.Deciding.{question_by}
+use Rattle.driver_core.specs.State.{State}
+use Rattle.driver_core.specs.Subscribing.{is_subscribable, act_of}
+use Rattle.channel_uri.specs.Channel.{Shape, denotes, counter_shape, ipc_shape}
+use Rattle.client_registry.specs.declared.client.Client.{Client}
+use Rattle.client_registry.specs.Clients.{client_at}
+use Rattle.command_codec.specs.declared.add_counter.AddCounter.{AddCounter}
+use Rattle.command_codec.specs.declared.add_subscription.AddSubscription.{AddSubscription}
+use Rattle.command_codec.specs.declared.command.Body.{Body}
+use Rattle.command_codec.specs.declared.command.Body.TheVariants.{AddSubscription as Adds, RemoveSubscription as Removes, AddCounter as AddsCounter, TerminateDriver as Terminates}
+use Rattle.command_codec.specs.declared.removal.Removal.{Removal}
+use Rattle.command_codec.specs.declared.terminate_driver.TerminateDriver.{TerminateDriver}
+use Rattle.command_codec.specs.Command.{command_of}
+use Rattle.policy_core.specs.declared.act.Act.TheVariants.{Counter as MakeCounter, Terminate}
+use Rattle.policy_core.specs.Question.{Question}
+
+-- The bytes that come over a handle are this client's request under that correlation id: they are laid out as one and name
+-- the handle's own client, which is there.
+pub record Asks (s : State) (handle : ℕ) (bytes : List ℕ) (client : Client) (correlation : ℕ) (body : Body) : Type 0 where
+  pub command : command_of bytes ≡ Ok (record { client = handle; correlation = correlation; body = body })
+  pub attached : client_at s.clients.rows handle ≡ Some client
+
+-- ---- a subscription
+
+-- who asks, under which correlation id, with which fields, and on which channel
+pub record SubscriptionRequest : Type 0 where
+  pub client : Client
+  pub correlation : ℕ
+  pub fields : AddSubscription
+  pub channel : Shape
+
+-- the bytes are this request, and their text is a channel that a subscription takes
+pub record AsksToSubscribe (s : State) (handle : ℕ) (bytes : List ℕ) (request : SubscriptionRequest) : Type 0 where
+  pub command : command_of bytes ≡ Ok (record { client = handle; correlation = request.correlation; body = Adds request.fields })
+  pub attached : client_at s.clients.rows handle ≡ Some request.client
+  pub denotes_channel : denotes request.fields.channel ≡ Ok request.channel
+  pub takes_channel : is_subscribable request.channel ≡ true
+
+abbrev pub question_of : SubscriptionRequest → Question
+question_of request =
+    question_by request.client (act_of request.channel) request.channel request.fields.stream
+
+-- who asks, under which correlation id, for which subscription to go
+pub record RemovalRequest : Type 0 where
+  pub client : Client
+  pub correlation : ℕ
+  pub fields : Removal
+
+pub record AsksToRemove (s : State) (handle : ℕ) (bytes : List ℕ) (request : RemovalRequest) : Type 0 where
+  pub command : command_of bytes ≡ Ok (record { client = handle; correlation = request.correlation; body = Removes request.fields })
+  pub attached : client_at s.clients.rows handle ≡ Some request.client
+
+-- ---- a counter, and the end of the driver
+
+abbrev pub counter_question : Client → AddCounter → Question
+counter_question client fields = question_by client MakeCounter counter_shape fields.type_id
+
+abbrev pub termination_question : Client → Question
+termination_question client = question_by client Terminate ipc_shape (pos 0)
+
+-- ---- what the policy is asked
+
+pub record IsSubscriptionQuestion (s : State) (handle : ℕ) (bytes : List ℕ) (correlation : ℕ) (question : Question) : Type 0 where
+  pub request : SubscriptionRequest
+  pub asks : AsksToSubscribe s handle bytes request
+  pub correlation_is : correlation ≡ request.correlation
+  pub question_is : question ≡ question_of request
+
+pub record IsCounterQuestion (s : State) (handle : ℕ) (bytes : List ℕ) (correlation : ℕ) (question : Question) : Type 0 where
+  pub client : Client
+  pub fields : AddCounter
+  pub asks : Asks s handle bytes client correlation (AddsCounter fields)
+  pub question_is : question ≡ counter_question client fields
+
+pub record IsTerminationQuestion (s : State) (handle : ℕ) (bytes : List ℕ) (correlation : ℕ) (question : Question) : Type 0 where
+  pub client : Client
+  pub fields : TerminateDriver
+  pub asks : Asks s handle bytes client correlation (Terminates fields)
+  pub question_is : question ≡ termination_question client
+
+-- the bytes are a well-formed request under that correlation id, about which the policy is asked that question
+abbrev pub IsAsked : State → ℕ → List ℕ → ℕ → Question → Type 0
+IsAsked s handle bytes correlation question =
+    IsSubscriptionQuestion s handle bytes correlation question
+    ⊎ (IsCounterQuestion s handle bytes correlation question
+    ⊎ IsTerminationQuestion s handle bytes correlation question)

@@ -1,0 +1,165 @@
+ghost use Rattle.driver_core.specs.Counting.{has_room_for_counter, with_counter, add_counter, set_counter, remove_counter};
+ghost use Rattle.std.specs.Prelude.{◌≡◌, ◌+◌, true, IfOk, OnOk};
+
+use crate::change::Change;
+use crate::deciding;
+use crate::refusal::Refusal;
+use crate::registry::Registry;
+use crate::replies::{Message, Reply};
+use byte_strings::Items;
+use channel_uri::Channel;
+use client_registry::Client;
+use command_codec::{AddCounter, Removal, SetCounter};
+use policy_core::Act;
+use std::alloc::{AllocError, Global};
+
+/// Whether there is room for one more counter, and a number for it.
+fn has_room(registry: &Registry) -> bool
+    ensures { result ≡ has_room_for_counter registry.now }
+{
+    !registry.counters.is_full() && registry.last_number < u64::MAX
+}
+
+/// A client's counter comes, under the next number, which is given back.
+#[tactic(auto, unfolding(crate::specs::Counting::with_counter))]
+fn put_counter(
+    registry: &mut Registry,
+    alloc: Global,
+    client: u64,
+    fields: &AddCounter,
+) -> Result<u64, AllocError>
+    requires { has_room_for_counter registry.now ≡ true }
+    ensures number { IfOk result (λ number. number ≡ registry.old.last_number + 1) }
+    ensures stands { OnOk result (registry.new ≡ with_counter registry.old client fields.now) }
+{
+    let number = registry.last_number + 1;
+    let key = fields.key.copy(alloc)?;
+    let label = fields.label.copy(alloc)?;
+    match registry
+        .counters
+        .add(number, client, fields.type_id, key, label)
+    {
+        Ok(()) => {
+            registry.last_number = number;
+            Ok(number)
+        }
+        Err(_) => Err(AllocError),
+    }
+}
+
+/// The command ADD_COUNTER of a client that is there.
+#[tactic(auto, unfolding(crate::specs::Counting::add_counter, crate::specs::Counting::counted))]
+pub(crate) fn add_counter(
+    registry: Registry,
+    alloc: Global,
+    client: Client,
+    correlation: u64,
+    fields: &AddCounter,
+) -> Result<Change, AllocError>
+    ensures { IfOk result (λ change. change ≡ add_counter registry client correlation fields.now) }
+{
+    let channel = Channel::counter(alloc);
+    let decision = deciding::decide(&registry, client, Act::Counter, &channel, fields.type_id);
+    let decisions = deciding::only(alloc, decision)?;
+    if !decision.verdict.allow {
+        let refusal = Refusal::Denied(decision.verdict);
+        return Change::refused(
+            alloc,
+            registry,
+            decisions,
+            client.number,
+            correlation,
+            refusal,
+        );
+    }
+    if !has_room(&registry) {
+        let refusal = Refusal::Full;
+        return Change::refused(
+            alloc,
+            registry,
+            decisions,
+            client.number,
+            correlation,
+            refusal,
+        );
+    }
+    let mut registry = registry;
+    let number = put_counter(&mut registry, alloc, client.number, fields)?;
+    let reply = Reply::CounterReady {
+        correlation,
+        registration: number,
+    };
+    Change::replied(alloc, registry, decisions, client.number, reply)
+}
+
+/// The command SET_COUNTER of a client that is there.
+#[tactic(auto, unfolding(crate::specs::Counting::set_counter, crate::specs::Counting::valued))]
+pub(crate) fn set_counter(
+    registry: Registry,
+    alloc: Global,
+    client: Client,
+    correlation: u64,
+    fields: SetCounter,
+) -> Result<Change, AllocError>
+    ensures { IfOk result (λ change. change ≡ set_counter registry client correlation fields) }
+{
+    let mut registry = registry;
+    let decisions = Items::new(alloc);
+    match registry
+        .counters
+        .set(client.number, fields.registration, fields.value)
+    {
+        Ok(()) => {
+            let reply = Reply::OperationSuccess { correlation };
+            Change::replied(alloc, registry, decisions, client.number, reply)
+        }
+        Err(_) => Change::refused(
+            alloc,
+            registry,
+            decisions,
+            client.number,
+            correlation,
+            Refusal::UnknownCounter,
+        ),
+    }
+}
+
+/// The command REMOVE_COUNTER of a client that is there.
+#[tactic(auto, unfolding(crate::specs::Counting::remove_counter, crate::specs::Counting::uncounted))]
+pub(crate) fn remove_counter(
+    registry: Registry,
+    alloc: Global,
+    client: Client,
+    correlation: u64,
+    fields: Removal,
+) -> Result<Change, AllocError>
+    ensures { IfOk result (λ change. change ≡ remove_counter registry client correlation fields) }
+{
+    let mut registry = registry;
+    let decisions = Items::new(alloc);
+    let number = fields.registration;
+    match registry.counters.remove(client.number, number) {
+        Ok(()) => {
+            let mut replies = Items::new(alloc);
+            replies.push(Message {
+                client: client.number,
+                reply: Reply::OperationSuccess { correlation },
+            })?;
+            replies.push(Message {
+                client: client.number,
+                reply: Reply::UnavailableCounter {
+                    registration: number,
+                },
+            })?;
+            Ok(Change::told(alloc, registry, decisions, replies))
+        }
+        Err(_) => Change::refused(
+            alloc,
+            registry,
+            decisions,
+            client.number,
+            correlation,
+            Refusal::UnknownCounter,
+        ),
+    }
+}

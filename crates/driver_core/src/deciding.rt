@@ -1,0 +1,44 @@
+ghost use Rattle.driver_core.specs.Deciding.{decision_by};
+ghost use Rattle.std.specs.Prelude.{◌≡◌, ◌∷◌, [], IfOk};
+
+use crate::registry::Registry;
+use byte_strings::Items;
+use channel_uri::Channel;
+use client_registry::Client;
+use policy_core::{Act, Decision, Request};
+use std::alloc::{AllocError, Global};
+
+/// What the policy in force decides on the command of a client.
+#[tactic(auto, unfolding(crate::specs::Deciding::decision_by))]
+pub(crate) fn decide(
+    registry: &Registry,
+    client: Client,
+    act: Act,
+    channel: &Channel,
+    stream: i32,
+) -> Decision
+    ensures { result ≡ decision_by registry.now client act channel.now stream }
+{
+    let request = Request {
+        principal: client.principal,
+        act,
+        channel,
+        stream,
+    };
+    Decision {
+        principal: client.principal,
+        act,
+        subject: 0,
+        stream,
+        verdict: registry.policy.verdict(registry.epoch, &request),
+    }
+}
+
+/// A list of one decision.
+pub(crate) fn only(alloc: Global, decision: Decision) -> Result<Items<Decision>, AllocError>
+    ensures { IfOk result (λ decisions. decisions ≡ decision ∷ []) }
+{
+    let mut decisions = Items::new(alloc);
+    decisions.push(decision)?;
+    Ok(decisions)
+}
