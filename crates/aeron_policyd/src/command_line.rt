@@ -97,10 +97,15 @@ correlation id 11. The policy denies it, so the reply is an ON_ERROR (0x0f01) wi
 
 Lines of a script:
   principal NAME NUMBER   before the first policy: rules may name this principal
+  set KEY VALUE           before the first policy: the driver has this setting; durations are in nanoseconds, sizes in
+                          bytes, as in `set client-liveness 5000000000` or `set term-length 131072`
   policy                  the lines up to one that is `.` are a policy, in TOML; the first one opens the driver, and each
                           later one is put in force in its turn
   attach NOW P            a client comes for principal P; NOW is in nanoseconds
   cmd NOW C HEX           client C gives a command: two lower-case digits for a byte, `_` between bytes, `-` for none
+  tick NOW                time goes on: clients of which nothing was heard for too long are gone
+  list NOW C              client C looks at the counters that the policy shows it
+  value NOW C REG         client C looks at the value of counter REG
   # ...                   a comment; empty lines are skipped too
 Any other line answers `line N: bad line`, and ends the script.
 

@@ -12,7 +12,7 @@ use crate::fault::Fault;
 use clap::error::ErrorKind;
 use driver_script::deciding::decide;
 use driver_script::script::Ended;
-use driver_script::{deciding, read_input, script};
+use driver_script::{MayFail, deciding, read_input, script};
 use std::process::ExitCode;
 use std::rt::{Env, Files};
 use std::{env, fs, io};
@@ -55,7 +55,7 @@ fn open<R: Files + AllocGlobal>(rt: &R, path: &str) -> Result<R::File, Fault> {
 
 /// All bytes of a policy's file.
 fn policy_in<R: Files + AllocGlobal>(rt: &R, path: &str) -> Result<Vec<u8>, Fault> {
-    let mut file = open(rt, path)?;
+    let mut file = MayFail(open(rt, path)?);
     Ok(read_input(rt.alloc(), &mut file)?)
 }
 
@@ -76,8 +76,8 @@ fn print_line<R: Print>(rt: &R, line: &str) -> Result<ExitCode, Fault> {
 
 /// Runs the script in a file to standard output.
 fn run_script<R: Files + Print + AllocGlobal>(rt: &R, path: &str) -> Result<ExitCode, Fault> {
-    let mut file = open(rt, path)?;
-    let ended = script::run(rt.alloc(), &mut file, &mut io::writer(rt))?;
+    let mut file = MayFail(open(rt, path)?);
+    let ended = script::run(rt.alloc(), &mut file, &mut MayFail(io::writer(rt)))?;
     Ok(match ended {
         Ended::Done => ExitCode::SUCCESS,
         Ended::BadLine(_) => ExitCode::FAILURE,

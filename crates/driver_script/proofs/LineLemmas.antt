@@ -7,7 +7,7 @@ use Rattle.std.proofs.lemmas.Bool.{and_parts}
 use Rattle.std.proofs.lemmas.Bool.Decides.{nat_tests}
 use Rattle.std.proofs.lemmas.Str.{IsUtf8-from_ascii}
 use Rattle.std.proofs.lemmas.Str.Ascii.{IsAscii-nil, IsAscii-cons}
-use Rattle.driver_script.specs.Line.{is_plain, two, three, policy_of}
+use Rattle.driver_script.specs.Line.{is_plain, one, two, three, policy_of}
 use Rattle.driver_script.specs.Pieces.{pieces}
 use Rattle.driver_script.proofs.PiecesLemmas.{HasFirst, HasFirst-pieces}
 
@@ -21,7 +21,10 @@ IsAscii-plain (b ∷ bs) h =
 pub IsUtf8-plain : (line : List ℕ) → is_plain line ≡ true → IsUtf8 line
 IsUtf8-plain line h = IsUtf8-from_ascii line (IsAscii-plain line h)
 
--- more words than two, three and none
+-- more words than one, two, three and none
+one-from_first : (first : List ℕ) (rest : List (List ℕ)) → HasFirst rest → one (first ∷ rest) ≡ None
+one-from_first first rest h = rw h.is refl
+
 two-from_first : (first second : List ℕ) (rest : List (List ℕ)) → HasFirst rest → two (first ∷ second ∷ rest) ≡ None
 two-from_first first second rest h = rw h.is refl
 
@@ -31,6 +34,9 @@ three-from_first first second third rest h = rw h.is refl
 
 policy_of-from_first : (rest : List (List ℕ)) → HasFirst rest → policy_of rest ≡ None
 policy_of-from_first rest h = rw h.is refl
+
+pub one-more : (first text : List ℕ) → one (first ∷ pieces 32 text) ≡ None
+one-more first text = one-from_first first _ (HasFirst-pieces 32 text)
 
 pub two-more : (first second text : List ℕ) → two (first ∷ second ∷ pieces 32 text) ≡ None
 two-more first second text = two-from_first first second _ (HasFirst-pieces 32 text)

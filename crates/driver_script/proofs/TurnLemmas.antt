@@ -4,17 +4,17 @@ use Rattle.std.specs.Io.KnownBytes.{Appends}
 use Rattle.std.specs.List.{flat_map}
 use Rattle.driver_core.specs.declared.answer.Answer.{Answer}
 use Rattle.driver_core.specs.declared.answer.Answer.TheVariants.{NoMemory}
-use Rattle.driver_core.specs.declared.event.Event.{Event}
-use Rattle.driver_core.specs.declared.step.Step.TheVariants.{Conductor}
+use Rattle.driver_core.specs.declared.settings.Settings.{Settings}
+use Rattle.driver_core.specs.declared.step.Step.{Step}
 use Rattle.driver_core.specs.Runs.{RunEnd, StandsFor, Serves, IsAnswer, after, opening_end}
-use Rattle.driver_core.specs.Settings.{default_settings}
 use Rattle.driver_script.specs.declared.script.Ended.{Ended}
 use Rattle.driver_script.specs.declared.script.Ended.TheVariants.{Done, BadLine}
 use Rattle.driver_script.specs.declared.fault.RunFault.{RunFault}
 use Rattle.driver_script.specs.declared.script.Head.{Head}
+use Rattle.driver_script.specs.declared.script.Preface.{Preface}
 use Rattle.driver_script.specs.declared.script.Head.TheVariants as head
 use Rattle.driver_script.specs.declared.statements.Said.{Said}
-use Rattle.driver_script.specs.declared.statements.Said.TheVariants.{Principal, Policy, Does, Bad}
+use Rattle.driver_script.specs.declared.statements.Said.TheVariants.{Principal, Set, Policy, Does, Bad}
 use Rattle.driver_script.specs.declared.statements.Statement.{Statement}
 use Rattle.driver_script.specs.Output.{AppendsFront}
 use Rattle.policy_core.specs.RuleList.{Rules}
@@ -23,7 +23,7 @@ use Rattle.policy_text.specs.declared.fault.PolicyFault.TheVariants as text
 use Rattle.policy_text.specs.Document.{policy_of}
 use Rattle.policy_text.specs.Fault.{Fails}
 use Rattle.policy_text.specs.Names.{Known}
-use Rattle.driver_script.specs.Script.{Opening, Ends, Refuses, Opens, opening_of, Deed, Takes, Faults, Stops, deed_by, deed_of, put_in_force, Told, Answered, Refused, after_told, IsDone, IsOpeningText, IsScriptText, IsRunning, Writes, answer_text, told_text, ended_text, script_text}
+use Rattle.driver_script.specs.Script.{Opening, Ends, Refuses, Opens, no_preface, opening_of, Deed, Takes, Faults, Stops, deed_by, deed_of, put_in_force, Told, Answered, Refused, after_told, IsDone, IsOpeningText, IsScriptText, IsRunning, Writes, answer_text, told_text, ended_text, script_text}
 use Rattle.driver_script.specs.Turns.{Turns, Goes, Steps, Puts, StopsAt, GivesUp, GivesUpStep, GivesUpPolicy, IsHead, WritesScript, BeginsScript, WritesFront, WritesWhole, SoFar, told_of_fault}
 use Rattle.driver_script.proofs.OutputLemmas.{appends_more}
 
@@ -68,20 +68,20 @@ turns_told names e next statement told done =
           };
     }
 
--- an event with its answer
-done_event : (e : RunEnd) (line : ℕ) (deed : Deed) (event : Event) (answer : Answer) → deed ≡ Takes event →
-    IsAnswer e (Conductor event) answer → (later : RunEnd → List Told → Type 0) (others : List Told) (ended : Ended) →
-    later (after e (Conductor event) answer) others → IsDone e line deed later (Answered answer ∷ others) ended
-done_event e line deed event answer is answered later others ended rest =
+-- a step with its answer
+done_step : (e : RunEnd) (line : ℕ) (deed : Deed) (step : Step) (answer : Answer) → deed ≡ Takes step →
+    IsAnswer e step answer → (later : RunEnd → List Told → Type 0) (others : List Told) (ended : Ended) →
+    later (after e step answer) others → IsDone e line deed later (Answered answer ∷ others) ended
+done_step e line deed step answer is answered later others ended rest =
     let P : Deed → Type 0 = λ those. IsDone e line those later (Answered answer ∷ others) ended in
     subst P (sym is) (answered, rest)
 
-pub turns_event : (names : Known) (e : RunEnd) (line : ℕ) (said : Said) (event : Event) (answer : Answer) →
-    deed_of names said ≡ Takes event → IsAnswer e (Conductor event) answer →
-    Turns names e (after e (Conductor event) answer) (record { line = line; said = said }) (answer_text answer)
-turns_event names e line said event answer is answered =
-    turns_told names e (after e (Conductor event) answer) (record { line = line; said = said }) (Answered answer)
-    (done_event e line (deed_of names said) event answer is answered)
+pub turns_step : (names : Known) (e : RunEnd) (line : ℕ) (said : Said) (step : Step) (answer : Answer) →
+    deed_of names said ≡ Takes step → IsAnswer e step answer →
+    Turns names e (after e step answer) (record { line = line; said = said }) (answer_text answer)
+turns_step names e line said step answer is answered =
+    turns_told names e (after e step answer) (record { line = line; said = said }) (Answered answer)
+    (done_step e line (deed_of names said) step answer is answered)
 
 -- the text of a policy that is refused, or finds no memory: nothing is changed
 done_refused : (e : RunEnd) (line : ℕ) (fault : PolicyFault) (meaning : Result Rules PolicyFault) → Fails fault meaning →
@@ -105,15 +105,17 @@ turns_refused names e line text fault is =
 
 -- a statement that is bad where it stands
 abbrev pub IsOutOfOrder : Said → Type 0
-IsOutOfOrder (Does event) = ⊥
+IsOutOfOrder (Does step) = ⊥
 IsOutOfOrder (Principal name number) = Unit {0}
+IsOutOfOrder (Set key value) = Unit {0}
 IsOutOfOrder (Policy text) = ⊥
 IsOutOfOrder Bad = Unit {0}
 
 pub writes_bad : (names : Known) (e : RunEnd) (line : ℕ) (said : Said) (rest : List Statement) → IsOutOfOrder said →
     Writes names e (record { line = line; said = said } ∷ rest) (BadLine line) (ended_text (BadLine line))
-writes_bad names e line (Does event) rest out = absurd out
+writes_bad names e line (Does step) rest out = absurd out
 writes_bad names e line (Principal name number) rest out = record { told = []; run = (refl, refl); text_is = refl }
+writes_bad names e line (Set key value) rest out = record { told = []; run = (refl, refl); text_is = refl }
 writes_bad names e line (Policy text) rest out = absurd out
 writes_bad names e line Bad rest out = record { told = []; run = (refl, refl); text_is = refl }
 
@@ -126,13 +128,15 @@ done_without e line (Err fault) later others ended rest = (tt, rest)
 some_text_by : (names : Known) (e : RunEnd) (line : ℕ) (said : Said) (rest : List Statement) →
     ((ended : Ended) × (text : List ℕ) × Writes names e rest ended text) →
     (ended : Ended) × (text : List ℕ) × Writes names e (record { line = line; said = said } ∷ rest) ended text
-some_text_by names e line (Does event) rest (ended, text, written) = (
+some_text_by names e line (Does step) rest (ended, text, written) = (
   ended,
   answer_text NoMemory ++ text,
-  (turns_event names e line (Does event) event NoMemory refl tt).on rest ended text written,
+  (turns_step names e line (Does step) step NoMemory refl tt).on rest ended text written,
 )
 some_text_by names e line (Principal name number) rest later =
     (BadLine line, ended_text (BadLine line), writes_bad names e line (Principal name number) rest tt)
+some_text_by names e line (Set key value) rest later =
+    (BadLine line, ended_text (BadLine line), writes_bad names e line (Set key value) rest tt)
 some_text_by names e line (Policy toml) rest (ended, text, written) = (
   ended,
   answer_text NoMemory ++ text,
@@ -175,12 +179,12 @@ gives_up_by names old new statement front before after' turns begun =
     }
 
 -- a step that a world took
-turns_of : (names : Known) (old new : RunEnd) (line : ℕ) (said : Said) (event : Event) (answer : Answer) →
-    deed_of names said ≡ Takes event → Serves old new (Conductor event) answer → (e : RunEnd) → StandsFor old e →
+turns_of : (names : Known) (old new : RunEnd) (line : ℕ) (said : Said) (step : Step) (answer : Answer) →
+    deed_of names said ≡ Takes step → Serves old new step answer → (e : RunEnd) → StandsFor old e →
     (next : RunEnd) × StandsFor new next × Turns names e next (record { line = line; said = said }) (answer_text answer)
-turns_of names old new line said event answer is served e stands =
+turns_of names old new line said step answer is served e stands =
     let s = served.on e stands in
-    (after e (Conductor event) answer, s.1, turns_event names e line said event answer is s.0)
+    (after e step answer, s.1, turns_step names e line said step answer is s.0)
 
 pub so_far_none : (names : Known) (held : RunEnd) (statements : List Statement) (written : Option (List ℕ)) → Appends written written [] →
     SoFar names held statements held statements written written
@@ -260,26 +264,26 @@ so_far_front names start all held left before after' so_far =
     }
 
 -- what writing an answer came to, as what the step came to
-pub event_goes : (r : Result (Unit {0}) RunFault) (old new : RunEnd) (event : Event) (answer : Answer) (before after' : Option (List ℕ)) →
-    Serves old new (Conductor event) answer → OnOk r (Appends before after' (answer_text answer)) →
-    OnOk r (Steps old new event before after')
-event_goes (Ok x) old new event answer before after' served appended =
+pub step_goes : (r : Result (Unit {0}) RunFault) (old new : RunEnd) (step : Step) (answer : Answer) (before after' : Option (List ℕ)) →
+    Serves old new step answer → OnOk r (Appends before after' (answer_text answer)) →
+    OnOk r (Steps old new step before after')
+step_goes (Ok x) old new step answer before after' served appended =
     record {
       on = λ names line said is.
           goes_by names old new (record { line = line; said = said }) (answer_text answer) before after'
-          (turns_of names old new line said event answer is served) appended;
+          (turns_of names old new line said step answer is served) appended;
     }
-event_goes (Err fault) old new event answer before after' served appended = tt
+step_goes (Err fault) old new step answer before after' served appended = tt
 
-pub event_gives_up : (r : Result (Unit {0}) RunFault) (old new : RunEnd) (event : Event) (answer : Answer) (before after' : Option (List ℕ)) →
-    Serves old new (Conductor event) answer → OnErr r (AppendsFront before after' (answer_text answer)) →
-    OnErr r (GivesUpStep old event before after')
-event_gives_up (Ok x) old new event answer before after' served begun = tt
-event_gives_up (Err fault) old new event answer before after' served begun =
+pub step_gives_up : (r : Result (Unit {0}) RunFault) (old new : RunEnd) (step : Step) (answer : Answer) (before after' : Option (List ℕ)) →
+    Serves old new step answer → OnErr r (AppendsFront before after' (answer_text answer)) →
+    OnErr r (GivesUpStep old step before after')
+step_gives_up (Ok x) old new step answer before after' served begun = tt
+step_gives_up (Err fault) old new step answer before after' served begun =
     record {
       on = λ names line said is.
           gives_up_by names old new (record { line = line; said = said }) (answer_text answer) before after'
-          (turns_of names old new line said event answer is served) begun;
+          (turns_of names old new line said step answer is served) begun;
     }
 
 -- a policy that is put in force is a step
@@ -357,17 +361,17 @@ if_some P None all = tt
 if_some P (Some x) all = all x
 
 -- the same of a statement that says so
-pub statement_goes : (names : Known) (old new : RunEnd) (statement : Statement) (event : Event) (before after' : Option (List ℕ)) →
-    statement.said ≡ Does event → Steps old new event before after' → Goes names old new statement before after'
-statement_goes names old new statement event before after' is steps =
+pub statement_goes : (names : Known) (old new : RunEnd) (statement : Statement) (step : Step) (before after' : Option (List ℕ)) →
+    statement.said ≡ Does step → Steps old new step before after' → Goes names old new statement before after'
+statement_goes names old new statement step before after' is steps =
     let P : Said → Type 0 = λ said. Goes names old new (record { line = statement.line; said = said }) before after' in
-    subst P (sym is) (steps.on names statement.line (Does event) refl)
+    subst P (sym is) (steps.on names statement.line (Does step) refl)
 
-pub statement_gives_up : (names : Known) (held : RunEnd) (statement : Statement) (event : Event) (before after' : Option (List ℕ)) →
-    statement.said ≡ Does event → GivesUpStep held event before after' → GivesUp names held statement before after'
-statement_gives_up names held statement event before after' is gives_up =
+pub statement_gives_up : (names : Known) (held : RunEnd) (statement : Statement) (step : Step) (before after' : Option (List ℕ)) →
+    statement.said ≡ Does step → GivesUpStep held step before after' → GivesUp names held statement before after'
+statement_gives_up names held statement step before after' is gives_up =
     let P : Said → Type 0 = λ said. GivesUp names held (record { line = statement.line; said = said }) before after' in
-    subst P (sym is) (gives_up.on names statement.line (Does event) refl)
+    subst P (sym is) (gives_up.on names statement.line (Does step) refl)
 
 pub statement_puts : (names : Known) (old new : RunEnd) (statement : Statement) (text found : List ℕ) (before after' : Option (List ℕ)) →
     found ≡ text → statement.said ≡ Policy text → Puts names old new found before after' → Goes names old new statement before after'
@@ -403,12 +407,12 @@ so_far_at names start all held left found before after' is so_far =
 some_opening_text : (o : Opening) → (ended : Ended) × (text : List ℕ) × IsOpeningText o ended text
 some_opening_text Ends = (Done, [], (refl, refl))
 some_opening_text (Refuses line) = (BadLine line, ended_text (BadLine line), (refl, refl))
-some_opening_text (Opens names policy rest) = some_text names (opening_end default_settings policy []) rest
+some_opening_text (Opens names settings policy rest) = some_text names (opening_end settings policy []) rest
 
 -- nothing was written
 pub begins_any : (statements : List Statement) (written : Option (List ℕ)) → BeginsScript statements written written
 begins_any statements written =
-    let (ended, text, is) = some_opening_text (opening_of [] statements) in
+    let (ended, text, is) = some_opening_text (opening_of no_preface statements) in
     record { ended = ended; text = text; is = is; appended = ([], text, refl, appends_nothing written) }
 
 -- the head refused a line
@@ -418,18 +422,18 @@ head_refused Ends names left line is = cc
 head_refused (Refuses number) names left line is =
     let same : line ≡ number = cc in
     (ap BadLine same, ap (λ n. ended_text (BadLine n)) same)
-head_refused (Opens given policy rest) names left line is = absurd is.2
+head_refused (Opens given settings policy rest) names left line is = absurd is.2
 
 pub begins_refused : (r : Result Ended RunFault) (statements : List Statement) (names : Known) (left : List Statement) (line : ℕ)
     (before after' : Option (List ℕ)) →
-    IsHead (opening_of [] statements) names left (head.Refused line) →
+    IsHead (opening_of no_preface statements) names left (head.Refused line) →
     OnErr r (AppendsFront before after' (ended_text (BadLine line))) → OnErr r (BeginsScript statements before after')
 begins_refused (Ok x) statements names left line before after' is begun = tt
 begins_refused (Err fault) statements names left line before after' is begun =
     record {
       ended = BadLine line;
       text = ended_text (BadLine line);
-      is = head_refused (opening_of [] statements) names left line is;
+      is = head_refused (opening_of no_preface statements) names left line is;
       appended = begun;
     }
 
@@ -439,10 +443,10 @@ head_whole : (o : Opening) (names : Known) (left : List Statement) (world : RunE
     (text : List ℕ) × IsOpeningText o ended text × Appends before after' text
 head_whole Ends names left world ended before after' is whole = cc
 head_whole (Refuses line) names left world ended before after' is whole = cc
-head_whole (Opens given policy rest) names left world ended before after' is whole =
-    let (text, written, appended) = whole.on (opening_end default_settings policy []) is.2 in
-    let P : List Statement → Type 0 = λ those. Writes names (opening_end default_settings policy []) those ended text in
-    let Q : Known → Type 0 = λ those. Writes those (opening_end default_settings policy []) rest ended text in
+head_whole (Opens given settings policy rest) names left world ended before after' is whole =
+    let (text, written, appended) = whole.on (opening_end settings policy []) is.2 in
+    let P : List Statement → Type 0 = λ those. Writes names (opening_end settings policy []) those ended text in
+    let Q : Known → Type 0 = λ those. Writes those (opening_end settings policy []) rest ended text in
     (text, subst Q (sym is.0) (subst P (sym is.1) written), appended)
 
 head_front : (o : Opening) (names : Known) (left : List Statement) (world : RunEnd) (before after' : Option (List ℕ)) →
@@ -450,36 +454,36 @@ head_front : (o : Opening) (names : Known) (left : List Statement) (world : RunE
     (ended : Ended) × (text : List ℕ) × IsOpeningText o ended text × AppendsFront before after' text
 head_front Ends names left world before after' is front = cc
 head_front (Refuses line) names left world before after' is front = cc
-head_front (Opens given policy rest) names left world before after' is front =
-    let (ended, text, written, begun) = front.on (opening_end default_settings policy []) is.2 in
-    let P : List Statement → Type 0 = λ those. Writes names (opening_end default_settings policy []) those ended text in
-    let Q : Known → Type 0 = λ those. Writes those (opening_end default_settings policy []) rest ended text in
+head_front (Opens given settings policy rest) names left world before after' is front =
+    let (ended, text, written, begun) = front.on (opening_end settings policy []) is.2 in
+    let P : List Statement → Type 0 = λ those. Writes names (opening_end settings policy []) those ended text in
+    let Q : Known → Type 0 = λ those. Writes those (opening_end settings policy []) rest ended text in
     (ended, text, subst Q (sym is.0) (subst P (sym is.1) written), begun)
 
 pub writes_opened : (r : Result Ended RunFault) (statements : List Statement) (names : Known) (left : List Statement) (world : RunEnd)
     (before after' : Option (List ℕ)) →
-    IsHead (opening_of [] statements) names left (head.Opened world) →
+    IsHead (opening_of no_preface statements) names left (head.Opened world) →
     IfOk r (λ ended. WritesWhole names world left ended before after') → IfOk r (λ ended. WritesScript statements ended before after')
 writes_opened (Ok ended) statements names left world before after' is whole =
-    let (text, written, appended) = head_whole (opening_of [] statements) names left world ended before after' is whole in
+    let (text, written, appended) = head_whole (opening_of no_preface statements) names left world ended before after' is whole in
     record { text = text; is = written; appended = appended }
 writes_opened (Err fault) statements names left world before after' is whole = tt
 
 pub begins_opened : (r : Result Ended RunFault) (statements : List Statement) (names : Known) (left : List Statement) (world : RunEnd)
     (before after' : Option (List ℕ)) →
-    IsHead (opening_of [] statements) names left (head.Opened world) →
+    IsHead (opening_of no_preface statements) names left (head.Opened world) →
     OnErr r (WritesFront names world left before after') → OnErr r (BeginsScript statements before after')
 begins_opened (Ok ended) statements names left world before after' is front = tt
 begins_opened (Err fault) statements names left world before after' is front =
-    let (ended, text, written, begun) = head_front (opening_of [] statements) names left world before after' is front in
+    let (ended, text, written, begun) = head_front (opening_of no_preface statements) names left world before after' is front in
     record { ended = ended; text = text; is = written; appended = begun }
 
 -- the head of the statements that are those of the script, from no names on
-pub head_at : (given : Known) (statements found : List Statement) (names : Known) (left : List Statement) (h k : Head) →
-    given ≡ [] → statements ≡ found → h ≡ k →
-    IsHead (opening_of given statements) names left h → IsHead (opening_of [] found) names left k
+pub head_at : (given : Preface) (statements found : List Statement) (names : Known) (left : List Statement) (h k : Head) →
+    given ≡ no_preface → statements ≡ found → h ≡ k →
+    IsHead (opening_of given statements) names left h → IsHead (opening_of no_preface found) names left k
 head_at given statements found names left h k none same is head =
-    let N : Known → Type 0 = λ those. IsHead (opening_of those statements) names left h in
-    let P : List Statement → Type 0 = λ those. IsHead (opening_of [] those) names left h in
-    let Q : Head → Type 0 = λ that. IsHead (opening_of [] found) names left that in
+    let N : Preface → Type 0 = λ those. IsHead (opening_of those statements) names left h in
+    let P : List Statement → Type 0 = λ those. IsHead (opening_of no_preface those) names left h in
+    let Q : Head → Type 0 = λ that. IsHead (opening_of no_preface found) names left that in
     subst Q is (subst P same (subst N none head))

@@ -1,5 +1,6 @@
 pub mod Answers
 pub mod Deciding
+pub mod Ends
 pub mod Fault
 pub mod Hex
 pub mod Left
@@ -8,6 +9,7 @@ pub mod LineFault
 pub mod Number
 pub mod Output
 pub mod Pieces
+pub mod Settings
 pub mod Statements
 pub mod Script
 pub mod Turns

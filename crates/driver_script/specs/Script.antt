@@ -1,17 +1,17 @@
 -- What the run of a script writes: a function of the script's bytes, and of which steps were refused memory.
-use Rattle.std.specs.Prelude.{◌≡◌, ℕ, List, [], ◌∷◌, ◌++◌, Bool, is_some, Option, Result, Ok, Err, codes, if◌then◌else◌}
+use Rattle.std.specs.Prelude.{◌≡◌, ℕ, List, [], ◌∷◌, ◌++◌, Bool, is_some, Option, Some, None, Result, Ok, Err, length, codes, if◌then◌else◌}
 use Rattle.std.specs.Fmt.{decimal}
 use Rattle.std.specs.List.{flat_map}
 use Rattle.driver_core.specs.declared.answer.Answer.{Answer}
-use Rattle.driver_core.specs.declared.answer.Answer.TheVariants.{NoMemory, Attached, Full, PolicyInForce, PolicyFull, Replies}
-use Rattle.driver_core.specs.declared.event.Event.{Event}
+use Rattle.driver_core.specs.declared.answer.Answer.TheVariants.{NoMemory, Attached, Full, Stopped, PolicyInForce, PolicyFull, Replies, Counters, Value, Denied, UnknownCounter, WrongClient}
 use Rattle.driver_core.specs.declared.event.Event.TheVariants.{Reload}
+use Rattle.driver_core.specs.declared.listing.ListedCounter.{ListedCounter}
 use Rattle.driver_core.specs.declared.replies.Message.{Message}
 use Rattle.driver_core.specs.declared.settings.Settings.{Settings}
+use Rattle.driver_core.specs.declared.step.Step.{Step}
 use Rattle.driver_core.specs.declared.step.Step.TheVariants.{Conductor}
 use Rattle.driver_core.specs.Replies.{layout_of}
 use Rattle.driver_core.specs.Runs.{RunEnd, IsAnswer, after, opening_end}
-use Rattle.driver_core.specs.Settings.{default_settings}
 use Rattle.command_codec.specs.Reply.{reply_bytes}
 use Rattle.policy_core.specs.RuleList.{Rules}
 use Rattle.policy_text.specs.declared.fault.PolicyFault.{PolicyFault}
@@ -20,61 +20,75 @@ use Rattle.policy_text.specs.Names.{Known, number_of}
 use Rattle.driver_script.specs.declared.script.Ended.{Ended}
 use Rattle.driver_script.specs.declared.script.Ended.TheVariants.{Done, BadLine}
 use Rattle.driver_script.specs.declared.statements.Said.{Said}
-use Rattle.driver_script.specs.declared.statements.Said.TheVariants.{Principal, Policy, Does, Bad}
+use Rattle.driver_script.specs.declared.script.Preface.{Preface}
+use Rattle.driver_script.specs.declared.settings.Choices.{Choices}
+use Rattle.driver_script.specs.declared.statements.Said.TheVariants.{Principal, Set, Policy, Does, Bad}
 use Rattle.driver_script.specs.declared.statements.Statement.{Statement}
-use Rattle.driver_script.specs.Answers.{policy_line, refusal_line, reply_text}
+use Rattle.driver_script.specs.Answers.{policy_line, refusal_line, reply_text, list_line, counter_line, value_line, denial_line}
+use Rattle.driver_script.specs.Settings.{no_choices, choose}
 
--- ---- the head of a script: its principals and its policy
+-- ---- the head of a script: its principals, its settings and its policy
 
--- the script ends before a policy; or it is bad at this line; or these names are given and the world opens with this
--- policy, and these statements are left
+-- no name is given, and nothing is chosen
+abbrev pub no_preface : Preface
+no_preface = record { names = []; choices = no_choices }
+
+-- the script ends before a policy; or it is bad at this line; or these names are given and the world opens with these
+-- settings and this policy, and these statements are left
 pub data Opening : Type 0 where
   Ends : Opening
   Refuses : ℕ → Opening
-  Opens : Known → Rules → List Statement → Opening
+  Opens : Known → Settings → Rules → List Statement → Opening
 
 -- a text that is no policy is bad, at its first line
-abbrev pub opened_by : Known → ℕ → List Statement → Result Rules PolicyFault → Opening
-opened_by names line rest (Err fault) = Refuses line
-opened_by names line rest (Ok policy) = Opens names policy rest
+abbrev pub opened_by : Preface → ℕ → List Statement → Result Rules PolicyFault → Opening
+opened_by given line rest (Err fault) = Refuses line
+opened_by given line rest (Ok policy) = Opens given.names given.choices.settings policy rest
 
 -- a name is given once, and `nobody` is given from the start
-abbrev pub named : Known → ℕ → List ℕ → ℕ → (Known → Opening) → Opening
-named names line name number later =
-    if is_some (number_of name names) then Refuses line else later (names ++ (name, number) ∷ [])
+abbrev pub named : Preface → ℕ → List ℕ → ℕ → (Preface → Opening) → Opening
+named given line name number later =
+    if is_some (number_of name given.names) then Refuses line
+    else later (record given { names = given.names ++ (name, number) ∷ [] })
 
-abbrev pub opening_by : Known → ℕ → Said → List Statement → (Known → Opening) → Opening
-opening_by names line (Principal name number) rest later = named names line name number later
-opening_by names line (Policy text) rest later = opened_by names line rest (policy_of names text)
-opening_by names line (Does event) rest later = Refuses line
-opening_by names line Bad rest later = Refuses line
+-- a setting is chosen, where it is one and was not chosen before
+abbrev pub settled : Preface → ℕ → Option Choices → (Preface → Opening) → Opening
+settled given line None later = Refuses line
+settled given line (Some choices) later = later (record given { choices = choices })
 
-abbrev pub opening_of : Known → List Statement → Opening
-opening_of names [] = Ends
-opening_of names (statement ∷ rest) =
-    opening_by names statement.line statement.said rest (λ next. opening_of next rest)
+abbrev pub opening_by : Preface → ℕ → Said → List Statement → (Preface → Opening) → Opening
+opening_by given line (Principal name number) rest later = named given line name number later
+opening_by given line (Set key value) rest later = settled given line (choose given.choices key value) later
+opening_by given line (Policy text) rest later = opened_by given line rest (policy_of given.names text)
+opening_by given line (Does step) rest later = Refuses line
+opening_by given line Bad rest later = Refuses line
+
+abbrev pub opening_of : Preface → List Statement → Opening
+opening_of given [] = Ends
+opening_of given (statement ∷ rest) =
+    opening_by given statement.line statement.said rest (λ next. opening_of next rest)
 
 -- ---- the steps of a script, with their answers
 
--- what a statement does behind the head: an event of the conductor; nothing, where the text of a policy is refused; or
--- it is bad there
+-- what a statement does behind the head: a step; nothing, where the text of a policy is refused; or it is bad there
 pub data Deed : Type 0 where
-  Takes : Event → Deed
+  Takes : Step → Deed
   Faults : PolicyFault → Deed
   Stops : Deed
 
 -- a policy is put in force by an event, whose moment is that of the registry: no moment is before 0
-abbrev pub put_in_force : Rules → Event
-put_in_force policy = Reload 0 policy
+abbrev pub put_in_force : Rules → Step
+put_in_force policy = Conductor (Reload 0 policy)
 
 abbrev pub deed_by : Result Rules PolicyFault → Deed
 deed_by (Err fault) = Faults fault
 deed_by (Ok policy) = Takes (put_in_force policy)
 
 abbrev pub deed_of : Known → Said → Deed
-deed_of names (Does event) = Takes event
+deed_of names (Does step) = Takes step
 deed_of names (Policy text) = deed_by (policy_of names text)
 deed_of names (Principal name number) = Stops
+deed_of names (Set key value) = Stops
 deed_of names Bad = Stops
 
 -- what a statement is told: the answer of a step, or why the text of a policy is refused
@@ -82,13 +96,13 @@ pub data Told : Type 0 where
   Answered : Answer → Told
   Refused : PolicyFault → Told
 
-abbrev pub IsTold : RunEnd → Event → Told → Type 0
-IsTold e event (Answered answer) = IsAnswer e (Conductor event) answer
-IsTold e event (Refused fault) = ⊥
+abbrev pub IsTold : RunEnd → Step → Told → Type 0
+IsTold e step (Answered answer) = IsAnswer e step answer
+IsTold e step (Refused fault) = ⊥
 
-abbrev pub after_told : RunEnd → Event → Told → RunEnd
-after_told e event (Answered answer) = after e (Conductor event) answer
-after_told e event (Refused fault) = e
+abbrev pub after_told : RunEnd → Step → Told → RunEnd
+after_told e step (Answered answer) = after e step answer
+after_told e step (Refused fault) = e
 
 -- a policy that is refused is no event; there may also have been no memory for its text
 abbrev pub IsRefused : PolicyFault → Told → Type 0
@@ -97,8 +111,8 @@ IsRefused fault (Answered NoMemory) = Unit {0}
 IsRefused fault (Answered answer) = ⊥
 
 abbrev pub IsDone : RunEnd → ℕ → Deed → (RunEnd → List Told → Type 0) → List Told → Ended → Type 0
-IsDone e line (Takes event) later [] ended = ⊥
-IsDone e line (Takes event) later (told ∷ others) ended = IsTold e event told × later (after_told e event told) others
+IsDone e line (Takes step) later [] ended = ⊥
+IsDone e line (Takes step) later (told ∷ others) ended = IsTold e step told × later (after_told e step told) others
 IsDone e line (Faults fault) later [] ended = ⊥
 IsDone e line (Faults fault) later (told ∷ others) ended = IsRefused fault told × later e others
 IsDone e line Stops later all ended = (all ≡ []) × (ended ≡ BadLine line)
@@ -114,14 +128,23 @@ IsRunning names e (statement ∷ rest) all ended =
 abbrev pub message_text : Message → List ℕ
 message_text message = reply_text message.client (reply_bytes (layout_of message.reply))
 
--- an answer has its line, and a line for each reply
+abbrev pub counter_text : ListedCounter → List ℕ
+counter_text counter = counter_line counter.number counter.type_id counter.value counter.label
+
+-- an answer has its line, and a line for each reply or counter
 unfoldable pub answer_text : Answer → List ℕ
 answer_text NoMemory = codes "no memory\n"
 answer_text (Attached client) = codes "attached " ++ (decimal client ++ codes "\n")
 answer_text Full = codes "full\n"
+answer_text Stopped = codes "stopped\n"
 answer_text (PolicyInForce epoch messages) = policy_line epoch ++ flat_map message_text messages
 answer_text PolicyFull = codes "policy refused: full\n"
 answer_text (Replies messages) = flat_map message_text messages
+answer_text (Counters counters) = list_line (length counters) ++ flat_map counter_text counters
+answer_text (Value value) = value_line value
+answer_text (Denied verdict) = denial_line verdict
+answer_text UnknownCounter = codes "unknown counter\n"
+answer_text WrongClient = codes "wrong client\n"
 
 abbrev pub told_text : Told → List ℕ
 told_text (Answered answer) = answer_text answer
@@ -144,8 +167,8 @@ pub record Writes (names : Known) (e : RunEnd) (statements : List Statement) (en
 abbrev pub IsOpeningText : Opening → Ended → List ℕ → Type 0
 IsOpeningText Ends ended text = (ended ≡ Done) × (text ≡ [])
 IsOpeningText (Refuses line) ended text = (ended ≡ BadLine line) × (text ≡ ended_text (BadLine line))
-IsOpeningText (Opens names policy rest) ended text = Writes names (opening_end default_settings policy []) rest ended text
+IsOpeningText (Opens names settings policy rest) ended text = Writes names (opening_end settings policy []) rest ended text
 
 -- the text that the run of these statements writes, and how it ends
 abbrev pub IsScriptText : List Statement → Ended → List ℕ → Type 0
-IsScriptText statements ended text = IsOpeningText (opening_of [] statements) ended text
+IsScriptText statements ended text = IsOpeningText (opening_of no_preface statements) ended text

@@ -2,9 +2,9 @@
 use Rattle.std.specs.Prelude.{◌≡◌, ℕ, List, [], ◌∷◌, ◌++◌, Option, Some, None}
 use Rattle.std.specs.Io.KnownBytes.{Appends}
 use Rattle.driver_core.specs.declared.answer.Answer.TheVariants.{NoMemory}
-use Rattle.driver_core.specs.declared.event.Event.{Event}
+use Rattle.driver_core.specs.declared.settings.Settings.{Settings}
+use Rattle.driver_core.specs.declared.step.Step.{Step}
 use Rattle.driver_core.specs.Runs.{RunEnd, StandsFor, opening_end}
-use Rattle.driver_core.specs.Settings.{default_settings}
 use Rattle.policy_core.specs.RuleList.{Rules}
 use Rattle.policy_text.specs.declared.fault.PolicyFault.{PolicyFault}
 use Rattle.policy_text.specs.declared.fault.PolicyFault.TheVariants as text
@@ -12,6 +12,7 @@ use Rattle.policy_text.specs.Names.{Known}
 use Rattle.driver_script.specs.declared.script.Ended.{Ended}
 use Rattle.driver_script.specs.declared.script.Head.{Head}
 use Rattle.driver_script.specs.declared.script.Head.TheVariants as head
+use Rattle.driver_script.specs.declared.script.Preface.{Preface}
 use Rattle.driver_script.specs.declared.fault.RunFault.{RunFault}
 use Rattle.driver_script.specs.declared.fault.RunFault.TheVariants as fault
 use Rattle.driver_script.specs.declared.statements.Said.{Said}
@@ -22,27 +23,27 @@ use Rattle.driver_script.specs.Script.{Opening, Ends, Refuses, Opens, opening_of
 
 -- ---- the head
 
--- the world stands at the opening under that policy
-abbrev pub IsWorldOf : Rules → Head → Type 0
-IsWorldOf policy (head.Opened world) = StandsFor world (opening_end default_settings policy [])
-IsWorldOf policy (head.Refused line) = ⊥
-IsWorldOf policy head.Ended = ⊥
+-- the world stands at the opening with these settings, under that policy
+abbrev pub IsWorldOf : Settings → Rules → Head → Type 0
+IsWorldOf settings policy (head.Opened world) = StandsFor world (opening_end settings policy [])
+IsWorldOf settings policy (head.Refused line) = ⊥
+IsWorldOf settings policy head.Ended = ⊥
 
 -- the head is what the statements open; these names are given, and these statements are left
 abbrev pub IsHead : Opening → Known → List Statement → Head → Type 0
 IsHead Ends names left h = h ≡ head.Ended
 IsHead (Refuses line) names left h = h ≡ head.Refused line
-IsHead (Opens given policy rest) names left h = (given ≡ names) × (rest ≡ left) × IsWorldOf policy h
+IsHead (Opens given settings policy rest) names left h = (given ≡ names) × (rest ≡ left) × IsWorldOf settings policy h
 
--- one statement of the head: it adds to the names, or it decides the head
-pub record NamesOne (old new : Known) (statement : Statement) : Type 0 where
+-- one statement of the head: it adds to the names or the settings, or it decides the head
+pub record AddsOne (old new : Preface) (statement : Statement) : Type 0 where
   pub on : (rest : List Statement) → opening_of old (statement ∷ rest) ≡ opening_of new rest
 
-pub record DecidesHead (old new : Known) (statement : Statement) (h : Head) : Type 0 where
-  pub on : (rest : List Statement) → IsHead (opening_of old (statement ∷ rest)) new rest h
+pub record DecidesHead (old new : Preface) (statement : Statement) (h : Head) : Type 0 where
+  pub on : (rest : List Statement) → IsHead (opening_of old (statement ∷ rest)) new.names rest h
 
-abbrev pub TakesHead : Known → Known → Statement → Option Head → Type 0
-TakesHead old new statement None = NamesOne old new statement
+abbrev pub TakesHead : Preface → Preface → Statement → Option Head → Type 0
+TakesHead old new statement None = AddsOne old new statement
 TakesHead old new statement (Some h) = DecidesHead old new statement h
 
 -- ---- the steps
@@ -63,9 +64,9 @@ pub record Goes (names : Known) (old new : RunEnd) (statement : Statement) (befo
   pub appended : Appends before after front
   pub on : (e : RunEnd) → StandsFor old e → (next : RunEnd) × StandsFor new next × Turns names e next statement front
 
--- the same of an event, whatever statement it is
-pub record Steps (old new : RunEnd) (event : Event) (before after : Option (List ℕ)) : Type 0 where
-  pub on : (names : Known) (line : ℕ) (said : Said) → deed_of names said ≡ Takes event →
+-- the same of a step, whatever statement it is
+pub record Steps (old new : RunEnd) (step : Step) (before after : Option (List ℕ)) : Type 0 where
+  pub on : (names : Known) (line : ℕ) (said : Said) → deed_of names said ≡ Takes step →
       Goes names old new (record { line = line; said = said }) before after
 
 -- the same of the text of a policy, on whatever line it begins
@@ -90,8 +91,8 @@ pub record WritesFront (names : Known) (held : RunEnd) (statements : List Statem
 pub record GivesUp (names : Known) (held : RunEnd) (statement : Statement) (before after : Option (List ℕ)) : Type 0 where
   pub on : (rest : List Statement) → WritesFront names held (statement ∷ rest) before after
 
-pub record GivesUpStep (held : RunEnd) (event : Event) (before after : Option (List ℕ)) : Type 0 where
-  pub on : (names : Known) (line : ℕ) (said : Said) → deed_of names said ≡ Takes event →
+pub record GivesUpStep (held : RunEnd) (step : Step) (before after : Option (List ℕ)) : Type 0 where
+  pub on : (names : Known) (line : ℕ) (said : Said) → deed_of names said ≡ Takes step →
       GivesUp names held (record { line = line; said = said }) before after
 
 pub record GivesUpPolicy (names : Known) (held : RunEnd) (text : List ℕ) (before after : Option (List ℕ)) : Type 0 where

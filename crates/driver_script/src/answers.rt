@@ -1,5 +1,6 @@
 ghost use Rattle.std.specs.Prelude.{Some};
 
+use policy_core::Verdict;
 use policy_text::PolicyFault;
 use std::fmt;
 
@@ -41,7 +42,27 @@ pub enum AnswerLine<'a> {
     /// The text is no policy, and the one before stays in force.
     PolicyRefused(PolicyFault),
     /// This client gets a reply.
-    Reply { client: u64, bytes: &'a [u8] },
+    Reply {
+        client: u64,
+        bytes: &'a [u8],
+    },
+    /// A client may see so many counters.
+    List(u64),
+    /// One of these counters.
+    Counter {
+        number: u64,
+        type_id: i32,
+        value: i64,
+        label: &'a [u8],
+    },
+    /// The value of the counter that was asked for.
+    Value(i64),
+    /// The policy does not show that, by this verdict.
+    Denied(Verdict),
+    /// There is no counter of that number.
+    UnknownCounter,
+    /// The client is not attached.
+    WrongClient,
     /// There was no memory for the step, which changed nothing.
     NoMemory,
     /// The line of this number is no line of a script, and ends it.
@@ -66,6 +87,20 @@ impl fmt::Display for AnswerLine<'_> {
                 let bytes = Hex(bytes);
                 writeln!(f, "reply {client} {bytes}")
             }
+            AnswerLine::List(count) => writeln!(f, "list {count}"),
+            AnswerLine::Counter {
+                number,
+                type_id,
+                value,
+                label,
+            } => {
+                let label = Hex(label);
+                writeln!(f, "counter {number} {type_id} {value} {label}")
+            }
+            AnswerLine::Value(value) => writeln!(f, "value {value}"),
+            AnswerLine::Denied(verdict) => writeln!(f, "{verdict}"),
+            AnswerLine::UnknownCounter => writeln!(f, "unknown counter"),
+            AnswerLine::WrongClient => writeln!(f, "wrong client"),
             AnswerLine::NoMemory => writeln!(f, "no memory"),
             AnswerLine::BadLine(number) => writeln!(f, "line {number}: bad line"),
         }

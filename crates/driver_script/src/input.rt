@@ -1,9 +1,10 @@
-ghost use Rattle.driver_script.specs.declared.fault.RunFault.TheVariants.{TooLong, Write};
-ghost use Rattle.std.specs.Prelude.{◌≡◌, ◌≢◌, ◌<◌, ◌≤◌, IfOk, IfSome, Err, length, vec_len};
+ghost use Rattle.driver_script.specs.Ends.{OfReading};
+ghost use Rattle.driver_script.specs.declared.fault.RunFault.TheVariants.{TooLong};
+ghost use Rattle.std.specs.Prelude.{◌≡◌, ◌<◌, ◌≤◌, IfErr, IfOk, IfSome, Err, length, vec_len};
 
+use crate::ends::Source;
 use crate::fault::RunFault;
 use std::alloc::Global;
-use std::io::Read;
 
 /// The most bytes that a script may have.
 pub const LIMIT: usize = 16_777_216;
@@ -12,16 +13,16 @@ pub const LIMIT: usize = 16_777_216;
 ///
 /// # Errors
 /// [`RunFault::TooLong`] as soon as there are more bytes than [`LIMIT`], [`RunFault::Read`] where the reader fails.
-pub fn read_input<R: Read>(alloc: Global, reader: &mut R) -> Result<Vec<u8>, RunFault>
+pub fn read_input<R: Source>(alloc: Global, reader: &mut R) -> Result<Vec<u8>, RunFault>
     ensures all { IfOk result (λ input. IfSome (R.remaining reader.old) (λ bytes. input.items ≡ bytes)) }
     ensures bound { IfOk result (λ input. vec_len input ≤ LIMIT) }
     ensures too_long { result ≡ Err TooLong → IfSome (R.remaining reader.old) (λ bytes. LIMIT < length bytes) }
-    ensures never_writes { result ≢ Err Write }
+    ensures fault { IfErr result (OfReading R.may_fail) }
 {
     let mut input = Vec::new(alloc);
     let mut buffer = [0u8; 4096];
     'chunks: loop {
-        let count = match reader.read(&mut buffer) {
+        let count = match reader.fetch(&mut buffer) {
             Ok(count) => count,
             Err(_) => return Err(RunFault::Read),
         };

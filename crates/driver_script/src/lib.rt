@@ -6,6 +6,7 @@
 
 pub mod answers;
 pub mod deciding;
+mod ends;
 mod fault;
 mod hex;
 mod input;
@@ -14,7 +15,9 @@ mod number;
 pub mod output;
 mod pieces;
 pub mod script;
+pub mod settings;
 pub mod statements;
 
+pub use ends::{MayFail, Source, Target};
 pub use fault::RunFault;
 pub use input::{LIMIT, read_input};

@@ -1,4 +1,4 @@
-ghost use Rattle.driver_script.specs.Line.{is_plain, line_of, or_bad, said_by, two, three, name_of, principal_of, policy_of, attach_of, command_of, keeps_fields};
+ghost use Rattle.driver_script.specs.Line.{is_plain, line_of, or_bad, said_by, step_by, plain_step_by, one, two, three, name_of, principal_of, set_of, policy_of, attach_of, command_of, tick_of, list_of, value_of, keeps_fields};
 ghost use Rattle.driver_script.specs.LineFault.{Gives, HasMemory};
 ghost use Rattle.driver_script.specs.Pieces.{pieces, pieces_behind};
 ghost use Rattle.driver_script.specs.declared.line.LineFault.TheVariants.{NoMemory};
@@ -9,7 +9,7 @@ use crate::hex;
 use crate::number::{number, small_number};
 use crate::pieces::first_piece;
 use byte_strings::Text;
-use driver_core::Event;
+use driver_core::{Event, Step};
 use std::alloc::{AllocError, AllocFailed, Global};
 
 /// What a line of a script says.
@@ -19,10 +19,12 @@ pub enum Line {
     Skipped,
     /// `principal NAME NUMBER`: rules of the policy may name this principal.
     Principal { name: Text, number: u32 },
+    /// `set KEY VALUE`: the driver has this setting, if the key is one and the value is in its range.
+    Set { key: Text, value: Text },
     /// `policy`: the lines up to one that is `.` are the text of a policy.
     Policy,
     /// A step of the run.
-    Does(Event),
+    Does(Step),
     /// It is no line of a script.
     Bad,
 }
@@ -67,6 +69,17 @@ pub(crate) fn plain_text(line: &[u8]) -> Option<&str>
     match str::from_utf8(line) {
         Ok(text) => Some(text),
         Err(_) => None,
+    }
+}
+
+/// The one word behind the first one.
+fn one_word(fields: Option<&str>) -> Option<&str>
+    ensures { option_copied result ≡ one (pieces_behind 32 (option_copied fields.entry)) }
+{
+    let (first, fields) = first_piece(fields?, ' ');
+    match fields {
+        None => Some(first),
+        Some(_) => None,
     }
 }
 
@@ -115,6 +128,15 @@ fn principal_of(alloc: Global, fields: Option<&str>) -> Result<Line, LineFault>
     Ok(Line::Principal { name, number })
 }
 
+fn set_of(alloc: Global, fields: Option<&str>) -> Result<Line, LineFault>
+    ensures { Gives result (set_of (pieces_behind 32 (option_copied fields.entry))) }
+{
+    let (key, value) = two_words(fields).ok_or(LineFault::Bad)?;
+    let key = Text::new(alloc, key)?;
+    let value = Text::new(alloc, value)?;
+    Ok(Line::Set { key, value })
+}
+
 fn policy_of(fields: Option<&str>) -> Option<Line>
     ensures { result ≡ policy_of (pieces_behind 32 (option_copied fields.entry)) }
 {
@@ -125,24 +147,89 @@ fn policy_of(fields: Option<&str>) -> Option<Line>
 }
 
 #[tactic(auto, unfolding(crate::specs::Line::attach_of))]
-fn attach_of(fields: Option<&str>) -> Option<Line>
+fn attach_of(fields: Option<&str>) -> Option<Step>
     ensures { result ≡ attach_of (pieces_behind 32 (option_copied fields.entry)) }
 {
     let (now, principal) = two_words(fields)?;
     let now = number(now)?;
     let principal = small_number(principal)?;
-    Some(Line::Does(Event::Attach { now, principal }))
+    Some(Step::Conductor(Event::Attach { now, principal }))
 }
 
 #[tactic(auto, unfolding(crate::specs::Line::command_of))]
-fn command_of(alloc: Global, fields: Option<&str>) -> Result<Line, LineFault>
+fn command_of(alloc: Global, fields: Option<&str>) -> Result<Step, LineFault>
     ensures { Gives result (command_of (pieces_behind 32 (option_copied fields.entry))) }
 {
     let (now, client, bytes) = three_words(fields).ok_or(LineFault::Bad)?;
     let now = number(now).ok_or(LineFault::Bad)?;
     let client = number(client).ok_or(LineFault::Bad)?;
     let bytes = hex::read_hex(alloc, bytes)?;
-    Ok(Line::Does(Event::Command { now, client, bytes }))
+    Ok(Step::Conductor(Event::Command { now, client, bytes }))
+}
+
+#[tactic(auto, unfolding(crate::specs::Line::tick_of))]
+fn tick_of(fields: Option<&str>) -> Option<Step>
+    ensures { result ≡ tick_of (pieces_behind 32 (option_copied fields.entry)) }
+{
+    let now = number(one_word(fields)?)?;
+    Some(Step::Conductor(Event::Tick { now }))
+}
+
+#[tactic(auto, unfolding(crate::specs::Line::list_of))]
+fn list_of(fields: Option<&str>) -> Option<Step>
+    ensures { result ≡ list_of (pieces_behind 32 (option_copied fields.entry)) }
+{
+    let (now, client) = two_words(fields)?;
+    let now = number(now)?;
+    let client = number(client)?;
+    Some(Step::List { now, client })
+}
+
+#[tactic(auto, unfolding(crate::specs::Line::value_of))]
+fn value_of(fields: Option<&str>) -> Option<Step>
+    ensures { result ≡ value_of (pieces_behind 32 (option_copied fields.entry)) }
+{
+    let (now, client, number_word) = three_words(fields)?;
+    let now = number(now)?;
+    let client = number(client)?;
+    let number = number(number_word)?;
+    Some(Step::Value {
+        now,
+        client,
+        number,
+    })
+}
+
+/// What the words of a step say that keeps no bytes.
+#[tactic(auto, unfolding(crate::specs::Line::plain_step_by))]
+fn plain_step_by(word: &str, fields: Option<&str>) -> Option<Step>
+    ensures { result ≡ plain_step_by word.now (pieces_behind 32 (option_copied fields.entry)) }
+{
+    if word == "attach" {
+        return attach_of(fields);
+    }
+    if word == "tick" {
+        return tick_of(fields);
+    }
+    if word == "list" {
+        return list_of(fields);
+    }
+    if word == "value" {
+        return value_of(fields);
+    }
+    None
+}
+
+/// What the words of a step say.
+#[tactic(auto, unfolding(crate::specs::Line::step_by))]
+fn step_by(alloc: Global, word: &str, fields: Option<&str>) -> Result<Step, LineFault>
+    ensures exact { Gives result (step_by word.now (pieces_behind 32 (option_copied fields.entry))) }
+    ensures without_memory { keeps_fields (word.now ∷ []) ≡ false → HasMemory result }
+{
+    if word == "cmd" {
+        return command_of(alloc, fields);
+    }
+    plain_step_by(word, fields).ok_or(LineFault::Bad)
 }
 
 #[tactic(auto, unfolding(crate::specs::Line::said_by))]
@@ -153,16 +240,14 @@ fn said_by(alloc: Global, word: &str, fields: Option<&str>) -> Result<Line, Line
     if word == "principal" {
         return principal_of(alloc, fields);
     }
+    if word == "set" {
+        return set_of(alloc, fields);
+    }
     if word == "policy" {
         return policy_of(fields).ok_or(LineFault::Bad);
     }
-    if word == "attach" {
-        return attach_of(fields).ok_or(LineFault::Bad);
-    }
-    if word == "cmd" {
-        return command_of(alloc, fields);
-    }
-    Err(LineFault::Bad)
+    let step = step_by(alloc, word, fields)?;
+    Ok(Line::Does(step))
 }
 
 /// Reads a line, without the line feed at its end.

@@ -1,7 +1,8 @@
 ghost use Rattle.driver_core.specs.Replies.{layout_of};
 ghost use Rattle.command_codec.specs.Reply.{reply_bytes};
+ghost use Rattle.driver_script.specs.Ends.{OfAnswering, OfRunning};
 ghost use Rattle.driver_script.specs.Output.{AppendsFront};
-ghost use Rattle.driver_script.specs.Script.{message_text, answer_text, told_text, ended_text};
+ghost use Rattle.driver_script.specs.Script.{message_text, counter_text, answer_text, told_text, ended_text, no_preface};
 ghost use Rattle.std.specs.Io.KnownBytes.{Appends};
 ghost use Rattle.std.specs.List.{flat_map};
 ghost use Rattle.driver_script.specs.declared.script.Ended.TheVariants.{BadLine};
@@ -15,14 +16,15 @@ ghost use Rattle.std.specs.Prelude.{◌≡◌, ◌<◌, ◌≤◌, ◌++◌, [],
 ghost use Rattle.std.specs.String.{string_bytes};
 
 use crate::answers::AnswerLine;
+use crate::ends::{Source, Target};
 use crate::fault::RunFault;
 use crate::input::{LIMIT, read_input};
 use crate::output::write_whole;
+use crate::settings::Choices;
 use crate::statements::{Said, Statement, Statements};
-use driver_core::{Answer, Event, Message, Settings, Step, World};
+use driver_core::{Answer, Event, ListedCounter, Message, Step, World};
 use policy_text::{Names, PolicyFault};
 use std::alloc::{AllocError, Global};
-use std::io::{Read, Write};
 
 /// How the run of a script ended.
 #[derive(Clone, Copy, Debug, PartialEq, Eq)]
@@ -56,6 +58,30 @@ fn push_messages(text: &mut String, alloc: Global, messages: &[Message]) -> Resu
     Ok(())
 }
 
+/// Appends the line of a counter.
+#[tactic(auto, unfolding(crate::specs::Answers::line_text))]
+fn push_counter(text: &mut String, counter: &ListedCounter) -> Result<(), AllocError>
+    ensures { OnOk result (string_bytes text.new ≡ string_bytes text.old ++ counter_text counter.now) }
+{
+    let line = AnswerLine::Counter {
+        number: counter.number,
+        type_id: counter.type_id,
+        value: counter.value,
+        label: counter.label.as_str().as_bytes(),
+    };
+    write!(text, "{line}")
+}
+
+/// Appends the line of each counter.
+fn push_counters(text: &mut String, counters: &[ListedCounter]) -> Result<(), AllocError>
+    ensures { OnOk result (string_bytes text.new ≡ string_bytes text.old ++ flat_map counter_text counters.now) }
+{
+    for counter in counters {
+        push_counter(text, counter)?;
+    }
+    Ok(())
+}
+
 /// The text of an answer.
 #[tactic(auto, unfolding(crate::specs::Script::answer_text, crate::specs::Answers::line_text))]
 fn text_of(alloc: Global, answer: &Answer) -> Result<String, AllocError>
@@ -68,6 +94,7 @@ fn text_of(alloc: Global, answer: &Answer) -> Result<String, AllocError>
             format!(in alloc; "{line}")
         }
         Answer::Full => format!(in alloc; "{}", AnswerLine::Full),
+        Answer::Stopped => format!(in alloc; "{}", AnswerLine::Stopped),
         Answer::PolicyInForce { epoch, replies } => {
             let line = AnswerLine::PolicyInForce(*epoch);
             let mut text = format!(in alloc; "{line}")?;
@@ -79,6 +106,41 @@ fn text_of(alloc: Global, answer: &Answer) -> Result<String, AllocError>
             let mut text = String::new(alloc);
             push_messages(&mut text, alloc, messages.as_slice())?;
             Ok(text)
+        }
+        Answer::Counters(counters) => {
+            let line = AnswerLine::List(counters.len() as u64);
+            let mut text = format!(in alloc; "{line}")?;
+            push_counters(&mut text, counters.as_slice())?;
+            Ok(text)
+        }
+        Answer::Value(value) => {
+            let line = AnswerLine::Value(*value);
+            format!(in alloc; "{line}")
+        }
+        Answer::Denied(verdict) => {
+            let line = AnswerLine::Denied(*verdict);
+            format!(in alloc; "{line}")
+        }
+        Answer::UnknownCounter => format!(in alloc; "{}", AnswerLine::UnknownCounter),
+        Answer::WrongClient => format!(in alloc; "{}", AnswerLine::WrongClient),
+    }
+}
+
+/// What the lines before the first policy give.
+#[derive(Drop)]
+struct Preface {
+    names: Names,
+    choices: Choices,
+}
+
+impl Preface {
+    /// No name is given, and nothing is chosen. It takes no memory.
+    fn new(alloc: Global) -> Preface
+        ensures { result ≡ no_preface }
+    {
+        Preface {
+            names: Names::new(alloc),
+            choices: Choices::new(alloc),
         }
     }
 }
@@ -94,27 +156,34 @@ enum Head {
     Opened(World),
 }
 
-/// Takes one statement of the head: it gives a name, or it decides what the head comes to.
+/// Takes one statement of the head: it gives a name or a setting, or it decides what the head comes to.
 fn take_head(
     alloc: Global,
-    names: &mut Names,
+    preface: &mut Preface,
     statement: Statement,
 ) -> Result<Option<Head>, AllocError>
-    ensures { IfOk result (λ head. TakesHead names.old names.new statement head) }
+    ensures { IfOk result (λ head. TakesHead preface.old preface.new statement head) }
 {
     let Statement { line, said } = statement;
     match said {
         Said::Principal { name, number } => {
-            if names.number_of(name.as_str()).is_some() {
+            if preface.names.number_of(name.as_str()).is_some() {
                 return Ok(Some(Head::Refused(line)));
             }
-            names.add(name, number)?;
+            preface.names.add(name, number)?;
             Ok(None)
         }
-        Said::Policy(text) => match policy_text::read(alloc, text.as_str(), names) {
+        Said::Set { key, value } => {
+            if preface.choices.choose(key, value.as_str())? {
+                Ok(None)
+            } else {
+                Ok(Some(Head::Refused(line)))
+            }
+        }
+        Said::Policy(text) => match policy_text::read(alloc, text.as_str(), &preface.names) {
             Ok(policy) => Ok(Some(Head::Opened(World::new(
                 alloc,
-                Settings::default(),
+                preface.choices.settings,
                 policy,
                 &[],
             )?))),
@@ -129,13 +198,13 @@ fn take_head(
 /// Takes the statements up to the first policy.
 fn take_heads(
     alloc: Global,
-    names: &mut Names,
+    preface: &mut Preface,
     statements: &mut Statements<'_>,
 ) -> Result<Head, AllocError>
-    ensures { IfOk result (λ head. IsHead (opening_of names.old (left statements.old)) names.new (left statements.new) head) }
+    ensures { IfOk result (λ head. IsHead (opening_of preface.old (left statements.old)) preface.new.names (left statements.new) head) }
 {
     'statements: while let Some(statement) = statements.next(alloc)? {
-        if let Some(head) = take_head(alloc, names, statement)? {
+        if let Some(head) = take_head(alloc, preface, statement)? {
             return Ok(head);
         }
     }
@@ -144,11 +213,11 @@ fn take_heads(
 
 /// Writes the line that ends a script which is bad at a line.
 #[tactic(auto, unfolding(crate::specs::Answers::line_text))]
-fn write_bad_line<W: Write>(alloc: Global, line: u64, writer: &mut W) -> Result<Ended, RunFault>
+fn write_bad_line<W: Target>(alloc: Global, line: u64, writer: &mut W) -> Result<Ended, RunFault>
     ensures ended { IfOk result (λ ended. ended ≡ BadLine line) }
     ensures ok { OnOk result (Appends (W.contents writer.old) (W.contents writer.new) (ended_text (BadLine line))) }
     ensures err { OnErr result (AppendsFront (W.contents writer.old) (W.contents writer.new) (ended_text (BadLine line))) }
-    ensures begun { IfErr result IsBegun }
+    ensures begun { IfErr result (OfAnswering W.may_fail) }
 {
     let bad = AnswerLine::BadLine(line);
     let text = format!(in alloc; "{bad}")?;
@@ -157,28 +226,27 @@ fn write_bad_line<W: Write>(alloc: Global, line: u64, writer: &mut W) -> Result<
 }
 
 /// Writes the text of an answer.
-fn write_answer<W: Write>(alloc: Global, answer: &Answer, writer: &mut W) -> Result<(), RunFault>
+fn write_answer<W: Target>(alloc: Global, answer: &Answer, writer: &mut W) -> Result<(), RunFault>
     ensures ok { OnOk result (Appends (W.contents writer.old) (W.contents writer.new) (answer_text answer.now)) }
     ensures err { OnErr result (AppendsFront (W.contents writer.old) (W.contents writer.new) (answer_text answer.now)) }
-    ensures begun { IfErr result IsBegun }
+    ensures begun { IfErr result (OfAnswering W.may_fail) }
 {
     let text = text_of(alloc, answer)?;
     write_whole(writer, text.as_bytes())
 }
 
-/// Takes an event, and writes its answer.
-fn take_event<W: Write>(
+/// Takes a step, and writes its answer.
+fn answer_step<W: Target>(
     alloc: Global,
     world: &mut World,
-    event: Event,
+    step: &Step,
     writer: &mut W,
 ) -> Result<(), RunFault>
-    ensures ok { OnOk result (Steps world.old world.new event (W.contents writer.old) (W.contents writer.new)) }
-    ensures err { OnErr result (GivesUpStep world.old event (W.contents writer.old) (W.contents writer.new)) }
-    ensures begun { IfErr result IsBegun }
+    ensures ok { OnOk result (Steps world.old world.new step.now (W.contents writer.old) (W.contents writer.new)) }
+    ensures err { OnErr result (GivesUpStep world.old step.now (W.contents writer.old) (W.contents writer.new)) }
+    ensures begun { IfErr result (OfAnswering W.may_fail) }
 {
-    let step = Step::Conductor(event);
-    let answer = world.step(alloc, &step);
+    let answer = world.step(alloc, step);
     write_answer(alloc, &answer, writer)
 }
 
@@ -197,21 +265,21 @@ fn refusal_of(alloc: Global, fault: PolicyFault) -> Result<String, AllocError>
 }
 
 /// Writes why the text of a policy is refused.
-fn write_refusal<W: Write>(
+fn write_refusal<W: Target>(
     alloc: Global,
     fault: PolicyFault,
     writer: &mut W,
 ) -> Result<(), RunFault>
     ensures ok { OnOk result (Appends (W.contents writer.old) (W.contents writer.new) (told_text (told_of_fault fault))) }
     ensures err { OnErr result (AppendsFront (W.contents writer.old) (W.contents writer.new) (told_text (told_of_fault fault))) }
-    ensures begun { IfErr result IsBegun }
+    ensures begun { IfErr result (OfAnswering W.may_fail) }
 {
     let text = refusal_of(alloc, fault)?;
     write_whole(writer, text.as_bytes())
 }
 
 /// Puts the policy that a text is in force, and writes the answer; or why the text is refused, which is no event.
-fn take_policy<W: Write>(
+fn take_policy<W: Target>(
     alloc: Global,
     names: &Names,
     world: &mut World,
@@ -220,16 +288,19 @@ fn take_policy<W: Write>(
 ) -> Result<(), RunFault>
     ensures ok { OnOk result (Puts names.now world.old world.new text.now (W.contents writer.old) (W.contents writer.new)) }
     ensures err { OnErr result (GivesUpPolicy names.now world.old text.now (W.contents writer.old) (W.contents writer.new)) }
-    ensures begun { IfErr result IsBegun }
+    ensures begun { IfErr result (OfAnswering W.may_fail) }
 {
     match policy_text::read(alloc, text, names) {
-        Ok(policy) => take_event(alloc, world, Event::Reload { now: 0, policy }, writer),
+        Ok(policy) => {
+            let step = Step::Conductor(Event::Reload { now: 0, policy });
+            answer_step(alloc, world, &step, writer)
+        }
         Err(fault) => write_refusal(alloc, fault, writer),
     }
 }
 
 /// Takes one statement behind the head: a step, a policy, or what is bad there.
-fn take_step<W: Write>(
+fn take_step<W: Target>(
     alloc: Global,
     names: &Names,
     world: &mut World,
@@ -238,12 +309,12 @@ fn take_step<W: Write>(
 ) -> Result<Option<Ended>, RunFault>
     ensures ok { IfOk result (λ ended. TakesStep names.now world.old world.new statement ended (W.contents writer.old) (W.contents writer.new)) }
     ensures err { OnErr result (GivesUp names.now world.old statement (W.contents writer.old) (W.contents writer.new)) }
-    ensures begun { IfErr result IsBegun }
+    ensures begun { IfErr result (OfAnswering W.may_fail) }
 {
     let Statement { line, said } = statement;
     match said {
-        Said::Does(event) => {
-            take_event(alloc, world, event, writer)?;
+        Said::Does(step) => {
+            answer_step(alloc, world, &step, writer)?;
             Ok(None)
         }
         Said::Policy(text) => {
@@ -251,12 +322,13 @@ fn take_step<W: Write>(
             Ok(None)
         }
         Said::Principal { .. } => Ok(Some(write_bad_line(alloc, line, writer)?)),
+        Said::Set { .. } => Ok(Some(write_bad_line(alloc, line, writer)?)),
         Said::Bad => Ok(Some(write_bad_line(alloc, line, writer)?)),
     }
 }
 
 /// Takes the statements behind the head.
-fn take_steps<W: Write>(
+fn take_steps<W: Target>(
     alloc: Global,
     names: &Names,
     statements: &mut Statements<'_>,
@@ -265,7 +337,7 @@ fn take_steps<W: Write>(
 ) -> Result<Ended, RunFault>
     ensures whole { IfOk result (λ ended. WritesWhole names.now world (left statements.old) ended (W.contents writer.old) (W.contents writer.new)) }
     ensures front { OnErr result (WritesFront names.now world (left statements.old) (W.contents writer.old) (W.contents writer.new)) }
-    ensures begun { IfErr result IsBegun }
+    ensures begun { IfErr result (OfAnswering W.may_fail) }
 {
     let mut world = world;
     'statements: loop {
@@ -281,18 +353,18 @@ fn take_steps<W: Write>(
 }
 
 /// Runs a script that was read.
-fn run_script<W: Write>(alloc: Global, script: &[u8], writer: &mut W) -> Result<Ended, RunFault>
+fn run_script<W: Target>(alloc: Global, script: &[u8], writer: &mut W) -> Result<Ended, RunFault>
     requires { length script.now ≤ LIMIT }
     ensures whole { IfOk result (λ ended. WritesScript (statements_of script.now) ended (W.contents writer.old) (W.contents writer.new)) }
     ensures front { OnErr result (BeginsScript (statements_of script.now) (W.contents writer.old) (W.contents writer.new)) }
-    ensures begun { IfErr result IsBegun }
+    ensures begun { IfErr result (OfAnswering W.may_fail) }
 {
-    let mut names = Names::new(alloc);
+    let mut preface = Preface::new(alloc);
     let mut statements = Statements::new(script);
-    match take_heads(alloc, &mut names, &mut statements)? {
+    match take_heads(alloc, &mut preface, &mut statements)? {
         Head::Ended => Ok(Ended::Done),
         Head::Refused(line) => write_bad_line(alloc, line, writer),
-        Head::Opened(world) => take_steps(alloc, &names, &mut statements, world, writer),
+        Head::Opened(world) => take_steps(alloc, &preface.names, &mut statements, world, writer),
     }
 }
 
@@ -302,7 +374,7 @@ fn run_script<W: Write>(alloc: Global, script: &[u8], writer: &mut W) -> Result<
 /// # Errors
 /// Where it gives up, what it wrote is a front of such a text; nothing at all, where the reader failed or gave more
 /// than [`LIMIT`] bytes.
-pub fn run<R: Read, W: Write>(
+pub fn run<R: Source, W: Target>(
     alloc: Global,
     reader: &mut R,
     writer: &mut W,
@@ -312,6 +384,7 @@ pub fn run<R: Read, W: Write>(
     ensures nothing { IfErr result (λ fault. IsUnread fault → W.contents writer.new ≡ W.contents writer.old) }
     ensures bound { IfOk result (λ _. IfSome (R.remaining reader.old) (λ script. length script ≤ LIMIT)) }
     ensures too_long { result ≡ Err TooLong → IfSome (R.remaining reader.old) (λ script. LIMIT < length script) }
+    ensures faults { IfErr result (OfRunning R.may_fail W.may_fail) }
 {
     let script = read_input(alloc, reader)?;
     run_script(alloc, script.as_slice(), writer)

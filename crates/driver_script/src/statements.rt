@@ -5,7 +5,7 @@ use crate::input::LIMIT;
 use crate::line::{Line, plain_text, read_line};
 use crate::pieces::first_of_bytes;
 use byte_strings::Text;
-use driver_core::Event;
+use driver_core::Step;
 use std::alloc::{AllocError, Global};
 
 /// What a statement says.
@@ -13,10 +13,12 @@ use std::alloc::{AllocError, Global};
 pub enum Said {
     /// Rules of the policies may name this principal.
     Principal { name: Text, number: u32 },
+    /// The driver has this setting, if the key is one and the value is in its range.
+    Set { key: Text, value: Text },
     /// This text is a policy, each of its lines with its line feed.
     Policy(Text),
     /// A step of the run.
-    Does(Event),
+    Does(Step),
     /// It is no statement, or none at this place. No other follows it.
     Bad,
 }
@@ -131,6 +133,10 @@ impl<'a> Statements<'a> {
                     number: principal,
                 },
             })),
+            Line::Set { key, value } => Ok(Some(Statement {
+                line: number,
+                said: Said::Set { key, value },
+            })),
             Line::Policy => Ok(Some(self.take_policy(alloc, number)?)),
             Line::Does(_) => Ok(Some(self.refuse(number))),
             Line::Bad => Ok(Some(self.refuse(number))),
@@ -156,6 +162,7 @@ impl<'a> Statements<'a> {
             })),
             Line::Policy => Ok(Some(self.take_policy(alloc, number)?)),
             Line::Principal { .. } => Ok(Some(self.refuse(number))),
+            Line::Set { .. } => Ok(Some(self.refuse(number))),
             Line::Bad => Ok(Some(self.refuse(number))),
         }
     }

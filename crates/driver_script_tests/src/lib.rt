@@ -2,6 +2,8 @@
 #![tactic(auto)]
 
 #[cfg(test)]
+mod clients;
+#[cfg(test)]
 mod deciding;
 #[cfg(test)]
 mod ends;
@@ -9,3 +11,5 @@ mod ends;
 mod reading;
 #[cfg(test)]
 mod running;
+#[cfg(test)]
+mod settings;

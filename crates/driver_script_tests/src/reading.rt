@@ -1,19 +1,20 @@
 use crate::ends::{Choppy, LineFeeds};
 use byte_strings::{Bytes, Text};
-use driver_core::Event;
+use driver_core::{Event, Step};
 use driver_script::answers::AnswerLine;
 use driver_script::line::{Line, read_line};
 use driver_script::output::write_whole;
 use driver_script::statements::{Said, Statement, Statements};
-use driver_script::{RunFault, read_input};
+use driver_script::{MayFail, RunFault, read_input};
+use policy_core::Verdict;
 use policy_text::PolicyFault;
 use std::alloc::Global;
-use std::fmt;
 use std::process::Abort;
 use std::test::Fail;
+use std::{fmt, io};
 
 fn fault_of(rt: &HostRuntime, left: usize, fails: bool) -> Option<RunFault> {
-    read_input(rt.alloc(), &mut LineFeeds { left, fails }).err()
+    read_input(rt.alloc(), &mut MayFail(LineFeeds { left, fails })).err()
 }
 
 #[test]
@@ -23,10 +24,10 @@ fn a_script_is_read_whole(rt: HostRuntime) -> Result<(), Fail> {
     assert_eq!(rt; input.as_slice(), b"attach 0 7\n".as_slice());
     let mut none = b"".as_slice();
     assert!(rt; read_input(rt.alloc(), &mut none)?.is_empty());
-    let mut most = LineFeeds {
+    let mut most = MayFail(LineFeeds {
         left: 16_777_216,
         fails: false,
-    };
+    });
     assert_eq!(rt; read_input(rt.alloc(), &mut most)?.len(), 16_777_216);
     Ok(())
 }
@@ -41,18 +42,19 @@ fn reading_fails_by_name(rt: HostRuntime) {
 
 #[test]
 fn a_text_is_written_whole_or_a_front_of_it(rt: HostRuntime) {
-    let mut ample = Choppy::new(rt.alloc(), 100, true);
+    let mut ample = MayFail(Choppy::new(rt.alloc(), 100, true));
     assert_eq!(rt; write_whole(&mut ample, b"attached 1\n"), Ok(()));
     assert_eq!(rt; write_whole(&mut ample, b""), Ok(()));
-    assert_eq!(rt; ample.taken.as_slice(), b"attached 1\n".as_slice());
+    assert_eq!(rt; ample.0.taken.as_slice(), b"attached 1\n".as_slice());
     for fails in [false, true] {
-        let mut short = Choppy::new(rt.alloc(), 7, fails);
+        let mut short = MayFail(Choppy::new(rt.alloc(), 7, fails));
         assert_eq!(rt;
             write_whole(&mut short, b"attached 1\n"),
             Err(RunFault::Write)
         );
-        assert_eq!(rt; short.taken.as_slice(), b"attache".as_slice());
+        assert_eq!(rt; short.0.taken.as_slice(), b"attache".as_slice());
     }
+    assert_eq!(rt; write_whole(&mut io::sink(), b"attached 1\n"), Ok(()));
 }
 
 /// A value in words, by which two of them are compared.
@@ -64,42 +66,76 @@ fn said(rt: &HostRuntime, line: &str) -> Result<Line, Fail> {
     Ok(read_line(rt.alloc(), line.as_bytes())?)
 }
 
+/// The line says this.
+fn says(rt: &(impl AllocGlobal + Abort), line: &str, wanted: &Line) -> Result<(), Fail> {
+    let found = read_line(rt.alloc(), line.as_bytes())?;
+    assert_eq!(rt; shown(rt.alloc(), &found)?, shown(rt.alloc(), wanted)?);
+    Ok(())
+}
+
 #[test]
-fn lines_are_read(rt: HostRuntime) -> Result<(), Fail> {
+fn lines_are_skipped(rt: HostRuntime) -> Result<(), Fail> {
     for line in ["", "#", "# attach 0 7", "#attach"] {
         assert!(rt; matches!(said(&rt, line)?, Line::Skipped), "{line}");
     }
     assert!(rt; matches!(said(&rt, "policy")?, Line::Policy));
+    Ok(())
+}
+
+#[test]
+fn principals_are_read(rt: HostRuntime) -> Result<(), Fail> {
     let alice = Line::Principal {
         name: Text::new(rt.alloc(), "alice")?,
         number: 7,
     };
-    let alice = shown(rt.alloc(), &alice)?;
-    for line in ["principal alice 7", "principal alice 0007"] {
-        let line = said(&rt, line)?;
-        assert_eq!(rt; shown(rt.alloc(), &line)?, alice);
-    }
+    says(&rt, "principal alice 7", &alice)?;
+    says(&rt, "principal alice 0007", &alice)?;
     let star = Line::Principal {
         name: Text::new(rt.alloc(), "*#\t")?,
         number: 4_294_967_295,
     };
-    let line = said(&rt, "principal *#\t 4294967295")?;
-    assert_eq!(rt; shown(rt.alloc(), &line)?, shown(rt.alloc(), &star)?);
-    let attach = Line::Does(Event::Attach {
+    says(&rt, "principal *#\t 4294967295", &star)
+}
+
+#[test]
+fn events_are_read(rt: HostRuntime) -> Result<(), Fail> {
+    let attach = Event::Attach {
         now: 18_446_744_073_709_551_615,
         principal: 0,
+    };
+    let attach = Line::Does(Step::Conductor(attach));
+    says(&rt, "attach 18446744073709551615 0", &attach)?;
+    let tick = Line::Does(Step::Conductor(Event::Tick { now: 5 }));
+    says(&rt, "tick 5", &tick)
+}
+
+#[test]
+fn looks_are_read(rt: HostRuntime) -> Result<(), Fail> {
+    let list = Line::Does(Step::List { now: 5, client: 2 });
+    says(&rt, "list 05 2", &list)?;
+    let value = Line::Does(Step::Value {
+        now: 0,
+        client: 18_446_744_073_709_551_615,
+        number: 3,
     });
-    let line = said(&rt, "attach 18446744073709551615 0")?;
-    assert_eq!(rt; shown(rt.alloc(), &line)?, shown(rt.alloc(), &attach)?);
-    Ok(())
+    says(&rt, "value 0 18446744073709551615 3", &value)
+}
+
+#[test]
+fn settings_are_read_as_words(rt: HostRuntime) -> Result<(), Fail> {
+    let set = Line::Set {
+        key: Text::new(rt.alloc(), "mtu")?,
+        value: Text::new(rt.alloc(), "1408")?,
+    };
+    says(&rt, "set mtu 1408", &set)
 }
 
 fn command(rt: &HostRuntime, bytes: &[u8]) -> Result<Line, Fail> {
-    Ok(Line::Does(Event::Command {
+    Ok(Line::Does(Step::Conductor(Event::Command {
         now: 10,
         client: 1,
         bytes: Bytes::new(rt.alloc(), bytes)?,
-    }))
+    })))
 }
 
 #[test]
@@ -153,8 +189,24 @@ fn other_lines_are_bad(rt: HostRuntime) -> Result<(), Fail> {
         "cmd 0 1 - -",
         "cmd 0 -1 -",
         "cmd 18446744073709551616 1 -",
-        "tick 0",
-        "set mtu 1408",
+        "set",
+        "set mtu",
+        "set mtu 1408 ",
+        "set mtu 1408 1",
+        "tick",
+        "tick -1",
+        "tick 18446744073709551616",
+        "tick 0 1",
+        "list",
+        "list 0",
+        "list 0 x",
+        "list 0 18446744073709551616",
+        "list 0 1 2",
+        "value 0 1",
+        "value 0 1 -",
+        "value 0 1 18446744073709551616",
+        "value 0 1 2 3",
+        "Tick 0",
         "peer 127.0.0.1:50001 1",
     ] {
         assert!(rt; matches!(said(&rt, line)?, Line::Bad), "{line}");
@@ -194,6 +246,7 @@ policy\n.\ncmd 0 1 -\npolicy\nversion = 2\n.";
         now: 0,
         principal: 7,
     };
+    let attach = Step::Conductor(attach);
     expect(&rt, &mut statements, 9, Said::Does(attach))?;
     let policy = Said::Policy(Text::new(rt.alloc(), "")?);
     expect(&rt, &mut statements, 11, policy)?;
@@ -202,6 +255,7 @@ policy\n.\ncmd 0 1 -\npolicy\nversion = 2\n.";
         client: 1,
         bytes: Bytes::new(rt.alloc(), b"")?,
     };
+    let command = Step::Conductor(command);
     expect(&rt, &mut statements, 13, Said::Does(command))?;
     let policy = Said::Policy(Text::new(rt.alloc(), "version = 2\n")?);
     expect(&rt, &mut statements, 14, policy)?;
@@ -236,12 +290,16 @@ fn a_bad_line_ends_the_script(rt: HostRuntime) -> Result<(), Fail> {
         ("policy\n.\n\nattach 0 7\n", None),
         // A step before the policy.
         ("\nattach 0 7\n", Some(2)),
+        ("tick 0\n", Some(1)),
+        // Settings, which are looked at only where the driver is opened.
+        ("set mtu 1\nset mtu 1\nset x y\n", None),
         ("attach 0 7\nwhat\n", Some(1)),
         // A policy without its last line.
         ("\npolicy\nversion = 1\n", Some(2)),
         ("policy\nversion = 1\n. \n..\n", Some(1)),
         // Behind the policy.
         ("policy\n.\nprincipal alice 7\n", Some(3)),
+        ("policy\n.\nset mtu 1408\n", Some(3)),
         ("policy\n.\n.\n", Some(3)),
         ("policy\n.\npolicy\n.\nprincipal alice 7\n", Some(5)),
         // A later policy, and one without its last line.
@@ -294,6 +352,36 @@ fn answers_are_written(rt: HostRuntime) -> Result<(), Fail> {
             },
             "reply 0 -\n",
         ),
+        (AnswerLine::List(0), "list 0\n"),
+        (
+            AnswerLine::Counter {
+                number: 2,
+                type_id: -2_147_483_648,
+                value: -9_223_372_036_854_775_808,
+                label: b"b\x7f",
+            },
+            "counter 2 -2147483648 -9223372036854775808 627f\n",
+        ),
+        (
+            AnswerLine::Counter {
+                number: 18_446_744_073_709_551_615,
+                type_id: 100,
+                value: 0,
+                label: b"",
+            },
+            "counter 18446744073709551615 100 0 -\n",
+        ),
+        (AnswerLine::Value(-1), "value -1\n"),
+        (
+            AnswerLine::Denied(Verdict {
+                allow: false,
+                rule: Some(3),
+                epoch: 2,
+            }),
+            "denied by rule 3 in policy 2\n",
+        ),
+        (AnswerLine::UnknownCounter, "unknown counter\n"),
+        (AnswerLine::WrongClient, "wrong client\n"),
         (AnswerLine::NoMemory, "no memory\n"),
         (
             AnswerLine::BadLine(18_446_744_073_709_551_615),

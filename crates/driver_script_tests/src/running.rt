@@ -1,5 +1,5 @@
 use crate::ends::{LineFeeds, Narrow};
-use driver_script::{RunFault, script};
+use driver_script::{MayFail, RunFault, script};
 use std::alloc::Global;
 use std::test::Fail;
 
@@ -13,18 +13,18 @@ const FIRST_ANSWERS: &str =
 6661756c7420696e20706f6c6963792031\n";
 
 /// What a script writes to a writer that takes this many bytes.
-fn run_into(
+pub fn run_into(
     alloc: Global,
     script: &str,
     room: usize,
 ) -> (Result<script::Ended, RunFault>, Vec<u8>) {
-    let mut writer = Narrow {
+    let mut writer = MayFail(Narrow {
         taken: Vec::new(alloc),
         left: room,
-    };
+    });
     let mut reader = script.as_bytes();
     let ended = script::run(alloc, &mut reader, &mut writer);
-    (ended, writer.taken)
+    (ended, writer.0.taken)
 }
 
 #[test]
@@ -49,7 +49,9 @@ fn bad_lines_end_a_script(rt: HostRuntime) -> Result<(), Fail> {
         ("attach 0 7\n", 1),
         ("cmd 0 1 -\n", 1),
         ("# a comment\npeer 127.0.0.1:50001 7\n", 2),
-        ("set mtu 1408\n", 1),
+        ("tick 0\n", 1),
+        ("list 0 1\n", 1),
+        ("value 0 1 1\n", 1),
         ("principal nobody 3\n", 1),
         ("principal alice 7\nprincipal alice 8\n", 2),
         ("principal alice 4294967296\n", 1),
@@ -71,7 +73,9 @@ fn bad_lines_end_a_script(rt: HostRuntime) -> Result<(), Fail> {
 fn what_was_answered_stands_before_a_bad_line(rt: HostRuntime) -> Result<(), Fail> {
     for text in [
         "attach 0",
-        "tick 5",
+        "tick",
+        "tick 5 6",
+        "value 0 1",
         "principal bob 8",
         "policy",
         "peer 127.0.0.1:50001 7",
@@ -81,7 +85,7 @@ fn what_was_answered_stands_before_a_bad_line(rt: HostRuntime) -> Result<(), Fai
         "cmd 0 1 _00",
         "cmd 0 1 0A",
         "attach +1 7",
-        "list 0 1",
+        "list 0",
         "detach 0 1",
     ] {
         let script = format!(in rt.alloc(); "{HEAD}attach 0 7\n{text}\nattach 0 7\n")?;
@@ -109,14 +113,14 @@ fn a_writer_that_fails_has_a_front(rt: HostRuntime) {
 #[test]
 fn a_reader_that_fails_writes_nothing(rt: HostRuntime) {
     for (left, fault) in [(5000, RunFault::Read), (16_777_217, RunFault::TooLong)] {
-        let mut reader = LineFeeds { left, fails: true };
-        let mut writer = Narrow {
+        let mut reader = MayFail(LineFeeds { left, fails: true });
+        let mut writer = MayFail(Narrow {
             taken: Vec::new(rt.alloc()),
             left: 1000,
-        };
+        });
         let ended = script::run(rt.alloc(), &mut reader, &mut writer);
         assert_eq!(rt; ended, Err(fault));
-        assert!(rt; writer.taken.is_empty());
+        assert!(rt; writer.0.taken.is_empty());
     }
 }
 

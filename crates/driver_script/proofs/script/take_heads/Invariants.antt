@@ -3,9 +3,9 @@ use Rattle.driver_script.specs.Left.{left}
 use Rattle.driver_script.specs.Script.{opening_of}
 use Rattle.driver_script.proofs.script.take_heads.Given as goal
 
--- with the names so far, the statements that are left open what all of them open
+-- with the names and the settings so far, the statements that are left open what all of them open
 abbrev pub invariant-statements : goal.invariant-statements
-invariant-statements l = opening_of l.names (left l.statements) ≡ opening_of l.fn.names (left l.fn.statements)
+invariant-statements l = opening_of l.preface (left l.statements) ≡ opening_of l.fn.preface (left l.fn.statements)
 
 abbrev pub decreases-statements : goal.decreases-statements
 decreases-statements l = length (left l.statements)

@@ -3,11 +3,11 @@ use Rattle.driver_script.proofs.script.take_policy.Goals as goal
 
 pub returns-in-Ok-clause-ok : goal.returns-in-Ok-clause-ok
 returns-in-Ok-clause-ok g c =
-    policy_goes c.take_event.result _ _ _ _ c.in-Ok.policy _ _ c.in-Ok.ensures.exact c.take_event.ensures.ok
+    policy_goes c.answer_step.result _ _ _ _ c.in-Ok.policy _ _ c.in-Ok.ensures.exact c.answer_step.ensures.ok
 
 pub returns-in-Ok-clause-err : goal.returns-in-Ok-clause-err
 returns-in-Ok-clause-err g c =
-    policy_gives_up c.take_event.result _ _ _ c.in-Ok.policy _ _ c.in-Ok.ensures.exact c.take_event.ensures.err
+    policy_gives_up c.answer_step.result _ _ _ c.in-Ok.policy _ _ c.in-Ok.ensures.exact c.answer_step.ensures.err
 
 pub returns-in-Err-clause-ok : goal.returns-in-Err-clause-ok
 returns-in-Err-clause-ok g c =
