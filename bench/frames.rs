@@ -1,6 +1,7 @@
 //! Reads and writes datagrams by `frame_codec` and by plain Rust, and prints how the two compare.
 //!
-//! The plain reader and writer here do the same work: all tests of a datagram, and every field of each frame.
+//! The plain reader and writer here are the same program, as one would write it in Rust: each kind of packet, all tests
+//! of a datagram in their order, and every field of each frame; with the same hints on inlining.
 
 use std::hint::black_box;
 use std::time::{Duration, Instant};
@@ -18,7 +19,7 @@ fn codec_write(out: &mut [u8], term_offset: u32, payload: &[u8]) -> u64 {
     unsafe { frame_codec_write(out.as_mut_ptr(), out.len(), term_offset, payload.as_ptr(), payload.len()) }
 }
 
-#[derive(Clone, Copy, PartialEq, Eq)]
+#[derive(Clone, Copy, Debug)]
 enum Fault {
     TooShort,
     BadVersion,
@@ -29,7 +30,17 @@ enum Fault {
 }
 
 #[derive(Clone, Copy)]
-struct Frame<'a> {
+enum Kind {
+    Pad,
+    Data,
+    Nak,
+    Status,
+    Setup,
+}
+
+#[derive(Clone, Copy, Debug)]
+#[allow(dead_code)]
+struct Header {
     pad: bool,
     length: u32,
     flags: u8,
@@ -38,99 +49,228 @@ struct Frame<'a> {
     stream: i32,
     term: i32,
     reserved: u64,
+}
+
+#[derive(Clone, Copy, Debug)]
+struct Frame<'a> {
+    header: Header,
     bytes: &'a [u8],
+}
+
+#[derive(Clone, Copy, Debug)]
+struct Frames<'a> {
+    rest: &'a [u8],
+}
+
+#[derive(Debug)]
+#[allow(dead_code)]
+enum Packet<'a> {
+    Data(Frames<'a>),
+    Beat(Header),
+    Nak { session: i32, stream: i32, term: i32, offset: u32, length: i32 },
+    Status { flags: u8, session: i32, stream: i32, term: i32, offset: u32, window: u32, receiver: u64 },
+    Setup { session: i32, stream: i32, initial: i32, active: i32, offset: u32, term_length: i32, mtu: i32, ttl: i32 },
 }
 
 fn number(bytes: &[u8], at: usize) -> u32 {
     u32::from_le_bytes(bytes[at..at + 4].try_into().unwrap())
 }
 
+fn signed(bytes: &[u8], at: usize) -> i32 {
+    number(bytes, at) as i32
+}
+
+fn long(bytes: &[u8], at: usize) -> u64 {
+    u64::from_le_bytes(bytes[at..at + 8].try_into().unwrap())
+}
+
+fn natural(bytes: &[u8], at: usize) -> Result<u32, Fault> {
+    let number = number(bytes, at);
+    if number < 1 << 31 { Ok(number) } else { Err(Fault::BadLength) }
+}
+
+fn stated_length(bytes: &[u8], least: u32) -> Result<u32, Fault> {
+    let stated = natural(bytes, 0)?;
+    if stated < least || bytes.len() < stated as usize {
+        return Err(Fault::BadLength);
+    }
+    Ok(stated)
+}
+
+fn aligned(offset: u32) -> Result<u32, Fault> {
+    if offset % 32 == 0 { Ok(offset) } else { Err(Fault::Unaligned) }
+}
+
 fn padded(length: u64) -> u64 {
     length.div_ceil(32) * 32
 }
 
-fn frame(bytes: &[u8]) -> Result<Frame<'_>, Fault> {
+#[inline(always)]
+fn kind_of(bytes: &[u8]) -> Result<Kind, Fault> {
     if bytes.len() < 8 {
         return Err(Fault::TooShort);
     }
     if bytes[4] != 0 {
         return Err(Fault::BadVersion);
     }
-    let pad = match u16::from_le_bytes([bytes[6], bytes[7]]) {
-        0 => true,
-        1 => false,
-        2 | 3 | 5 => return Err(Fault::Mixed),
+    let (kind, size) = match u16::from_le_bytes([bytes[6], bytes[7]]) {
+        0 => (Kind::Pad, 32),
+        1 => (Kind::Data, 32),
+        2 => (Kind::Nak, 28),
+        3 => (Kind::Status, 36),
+        5 => (Kind::Setup, 40),
         _ => return Err(Fault::OtherType),
     };
-    if bytes.len() < 32 {
-        return Err(Fault::TooShort);
-    }
-    let length = number(bytes, 0);
-    let offset = number(bytes, 8);
-    if length >= 1 << 31 || offset >= 1 << 31 {
-        return Err(Fault::BadLength);
-    }
-    if pad && (length == 0 || length % 32 != 0) {
-        return Err(Fault::BadLength);
-    }
-    if !pad && (length < 32 || length as usize > bytes.len()) {
-        return Err(Fault::BadLength);
-    }
-    if offset % 32 != 0 {
-        return Err(Fault::Unaligned);
-    }
-    Ok(Frame {
+    if bytes.len() < size { Err(Fault::TooShort) } else { Ok(kind) }
+}
+
+fn header(pad: bool, length: u32, offset: u32, bytes: &[u8]) -> Header {
+    Header {
         pad,
         length,
         flags: bytes[5],
         offset,
-        session: number(bytes, 12) as i32,
-        stream: number(bytes, 16) as i32,
-        term: number(bytes, 20) as i32,
-        reserved: u64::from_le_bytes(bytes[24..32].try_into().unwrap()),
-        bytes: &bytes[..if pad { 32 } else { length as usize }],
+        session: signed(bytes, 12),
+        stream: signed(bytes, 16),
+        term: signed(bytes, 20),
+        reserved: long(bytes, 24),
+    }
+}
+
+#[inline(always)]
+fn nak(bytes: &[u8]) -> Result<Packet<'static>, Fault> {
+    stated_length(bytes, 28)?;
+    Ok(Packet::Nak {
+        session: signed(bytes, 8),
+        stream: signed(bytes, 12),
+        term: signed(bytes, 16),
+        offset: aligned(natural(bytes, 20)?)?,
+        length: signed(bytes, 24),
     })
+}
+
+#[inline(always)]
+fn status(bytes: &[u8]) -> Result<Packet<'static>, Fault> {
+    stated_length(bytes, 36)?;
+    Ok(Packet::Status {
+        flags: bytes[5],
+        session: signed(bytes, 8),
+        stream: signed(bytes, 12),
+        term: signed(bytes, 16),
+        offset: natural(bytes, 20)?,
+        window: natural(bytes, 24)?,
+        receiver: long(bytes, 28),
+    })
+}
+
+#[inline(always)]
+fn setup(bytes: &[u8]) -> Result<Packet<'static>, Fault> {
+    stated_length(bytes, 40)?;
+    Ok(Packet::Setup {
+        offset: aligned(natural(bytes, 8)?)?,
+        session: signed(bytes, 12),
+        stream: signed(bytes, 16),
+        initial: signed(bytes, 20),
+        active: signed(bytes, 24),
+        term_length: signed(bytes, 28),
+        mtu: signed(bytes, 32),
+        ttl: signed(bytes, 36),
+    })
+}
+
+#[inline(always)]
+fn frame(bytes: &[u8]) -> Result<Frame<'_>, Fault> {
+    match kind_of(bytes)? {
+        Kind::Pad => {
+            let length = natural(bytes, 0)?;
+            if length == 0 || length % 32 != 0 {
+                return Err(Fault::BadLength);
+            }
+            let offset = aligned(natural(bytes, 8)?)?;
+            Ok(Frame {
+                header: header(true, length, offset, bytes),
+                bytes: &bytes[..32],
+            })
+        }
+        Kind::Data => {
+            let length = stated_length(bytes, 32)?;
+            let offset = aligned(natural(bytes, 8)?)?;
+            Ok(Frame {
+                header: header(false, length, offset, bytes),
+                bytes: &bytes[..length as usize],
+            })
+        }
+        Kind::Nak => nak(bytes).and(Err(Fault::Mixed)),
+        Kind::Status => status(bytes).and(Err(Fault::Mixed)),
+        Kind::Setup => setup(bytes).and(Err(Fault::Mixed)),
+    }
 }
 
 fn behind<'a>(frame: &Frame<'_>, bytes: &'a [u8]) -> &'a [u8] {
     &bytes[(padded(frame.bytes.len() as u64) as usize).min(bytes.len())..]
 }
 
-/// All tests of a datagram of data frames.
-fn check(bytes: &[u8]) -> Result<(), Fault> {
-    let mut before = frame(bytes)?;
-    let mut rest = behind(&before, bytes);
+fn follows(before: &Header, next: &Header) -> bool {
+    !before.pad
+        && next.session == before.session
+        && next.stream == before.stream
+        && next.term == before.term
+        && u64::from(next.offset) == u64::from(before.offset) + padded(before.length.into())
+}
+
+/// The frames of a datagram, where all are sound and each stands behind the one before.
+#[inline(always)]
+fn frames(bytes: &[u8]) -> Result<Frames<'_>, Fault> {
+    let first = frame(bytes)?;
+    let mut before = first.header;
+    let mut rest = behind(&first, bytes);
     while !rest.is_empty() {
         if rest.len() < 32 {
             return Err(Fault::TooShort);
         }
         let next = frame(rest)?;
-        if before.pad
-            || next.session != before.session
-            || next.stream != before.stream
-            || next.term != before.term
-            || u64::from(next.offset) != u64::from(before.offset) + padded(before.length.into())
-        {
+        if !follows(&before, &next.header) {
             return Err(Fault::Mixed);
         }
         rest = behind(&next, rest);
-        before = next;
+        before = next.header;
     }
-    Ok(())
+    Ok(Frames { rest: bytes })
+}
+
+impl<'a> Iterator for Frames<'a> {
+    type Item = Frame<'a>;
+
+    #[inline(always)]
+    fn next(&mut self) -> Option<Frame<'a>> {
+        let next = frame(self.rest).ok()?;
+        self.rest = behind(&next, self.rest);
+        Some(next)
+    }
+}
+
+fn packet(bytes: &[u8]) -> Result<Packet<'_>, Fault> {
+    match kind_of(bytes)? {
+        Kind::Pad => Ok(Packet::Data(frames(bytes)?)),
+        Kind::Data if bytes.len() == 32 && number(bytes, 0) == 0 => {
+            let offset = aligned(natural(bytes, 8)?)?;
+            Ok(Packet::Beat(header(false, 0, offset, bytes)))
+        }
+        Kind::Data => Ok(Packet::Data(frames(bytes)?)),
+        Kind::Nak => nak(bytes),
+        Kind::Status => status(bytes),
+        Kind::Setup => setup(bytes),
+    }
 }
 
 #[inline(never)]
 fn plain_read(bytes: &[u8]) -> u64 {
-    if check(bytes).is_err() {
-        return 0;
-    }
     let mut sum = 0_u64;
-    let mut rest = bytes;
-    while let Ok(next) = frame(rest) {
-        sum = sum.wrapping_add(next.offset.into());
-        sum = sum.wrapping_add((next.bytes.len() - 32) as u64);
-        black_box((next.flags, next.reserved));
-        rest = behind(&next, rest);
+    if let Ok(Packet::Data(frames)) = packet(bytes) {
+        for frame in frames {
+            sum = sum.wrapping_add(frame.header.offset.into());
+            sum = sum.wrapping_add((frame.bytes.len() - 32) as u64);
+        }
     }
     sum
 }

@@ -32,6 +32,7 @@ pub struct Datagram;
 
 /// A datagram whose first frame is of data: a heartbeat is 32 bytes of which the length is 0.
 #[tactic(auto, unfolding(crate::specs::Datagram::data_content))]
+#[inline(always)]
 fn read_data(bytes: &[u8]) -> Result<Packet<'_>, BadPacket>
     requires { 32 ≤ length bytes.now }
     ensures { Equals content result (data_content bytes.now) }

@@ -44,6 +44,7 @@ impl<'a> Frame<'a> {
     }
 
     #[tactic(auto, unfolding(crate::specs::Frame::data_of))]
+    #[inline(always)]
     fn read_data(bytes: &'a [u8]) -> Result<Frame<'a>, BadPacket>
         requires { 32 ≤ length bytes.now }
         ensures exact { Equals sent result (data_of bytes.now) }
@@ -59,6 +60,7 @@ impl<'a> Frame<'a> {
     }
 
     #[tactic(auto, unfolding(crate::specs::Frame::pad_of))]
+    #[inline(always)]
     fn read_pad(bytes: &'a [u8]) -> Result<Frame<'a>, BadPacket>
         requires { 32 ≤ length bytes.now }
         ensures exact { Equals sent result (pad_of bytes.now) }
@@ -76,6 +78,7 @@ impl<'a> Frame<'a> {
 
     /// The data frame or pad at the front. A sound frame of another type is `Mixed`: it has no place among those.
     #[tactic(auto, unfolding(crate::specs::Frame::frame_of))]
+    #[inline(always)]
     pub(crate) fn read(bytes: &'a [u8]) -> Result<Frame<'a>, BadPacket>
         ensures exact { Equals sent result (frame_of bytes.now) }
         ensures within { IfOk result (λ frame. IsWithin frame bytes.now) }

@@ -42,6 +42,7 @@ impl FrameType {
 
     /// The type of the frame at the front, of which there are as many bytes as its type has at least.
     #[tactic(auto, unfolding(crate::specs::FrameType::type_of))]
+    #[inline(always)]
     pub(crate) fn read(bytes: &[u8]) -> Result<FrameType, BadPacket>
         ensures exact { result ≡ type_of bytes.now }
         ensures within { IfOk result (λ kind. type_size kind ≤ length bytes.now) }

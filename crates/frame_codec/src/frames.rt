@@ -55,6 +55,7 @@ fn behind<'a>(frame: &Frame<'a>, bytes: &'a [u8]) -> &'a [u8]
 
 /// The frame at the front, where it stands behind another one.
 #[tactic(auto, unfolding(crate::specs::Frames::next_of))]
+#[inline(always)]
 fn read_next<'a>(before: &Header, bytes: &'a [u8]) -> Result<Frame<'a>, BadPacket>
     ensures exact { Equals sent result (next_of before.now bytes.now) }
     ensures within { IfOk result (λ frame. IsWithin frame bytes.now) }
@@ -72,6 +73,7 @@ fn read_next<'a>(before: &Header, bytes: &'a [u8]) -> Result<Frame<'a>, BadPacke
 
 /// Looks at the frames behind another one, to the last byte.
 #[tactic(auto, using(crate::proofs::FramesLemmas::later_end))]
+#[inline(always)]
 fn check_later(first: &Header, bytes: &[u8]) -> Result<(), BadPacket>
     ensures { fault_of result ≡ fault_of (all_later first.now bytes.now) }
 {
@@ -89,6 +91,7 @@ impl<'a> Frames<'a> {
     ghost use Rattle.frame_codec.specs.Frames.{frames_left};
 
     /// The frames of a datagram, where all of them are sound and each stands behind the one before.
+    #[inline(always)]
     pub(crate) fn read(bytes: &'a [u8]) -> Result<Frames<'a>, BadPacket>
         ensures { Equals frames_left result (frames_of bytes.now) }
     {
@@ -108,6 +111,7 @@ impl<'a> Iterator for Frames<'a> {
 
     ghost remaining = { item_count frames_left };
 
+    #[inline(always)]
     fn next(&mut self) -> Option<Frame<'a>> {
         match Frame::read(self.rest) {
             Ok(frame) => {

@@ -23,6 +23,7 @@ impl Nak {
     pub const SIZE: usize = 28;
 
     #[tactic(auto, unfolding(crate::specs::Nak::nak_of, crate::specs::Nak::nak_at))]
+    #[inline(always)]
     pub(crate) fn read(bytes: &[u8]) -> Result<Nak, BadPacket>
         requires { 28 ≤ length bytes.now }
         ensures { result ≡ nak_of bytes.now }

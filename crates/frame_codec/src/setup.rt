@@ -27,6 +27,7 @@ impl Setup {
     pub const SIZE: usize = 40;
 
     #[tactic(auto, unfolding(crate::specs::Setup::setup_of, crate::specs::Setup::setup_at))]
+    #[inline(always)]
     pub(crate) fn read(bytes: &[u8]) -> Result<Setup, BadPacket>
         requires { 40 ≤ length bytes.now }
         ensures { result ≡ setup_of bytes.now }

@@ -25,6 +25,7 @@ impl StatusMessage {
     pub const SIZE: usize = 36;
 
     #[tactic(auto, unfolding(crate::specs::StatusMessage::status_of, crate::specs::StatusMessage::status_at))]
+    #[inline(always)]
     pub(crate) fn read(bytes: &[u8]) -> Result<StatusMessage, BadPacket>
         requires { 36 ≤ length bytes.now }
         ensures { result ≡ status_of bytes.now }
