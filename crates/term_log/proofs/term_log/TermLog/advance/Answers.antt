@@ -1,0 +1,19 @@
+use Rattle.std.proofs.Common.{List, sym, subst}
+use Rattle.term_log.specs.declared.pair.Pair.{Pair}
+use Rattle.term_log.specs.Pairs.{AreNear}
+use Rattle.term_log.proofs.Nears.{near_map, near_ahead}
+use Rattle.term_log.proofs.term_log.TermLog.advance.Goals as goal
+
+pub invariant_of-self : goal.invariant_of-self
+invariant_of-self c =
+    let s = c.self.inside in
+    let i = s.appender.ident in
+    let near = c.self.invariant.near in
+    let from = rw (← c.self.view_is) at c.requires.from in
+    let to = rw (← c.self.view_is) at c.requires.to in
+    record {
+      near = subst (λ (pairs : List Pair). AreNear i.start s.appender.tail i.term_length pairs) (sym c.advance.ensures)
+          (near_map i.start s.appender.tail i.term_length c.args.subscription c.args.position s.pairs near
+          (near_ahead i.start s.appender.tail i.term_length c.args.subscription c.args.position s.pairs near from to));
+      sender_near = c.self.invariant.sender_near;
+    }

@@ -1,0 +1,17 @@
+use Rattle.std.proofs.Common.{List, sym, subst, arith}
+use Rattle.term_log.specs.declared.pair.Pair.{Pair}
+use Rattle.term_log.specs.Pairs.{AreNear}
+use Rattle.term_log.proofs.Nears.{near_push}
+use Rattle.term_log.proofs.term_log.TermLog.join_pair.Goals as goal
+
+pub invariant_of-self : goal.invariant_of-self
+invariant_of-self c =
+    let s = c.self.inside in
+    let i = s.appender.ident in
+    let tail = c.tail-position.ensures.value in
+    let low = c.tail-position.ensures.low in
+    record {
+      near = subst (λ (pairs : List Pair). AreNear i.start s.appender.tail i.term_length pairs) (sym c.join.ensures)
+          (near_push i.start s.appender.tail i.term_length s.pairs (record { subscription = c.args.subscription; position = c.tail-position.result }) c.self.invariant.near (omega arith, omega arith, omega arith));
+      sender_near = c.self.invariant.sender_near;
+    }

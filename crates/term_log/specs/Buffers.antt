@@ -1,0 +1,33 @@
+-- The three term buffers of a log, in the order of their positions.
+use Rattle.std.specs.Prelude.{ℕ, ◌+◌, ◌++◌, Bool, List, length, take, drop, replicate, if◌then◌else◌, refl}
+use Rattle.std.specs.Coded.{Coded, code_by, coded×, coded_ℕ, coded_list}
+use denote.RawPtr.{Ptr, coded_ptr}
+use Rattle.log_arena.specs.Homes.{Home}
+
+-- the lease's region and its place there, how many bytes a term has, and the bytes of the oldest term, of the one
+-- behind it and of the newest, one after the other
+pub record Buffers : Type 0 where
+  pub home : Home
+  pub place : ℕ
+  pub term_length : ℕ
+  pub bytes : List ℕ
+
+-- stored as the tuple of its fields
+abbrev pub buffers_code : Coded Buffers
+buffers_code =
+    code_by (Ptr × (ℕ × (ℕ × (ℕ × List ℕ)))) (coded× coded_ptr (coded× coded_ℕ (coded× coded_ℕ (coded× coded_ℕ (coded_list coded_ℕ)))))
+    (λ b. (b.home.base, (b.home.pages, (b.place, (b.term_length, b.bytes)))))
+    (λ p. record { home = record { base = p.0; pages = p.1.0 }; place = p.1.1.0; term_length = p.1.1.1.0; bytes = p.1.1.1.1 })
+    (λ _. refl)
+
+-- the bytes from a place on are these now, and all others are as they were
+abbrev pub written : ℕ → List ℕ → List ℕ → List ℕ
+written at new bytes = take at bytes ++ (new ++ drop (at + length new) bytes)
+
+-- the oldest term is gone, and a new one is there, all zeros
+abbrev pub turned : ℕ → List ℕ → List ℕ
+turned term_length bytes = drop term_length bytes ++ replicate term_length 0
+
+-- a new term begins where the newest one is full
+abbrev pub settled : ℕ → Bool → List ℕ → List ℕ
+settled term_length full bytes = if full then turned term_length bytes else bytes

@@ -1,0 +1,89 @@
+-- A term log: what it keeps of its frames, who reads it, and what becomes of an offer. Own rules but for the greatest
+-- position (Aeron Transport Protocol Specification, positions, and flow control by a limit).
+use Rattle.std.specs.Prelude.{ℕ, ◌+◌, ◌-◌, ◌*◌, ◌/◌, ◌<◌, ◌≤◌, ◌^◌, List, [], ◌∷◌, length, min, max, nat_lt, nat_le, if◌then◌else◌, refl}
+use Rattle.std.specs.Coded.{Coded, code_by, coded×, coded_ℕ, coded_list}
+use Rattle.term_log.specs.declared.ident.Ident.{Ident}
+use Rattle.term_log.specs.declared.ident.LogKind.{LogKind}
+use Rattle.term_log.specs.declared.ident.LogKind.TheVariants.{Ipc, Udp}
+use Rattle.term_log.specs.declared.pair.Pair.{Pair}
+use Rattle.term_log.specs.declared.offer.Offer.{Offer}
+use Rattle.term_log.specs.declared.offer.Offer.TheVariants.{At, TooLong, MaxPosition, BackPressured, AdminAction}
+use Rattle.term_log.specs.Ident.{greatest_position, payload_length}
+use Rattle.term_log.specs.Frames.{Frame, pad, total}
+use Rattle.term_log.specs.Cut.{cut}
+use Rattle.term_log.specs.Kept.{Kept, kept_code, rest_of, offset_of}
+use Rattle.term_log.specs.Pairs.{pair_code, least_of, IsNear, AreNear}
+
+-- what is kept of all frames, the subscriptions that read, and the position up to which the sender has sent
+pub record Log : Type 0 where
+  pub kept : Kept
+  pub pairs : List Pair
+  pub sender_position : ℕ
+
+abbrev pub log_code : Coded Log
+log_code =
+    code_by (Kept × (List Pair × ℕ)) (coded× kept_code (coded× (coded_list pair_code) coded_ℕ))
+    (λ l. (l.kept, (l.pairs, l.sender_position)))
+    (λ p. record { kept = p.0; pairs = p.1.0; sender_position = p.1.1 })
+    (λ _. refl)
+
+-- the first position that is held: the start of the second term before that of the tail, or the log's start
+abbrev pub low_of : Kept → ℕ
+low_of k = max k.ident.start ((k.tail / k.ident.term_length - 2) * k.ident.term_length)
+
+-- no offer is taken from this position on: half a term behind the least position, of the pairs, or of pairs and sender;
+-- a log over IPC that nobody reads takes none
+abbrev pub limit_among : LogKind → ℕ → ℕ → ℕ → List Pair → ℕ
+limit_among Udp tail half sender pairs = least_of sender pairs + half
+limit_among Ipc tail half sender [] = tail
+limit_among Ipc tail half sender (pair ∷ pairs) = least_of pair.position pairs + half
+
+unfoldable pub limit_of : Log → ℕ
+limit_of l = limit_among l.kept.ident.kind l.kept.tail (l.kept.ident.term_length / 2) l.sender_position l.pairs
+
+-- the greatest length of a message
+abbrev pub greatest_message : Ident → ℕ
+greatest_message i = min (i.term_length / 8) 16777216
+
+-- the frames of a message
+abbrev pub frames_of : Kept → List ℕ → List Frame
+frames_of k message = cut (payload_length k.ident) message
+
+-- the first that applies
+unfoldable pub offer_of : Log → List ℕ → Offer
+offer_of l message =
+    if nat_lt (greatest_message l.kept.ident) (length message) then TooLong
+    else if nat_lt (greatest_position l.kept.ident) (l.kept.tail + total (frames_of l.kept message)) then MaxPosition
+    else if nat_le (limit_of l) l.kept.tail then BackPressured
+    else if nat_lt (rest_of l.kept) (total (frames_of l.kept message)) then AdminAction
+    else At (l.kept.tail + total (frames_of l.kept message))
+
+-- what is appended: the whole message, or a pad over the rest of the term, or nothing
+abbrev pub appended : Offer → Kept → List ℕ → List Frame
+appended (At position) k message = frames_of k message
+appended AdminAction k message = pad (rest_of k) ∷ []
+appended TooLong k message = []
+appended MaxPosition k message = []
+appended BackPressured k message = []
+
+-- why what is appended fits, where something is
+abbrev pub HasRoom : Offer → Log → List ℕ → Type 0
+HasRoom (At position) l message =
+    (length message < 2 ^ 24) × (offset_of l.kept + total (frames_of l.kept message) ≤ l.kept.ident.term_length)
+    × (l.kept.tail + total (frames_of l.kept message) ≤ greatest_position l.kept.ident)
+    × (2 * total (frames_of l.kept message) ≤ l.kept.ident.term_length) × (l.kept.tail < limit_of l)
+HasRoom AdminAction l message =
+    (l.kept.tail + rest_of l.kept ≤ greatest_position l.kept.ident) × (2 * rest_of l.kept ≤ l.kept.ident.term_length) × (l.kept.tail < limit_of l)
+HasRoom TooLong l message = Unit {0}
+HasRoom MaxPosition l message = Unit {0}
+HasRoom BackPressured l message = Unit {0}
+
+-- the sender's position counts where there is a sender
+abbrev pub IsSenderNear : LogKind → ℕ → ℕ → ℕ → ℕ → Type 0
+IsSenderNear Ipc start tail term sender = (start ≤ sender) × (sender ≤ tail)
+IsSenderNear Udp start tail term sender = IsNear start tail term sender
+
+-- all positions of a log are within a term of its tail
+pub record IsLog (k : Kept) (pairs : List Pair) (sender : ℕ) : Type 0 where
+  pub near : AreNear k.ident.start k.tail k.ident.term_length pairs
+  pub sender_near : IsSenderNear k.ident.kind k.ident.start k.tail k.ident.term_length sender

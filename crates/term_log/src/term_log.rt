@@ -1,0 +1,232 @@
+//! The log of a publication.
+
+ghost use Rattle.log_arena.specs.Lease.{lease_bytes, lease_home, lease_len, lease_place};
+ghost use Rattle.std.specs.Prelude.{◌≡◌, ◌+◌, ◌*◌, ◌/◌, ◌%◌, ◌<◌, ◌≤◌, ◌++◌, ◌∷◌, [], IfErr, IfOk, IfSome, List, length, map, filter, replicate};
+ghost use Rattle.term_log.specs.Frames.{Frame};
+ghost use Rattle.term_log.specs.Ident.{IsIdent};
+ghost use Rattle.term_log.specs.Kept.{StandsFor, after_frames, opened};
+ghost use Rattle.term_log.specs.Log.{HasRoom, appended, limit_of, low_of, offer_of};
+ghost use Rattle.term_log.specs.Pairs.{ReadsUpTo, is_other, moved_one, position_of};
+
+use crate::appender::Appender;
+use crate::cutting::size_of;
+use crate::ident::{Ident, LogKind};
+use crate::offer::Offer;
+use crate::pair::Pair;
+use crate::pairs::Pairs;
+use frame_codec::Header;
+use log_arena::{Lease, NoMemory};
+use std::alloc::Global;
+use std::marker::Model;
+
+/// No message is longer, however long terms are.
+const GREATEST_MESSAGE: usize = 16_777_216;
+
+/// The log of a publication: a list of frames, each behind the one before, of which the last three terms are held.
+///
+/// Contracts see what is kept of the frames, the subscriptions that read them with their positions, and how far the
+/// sender has sent. `StandsFor` says of which lists of frames what is kept is all that has to be kept.
+#[derive(Drop)]
+pub struct TermLog {
+    appender: Appender,
+    pairs: Pairs,
+    /// The position up to which the sender has sent.
+    sender_position: u64,
+}
+
+impl Model for TermLog {
+    ghost use Rattle.term_log.specs.Log.{IsLog, Log, log_code};
+
+    ghost Value = { Log };
+
+    ghost coded = { log_code };
+
+    ghost view = { λ log. record { kept = log.appender; pairs = log.pairs; sender_position = log.sender_position } };
+
+    ghost invariant = { λ log. IsLog log.appender log.pairs log.sender_position };
+}
+
+impl TermLog {
+    /// A log without frames, in a fresh lease of three terms. Room for 512 pairs is reserved here; no later call takes
+    /// memory.
+    ///
+    /// # Errors
+    /// The lease and `NoMemory` where there was no memory.
+    pub fn open(alloc: Global, lease: Lease, ident: Ident) -> Result<TermLog, (Lease, NoMemory)>
+        requires ident { IsIdent ident }
+        requires len { lease_len lease ≡ 3 * ident.term_length }
+        requires zeros { lease_bytes lease ≡ replicate (3 * ident.term_length) 0 }
+        ensures opened { IfOk result (λ log. log ≡ record { kept = opened lease ident; pairs = []; sender_position = ident.start }) }
+        ensures stands { IfOk result (λ log. StandsFor log.kept []) }
+        ensures err { IfErr result (λ refused. refused.0 ≡ lease) }
+    {
+        match Pairs::new(alloc) {
+            Ok(pairs) => Ok(TermLog {
+                appender: Appender::new(lease, ident),
+                pairs,
+                sender_position: ident.start,
+            }),
+            Err(refused) => Err((lease, refused)),
+        }
+    }
+
+    /// What the log was made for.
+    pub fn ident(&self) -> Ident
+        ensures value { result ≡ self.now.kept.ident }
+        ensures sound { IsIdent self.now.kept.ident }
+    {
+        self.appender.ident()
+    }
+
+    /// The position behind the last frame.
+    pub fn tail(&self) -> u64
+        ensures { result ≡ self.now.kept.tail }
+    {
+        self.appender.tail()
+    }
+
+    /// How many messages were appended.
+    pub fn messages(&self) -> u64
+        ensures { result ≡ self.now.kept.messages }
+    {
+        self.appender.messages()
+    }
+
+    /// The first position whose frame is held: the start of the second term before that of the tail, or the log's start.
+    pub fn low(&self) -> u64
+        ensures { result ≡ low_of self.now.kept }
+    {
+        let ident = self.appender.ident();
+        let term_length = u64::from(ident.term_length);
+        let terms = (self.appender.tail() / term_length).saturating_sub(2);
+        ident.start.max(terms * term_length)
+    }
+
+    /// The position from which on no offer is taken.
+    #[tactic(auto, unfolding(crate::specs::Log::limit_of))]
+    pub fn limit(&self) -> u64
+        ensures { result ≡ limit_of self.now }
+    {
+        let ident = self.appender.ident();
+        let tail = self.appender.tail();
+        let half = u64::from(ident.term_length / 2);
+        match ident.kind {
+            LogKind::Udp => self.pairs.least(self.sender_position) + half,
+            LogKind::Ipc => match self.pairs.as_slice() {
+                [] => tail,
+                [first, ..] => self.pairs.least(first.position) + half,
+            },
+        }
+    }
+
+    /// What becomes of a message; nothing is changed yet.
+    #[tactic(auto, unfolding(crate::specs::Log::offer_of))]
+    fn decide(&self, message: &[u8]) -> Offer
+        ensures answer { result ≡ offer_of self.now message.now }
+        ensures room { HasRoom result self.now message.now }
+        ensures sound { IsIdent self.now.kept.ident }
+        ensures aligned { self.now.kept.tail % 32 ≡ 0 }
+    {
+        let ident = self.appender.ident();
+        let tail = self.appender.tail();
+        if message.len() > (ident.term_length as usize / 8).min(GREATEST_MESSAGE) {
+            return Offer::TooLong;
+        }
+        let size = size_of(message, ident.mtu as usize - Header::SIZE);
+        if tail + size > u64::from(ident.term_length) * (1 << 31) {
+            return Offer::MaxPosition;
+        }
+        if tail >= self.limit() {
+            return Offer::BackPressured;
+        }
+        if size > self.appender.rest() {
+            return Offer::AdminAction;
+        }
+        Offer::At(tail + size)
+    }
+
+    /// Offers a message. The answer is the first that applies, in the order [`Offer::TooLong`],
+    /// [`Offer::MaxPosition`], [`Offer::BackPressured`], [`Offer::AdminAction`], [`Offer::At`]. Whether anybody is
+    /// connected is asked by the caller.
+    pub fn offer(&mut self, message: &[u8]) -> Offer
+        ensures answer { result ≡ offer_of self.old message.now }
+        ensures exact { self.new ≡ record self.old { kept = after_frames self.old.kept (appended result self.old.kept message.now) } }
+        ensures stands { (frames : List Frame) → StandsFor self.old.kept frames
+            → StandsFor self.new.kept (frames ++ appended result self.old.kept message.now) }
+    {
+        let answer = self.decide(message);
+        match answer {
+            Offer::At(_) => self.appender.append_message(message),
+            Offer::AdminAction => self.appender.pad(),
+            Offer::TooLong | Offer::MaxPosition | Offer::BackPressured => {}
+        }
+        answer
+    }
+
+    /// A subscription reads the log from now on: its position is the tail, which is given back.
+    pub fn join_pair(&mut self, subscription: u64) -> u64
+        requires { length self.old.pairs < 512 }
+        ensures position { result ≡ self.old.kept.tail }
+        ensures joined { self.new ≡ record self.old {
+          pairs
+              = self.old.pairs ++ record { subscription = subscription; position = self.old.kept.tail } ∷ [];
+        } }
+    {
+        let position = self.appender.tail();
+        self.pairs.join(Pair {
+            subscription,
+            position,
+        });
+        position
+    }
+
+    /// A subscription reads the log no longer.
+    pub fn leave_pair(&mut self, subscription: u64)
+        ensures { self.new ≡ record self.old { pairs = filter (is_other subscription) self.old.pairs } }
+    {
+        self.pairs.leave(subscription);
+    }
+
+    /// How far a subscription has read, if it reads the log: a position that is held, or the tail.
+    pub fn pair_position(&self, subscription: u64) -> Option<u64>
+        ensures position { result ≡ position_of self.now.pairs subscription }
+        ensures held { IfSome result (λ position. (low_of self.now.kept ≤ position) × (position ≤ self.now.kept.tail)) }
+    {
+        self.pairs.position(subscription)
+    }
+
+    /// A subscription has read up to a position, which is the tail or the start of a frame below it.
+    pub fn advance(&mut self, subscription: u64, position: u64)
+        requires from { ReadsUpTo (position_of self.old.pairs subscription) position }
+        requires to { position ≤ self.old.kept.tail }
+        ensures { self.new ≡ record self.old { pairs = map (moved_one subscription position) self.old.pairs } }
+    {
+        self.pairs.advance(subscription, position);
+    }
+
+    /// The position up to which the sender has sent.
+    pub fn sender_position(&self) -> u64
+        ensures value { result ≡ self.now.sender_position }
+        ensures within { result ≤ self.now.kept.tail }
+    {
+        self.sender_position
+    }
+
+    /// The sender has sent up to a position, which is the tail or the start of a frame below it.
+    pub fn sent(&mut self, position: u64)
+        requires from { self.old.sender_position ≤ position }
+        requires to { position ≤ self.old.kept.tail }
+        ensures { self.new ≡ record self.old { sender_position = position } }
+    {
+        self.sender_position = position;
+    }
+
+    /// The lease, whose bytes are what they are: its arena takes it back.
+    pub fn close(self) -> Lease
+        ensures home { lease_home result ≡ self.kept.buffers.home }
+        ensures place { lease_place result ≡ self.kept.buffers.place }
+        ensures len { lease_len result ≡ 3 * self.kept.buffers.term_length }
+    {
+        self.appender.into_lease()
+    }
+}

@@ -1,0 +1,108 @@
+// Messages of many lengths, offered to a log and to a plain list.
+ghost use Rattle.std.specs.Prelude.{◌≡◌, ◌%◌, [], IfOk};
+ghost use Rattle.term_log.specs.Ident.{IsIdent};
+
+use crate::plain::Plain;
+use log_arena::{Arena, NoRoom};
+use std::alloc::{AllocError, Global};
+use term_log::{Ident, Offer, TermLog};
+
+/// A log without frames, in a lease of this arena. `NoRoom` where there is no room for its terms or its pairs.
+pub fn open(alloc: Global, arena: &mut Arena, ident: Ident) -> Result<TermLog, NoRoom>
+    requires ident { IsIdent ident }
+    requires pages { ident.term_length % 4096 ≡ 0 }
+    ensures ident { IfOk result (λ log. log.kept.ident ≡ ident) }
+    ensures tail { IfOk result (λ log. log.kept.tail ≡ ident.start) }
+    ensures sent { IfOk result (λ log. log.sender_position ≡ ident.start) }
+    ensures pairs { IfOk result (λ log. log.pairs ≡ []) }
+{
+    let lease = arena.lease(3 * ident.term_length as usize)?;
+    match TermLog::open(alloc, lease, ident) {
+        Ok(log) => Ok(log),
+        Err(_) => Err(NoRoom),
+    }
+}
+
+/// Lengths of messages: empty, at the edges of a filling and of a frame, and the greatest.
+const LENGTHS: [usize; 12] = [0, 1, 31, 32, 33, 1375, 1376, 1377, 2752, 5000, 8191, 8192];
+
+/// Offers `rounds` messages, each until it is taken, while the sender follows. Whether each answer was that of the plain
+/// list.
+pub fn fill(
+    alloc: Global,
+    log: &mut TermLog,
+    plain: &mut Plain,
+    rounds: u32,
+) -> Result<bool, AllocError> {
+    let mut same = true;
+    let mut word: u64 = 1;
+    for _ in 0..rounds {
+        word = next(word);
+        let length = LENGTHS[(word >> 40) as usize % LENGTHS.len()];
+        let message = Vec::from_elem(alloc, (word >> 56) as u8 | 1, length)?;
+        same &= offer(log, plain, message.as_slice())?;
+        follow(log);
+    }
+    Ok(same)
+}
+
+// The next word of a linear congruence (Knuth's MMIX).
+fn next(word: u64) -> u64 {
+    word.wrapping_mul(6364136223846793005)
+        .wrapping_add(1442695040888963407)
+}
+
+// The sender sends all there is.
+fn follow(log: &mut TermLog) {
+    let _ = log.sender_position();
+    let tail = log.tail();
+    log.sent(tail);
+}
+
+// How many positions a message takes.
+fn size_of(length: u64) -> u64 {
+    let full = length / 1376;
+    let rest = length % 1376;
+    let last = rest.wrapping_add(63) / 32 * 32;
+    if rest == 0 && full > 0 {
+        full.wrapping_mul(1408)
+    } else {
+        full.wrapping_mul(1408).wrapping_add(last)
+    }
+}
+
+// Offers a message, and again behind a pad. Whether the answers were those of the plain list.
+fn offer(log: &mut TermLog, plain: &mut Plain, message: &[u8]) -> Result<bool, AllocError> {
+    let size = size_of(message.len() as u64);
+    let offset = plain.tail() % 65_536;
+    if size > 65_536u64.wrapping_sub(offset) {
+        plain.put_pad()?;
+        if log.offer(message) != Offer::AdminAction {
+            return Ok(false);
+        }
+        follow(log);
+    }
+    plain.put_message(message)?;
+    let answer = log.offer(message);
+    Ok(answer == Offer::At(plain.tail()))
+}
+
+/// Whether these bytes of a log's lease are the last three terms of all, each in its buffer, and zeros behind the tail.
+pub fn is_held(bytes: &[u8], plain: &Plain) -> bool {
+    let newest = plain.tail() / 65_536;
+    let mut same = true;
+    for (place, byte) in bytes.iter().enumerate() {
+        let buffer = place as u64 / 65_536;
+        let back = (newest % 3).wrapping_add(3).wrapping_sub(buffer) % 3;
+        let position = newest
+            .wrapping_sub(back)
+            .wrapping_mul(65_536)
+            .wrapping_add(place as u64 % 65_536);
+        let wanted = match plain.bytes.get(position as usize) {
+            Some(wanted) => *wanted,
+            None => 0,
+        };
+        same &= *byte == wanted;
+    }
+    same
+}
