@@ -1,0 +1,10 @@
+pub mod Cleared
+pub mod Dropping
+pub mod Found
+pub mod Orders
+pub mod Pairing
+pub mod Ring
+pub mod Settled
+pub mod Taken
+pub mod Tests
+pub mod Writes

@@ -1,0 +1,36 @@
+-- Frames as they are handed to a log (Aeron Transport Protocol Specification, data frame and padding).
+use Rattle.std.specs.Prelude.{◌≡◌, ℕ, ◌%◌, ◌<◌, ◌≤◌, ◌^◌, ◌⊎◌, List, length}
+use Rattle.frame_codec.specs.Fields.{byte_at, half_at, number_at, signed_at}
+use Rattle.frame_codec.specs.Frame.{padded}
+use Rattle.frame_codec.specs.Position.{position_of}
+use Rattle.image_log.specs.declared.ident.Ident.{Ident}
+
+-- how many positions a frame takes: the length that its header states, rounded up to a multiple of 32
+unfoldable pub span_of : List ℕ → ℕ
+span_of bytes = padded (number_at 0 bytes)
+
+-- the term offset that its header states
+unfoldable pub offset_of : List ℕ → ℕ
+offset_of bytes = number_at 8 bytes
+
+-- one data frame without its filling, or one pad by its header alone
+abbrev pub IsLaidOut : List ℕ → Type 0
+IsLaidOut bytes =
+    ((half_at 6 bytes ≡ 1) × (number_at 0 bytes ≡ length bytes))
+    ⊎ ((half_at 6 bytes ≡ 0) × (length bytes ≡ 32) × (0 < number_at 0 bytes) × (number_at 0 bytes % 32 ≡ 0))
+
+-- a frame in the layout
+pub record IsSound (bytes : List ℕ) : Type 0 where
+  pub version : byte_at 4 bytes ≡ 0
+  pub header : 32 ≤ length bytes
+  pub layout : IsLaidOut bytes
+  pub short : number_at 0 bytes < 2 ^ 31
+  pub offset : number_at 8 bytes < 2 ^ 31
+  pub aligned : number_at 8 bytes % 32 ≡ 0
+
+-- a frame of the log's session and stream, at its header's position
+pub record IsFor (ident : Ident) (position : ℕ) (bytes : List ℕ) : Type 0 where
+  pub sound : IsSound bytes
+  pub session : signed_at 12 bytes ≡ ident.session_id
+  pub stream : signed_at 16 bytes ≡ ident.stream_id
+  pub at : position ≡ position_of ident.initial_term_id (signed_at 20 bytes) (number_at 8 bytes) ident.term_length

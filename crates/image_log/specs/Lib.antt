@@ -1,0 +1,10 @@
+pub mod Answer
+pub mod Frame
+pub mod Handed
+pub mod Kept
+pub mod Log
+pub mod Order
+pub mod Pairs
+pub mod Rebuilt
+pub mod Stored
+pub mod Writing

@@ -1,0 +1,34 @@
+-- A log's fields, and what holds of them.
+use Rattle.std.specs.Prelude.{◌≡◌, ℕ, ◌+◌, ◌*◌, ◌<◌, ◌≤◌, ◌^◌, max, List}
+use Rattle.image_log.specs.Order.{InTerms, Ordered, chain}
+use Rattle.image_log.specs.Pairs.{AreWithin}
+use Rattle.image_log.specs.Rebuilt.{Rebuilt, term_start}
+use Rattle.image_log.specs.Stored.{Stored}
+use Rattle.image_log.specs.declared.ident.Ident.{Ident}
+use Rattle.image_log.specs.declared.pair.Pair.{Pair}
+
+abbrev pub rebuilt_of : Ident → ℕ → ℕ → ℕ → ℕ → List Pair → Stored → Rebuilt
+rebuilt_of ident join base greatest moment pairs store = record {
+  ident = ident;
+  held = store.held;
+  join = join;
+  base = base;
+  frames = store.frames;
+  greatest = greatest;
+  moment = moment;
+  pairs = pairs;
+}
+
+pub record IsLog (ident : Ident) (join base contiguous : ℕ) (pairs : List Pair) (store : Stored) : Type 0 where
+  pub terms : (65536 ≤ ident.term_length) × (ident.term_length ≤ 16777216)
+  pub room : store.held.len ≡ 3 * ident.term_length
+  pub low : store.low ≡ max join (term_start ident.term_length base)
+  pub joined : join ≤ base
+  pub based : base ≤ contiguous
+  pub chained : contiguous ≡ chain store.low store.frames
+  pub order : Ordered store.low (store.low + store.held.len) store.frames
+  pub high : store.low + store.held.len < 2 ^ 62
+  pub whole : InTerms ident.term_length store.frames
+  pub ends : Ordered store.low (2 ^ 58) store.frames
+  pub far : contiguous ≤ 2 ^ 58
+  pub paired : AreWithin base contiguous pairs

@@ -1,0 +1,289 @@
+ghost use Rattle.std.specs.Prelude.{◌≡◌, ◌+◌, ◌*◌, ◌%◌, ◌^◌, ◌<◌, ◌≤◌, insert, length, max, IfOk, IfErr, IfSome};
+ghost use Rattle.log_arena.specs.Lease.{lease_bytes, lease_len};
+ghost use Rattle.image_log.specs.Frame.{framed};
+ghost use Rattle.image_log.specs.Handed.{IsFor, offset_of, span_of};
+ghost use Rattle.image_log.specs.Order.{rank};
+ghost use Rattle.image_log.specs.Pairs.{ReadsUpTo, position_of};
+ghost use Rattle.image_log.specs.Rebuilt.{advanced, after_insert, contiguous_of, gap_of, insert_of, is_beyond, is_silent, joined, left, low_of, opened, reach_of, settled, term_start, window_of};
+ghost use Rattle.image_log.specs.Stored.{IsBlank, StandIn, held_of};
+
+use crate::handed;
+use crate::ident::Ident;
+use crate::insert::Insert;
+use crate::pair::Pair;
+use crate::pairs::Pairs;
+use crate::store::Store;
+use log_arena::{Lease, NoMemory};
+use std::alloc::Global;
+use std::marker::Model;
+
+/// The greatest window, in bytes.
+const WINDOW: u64 = 131_072;
+
+/// The log of a remote stream, rebuilt from the frames that come, in any order.
+#[derive(Drop)]
+pub struct ImageLog {
+    ident: Ident,
+    /// The position at which the log joined.
+    join: u64,
+    /// The least position of a pair; without one, where it was last.
+    base: u64,
+    /// The end of the longest chain of frames.
+    contiguous: u64,
+    /// The greatest position heard of.
+    greatest: u64,
+    /// The moment at which the sender was heard last.
+    moment: u64,
+    pairs: Pairs,
+    store: Store,
+}
+
+impl Model for ImageLog {
+    ghost use Rattle.image_log.specs.Order.{rank};
+    ghost use Rattle.image_log.specs.Rebuilt.{Rebuilt};
+
+    ghost Value = { Rebuilt };
+
+    ghost use Rattle.image_log.specs.Log.{IsLog, rebuilt_of};
+
+    ghost view = { λ l. rebuilt_of l.ident l.join l.base l.greatest l.moment l.pairs l.store };
+
+    ghost invariant = { λ l. IsLog l.ident l.join l.base l.contiguous l.pairs l.store };
+}
+
+/// Where the term of a position begins.
+fn term_start(term_length: u32, position: u64) -> u64
+    requires { 0 < term_length }
+    ensures { result ≡ term_start term_length position }
+{
+    position - position % u64::from(term_length)
+}
+
+/// How far above the base frames may begin.
+fn window_of(term_length: u32) -> u64
+    ensures { result ≡ window_of term_length }
+{
+    WINDOW.min(u64::from(term_length) / 2)
+}
+
+impl ImageLog {
+    /// A log without a frame, in a lease of three terms, which is cleared. It joins at a position, below which nothing
+    /// is kept. Room for the places of all frames that the lease can hold, and for 512 pairs, is taken here; no later
+    /// call takes memory. Without memory the lease comes back.
+    pub fn open(
+        alloc: Global,
+        lease: Lease,
+        ident: Ident,
+        join: u64,
+    ) -> Result<ImageLog, (Lease, NoMemory)>
+        requires terms { (65536 ≤ ident.term_length) × (ident.term_length ≤ 16777216) }
+        requires lease { lease_len lease ≡ 3 * ident.term_length }
+        requires join { (join % 32 ≡ 0) × (join < ident.term_length * 2 ^ 31) }
+        ensures ok { IfOk result (λ l. l ≡ opened (held_of lease) ident join) }
+        ensures err { IfErr result (λ e. e.0 ≡ lease) }
+    {
+        let pairs = match Pairs::new(alloc) {
+            Ok(pairs) => pairs,
+            Err(refused) => return Err((lease, refused)),
+        };
+        let store = Store::open(alloc, lease, join)?;
+        Ok(ImageLog {
+            ident,
+            join,
+            base: join,
+            contiguous: join,
+            greatest: join,
+            moment: 0,
+            pairs,
+            store,
+        })
+    }
+
+    /// Which stream it is of.
+    pub fn ident(&self) -> Ident
+        ensures { result ≡ self.now.ident }
+    {
+        self.ident
+    }
+
+    /// Up to which position the stream is whole.
+    pub fn contiguous(&self) -> u64
+        ensures { result ≡ contiguous_of self.now }
+    {
+        self.contiguous
+    }
+
+    /// The least position of a pair; without one, where it was last, at first the join.
+    pub fn base(&self) -> u64
+        ensures { result ≡ self.now.base }
+    {
+        self.base
+    }
+
+    /// The position from which on no frame is taken.
+    fn reach(&self) -> u64
+        ensures value { result ≡ reach_of self.now }
+        ensures fits { result < 2 ^ 63 }
+    {
+        self.base + window_of(self.ident.term_length)
+    }
+
+    /// A heartbeat told of the sender's position.
+    pub fn beat(&mut self, position: u64)
+        ensures { self.new ≡ record self.old { greatest = max self.old.greatest position } }
+    {
+        self.greatest = self.greatest.max(position);
+    }
+
+    /// The first positions that are missing, and how many, where some below the window's end are: up to the next frame,
+    /// or, without one, up to the greatest position heard of.
+    pub fn gap(&self) -> Option<(u64, u32)>
+        ensures { result ≡ gap_of self.now }
+    {
+        let next = self.store.next_from(self.contiguous, self.greatest);
+        let end = next.min(self.reach());
+        if self.contiguous < end {
+            Some((self.contiguous, (end - self.contiguous) as u32))
+        } else {
+            None
+        }
+    }
+
+    /// What becomes of a frame.
+    fn answer(&self, position: u64, frame: &[u8]) -> Insert
+        requires { IsFor self.now.ident position frame.now }
+        ensures answer { result ≡ insert_of self.now position frame.now }
+        ensures fits { position < 2 ^ 57 }
+    {
+        if position < self.store.low() {
+            return Insert::Below;
+        }
+        let span = handed::span_of(frame);
+        if position >= self.reach() {
+            return Insert::Beyond;
+        }
+        if u64::from(handed::offset_of(frame)) + span > u64::from(self.ident.term_length) {
+            return Insert::Beyond;
+        }
+        self.store.answer(position, position + span, frame)
+    }
+
+    /// Keeps a frame.
+    fn take(&mut self, position: u64, span: u32, frame: &[u8])
+        requires of { IsFor self.old.ident position frame.now }
+        requires span { span ≡ span_of frame.now }
+        requires taken { insert_of self.old position frame.now ≡ Insert.Taken }
+        ensures { self.new ≡ record self.old {
+          frames
+              = insert self.old.frames (rank position self.old.frames) (framed position span frame.now);
+        } }
+    {
+        let at = self.store.rank(position);
+        self.store.put(at, position, span, frame);
+        if position == self.contiguous {
+            self.contiguous = self.store.chain(at, position);
+        }
+    }
+
+    /// Hands in one data frame without its filling, or one pad by its header alone, of the log's session and stream, at
+    /// its header's position. A frame that is kept already stays as it is.
+    pub fn insert(&mut self, position: u64, frame: &[u8]) -> Insert
+        requires { IsFor self.old.ident position frame.now }
+        ensures answer { result ≡ insert_of self.old position frame.now }
+        ensures after { self.new ≡ after_insert self.old position frame.now }
+    {
+        let answer = self.answer(position, frame);
+        let span = handed::span_of(frame);
+        if let Insert::Taken = answer {
+            self.take(position, span as u32, frame);
+        }
+        self.beat(position + span);
+        answer
+    }
+
+    /// Moves the base to the least position of a pair, and drops the frames below the start of its term.
+    #[tactic(auto, unfolding(crate::specs::Rebuilt::settled))]
+    fn settle(&mut self)
+        ensures { self.new ≡ settled self.old }
+    {
+        let base = self.pairs.least_or(self.base);
+        let low = term_start(self.ident.term_length, base).max(self.join);
+        self.base = base;
+        self.store.drop_below(low);
+    }
+
+    /// A subscription reads the log from now on: its position is the contiguous position, which is given back.
+    pub fn join_pair(&mut self, subscription: u64) -> u64
+        requires { length self.old.pairs < 512 }
+        ensures position { result ≡ contiguous_of self.old }
+        ensures joined { self.new ≡ settled (joined self.old subscription) }
+    {
+        let position = self.contiguous;
+        self.pairs.join(Pair {
+            subscription,
+            position,
+        });
+        self.settle();
+        position
+    }
+
+    /// A subscription reads the log no longer.
+    pub fn leave_pair(&mut self, subscription: u64)
+        ensures { self.new ≡ settled (left self.old subscription) }
+    {
+        self.pairs.leave(subscription);
+        self.settle();
+    }
+
+    /// How far a subscription has read, if it reads the log: from the base on, and not past the contiguous position.
+    pub fn pair_position(&self, subscription: u64) -> Option<u64>
+        ensures position { result ≡ position_of self.now.pairs subscription }
+        ensures within { IfSome result (λ position. (self.now.base ≤ position) × (position ≤ contiguous_of self.now)) }
+    {
+        self.pairs.position(subscription)
+    }
+
+    /// A subscription has read up to a position, which is the contiguous position or the start of a frame below it.
+    pub fn advance(&mut self, subscription: u64, position: u64)
+        requires from { ReadsUpTo (position_of self.old.pairs subscription) position }
+        requires to { position ≤ contiguous_of self.old }
+        ensures { self.new ≡ settled (advanced self.old subscription position) }
+    {
+        self.pairs.advance(subscription, position);
+        self.settle();
+    }
+
+    /// The sender was heard at a moment. The greatest one counts.
+    pub fn heard(&mut self, now: u64)
+        ensures { self.new ≡ record self.old { moment = max self.old.moment now } }
+    {
+        self.moment = self.moment.max(now);
+    }
+
+    /// Whether the sender was not heard for longer than that.
+    pub fn silent(&self, now: u64, limit: u64) -> bool
+        ensures { result ≡ is_silent self.now now limit }
+    {
+        now.saturating_sub(self.moment) > limit
+    }
+
+    /// Gives the lease back. Its bytes are those of the frames, each at its position modulo the lease's length, and
+    /// zeros.
+    pub fn close(self) -> Lease
+        ensures held { held_of result ≡ self.held }
+        ensures stand { StandIn self.held.len self.frames (lease_bytes result) }
+        ensures blank { IsBlank self.held.len self.frames (lease_bytes result) }
+    {
+        let ImageLog {
+            ident: _,
+            join: _,
+            base: _,
+            contiguous: _,
+            greatest: _,
+            moment: _,
+            pairs: _,
+            store,
+        } = self;
+        store.into_lease()
+    }
+}
