@@ -183,7 +183,7 @@ fn script<'a>(alloc: Global) -> Result<Command<'a>, AllocError> {
 }
 
 /// The words that the program takes.
-pub fn command<'a>(alloc: Global) -> Result<Command<'a>, AllocError> {
+pub(crate) fn command<'a>(alloc: Global) -> Result<Command<'a>, AllocError> {
     Command::new(alloc, "aeron_policyd")
         .about(ABOUT)
         .after_help(USES)
@@ -204,7 +204,7 @@ fn decide_task<'a>(of: &ArgMatches<'a>) -> Option<Task<'a>> {
 }
 
 /// What the words ask for, once they were found to be of the form.
-pub fn task_in<'a>(matches: &ArgMatches<'a>) -> Option<Task<'a>> {
+pub(crate) fn task_in<'a>(matches: &ArgMatches<'a>) -> Option<Task<'a>> {
     let (name, of) = matches.subcommand()?;
     if name == "check" {
         let policy = of.get_str("POLICY")?;
