@@ -42,12 +42,3 @@ pub use set_counter::SetCounter;
 pub use subscription_ready::SubscriptionReady;
 pub use terminate_driver::TerminateDriver;
 pub use unavailable_counter::UnavailableCounter;
-
-#[cfg(test)]
-mod client_tests;
-#[cfg(test)]
-mod counter_tests;
-#[cfg(test)]
-mod test_bytes;
-#[cfg(test)]
-mod tests;

@@ -8,6 +8,8 @@ mod deciding;
 #[cfg(test)]
 mod ends;
 #[cfg(test)]
+mod play;
+#[cfg(test)]
 mod reading;
 #[cfg(test)]
 mod running;

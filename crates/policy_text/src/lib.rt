@@ -13,6 +13,3 @@ mod names;
 pub use document::read;
 pub use fault::{Field, PolicyFault};
 pub use names::Names;
-
-#[cfg(test)]
-mod tests;

@@ -1,0 +1,5 @@
+//! Tests of `policy_text`.
+#![tactic(auto)]
+
+#[cfg(test)]
+mod tests;
