@@ -1,6 +1,8 @@
+pub mod Between
 pub mod Cleared
 pub mod Dropping
 pub mod Found
+pub mod Naming
 pub mod Orders
 pub mod Pairing
 pub mod Ring

@@ -9,6 +9,7 @@ use Rattle.image_log.specs.Stored.{Stored}
 use Rattle.image_log.specs.declared.ident.Ident.{Ident}
 use Rattle.image_log.specs.declared.pair.Pair.{Pair}
 use Rattle.image_log.proofs.Dropping.{chain-from, ends_there, in_terms_from, ordered_from, term_up}
+use Rattle.image_log.proofs.Naming.{for_filter}
 use Rattle.image_log.proofs.Pairing.{least_within}
 
 -- the new base, and where frames are kept from
@@ -48,6 +49,7 @@ log_settled ident join base c l pairs store new is at dropped =
       ends = ordered_from l store.low (2 ^ 58) (2 ^ 58) store.frames is.ends (omega arith);
       far = is.far;
       paired = least.2;
+      named = for_filter ident (begins_from l) store.frames is.named;
     })
 
 -- the log with other pairs
@@ -68,4 +70,5 @@ log_paired ident join base c pairs now others store is same within =
       ends = is.ends;
       far = is.far;
       paired = within;
+      named = is.named;
     })

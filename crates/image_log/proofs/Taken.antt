@@ -15,6 +15,7 @@ use Rattle.image_log.specs.declared.insert.Insert.{Insert}
 use Rattle.image_log.specs.declared.insert.Insert.TheVariants.{Taken, Repeat, Overlap, Below, Beyond}
 use Rattle.image_log.specs.declared.pair.Pair.{Pair}
 use Rattle.image_log.proofs.Dropping.{chain-within, in_terms_put}
+use Rattle.image_log.proofs.Naming.{for_put}
 use Rattle.image_log.proofs.Orders.{chain-here, chain-le, chain-other, put_ordered}
 use Rattle.image_log.proofs.Pairing.{within_more}
 use Rattle.image_log.proofs.Tests.{gt_no, is_ge, le_no, le_yes, lt_no, lt_yes}
@@ -160,12 +161,13 @@ pub within_room : (join base t p s off : ℕ) → 65536 ≤ t → p < base + min
 within_room join base t p s off big near fit = omega arith
 
 -- a log that takes a frame where its chain ends, and elsewhere
-pub log_here : (ident : Ident) (join base c p s at end : ℕ) (bytes : List ℕ) (pairs : List Pair) (store new : Stored) → IsLog ident join base c pairs store → at ≡ rank p store.frames
+pub log_here : (ident : Ident) (join base c p s at end : ℕ) (bytes : List ℕ) (pairs : List Pair) (store new : Stored) → IsLog ident join base c pairs store → IsFor ident p bytes → s ≡ span_of bytes
+    → at ≡ rank p store.frames
     → new ≡ record store { frames = insert store.frames at (framed p s bytes) } → Ordered store.low (store.low + store.held.len) (insert store.frames at (framed p s bytes))
     → 32 ≤ s → p ≡ c → end ≡ chain p (drop at new.frames)
     → p % ident.term_length + s ≤ ident.term_length → p + s ≤ 2 ^ 58 → list_any (meets p (p + s)) store.frames ≡ false → store.low ≤ p
     → IsLog ident join base end pairs new
-log_here ident join base c p s at end bytes pairs store new is ranked put order takes here ends whole high apart above =
+log_here ident join base c p s at end bytes pairs store new is of spans ranked put order takes here ends whole high apart above =
     let after : Stored = record store { frames = insert store.frames at (framed p s bytes) } in
     let e : end ≡ chain p (drop at (insert store.frames at (framed p s bytes))) = ends ∙ ap (λ (x : Stored). chain p (drop at x.frames)) put in
     let far = chain-le p (drop at (insert store.frames at (framed p s bytes))) in
@@ -191,14 +193,16 @@ log_here ident join base c p s at end bytes pairs store new is ranked put order 
       ends = kept;
       far = omega (arith, e, moved, within);
       paired = within_more base c end pairs is.paired up;
+      named = for_put ident p s at bytes store.frames is.named of spans;
     })
 
-pub log_elsewhere : (ident : Ident) (join base c p s at : ℕ) (bytes : List ℕ) (pairs : List Pair) (store new : Stored) → IsLog ident join base c pairs store → at ≡ rank p store.frames
+pub log_elsewhere : (ident : Ident) (join base c p s at : ℕ) (bytes : List ℕ) (pairs : List Pair) (store new : Stored) → IsLog ident join base c pairs store → IsFor ident p bytes → s ≡ span_of bytes
+    → at ≡ rank p store.frames
     → new ≡ record store { frames = insert store.frames at (framed p s bytes) } → Ordered store.low (store.low + store.held.len) (insert store.frames at (framed p s bytes))
     → 32 ≤ s → store.low ≤ p → list_any (meets p (p + s)) store.frames ≡ false → (p ≡ c → ⊥)
     → p % ident.term_length + s ≤ ident.term_length → p + s ≤ 2 ^ 58
     → IsLog ident join base c pairs new
-log_elsewhere ident join base c p s at bytes pairs store new is ranked put order takes above apart other whole high =
+log_elsewhere ident join base c p s at bytes pairs store new is of spans ranked put order takes above apart other whole high =
     let off : p ≢ chain store.low store.frames = λ e. other (e ∙ sym is.chained) in
     let on = chain-other p s store.low (store.low + store.held.len) bytes store.frames is.order above takes apart off in
     let moved : chain store.low store.frames ≡ chain store.low (insert store.frames at (framed p s bytes)) =
@@ -220,4 +224,5 @@ log_elsewhere ident join base c p s at bytes pairs store new is ranked put order
       ends = kept;
       far = is.far;
       paired = is.paired;
+      named = for_put ident p s at bytes store.frames is.named of spans;
     })

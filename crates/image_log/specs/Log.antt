@@ -1,14 +1,16 @@
 -- A log's fields, and what holds of them.
-use Rattle.std.specs.Prelude.{◌≡◌, ℕ, ◌+◌, ◌*◌, ◌<◌, ◌≤◌, ◌^◌, max, List}
+use Rattle.std.specs.Prelude.{◌≡◌, ℕ, ◌+◌, ◌*◌, ◌<◌, ◌≤◌, ◌^◌, max, List, Option}
+use Rattle.image_log.specs.Handed.{AreFor}
 use Rattle.image_log.specs.Order.{InTerms, Ordered, chain}
 use Rattle.image_log.specs.Pairs.{AreWithin}
 use Rattle.image_log.specs.Rebuilt.{Rebuilt, term_start}
 use Rattle.image_log.specs.Stored.{Stored}
 use Rattle.image_log.specs.declared.ident.Ident.{Ident}
 use Rattle.image_log.specs.declared.pair.Pair.{Pair}
+use Rattle.image_log.specs.declared.status.LastStatus.{LastStatus}
 
-abbrev pub rebuilt_of : Ident → ℕ → ℕ → ℕ → ℕ → List Pair → Stored → Rebuilt
-rebuilt_of ident join base greatest moment pairs store = record {
+abbrev pub rebuilt_of : Ident → ℕ → ℕ → ℕ → ℕ → Option LastStatus → List Pair → Stored → Rebuilt
+rebuilt_of ident join base greatest moment status pairs store = record {
   ident = ident;
   held = store.held;
   join = join;
@@ -16,6 +18,7 @@ rebuilt_of ident join base greatest moment pairs store = record {
   frames = store.frames;
   greatest = greatest;
   moment = moment;
+  status = status;
   pairs = pairs;
 }
 
@@ -32,3 +35,4 @@ pub record IsLog (ident : Ident) (join base contiguous : ℕ) (pairs : List Pair
   pub ends : Ordered store.low (2 ^ 58) store.frames
   pub far : contiguous ≤ 2 ^ 58
   pub paired : AreWithin base contiguous pairs
+  pub named : AreFor ident store.frames

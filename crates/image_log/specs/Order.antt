@@ -35,6 +35,14 @@ next_from none p (f ∷ fs) = if nat_lt f.position p then next_from none p fs el
 abbrev pub begins_from : ℕ → Frame → Bool
 begins_from low f = nat_le low f.position
 
+-- the frame begins at a position
+abbrev pub begins_at : ℕ → Frame → Bool
+begins_at p f = f.position == p
+
+-- the frame begins at one position or above it, and below another
+abbrev pub begins_within : ℕ → ℕ → Frame → Bool
+begins_within from to f = nat_le from f.position && nat_lt f.position to
+
 -- no frame crosses the end of a term of this size
 abbrev pub InTerms : ℕ → List Frame → Type 0
 InTerms size [] = Unit {0}

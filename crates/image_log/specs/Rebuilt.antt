@@ -1,19 +1,22 @@
 -- The log of a remote stream: a map from positions to frames whose ranges do not meet (Aeron Transport Protocol
 -- Specification, data recovery by receivers).
-use Rattle.std.specs.Prelude.{ℕ, ◌+◌, ◌-◌, ◌/◌, ◌%◌, Bool, ◌||◌, nat_lt, nat_le, max, min, if◌then◌else◌, Option, Some, None, List, [], ◌∷◌, ◌++◌, insert, filter, map}
+use Rattle.std.specs.Prelude.{◌≡◌, ℕ, ◌+◌, ◌-◌, ◌/◌, ◌%◌, ◌⊎◌, Bool, true, ◌||◌, nat_lt, nat_le, max, min, if◌then◌else◌, Option, Some, None, List, [], ◌∷◌, ◌++◌, insert, filter, map}
+use Rattle.std.specs.List.{list_any}
 use Rattle.image_log.specs.Answer.{answer_among}
 use Rattle.image_log.specs.Frame.{Frame, framed}
 use Rattle.image_log.specs.Handed.{span_of, offset_of}
-use Rattle.image_log.specs.Order.{begins_from, chain, next_from, rank}
+use Rattle.image_log.specs.Order.{begins_at, begins_from, begins_within, chain, next_from, rank}
 use Rattle.image_log.specs.Pairs.{is_other, least_or, moved_one}
+use Rattle.image_log.specs.Reading.{cut_to}
 use Rattle.image_log.specs.Stored.{Held}
 use Rattle.image_log.specs.declared.ident.Ident.{Ident}
 use Rattle.image_log.specs.declared.insert.Insert.{Insert}
 use Rattle.image_log.specs.declared.insert.Insert.TheVariants.{Taken, Repeat, Overlap, Below, Beyond}
 use Rattle.image_log.specs.declared.pair.Pair.{Pair}
+use Rattle.image_log.specs.declared.status.LastStatus.{LastStatus}
 
 -- which stream it is of, in which lease; where it joined, the base, the frames in order, the greatest position heard of,
--- the moment at which the sender was heard last, and the pairs
+-- the moment at which the sender was heard last, the status message sent last, and the pairs
 pub record Rebuilt : Type 0 where
   pub ident : Ident
   pub held : Held
@@ -22,11 +25,16 @@ pub record Rebuilt : Type 0 where
   pub frames : List Frame
   pub greatest : ℕ
   pub moment : ℕ
+  pub status : Option LastStatus
   pub pairs : List Pair
 
 -- where the term of a position begins
 abbrev pub term_start : ℕ → ℕ → ℕ
 term_start size p = p - p % size
+
+-- where the term of a position ends
+abbrev pub term_end : ℕ → ℕ → ℕ
+term_end size p = term_start size p + size
 
 -- no frame below this is kept: the greater of the join and the start of the base's term
 abbrev pub low_of : Rebuilt → ℕ
@@ -78,9 +86,18 @@ gap_end r = min (next_from r.greatest (contiguous_of r) r.frames) (reach_of r)
 unfoldable pub gap_of : Rebuilt → Option (ℕ × ℕ)
 gap_of r = if nat_lt (contiguous_of r) (gap_end r) then Some (contiguous_of r, gap_end r - contiguous_of r) else None
 
+-- the frames from a position up to the contiguous position or the end of the position's term, cut to so many bytes of a
+-- datagram
+unfoldable pub frames_of : Rebuilt → ℕ → ℕ → List Frame
+frames_of r p bytes = cut_to bytes (filter (begins_within p (min (contiguous_of r) (term_end r.ident.term_length p))) r.frames)
+
+-- a position from which on a reader goes: a frame begins there, or it is the contiguous position
+abbrev pub IsStart : Rebuilt → ℕ → Type 0
+IsStart r p = (p ≡ contiguous_of r) ⊎ (list_any (begins_at p) r.frames ≡ true)
+
 -- no frame yet
 abbrev pub opened : Held → Ident → ℕ → Rebuilt
-opened held ident join = record { ident = ident; held = held; join = join; base = join; frames = []; greatest = join; moment = 0; pairs = [] }
+opened held ident join = record { ident = ident; held = held; join = join; base = join; frames = []; greatest = join; moment = 0; status = None; pairs = [] }
 
 -- the log with another base, without the frames below the start of its term
 abbrev pub based : Rebuilt → ℕ → Rebuilt

@@ -27,7 +27,7 @@ pub(crate) fn offset_of(frame: &[u8]) -> u32
 }
 
 #[tactic(auto, unfolding(frame_codec::specs::Fields::byte_at))]
-fn byte_at(frame: &[u8], place: usize) -> u8
+pub(crate) fn byte_at(frame: &[u8], place: usize) -> u8
     requires { place < length frame.now }
     ensures { result ≡ byte_at place frame.now }
 {
@@ -35,7 +35,7 @@ fn byte_at(frame: &[u8], place: usize) -> u8
 }
 
 #[tactic(auto, unfolding(frame_codec::specs::Fields::half_at))]
-fn half_at(frame: &[u8], place: usize) -> u16
+pub(crate) fn half_at(frame: &[u8], place: usize) -> u16
     requires { place + 2 ≤ length frame.now }
     ensures { result ≡ half_at place frame.now }
 {

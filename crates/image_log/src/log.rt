@@ -1,10 +1,12 @@
-ghost use Rattle.std.specs.Prelude.{◌≡◌, ◌+◌, ◌*◌, ◌%◌, ◌^◌, ◌<◌, ◌≤◌, insert, length, max, IfOk, IfErr, IfSome};
+ghost use Rattle.std.specs.Prelude.{◌≡◌, ◌+◌, ◌*◌, ◌%◌, ◌^◌, ◌<◌, ◌≤◌, insert, length, max, IfOk, IfErr, IfSome, Some};
 ghost use Rattle.log_arena.specs.Lease.{lease_bytes, lease_len};
 ghost use Rattle.image_log.specs.Frame.{framed};
-ghost use Rattle.image_log.specs.Handed.{IsFor, offset_of, span_of};
+ghost use Rattle.image_log.specs.Handed.{AreFor, IsFor, offset_of, span_of};
 ghost use Rattle.image_log.specs.Order.{rank};
 ghost use Rattle.image_log.specs.Pairs.{ReadsUpTo, position_of};
-ghost use Rattle.image_log.specs.Rebuilt.{advanced, after_insert, contiguous_of, gap_of, insert_of, is_beyond, is_silent, joined, left, low_of, opened, reach_of, settled, term_start, window_of};
+ghost use Rattle.image_log.specs.Reading.{Adjoin, AreBetween};
+ghost use Rattle.image_log.specs.Rebuilt.{IsStart, advanced, after_insert, contiguous_of, frames_of, gap_of, insert_of, is_beyond, is_silent, joined, left, low_of, opened, reach_of, settled, term_end, term_start, window_of};
+ghost use Rattle.image_log.specs.Status.{is_due, told};
 ghost use Rattle.image_log.specs.Stored.{IsBlank, StandIn, held_of};
 
 use crate::handed;
@@ -12,6 +14,8 @@ use crate::ident::Ident;
 use crate::insert::Insert;
 use crate::pair::Pair;
 use crate::pairs::Pairs;
+use crate::reading::Frames;
+use crate::status::{self, LastStatus};
 use crate::store::Store;
 use log_arena::{Lease, NoMemory};
 use std::alloc::Global;
@@ -34,6 +38,8 @@ pub struct ImageLog {
     greatest: u64,
     /// The moment at which the sender was heard last.
     moment: u64,
+    /// The status message that was sent last.
+    status: Option<LastStatus>,
     pairs: Pairs,
     store: Store,
 }
@@ -46,7 +52,7 @@ impl Model for ImageLog {
 
     ghost use Rattle.image_log.specs.Log.{IsLog, rebuilt_of};
 
-    ghost view = { λ l. rebuilt_of l.ident l.join l.base l.greatest l.moment l.pairs l.store };
+    ghost view = { λ l. rebuilt_of l.ident l.join l.base l.greatest l.moment l.status l.pairs l.store };
 
     ghost invariant = { λ l. IsLog l.ident l.join l.base l.contiguous l.pairs l.store };
 }
@@ -57,6 +63,15 @@ fn term_start(term_length: u32, position: u64) -> u64
     ensures { result ≡ term_start term_length position }
 {
     position - position % u64::from(term_length)
+}
+
+/// Where the term of a position ends.
+fn term_end(term_length: u32, position: u64) -> u64
+    requires some { 0 < term_length }
+    requires fits { position < 2 ^ 63 }
+    ensures { result ≡ term_end term_length position }
+{
+    term_start(term_length, position) + u64::from(term_length)
 }
 
 /// How far above the base frames may begin.
@@ -94,14 +109,16 @@ impl ImageLog {
             contiguous: join,
             greatest: join,
             moment: 0,
+            status: None,
             pairs,
             store,
         })
     }
 
-    /// Which stream it is of.
+    /// Which stream it is of: the one that each frame names which is kept.
     pub fn ident(&self) -> Ident
-        ensures { result ≡ self.now.ident }
+        ensures value { result ≡ self.now.ident }
+        ensures named { AreFor self.now.ident self.now.frames }
     {
         self.ident
     }
@@ -147,6 +164,23 @@ impl ImageLog {
         } else {
             None
         }
+    }
+
+    /// The frames from a position on, one behind the other, up to the contiguous position or the end of the position's term: as many as take
+    /// at most so many bytes of a datagram, and none behind a pad. A pad takes 32 bytes there, a data frame as many as
+    /// it takes positions.
+    pub fn frames_from(&self, position: u64, bytes: usize) -> Frames<'_>
+        requires { position ≤ contiguous_of self.now }
+        ensures frames { result ≡ frames_of self.now position bytes }
+        ensures within { AreBetween position (contiguous_of self.now) result }
+        ensures run { IsStart self.now position → Adjoin position result }
+        ensures named { AreFor self.now.ident result }
+    {
+        let end = self
+            .contiguous
+            .min(term_end(self.ident.term_length, position));
+        let index = self.store.rank(position);
+        Frames::new(&self.store, index, self.store.rank(end), bytes)
     }
 
     /// What becomes of a frame.
@@ -267,6 +301,32 @@ impl ImageLog {
         now.saturating_sub(self.moment) > limit
     }
 
+    /// How far above the base frames may begin: what a status message tells beside the base.
+    pub fn window(&self) -> u32
+        ensures { result ≡ window_of self.now.ident.term_length }
+    {
+        window_of(self.ident.term_length) as u32
+    }
+
+    /// Whether a status message is due at a moment: where none was sent yet, where the last one was sent longer ago than
+    /// the interval, and where the base has moved by a quarter of the window since.
+    pub fn status_due(&self, now: u64, interval: u64) -> bool
+        ensures { result ≡ is_due now interval self.now.base (window_of self.now.ident.term_length) self.now.status }
+    {
+        let window = window_of(self.ident.term_length);
+        status::is_due(self.status, now, interval, self.base, window)
+    }
+
+    /// A status message was sent at a moment, with the base as it is.
+    pub fn status_sent(&mut self, now: u64)
+        ensures { self.new ≡ record self.old { status = Some (told now self.old.base) } }
+    {
+        self.status = Some(LastStatus {
+            moment: now,
+            base: self.base,
+        });
+    }
+
     /// Gives the lease back. Its bytes are those of the frames, each at its position modulo the lease's length, and
     /// zeros.
     pub fn close(self) -> Lease
@@ -281,6 +341,7 @@ impl ImageLog {
             contiguous: _,
             greatest: _,
             moment: _,
+            status: _,
             pairs: _,
             store,
         } = self;

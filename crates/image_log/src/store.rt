@@ -10,6 +10,7 @@ ghost use Rattle.image_log.specs.Writing.{written};
 
 use crate::insert::Insert;
 use crate::place::Place;
+use crate::reading::ImageFrame;
 use log_arena::{Lease, NoMemory};
 use std::alloc::Global;
 use std::collections::VecDeque;
@@ -95,6 +96,16 @@ impl Store {
         let place = self.places[index];
         let start = (place.position % self.lease.len() as u64) as usize;
         &self.lease.bytes()[start..start + place.size as usize]
+    }
+
+    /// The frame at an index.
+    pub(crate) fn frame(&self, index: usize) -> ImageFrame<'_>
+        requires index { index < length self.now.frames }
+        requires header { 32 ≤ length (frame_at self.now.frames index).bytes }
+        ensures { result ≡ frame_at self.now.frames index }
+    {
+        let place = self.places[index];
+        ImageFrame::new(place.position, place.span, self.bytes_of(index))
     }
 
     /// How many frames begin below a position. The last ones are looked at first, so a frame that comes in order costs

@@ -3,9 +3,11 @@
 
 mod reading;
 mod shuffling;
+mod table;
 
-pub use reading::{fill, join, read_to};
-pub use shuffling::{agree, hand_in, open};
+pub use reading::{fill, join, read_portion, read_to, reads, take_all};
+pub use shuffling::{agree, hand_in, hand_in_cell, open};
+pub use table::{Cell, Table};
 
 #[cfg(test)]
 mod tests;

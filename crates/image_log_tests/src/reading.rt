@@ -1,8 +1,10 @@
 // Subscriptions that read a log while frames come.
 ghost use Rattle.std.specs.Prelude.{◌≡◌, ◌+◌, ◌<◌, length};
 
-use crate::shuffling::hand_in;
-use image_log::{ImageLog, Insert};
+use crate::shuffling::{hand_in, hand_in_cell};
+use crate::table::{Cell, TERM, Table};
+use frame_codec::Flags;
+use image_log::{ImageFrame, ImageLog, Insert};
 
 /// A subscription reads the log from now on. The answer is its position.
 #[tactic(auto, unfolding(image_log::specs::Rebuilt::settled))]
@@ -37,4 +39,91 @@ pub fn fill(log: &mut ImageLog, subscription: u64, end: u64, count: u32) -> bool
         }
     }
     taken && log.contiguous() == end
+}
+
+/// Hands in frames, and says whether each was taken.
+pub fn take_all(log: &mut ImageLog, frames: &[(u64, Cell)]) -> bool {
+    let mut taken = true;
+    for (position, cell) in frames {
+        taken &= hand_in_cell(log, *position, *cell, false) == Some(Insert::Taken);
+    }
+    taken
+}
+
+/// Whether so many frames are read from a position on, the last of which ends at `end`.
+pub fn reads(log: &ImageLog, position: u64, bytes: usize, count: u64, end: u64) -> bool {
+    if position > log.contiguous() {
+        return false;
+    }
+    let mut given: u64 = 0;
+    let mut behind = position;
+    for frame in log.frames_from(position, bytes) {
+        given = given.saturating_add(1);
+        behind = frame.end();
+    }
+    given == count && behind == end
+}
+
+/// How many bytes are read at a time.
+const PORTION: usize = 4096;
+
+/// Reads one portion of what is whole, from the base on, and moves the subscription and the table's base behind it.
+/// Whether it was what the table has there.
+pub fn read_portion(log: &mut ImageLog, table: &mut Table, subscription: u64) -> bool {
+    match portion(log, table) {
+        Some(position) => {
+            table.base = position;
+            read_to(log, subscription, position)
+        }
+        None => false,
+    }
+}
+
+// The position behind the portion. None where it was not what the table has there.
+fn portion(log: &ImageLog, table: &Table) -> Option<u64> {
+    if table.base > log.contiguous() {
+        return None;
+    }
+    let mut position = table.base;
+    let mut room = PORTION as u64;
+    for frame in log.frames_from(table.base, PORTION) {
+        let cell = table.cell(position);
+        if room < sent(cell) || !is_frame(&frame, position, cell) {
+            return None;
+        }
+        room = if frame.is_pad() {
+            0
+        } else {
+            room.saturating_sub(sent(cell))
+        };
+        position = frame.end();
+    }
+    let ended = position == table.contiguous || position != table.base && position % TERM == 0;
+    if ended || room < sent(table.cell(position)) {
+        Some(position)
+    } else {
+        None
+    }
+}
+
+// How many bytes of a datagram a frame takes.
+fn sent(cell: Cell) -> u64 {
+    match cell {
+        Cell::Pad => 32,
+        _ => cell.span(),
+    }
+}
+
+// Whether the frame is that of a cell.
+fn is_frame(frame: &ImageFrame, position: u64, cell: Cell) -> bool {
+    let payload = frame.payload();
+    let filled = match cell {
+        Cell::Long(fill) => payload.len() == 32 && payload.iter().all(|b| *b == fill),
+        _ => payload.is_empty(),
+    };
+    filled
+        && frame.position() == position
+        && frame.end() == position.saturating_add(cell.span())
+        && frame.is_pad() == (cell == Cell::Pad)
+        && frame.flags() == Flags::UNFRAGMENTED
 }

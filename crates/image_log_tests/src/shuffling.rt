@@ -1,15 +1,14 @@
-// Frames that come in an order that looks random, some of them twice, overlapping, forged or not at all, beside a plain
-// list of those that were kept.
-ghost use Rattle.std.specs.Prelude.{◌≡◌, ◌%◌, ◌<◌, [], IfOk};
+// Frames that come in an order that looks random, some of them twice, overlapping, forged, late or not at all, beside a
+// plain table of the positions of their stream.
+ghost use Rattle.std.specs.Prelude.{◌≡◌, ◌%◌, ◌<◌, ◌≤◌, [], IfOk};
 ghost use Rattle.log_arena.specs.Lease.{lease_len};
 
-use frame_codec::{Flags, TermPlace, term_of, write_data};
+use crate::reading::{join, read_portion};
+use crate::table::{Cell, Table};
+use frame_codec::{Flags, TermPlace, term_of, write_data, write_pad};
 use image_log::{Ident, ImageLog, Insert};
 use log_arena::{Arena, Lease, NoRoom};
 use std::alloc::{AllocError, Global};
-
-/// The positions that each frame takes: header and payload of 32 bytes each.
-const SPAN: u64 = 64;
 
 /// Hands in a data frame of 64 bytes, whose payload is one byte over and over. None where the log's stream has no such
 /// frame.
@@ -55,8 +54,46 @@ pub fn open(alloc: Global, lease: Lease, ident: Ident, join: u64) -> Result<Imag
     }
 }
 
-/// Hands in `steps` frames, and says whether each answer, the contiguous position and the gap's start were those of a
-/// plain list. None where there is no room.
+/// Hands in a frame as a cell of the table says: a data frame with a payload of 32 bytes or none, or a pad. A forged one
+/// is of another session. None where the log's stream has no such frame.
+pub fn hand_in_cell(log: &mut ImageLog, position: u64, cell: Cell, forged: bool) -> Option<Insert> {
+    let ident = log.ident();
+    let mut place = place_of(&ident, position)?;
+    if forged {
+        place.session_id = place.session_id.wrapping_add(1);
+    }
+    let mut frame = [0; 64];
+    let size = lay_out(&mut frame, &place, cell);
+    let frame = &frame[..size];
+    if ident.admits(position, frame) {
+        Some(log.insert(position, frame))
+    } else {
+        None
+    }
+}
+
+// Lays a frame out, and says how many bytes of it are handed in.
+fn lay_out(out: &mut [u8; 64], place: &TermPlace, cell: Cell) -> usize
+    ensures { result ≤ 64 }
+{
+    match cell {
+        Cell::Long(fill) => {
+            write_data(out, Flags::UNFRAGMENTED, place, &[fill; 32]);
+            64
+        }
+        Cell::Pad => {
+            write_pad(out, Flags::UNFRAGMENTED, place, 64);
+            32
+        }
+        _ => {
+            write_data(out, Flags::UNFRAGMENTED, place, &[]);
+            32
+        }
+    }
+}
+
+/// Hands in `steps` frames, and says whether each answer, and what the log tells behind it, were those of the table. A
+/// subscription reads the log all the while. False where there is no room.
 pub fn agree(alloc: Global, ident: Ident, steps: u32) -> Result<bool, AllocError>
     requires { ident.term_length ≡ 65536 }
 {
@@ -66,14 +103,15 @@ pub fn agree(alloc: Global, ident: Ident, steps: u32) -> Result<bool, AllocError
         Err(NoRoom) => return Ok(false),
     };
     let mut log = open(alloc, lease, ident, 0)?;
-    let mut kept: Vec<(u64, u8)> = Vec::new(alloc);
+    join(&mut log, 1);
+    let mut table = Table::new(alloc, 16_384)?;
     let mut word: u64 = 1;
     let mut same = true;
     for _ in 0..steps {
         word = next(word);
-        same &= step(&mut log, &mut kept, word)?;
+        same &= step(&mut log, &mut table, word >> 33);
     }
-    Ok(same)
+    Ok(same && table.has_seen_all())
 }
 
 // The next word of a linear congruence, as the C standard's example has it, but for 64 bits (Knuth's MMIX).
@@ -82,50 +120,22 @@ fn next(word: u64) -> u64 {
         .wrapping_add(1442695040888963407)
 }
 
-// Hands in one frame, with one of three payloads, at one of 60 places 32 apart, or about the window's end.
-fn step(log: &mut ImageLog, kept: &mut Vec<(u64, u8)>, word: u64) -> Result<bool, AllocError> {
-    let choice = word >> 33;
-    let place = choice % 64;
-    let position = if place < 60 {
-        place * 32
+// Hands in one frame, and now and then reads what is whole.
+fn step(log: &mut ImageLog, table: &mut Table, choice: u64) -> bool {
+    let position = table.chosen_position(choice);
+    let cell = Cell::chosen(choice / 512);
+    let forged = choice / 4096 % 16 == 0;
+    let wanted = if forged {
+        None
     } else {
-        (place - 60) * 1024 + 32_704
+        Some(table.insert(position, cell))
     };
-    let fill = (choice / 64 % 3) as u8;
-    let wanted = wanted(kept.as_slice(), position, fill);
-    if let Insert::Taken = wanted {
-        kept.push((position, fill))?;
-    }
-    let answer = hand_in(log, position, fill);
-    Ok(answer == Some(wanted) && log.contiguous() == chain(kept.as_slice()))
+    let answer = hand_in_cell(log, position, cell, forged);
+    let read = choice / 65_536 % 8 > 0 || read_portion(log, table, 1);
+    answer == wanted && read && is_like(log, table)
 }
 
-// What a log without a pair that joined at 0 answers, with a window of 32 KiB.
-fn wanted(kept: &[(u64, u8)], position: u64, fill: u8) -> Insert {
-    if position >= 32_768 {
-        return Insert::Beyond;
-    }
-    if kept.iter().any(|k| k.0 == position && k.1 == fill) {
-        return Insert::Repeat;
-    }
-    if kept.iter().any(|k| meet(k.0, position)) {
-        return Insert::Overlap;
-    }
-    Insert::Taken
-}
-
-// Whether frames at two positions meet.
-fn meet(one: u64, other: u64) -> bool {
-    one.max(other) - one.min(other) < SPAN
-}
-
-// How far the frames go from 0 on without a gap.
-fn chain(kept: &[(u64, u8)]) -> u64 {
-    let mut end: u64 = 0;
-    for _ in 0..kept.len() {
-        if kept.iter().any(|k| k.0 == end) {
-            end = end.wrapping_add(SPAN);
-        }
-    }
-    end
+// Whether the log tells what the table does.
+fn is_like(log: &ImageLog, table: &Table) -> bool {
+    log.contiguous() == table.contiguous && log.base() == table.base && table.has_gap(log.gap())
 }

@@ -146,8 +146,61 @@ fn lease_comes_back(rt: HostRuntime) -> Result<(), Fail> {
     Ok(())
 }
 
+// What is whole is read frame by frame: up to the contiguous position or the end of a term, within so many bytes, and
+// nothing behind a pad, which takes 32 of them.
+#[test]
+fn whole_frames_are_read(rt: HostRuntime) -> Result<(), Fail> {
+    let mut arena = Arena::new(rt.alloc(), 48)?;
+    let lease = arena.lease(196_608)?;
+    let mut log = open(rt.alloc(), lease, STREAM, 0)?;
+    let long = Cell::Long(1);
+    assert!(rt;
+        take_all(
+            &mut log,
+            &[
+                (0, long),
+                (64, long),
+                (128, Cell::Pad),
+                (192, long),
+                (320, long)
+            ]
+        )
+    );
+    assert!(rt; reads(&log, 0, 63, 0, 0));
+    assert!(rt; reads(&log, 0, 127, 1, 64));
+    assert!(rt; reads(&log, 0, 159, 2, 128));
+    assert!(rt; reads(&log, 0, 160, 3, 192));
+    assert!(rt; reads(&log, 0, 1024, 3, 192));
+    assert!(rt; reads(&log, 192, 1024, 1, 256));
+    assert!(rt; reads(&log, 256, 1024, 0, 256));
+    Ok(())
+}
+
+// A status message is due where none was sent yet, past the interval, and where the base moved by a quarter of the
+// window, which is a fourth of 32 KiB here.
+#[test]
+fn status_messages_are_due(rt: HostRuntime) -> Result<(), Fail> {
+    let mut arena = Arena::new(rt.alloc(), 48)?;
+    let lease = arena.lease(196_608)?;
+    let mut log = open(rt.alloc(), lease, STREAM, 0)?;
+    assert!(rt; log.window() == 32_768);
+    assert!(rt; log.status_due(0, 200));
+    log.status_sent(1000);
+    assert!(rt; !log.status_due(1200, 200));
+    assert!(rt; log.status_due(1201, 200));
+    assert!(rt; !log.status_due(0, 0));
+    assert!(rt; join(&mut log, 1) == 0);
+    assert!(rt; fill(&mut log, 1, 8128, 127));
+    assert!(rt; !log.status_due(1000, 200));
+    assert!(rt; fill(&mut log, 1, 8192, 1));
+    assert!(rt; log.status_due(1000, 200));
+    log.status_sent(1000);
+    assert!(rt; !log.status_due(1000, 200));
+    Ok(())
+}
+
 #[test]
 fn shuffled_frames(rt: HostRuntime) -> Result<(), Fail> {
-    assert!(rt; agree(rt.alloc(), STREAM, 150)?);
+    assert!(rt; agree(rt.alloc(), STREAM, 5000)?);
     Ok(())
 }

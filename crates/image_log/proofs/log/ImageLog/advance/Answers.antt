@@ -10,7 +10,7 @@ use Rattle.image_log.proofs.log.ImageLog.advance.Goals as goal
 pub invariant_of-self : goal.invariant_of-self
 invariant_of-self c =
     let s = c.self.inside in
-    let view : Rebuilt = rebuilt_of s.ident s.join s.base s.greatest s.moment s.pairs s.store in
+    let view : Rebuilt = rebuilt_of s.ident s.join s.base s.greatest s.moment s.status s.pairs s.store in
     let at : s.contiguous ≡ contiguous_of view = c.self.invariant.chained ∙ ap (λ (k : ℕ). chain k s.store.frames) c.self.invariant.low in
     let from = subst (λ (r : Rebuilt). ReadsUpTo (position_of r.pairs c.args.subscription) c.args.position) (sym c.self.view_is) c.requires.from in
     let to : c.args.position ≤ s.contiguous =

@@ -9,7 +9,7 @@ use Rattle.image_log.proofs.log.ImageLog.pair_position.Goals as goal
 pub returns-clause-within : goal.returns-clause-within
 returns-clause-within c =
     let s = c.self.inside in
-    let view : Rebuilt = rebuilt_of s.ident s.join s.base s.greatest s.moment s.pairs s.store in
+    let view : Rebuilt = rebuilt_of s.ident s.join s.base s.greatest s.moment s.status s.pairs s.store in
     let at : s.contiguous ≡ contiguous_of view = c.self.invariant.chained ∙ ap (λ (k : ℕ). chain k s.store.frames) c.self.invariant.low in
     subst (λ (r : Rebuilt). IfSome c.position.result (λ (position : ℕ). (r.base ≤ position) × (position ≤ contiguous_of r))) c.self.view_is
     (subst (λ (k : ℕ). IfSome c.position.result (λ (position : ℕ). (s.base ≤ position) × (position ≤ k))) at

@@ -22,7 +22,7 @@ put-requires-clause-size c =
 pub put-requires-clause-whole : goal.put-requires-clause-whole
 put-requires-clause-whole c =
     let of = subst (λ (r : Rebuilt). IsFor r.ident c.args.position c.args.frame.now) (sym c.self.view_is) c.requires.of in
-    let view : Rebuilt = Rattle.image_log.specs.Log.rebuilt_of c.self.inside.ident c.self.inside.join c.self.inside.base c.self.inside.greatest c.self.inside.moment c.self.inside.pairs c.self.inside.store in
+    let view : Rebuilt = Rattle.image_log.specs.Log.rebuilt_of c.self.inside.ident c.self.inside.join c.self.inside.base c.self.inside.greatest c.self.inside.moment c.self.inside.status c.self.inside.pairs c.self.inside.store in
     let facts = taken view c.args.position c.args.frame.now (subst (λ (r : Rebuilt). insert_of r c.args.position c.args.frame.now ≡ Taken) (sym c.self.view_is) c.requires.taken) in
     let fits = span_fits c.self.inside.ident c.args.position c.args.frame.now of in
     let whole = place_whole c.self.inside.ident c.args.position c.args.frame.now of (omega (arith, c.self.invariant.terms)) facts.2 (omega (arith, fits.0)) in
@@ -32,7 +32,7 @@ put-requires-clause-whole c =
 pub put-requires-clause-order : goal.put-requires-clause-order
 put-requires-clause-order c =
     let of = subst (λ (r : Rebuilt). IsFor r.ident c.args.position c.args.frame.now) (sym c.self.view_is) c.requires.of in
-    let view : Rebuilt = Rattle.image_log.specs.Log.rebuilt_of c.self.inside.ident c.self.inside.join c.self.inside.base c.self.inside.greatest c.self.inside.moment c.self.inside.pairs c.self.inside.store in
+    let view : Rebuilt = Rattle.image_log.specs.Log.rebuilt_of c.self.inside.ident c.self.inside.join c.self.inside.base c.self.inside.greatest c.self.inside.moment c.self.inside.status c.self.inside.pairs c.self.inside.store in
     let facts = taken view c.args.position c.args.frame.now (subst (λ (r : Rebuilt). insert_of r c.args.position c.args.frame.now ≡ Taken) (sym c.self.view_is) c.requires.taken) in
     let fits = span_fits c.self.inside.ident c.args.position c.args.frame.now of in
     let apart : list_any (meets c.args.position (c.args.position + c.args.span)) c.self.inside.store.frames ≡ false =
@@ -57,7 +57,7 @@ chain-self-inside-requires c =
 pub invariant_of-self : goal.invariant_of-self
 invariant_of-self c =
     let of = subst (λ (r : Rebuilt). IsFor r.ident c.args.position c.args.frame.now) (sym c.self.view_is) c.requires.of in
-    let view : Rebuilt = Rattle.image_log.specs.Log.rebuilt_of c.self.inside.ident c.self.inside.join c.self.inside.base c.self.inside.greatest c.self.inside.moment c.self.inside.pairs c.self.inside.store in
+    let view : Rebuilt = Rattle.image_log.specs.Log.rebuilt_of c.self.inside.ident c.self.inside.join c.self.inside.base c.self.inside.greatest c.self.inside.moment c.self.inside.status c.self.inside.pairs c.self.inside.store in
     let facts = taken view c.args.position c.args.frame.now (subst (λ (r : Rebuilt). insert_of r c.args.position c.args.frame.now ≡ Taken) (sym c.self.view_is) c.requires.taken) in
     let fits = span_fits c.self.inside.ident c.args.position c.args.frame.now of in
     let apart : list_any (meets c.args.position (c.args.position + c.args.span)) c.self.inside.store.frames ≡ false =
@@ -77,12 +77,12 @@ invariant_of-self c =
     let at = position_fits c.self.inside.ident c.args.position c.args.frame.now of (omega (arith, c.self.invariant.terms)) in
     let high : c.args.position + c.args.span ≤ 2 ^ 58 = omega (arith, at, fits.2, c.requires.span) in
     log_here c.self.inside.ident c.self.inside.join c.self.inside.base c.self.inside.contiguous c.args.position c.args.span c.rank-at.result c.chain-self-inside.result c.args.frame.now
-    c.self.inside.pairs c.self.inside.store c.put.new.self c.self.invariant c.rank-at.ensures c.put.ensures order takes c.if-position-self.true c.chain-self-inside.ensures whole high apart low
+    c.self.inside.pairs c.self.inside.store c.put.new.self c.self.invariant of c.requires.span c.rank-at.ensures c.put.ensures order takes c.if-position-self.true c.chain-self-inside.ensures whole high apart low
 
 pub invariant_of-self-else-position-self : goal.invariant_of-self-else-position-self
 invariant_of-self-else-position-self c =
     let of = subst (λ (r : Rebuilt). IsFor r.ident c.args.position c.args.frame.now) (sym c.self.view_is) c.requires.of in
-    let view : Rebuilt = Rattle.image_log.specs.Log.rebuilt_of c.self.inside.ident c.self.inside.join c.self.inside.base c.self.inside.greatest c.self.inside.moment c.self.inside.pairs c.self.inside.store in
+    let view : Rebuilt = Rattle.image_log.specs.Log.rebuilt_of c.self.inside.ident c.self.inside.join c.self.inside.base c.self.inside.greatest c.self.inside.moment c.self.inside.status c.self.inside.pairs c.self.inside.store in
     let facts = taken view c.args.position c.args.frame.now (subst (λ (r : Rebuilt). insert_of r c.args.position c.args.frame.now ≡ Taken) (sym c.self.view_is) c.requires.taken) in
     let fits = span_fits c.self.inside.ident c.args.position c.args.frame.now of in
     let apart : list_any (meets c.args.position (c.args.position + c.args.span)) c.self.inside.store.frames ≡ false =
@@ -102,4 +102,4 @@ invariant_of-self-else-position-self c =
     let at = position_fits c.self.inside.ident c.args.position c.args.frame.now of (omega (arith, c.self.invariant.terms)) in
     let high : c.args.position + c.args.span ≤ 2 ^ 58 = omega (arith, at, fits.2, c.requires.span) in
     log_elsewhere c.self.inside.ident c.self.inside.join c.self.inside.base c.self.inside.contiguous c.args.position c.args.span c.rank-at.result c.args.frame.now
-    c.self.inside.pairs c.self.inside.store c.put.new.self c.self.invariant c.rank-at.ensures c.put.ensures order takes low apart c.if-position-self.false whole high
+    c.self.inside.pairs c.self.inside.store c.put.new.self c.self.invariant of c.requires.span c.rank-at.ensures c.put.ensures order takes low apart c.if-position-self.false whole high
