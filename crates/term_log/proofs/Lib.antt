@@ -1,7 +1,11 @@
 pub mod Appending
 pub mod Cuts
+pub mod Fronts
+pub mod Held
 pub mod Nears
 pub mod Places
 pub mod Sizes
 pub mod Stands
+pub mod Terms
 pub mod Turns
+pub mod Walks

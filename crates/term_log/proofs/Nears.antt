@@ -7,6 +7,7 @@ use Rattle.term_log.specs.declared.ident.LogKind.{LogKind}
 use Rattle.term_log.specs.declared.ident.LogKind.TheVariants.{Ipc, Udp}
 use Rattle.term_log.specs.declared.pair.Pair.{Pair}
 use Rattle.term_log.specs.Frames.{Frame, total}
+use Rattle.term_log.specs.Ident.{greatest_position}
 use Rattle.term_log.specs.Kept.{Kept, after_frames}
 use Rattle.term_log.specs.Pairs.{position_of, is_other, moved_one, least_of, IsNear, AreNear, ReadsUpTo}
 use Rattle.std.specs.Prelude.{IfSome, max}
@@ -76,19 +77,22 @@ grows Udp start tail term sender x pairs near is below grown =
     let least = least_le sender pairs in
     (near_grows start tail term sender (term / 2) x pairs near below (omega arith) grown, (is.0, omega (arith, is.1), omega arith))
 
-pub log_grows : (l : Log) (after : Kept) (fs : List Frame) → IsLog l.kept l.pairs l.sender_position → after ≡ after_frames l.kept fs
-    → 2 * total fs ≤ l.kept.ident.term_length → l.kept.tail < limit_of l → IsLog after l.pairs l.sender_position
+pub log_grows : (l : Log) (after : Kept) (fs : List Frame) → IsLog l.kept l.pairs l.sender.position → after ≡ after_frames l.kept fs
+    → l.kept.tail + total fs ≤ greatest_position l.kept.ident → 2 * total fs ≤ l.kept.ident.term_length → l.kept.tail < limit_of l
+    → IsLog after l.pairs l.sender.position
 unfolding limit_of
-log_grows l after fs is grown_is half below =
+log_grows l after fs is grown_is high half below =
     let i : Ident = l.kept.ident in
     let ident : after.ident ≡ i = ap (λ (x : Kept). x.ident) grown_is ∙ ident_after l.kept fs in
     let tail : after.tail ≡ l.kept.tail + total fs = ap (λ (x : Kept). x.tail) grown_is ∙ tail_after l.kept fs in
-    let near = grows i.kind i.start l.kept.tail i.term_length l.sender_position (total fs) l.pairs is.near is.sender_near below half in
+    let near = grows i.kind i.start l.kept.tail i.term_length l.sender.position (total fs) l.pairs is.near is.sender_near below half in
+    let greatest : greatest_position after.ident ≡ greatest_position i = ap greatest_position ident in
     record {
+      high = omega arith;
       near = subst (λ (t : ℕ). AreNear after.ident.start t after.ident.term_length l.pairs) (sym tail)
           (subst (λ (j : Ident). AreNear j.start (l.kept.tail + total fs) j.term_length l.pairs) (sym ident) near.0);
-      sender_near = subst (λ (t : ℕ). IsSenderNear after.ident.kind after.ident.start t after.ident.term_length l.sender_position) (sym tail)
-          (subst (λ (j : Ident). IsSenderNear j.kind j.start (l.kept.tail + total fs) j.term_length l.sender_position) (sym ident) near.1);
+      sender_near = subst (λ (t : ℕ). IsSenderNear after.ident.kind after.ident.start t after.ident.term_length l.sender.position) (sym tail)
+          (subst (λ (j : Ident). IsSenderNear j.kind j.start (l.kept.tail + total fs) j.term_length l.sender.position) (sym ident) near.1);
     }
 
 pub sender_within : (kind : LogKind) (start tail term sender : ℕ) → IsSenderNear kind start tail term sender → (start ≤ sender) × (sender ≤ tail)

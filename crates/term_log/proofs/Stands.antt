@@ -44,7 +44,7 @@ front_within : (i : Ident) (position : ℕ) (f : Frame) → IsFrame i position f
 front_within i position (fragment flags payload) is = omega (arith, length-data_bytes flags (place_at i position) payload)
 front_within i position (pad size) is = omega (arith, is.0, length-pad_bytes pad_flags (place_at i position) size)
 
-frame_fits : (i : Ident) (position : ℕ) (f : Frame) → IsFrame i position f → position % i.term_length + span f ≤ i.term_length
+pub frame_fits : (i : Ident) (position : ℕ) (f : Frame) → IsFrame i position f → position % i.term_length + span f ≤ i.term_length
 frame_fits i position (fragment flags payload) is = is.1
 frame_fits i position (pad size) is = omega (arith, is.1)
 
@@ -63,7 +63,7 @@ spliced held front n m within fits =
     ∙ ap (λ (x : List ℕ). held ++ x) (sym (append_assoc front (zeros (n - length front)) (zeros (m - n))))
     ∙ sym (append_assoc held (front ++ zeros (n - length front)) (zeros (m - n)))
 
-length-bytes : (i : Ident) (position : ℕ) (f : Frame) → IsFrame i position f → length (bytes_of i position f) ≡ span f
+pub length-bytes : (i : Ident) (position : ℕ) (f : Frame) → IsFrame i position f → length (bytes_of i position f) ≡ span f
 length-bytes i position f is =
     let front : List ℕ = front_of i position f in
     omega (arith, front_within i position f is, length-append front (replicate (span f - length front) 0), length-replicate {A = ℕ} (span f - length front) 0)

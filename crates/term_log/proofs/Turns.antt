@@ -1,9 +1,9 @@
 -- Bytes that are written into lists that are turned round.
-use Rattle.std.proofs.Common.{◌≡◌, ◌≢◌, ℕ, ◌+◌, ◌*◌, ◌-◌, ◌≤◌, List, [], ◌++◌, length, take, drop, refl, sym, ap, ap₂, ◌∙◌, arith, length-append, append_assoc}
+use Rattle.std.proofs.Common.{◌≡◌, ◌≢◌, ℕ, ◌+◌, ◌*◌, ◌-◌, ◌<◌, ◌≤◌, List, [], ◌++◌, length, take, drop, refl, sym, ap, ap₂, ◌∙◌, arith, length-append, append_assoc}
 use Rattle.std.specs.Prelude.{replicate}
 use Rattle.std.proofs.lemmas.List.{length-replicate, take_rest, take-append-drop, take-append-le, drop-append-le, take_at, drop_at, drop-drop, length-take-le, length-drop, take_all, drop_all, append-nil}
 use Rattle.std.proofs.Math.Seq.{take-add}
-use Rattle.term_log.specs.Buffers.{written, turned}
+use Rattle.term_log.specs.Buffers.{IsBase, written, turned}
 use Rattle.std.proofs.lemmas.Bool.Decides.{nat_tests}
 use Rattle.term_log.specs.Turning.{in_order, IsEnd}
 
@@ -103,3 +103,38 @@ part_written at n new bytes out within is size =
     ∙ ap (λ (x : List ℕ). take at bytes ++ x) (append-nil (new ++ drop n (drop at bytes)))
     ∙ ap (λ (x : List ℕ). take at bytes ++ (new ++ x)) (drop-drop n at bytes)
     ∙ ap (λ (k : ℕ). take at bytes ++ (new ++ drop (at + k) bytes)) size
+
+-- ---- parts that are lent
+
+part_front : (at count : ℕ) (a b : List ℕ) → at + count ≤ length a → take count (drop at (a ++ b)) ≡ take count (drop at a)
+part_front at count a b inside =
+    ap (take count) (drop-append-le at a b (omega arith)) ∙ take-append-le count (drop at a) b (omega (arith, length-drop at a))
+
+part_behind : (k count : ℕ) (a b : List ℕ) → take count (drop (length a + k) (a ++ b)) ≡ take count (drop k b)
+part_behind k count a b = ap (take count) (sym (drop-drop k (length a) (a ++ b)) ∙ ap (drop k) (drop_at a b (length a) refl))
+
+-- a part of a term whose buffer stands behind the newest one's
+pub part_later : (end term base offset count : ℕ) (bytes : List ℕ) → IsEnd term end → IsBase term base → length bytes ≡ 3 * term
+    → offset + count ≤ term → base < 3 * term - end → take count (drop (end + base + offset) bytes) ≡ take count (drop (base + offset) (in_order end bytes))
+part_later end term base offset count bytes is at size inside later =
+    let behind : base + term + end ≤ 3 * term = grind (arith, nat_tests) in
+    let rest : length (drop end bytes) ≡ 3 * term - end = omega (arith, length-drop end bytes) in
+    let place : end + base + offset ≡ end + (base + offset) = omega arith in
+    ap (λ (k : ℕ). take count (drop k bytes)) place
+    ∙ ap (take count) (sym (drop-drop (base + offset) end bytes))
+    ∙ sym (part_front (base + offset) count (drop end bytes) (take end bytes) (omega (arith, behind, rest)))
+
+-- a part of a term whose buffer stands before the newest one's end
+pub part_before : (end term base offset count : ℕ) (bytes : List ℕ) → IsEnd term end → IsBase term base → length bytes ≡ 3 * term
+    → offset + count ≤ term → 3 * term - end ≤ base → take count (drop (base - (3 * term - end) + offset) bytes) ≡ take count (drop (base + offset) (in_order end bytes))
+part_before end term base offset count bytes is at size inside before =
+    let fits : base + term ≤ 3 * term = grind (arith, nat_tests) in
+    let high : end ≤ 3 * term = grind (arith, nat_tests) in
+    let k : ℕ = base - (3 * term - end) + offset in
+    let rest : length (drop end bytes) ≡ 3 * term - end = omega (arith, length-drop end bytes) in
+    let front : length (take end bytes) ≡ end = length-take-le end bytes (omega arith) in
+    let place : base + offset ≡ length (drop end bytes) + k = omega (arith, rest) in
+    ap (λ (x : List ℕ). take count (drop k x)) (sym (take-append-drop end bytes))
+    ∙ part_front k count (take end bytes) (drop end bytes) (omega (arith, front, fits, high))
+    ∙ sym (part_behind k count (drop end bytes) (take end bytes))
+    ∙ ap (λ (j : ℕ). take count (drop j (in_order end bytes))) (sym place)

@@ -1,5 +1,5 @@
 -- The three term buffers of a log, in the order of their positions.
-use Rattle.std.specs.Prelude.{ℕ, ◌+◌, ◌++◌, Bool, List, length, take, drop, replicate, if◌then◌else◌, refl}
+use Rattle.std.specs.Prelude.{ℕ, ◌+◌, ◌*◌, ◌==◌, ◌||◌, ◌++◌, IsTrue, Bool, List, length, take, drop, replicate, if◌then◌else◌, refl}
 use Rattle.std.specs.Coded.{Coded, code_by, coded×, coded_ℕ, coded_list}
 use denote.RawPtr.{Ptr, coded_ptr}
 use Rattle.log_arena.specs.Homes.{Home}
@@ -31,3 +31,7 @@ turned term_length bytes = drop term_length bytes ++ replicate term_length 0
 -- a new term begins where the newest one is full
 abbrev pub settled : ℕ → Bool → List ℕ → List ℕ
 settled term_length full bytes = if full then turned term_length bytes else bytes
+
+-- where one of the three terms begins among the bytes
+abbrev pub IsBase : ℕ → ℕ → Type 0
+IsBase term_length base = IsTrue (base == 0 || base == term_length || base == 2 * term_length)

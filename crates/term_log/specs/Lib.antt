@@ -5,4 +5,7 @@ pub mod Frames
 pub mod Kept
 pub mod Cut
 pub mod Pairs
+pub mod Sender
 pub mod Log
+pub mod Reading
+pub mod Ranges

@@ -1,7 +1,7 @@
 -- A term log: what it keeps of its frames, who reads it, and what becomes of an offer. Own rules but for the greatest
 -- position (Aeron Transport Protocol Specification, positions, and flow control by a limit).
-use Rattle.std.specs.Prelude.{ℕ, ◌+◌, ◌-◌, ◌*◌, ◌/◌, ◌<◌, ◌≤◌, ◌^◌, List, [], ◌∷◌, length, min, max, nat_lt, nat_le, if◌then◌else◌, refl}
-use Rattle.std.specs.Coded.{Coded, code_by, coded×, coded_ℕ, coded_list}
+use Rattle.std.specs.Prelude.{ℕ, ◌+◌, ◌-◌, ◌*◌, ◌/◌, ◌<◌, ◌≤◌, ◌^◌, Bool, true, false, not, List, [], ◌∷◌, length, min, max, nat_lt, nat_le, if◌then◌else◌, refl}
+use Rattle.std.specs.Coded.{Coded, code_by, coded×, coded_list}
 use Rattle.term_log.specs.declared.ident.Ident.{Ident}
 use Rattle.term_log.specs.declared.ident.LogKind.{LogKind}
 use Rattle.term_log.specs.declared.ident.LogKind.TheVariants.{Ipc, Udp}
@@ -13,18 +13,19 @@ use Rattle.term_log.specs.Frames.{Frame, pad, total}
 use Rattle.term_log.specs.Cut.{cut}
 use Rattle.term_log.specs.Kept.{Kept, kept_code, rest_of, offset_of}
 use Rattle.term_log.specs.Pairs.{pair_code, least_of, IsNear, AreNear}
+use Rattle.term_log.specs.Sender.{Sending, sending_code, is_past}
 
--- what is kept of all frames, the subscriptions that read, and the position up to which the sender has sent
+-- what is kept of all frames, the subscriptions that read, and what the sender keeps
 pub record Log : Type 0 where
   pub kept : Kept
   pub pairs : List Pair
-  pub sender_position : ℕ
+  pub sender : Sending
 
 abbrev pub log_code : Coded Log
 log_code =
-    code_by (Kept × (List Pair × ℕ)) (coded× kept_code (coded× (coded_list pair_code) coded_ℕ))
-    (λ l. (l.kept, (l.pairs, l.sender_position)))
-    (λ p. record { kept = p.0; pairs = p.1.0; sender_position = p.1.1 })
+    code_by (Kept × (List Pair × Sending)) (coded× kept_code (coded× (coded_list pair_code) sending_code))
+    (λ l. (l.kept, (l.pairs, l.sender)))
+    (λ p. record { kept = p.0; pairs = p.1.0; sender = p.1.1 })
     (λ _. refl)
 
 -- the first position that is held: the start of the second term before that of the tail, or the log's start
@@ -39,7 +40,16 @@ limit_among Ipc tail half sender [] = tail
 limit_among Ipc tail half sender (pair ∷ pairs) = least_of pair.position pairs + half
 
 unfoldable pub limit_of : Log → ℕ
-limit_of l = limit_among l.kept.ident.kind l.kept.tail (l.kept.ident.term_length / 2) l.sender_position l.pairs
+limit_of l = limit_among l.kept.ident.kind l.kept.tail (l.kept.ident.term_length / 2) l.sender.position l.pairs
+
+-- somebody reads it over IPC; over UDP a status message was accepted within the timeout
+abbrev pub connected_among : LogKind → List Pair → Bool → Bool
+connected_among Udp pairs heard = heard
+connected_among Ipc [] heard = false
+connected_among Ipc (pair ∷ pairs) heard = true
+
+unfoldable pub connected_of : Log → ℕ → ℕ → Bool
+connected_of l now timeout = connected_among l.kept.ident.kind l.pairs (not (is_past now l.sender.status timeout))
 
 -- the greatest length of a message
 abbrev pub greatest_message : Ident → ℕ
@@ -83,7 +93,8 @@ abbrev pub IsSenderNear : LogKind → ℕ → ℕ → ℕ → ℕ → Type 0
 IsSenderNear Ipc start tail term sender = (start ≤ sender) × (sender ≤ tail)
 IsSenderNear Udp start tail term sender = IsNear start tail term sender
 
--- all positions of a log are within a term of its tail
+-- no frame ends behind the greatest position, and all positions of a log are within a term of its tail
 pub record IsLog (k : Kept) (pairs : List Pair) (sender : ℕ) : Type 0 where
+  pub high : k.tail ≤ greatest_position k.ident
   pub near : AreNear k.ident.start k.tail k.ident.term_length pairs
   pub sender_near : IsSenderNear k.ident.kind k.ident.start k.tail k.ident.term_length sender

@@ -2,16 +2,21 @@
 
 ghost use Rattle.frame_codec.specs.Frame.{padded};
 ghost use Rattle.log_arena.specs.Lease.{lease_bytes, lease_home, lease_len, lease_place};
-ghost use Rattle.std.specs.Prelude.{◌≡◌, ℕ, ◌+◌, ◌-◌, ◌*◌, ◌%◌, ◌^◌, ◌<◌, ◌≤◌, ◌==◌, List, length, replicate};
+ghost use Rattle.std.specs.Prelude.{◌≡◌, ℕ, ◌+◌, ◌-◌, ◌*◌, ◌%◌, ◌^◌, ◌<◌, ◌≤◌, ◌==◌, List, length, min, replicate};
 ghost use Rattle.term_log.specs.Buffers.{Buffers, settled};
 ghost use Rattle.term_log.specs.Cut.{cut};
 ghost use Rattle.term_log.specs.Frames.{Frame, fragment, pad, total};
 ghost use Rattle.term_log.specs.Ident.{IsIdent, greatest_position, payload_length, place_at};
+ghost use Rattle.term_log.specs.Log.{low_of};
+ghost use Rattle.term_log.specs.Ranges.{GivesOver, over_left};
+ghost use Rattle.term_log.specs.Reading.{GivesFrom, frames_left};
 ghost use Rattle.term_log.specs.Kept.{Kept, after_frame, after_frames, offset_of, opened, rest_of};
 
 use crate::buffers::TermBuffers;
 use crate::cutting::{flags_of, last_part, part};
 use crate::ident::Ident;
+use crate::ranges::FramesOver;
+use crate::reading::Frames;
 use frame_codec::{Flags, Header, TermPlace, padded_length, term_of};
 use log_arena::Lease;
 use std::marker::Model;
@@ -172,6 +177,55 @@ impl Appender {
         for i in 0..last + 1 {
             self.append(flags_of(i, last), part(message, i, payload));
         }
+    }
+
+    /// The frames from a position on that is held: a frame's start or the tail. They are those of one term, as far as
+    /// the budget goes.
+    pub(crate) fn frames_from(&self, position: u64, budget: usize) -> Frames<'_>
+        requires low { low_of self.now ≤ position }
+        requires high { position ≤ self.now.tail }
+        ensures { GivesFrom self.now position budget (frames_left result) }
+    {
+        let term_length = u64::from(self.ident.term_length);
+        let offset = position % term_length;
+        let begin = position - offset;
+        let newest = self.tail - self.tail % term_length;
+        let base = begin + 2 * term_length - newest;
+        let end = self.tail.min(begin + term_length);
+        let count = end - position;
+        let bytes = self
+            .buffers
+            .part(base as usize, offset as usize, count as usize);
+        Frames::new(bytes, end, budget)
+    }
+
+    /// Where the term behind that of a position begins, or the tail where that is before it.
+    fn next_term(&self, position: u64) -> u64
+        requires { position ≤ self.now.tail }
+        ensures value { result ≡ min self.now.tail (position - position % self.now.ident.term_length + self.now.ident.term_length) }
+        ensures after { position ≤ result }
+    {
+        let term_length = u64::from(self.ident.term_length);
+        self.tail
+            .min(position - position % term_length + term_length)
+    }
+
+    /// The frames that are held and meet a range.
+    #[tactic(auto, using(crate::proofs::Terms::gives_over, crate::proofs::Terms::low_before))]
+    pub(crate) fn frames_over(&self, low: u64, position: u64, size: u64) -> FramesOver<'_>
+        requires { low ≡ low_of self.now }
+        ensures { GivesOver self.now position size (over_left result) }
+    {
+        let budget = self.ident.term_length as usize;
+        let second = self.next_term(low);
+        let third = self.next_term(second);
+        FramesOver::new(
+            self.frames_from(low, budget),
+            self.frames_from(second, budget),
+            self.frames_from(third, budget),
+            position,
+            size,
+        )
     }
 
     /// The lease, whatever its bytes are.

@@ -3,7 +3,7 @@
 ghost use Rattle.frame_codec.specs.Frame.{data_bytes, pad_bytes, padded};
 ghost use Rattle.log_arena.specs.Lease.{lease_bytes, lease_home, lease_len, lease_place};
 ghost use Rattle.std.specs.Prelude.{◌≡◌, ℕ, ◌+◌, ◌*◌, ◌<◌, ◌≤◌, ◌++◌, length, take, drop, replicate};
-ghost use Rattle.term_log.specs.Buffers.{Buffers, settled, turned, written};
+ghost use Rattle.term_log.specs.Buffers.{Buffers, IsBase, settled, turned, written};
 
 use frame_codec::{Flags, TermPlace, write_data, write_pad};
 use log_arena::Lease;
@@ -130,6 +130,23 @@ impl TermBuffers {
             return;
         }
         self.turn();
+    }
+
+    /// Some bytes of one term, of which the first stands at `base` among those of the three terms in their order.
+    pub(crate) fn part(&self, base: usize, offset: usize, count: usize) -> &[u8]
+        requires base { IsBase self.now.term_length base }
+        requires within { offset + count ≤ self.now.term_length }
+        ensures { result.now ≡ take count (drop (base + offset) self.now.bytes) }
+    {
+        let behind = 3 * self.term_length - self.end;
+        let at = if base < behind {
+            self.end + base + offset
+        } else {
+            base - behind + offset
+        };
+        let (_, rest) = self.lease.bytes().split_at(at);
+        let (part, _) = rest.split_at(count);
+        part
     }
 
     /// The lease, whatever its bytes are.

@@ -1,8 +1,10 @@
 //! The log of a publication: all frames that were ever appended, of which the last three terms are held in reused
 //! buffers.
 //!
-//! [`TermLog::offer`] appends a message, cut into frames, or a pad to the end of a term. Contracts say of which lists
-//! of frames a log stands for all (`StandsFor`). But for [`TermLog::open`] nothing here takes memory.
+//! [`TermLog::offer`] appends a message, cut into frames, or a pad to the end of a term. [`TermLog::frames_from`] and
+//! [`TermLog::frames_over`] lend frames that are held. Contracts say of which lists of frames a log stands for all
+//! (`StandsFor`). [`TermLog::status`] and the calls behind it tell how far a sender may send, and when what is due. But
+//! for [`TermLog::open`] nothing here takes memory.
 #![tactic(auto)]
 
 mod appender;
@@ -12,9 +14,16 @@ mod ident;
 mod offer;
 mod pair;
 mod pairs;
+mod ranges;
+mod reading;
+mod sender;
+mod status;
 mod term_log;
 
 pub use ident::{Ident, LogKind};
 pub use offer::Offer;
 pub use pair::Pair;
+pub use ranges::FramesOver;
+pub use reading::{Content, Frames, LogFrame};
+pub use status::Status;
 pub use term_log::TermLog;

@@ -1,12 +1,15 @@
 //! The log of a publication.
 
 ghost use Rattle.log_arena.specs.Lease.{lease_bytes, lease_home, lease_len, lease_place};
-ghost use Rattle.std.specs.Prelude.{◌≡◌, ◌+◌, ◌*◌, ◌/◌, ◌%◌, ◌<◌, ◌≤◌, ◌++◌, ◌∷◌, [], IfErr, IfOk, IfSome, List, length, map, filter, replicate};
+ghost use Rattle.std.specs.Prelude.{◌≡◌, ◌+◌, ◌*◌, ◌/◌, ◌%◌, ◌<◌, ◌≤◌, ◌++◌, ◌∷◌, [], IfErr, IfOk, IfSome, List, length, map, min, filter, replicate, true};
 ghost use Rattle.term_log.specs.Frames.{Frame};
 ghost use Rattle.term_log.specs.Ident.{IsIdent};
 ghost use Rattle.term_log.specs.Kept.{StandsFor, after_frames, opened};
-ghost use Rattle.term_log.specs.Log.{HasRoom, appended, limit_of, low_of, offer_of};
+ghost use Rattle.term_log.specs.Log.{HasRoom, appended, connected_of, limit_of, low_of, offer_of};
 ghost use Rattle.term_log.specs.Pairs.{ReadsUpTo, is_other, moved_one, position_of};
+ghost use Rattle.term_log.specs.Ranges.{GivesOver, over_left};
+ghost use Rattle.term_log.specs.Reading.{GivesFrom, frames_left};
+ghost use Rattle.term_log.specs.Sender.{after_setup, after_status, budget_of, is_past, is_setup_due, later_of, sending, status_of};
 
 use crate::appender::Appender;
 use crate::cutting::size_of;
@@ -14,6 +17,10 @@ use crate::ident::{Ident, LogKind};
 use crate::offer::Offer;
 use crate::pair::Pair;
 use crate::pairs::Pairs;
+use crate::ranges::FramesOver;
+use crate::reading::Frames;
+use crate::sender::Sender;
+use crate::status::Status;
 use frame_codec::Header;
 use log_arena::{Lease, NoMemory};
 use std::alloc::Global;
@@ -24,14 +31,13 @@ const GREATEST_MESSAGE: usize = 16_777_216;
 
 /// The log of a publication: a list of frames, each behind the one before, of which the last three terms are held.
 ///
-/// Contracts see what is kept of the frames, the subscriptions that read them with their positions, and how far the
-/// sender has sent. `StandsFor` says of which lists of frames what is kept is all that has to be kept.
+/// Contracts see what is kept of the frames, the subscriptions that read them with their positions, and what the sender
+/// keeps. `StandsFor` says of which lists of frames what is kept is all that has to be kept.
 #[derive(Drop)]
 pub struct TermLog {
     appender: Appender,
     pairs: Pairs,
-    /// The position up to which the sender has sent.
-    sender_position: u64,
+    sender: Sender,
 }
 
 impl Model for TermLog {
@@ -41,9 +47,9 @@ impl Model for TermLog {
 
     ghost coded = { log_code };
 
-    ghost view = { λ log. record { kept = log.appender; pairs = log.pairs; sender_position = log.sender_position } };
+    ghost view = { λ log. record { kept = log.appender; pairs = log.pairs; sender = log.sender } };
 
-    ghost invariant = { λ log. IsLog log.appender log.pairs log.sender_position };
+    ghost invariant = { λ log. IsLog log.appender log.pairs log.sender.position };
 }
 
 impl TermLog {
@@ -56,7 +62,7 @@ impl TermLog {
         requires ident { IsIdent ident }
         requires len { lease_len lease ≡ 3 * ident.term_length }
         requires zeros { lease_bytes lease ≡ replicate (3 * ident.term_length) 0 }
-        ensures opened { IfOk result (λ log. log ≡ record { kept = opened lease ident; pairs = []; sender_position = ident.start }) }
+        ensures opened { IfOk result (λ log. log ≡ record { kept = opened lease ident; pairs = []; sender = sending ident.start }) }
         ensures stands { IfOk result (λ log. StandsFor log.kept []) }
         ensures err { IfErr result (λ refused. refused.0 ≡ lease) }
     {
@@ -64,7 +70,7 @@ impl TermLog {
             Ok(pairs) => Ok(TermLog {
                 appender: Appender::new(lease, ident),
                 pairs,
-                sender_position: ident.start,
+                sender: Sender::new(ident.start),
             }),
             Err(refused) => Err((lease, refused)),
         }
@@ -102,6 +108,24 @@ impl TermLog {
         ident.start.max(terms * term_length)
     }
 
+    /// The frames from a position on that is not below [`TermLog::low`], and that is a frame's start or the tail: the
+    /// longest run of whole frames, all of one term, of which at most so many bytes are sent. It ends behind a pad. Of a
+    /// pad its header alone is sent.
+    pub fn frames_from(&self, position: u64, bytes: usize) -> Frames<'_>
+        requires low { low_of self.now.kept ≤ position }
+        requires high { position ≤ self.now.kept.tail }
+        ensures { GivesFrom self.now.kept position bytes (frames_left result) }
+    {
+        self.appender.frames_from(position, bytes)
+    }
+
+    /// The frames that are held and have a position in common with a range: so many positions from `position` on.
+    pub fn frames_over(&self, position: u64, size: u64) -> FramesOver<'_>
+        ensures { GivesOver self.now.kept position size (over_left result) }
+    {
+        self.appender.frames_over(self.low(), position, size)
+    }
+
     /// The position from which on no offer is taken.
     #[tactic(auto, unfolding(crate::specs::Log::limit_of))]
     pub fn limit(&self) -> u64
@@ -111,7 +135,7 @@ impl TermLog {
         let tail = self.appender.tail();
         let half = u64::from(ident.term_length / 2);
         match ident.kind {
-            LogKind::Udp => self.pairs.least(self.sender_position) + half,
+            LogKind::Udp => self.pairs.least(self.sender.position()) + half,
             LogKind::Ipc => match self.pairs.as_slice() {
                 [] => tail,
                 [first, ..] => self.pairs.least(first.position) + half,
@@ -206,19 +230,92 @@ impl TermLog {
 
     /// The position up to which the sender has sent.
     pub fn sender_position(&self) -> u64
-        ensures value { result ≡ self.now.sender_position }
+        ensures value { result ≡ self.now.sender.position }
         ensures within { result ≤ self.now.kept.tail }
     {
-        self.sender_position
+        self.sender.position()
     }
 
     /// The sender has sent up to a position, which is the tail or the start of a frame below it.
     pub fn sent(&mut self, position: u64)
-        requires from { self.old.sender_position ≤ position }
+        requires from { self.old.sender.position ≤ position }
         requires to { position ≤ self.old.kept.tail }
-        ensures { self.new ≡ record self.old { sender_position = position } }
+        ensures { self.new ≡ record self.old { sender = record self.old.sender { position = position } } }
     {
-        self.sender_position = position;
+        self.sender.sent(position);
+    }
+
+    /// A status message came at the moment `now`, in nanoseconds: a receiver has taken all up to a position, and has
+    /// room for a window of bytes behind it, of which half a term counts at most.
+    ///
+    /// Beyond the sender's position it is dropped. Else the log may be sent up to the greatest position that any such
+    /// message allowed, and is connected.
+    pub fn status(&mut self, now: u64, position: u64, window: u32) -> Status
+        ensures answer { result ≡ status_of self.old.sender position (min window (self.old.kept.ident.term_length / 2)) }
+        ensures after { self.new ≡ record self.old { sender = after_status result now self.old.sender } }
+    {
+        let half = self.appender.ident().term_length / 2;
+        self.sender.status(now, position, window.min(half))
+    }
+
+    /// A SETUP is asked for, whether the log is connected or not.
+    pub fn elicit(&mut self)
+        ensures { self.new ≡ record self.old { sender = record self.old.sender { elicited = true } } }
+    {
+        self.sender.elicit();
+    }
+
+    /// Whether anybody takes what is sent: over UDP, whether a status message was accepted, and `now` is not past the
+    /// timeout since the last one, both in nanoseconds; over IPC, whether there is a pair.
+    #[tactic(auto, unfolding(crate::specs::Log::connected_of))]
+    pub fn connected(&self, now: u64, timeout: u64) -> bool
+        ensures { result ≡ connected_of self.now now timeout }
+    {
+        match self.appender.ident().kind {
+            LogKind::Udp => self.sender.is_heard(now, timeout),
+            LogKind::Ipc => !self.pairs.as_slice().is_empty(),
+        }
+    }
+
+    /// Whether the next datagram is a SETUP: one was asked for, or the log is not connected and `now` is past the
+    /// interval since the last SETUP, or there was none. Moments are in nanoseconds.
+    pub fn setup_due(&self, now: u64, timeout: u64, interval: u64) -> bool
+        ensures { result ≡ is_setup_due self.now.sender (connected_of self.now now timeout) now interval }
+    {
+        let connected = self.connected(now, timeout);
+        self.sender.setup_due(connected, now, interval)
+    }
+
+    /// A SETUP was cut at the moment `now`, in nanoseconds, whoever got it. It answers all that asked for one.
+    pub fn setup_sent(&mut self, now: u64)
+        ensures { self.new ≡ record self.old { sender = after_setup now self.old.sender } }
+    {
+        self.sender.setup_sent(now);
+    }
+
+    /// Whether a heartbeat is due where there is nothing else to send: `now` is past the interval since the last datagram
+    /// of any kind, or there was none. Moments are in nanoseconds.
+    pub fn heartbeat_due(&self, now: u64, interval: u64) -> bool
+        ensures { result ≡ is_past now self.now.sender.datagram interval }
+    {
+        self.sender.heartbeat_due(now, interval)
+    }
+
+    /// A datagram of frames, or a heartbeat, was cut at the moment `now`, in nanoseconds, whoever got it.
+    pub fn datagram_sent(&mut self, now: u64)
+        ensures { self.new ≡ record self.old {
+          sender = record self.old.sender { datagram = later_of self.old.sender.datagram now };
+        } }
+    {
+        self.sender.datagram_sent(now);
+    }
+
+    /// How many bytes the next datagram of frames may have, where a pad counts as its header alone: no more than the MTU,
+    /// and than the sender may still send.
+    pub fn send_budget(&self) -> u32
+        ensures { result ≡ budget_of self.now.sender self.now.kept.ident.mtu }
+    {
+        self.sender.budget(self.appender.ident().mtu)
     }
 
     /// The lease, whose bytes are what they are: its arena takes it back.

@@ -13,7 +13,7 @@ pub fn open(alloc: Global, arena: &mut Arena, ident: Ident) -> Result<TermLog, N
     requires pages { ident.term_length % 4096 ≡ 0 }
     ensures ident { IfOk result (λ log. log.kept.ident ≡ ident) }
     ensures tail { IfOk result (λ log. log.kept.tail ≡ ident.start) }
-    ensures sent { IfOk result (λ log. log.sender_position ≡ ident.start) }
+    ensures sent { IfOk result (λ log. log.sender.position ≡ ident.start) }
     ensures pairs { IfOk result (λ log. log.pairs ≡ []) }
 {
     let lease = arena.lease(3 * ident.term_length as usize)?;
@@ -52,8 +52,8 @@ fn next(word: u64) -> u64 {
         .wrapping_add(1442695040888963407)
 }
 
-// The sender sends all there is.
-fn follow(log: &mut TermLog) {
+/// The sender sends all there is.
+pub fn follow(log: &mut TermLog) {
     let _ = log.sender_position();
     let tail = log.tail();
     log.sent(tail);

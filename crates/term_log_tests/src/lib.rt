@@ -1,11 +1,15 @@
-//! Tests of `term_log`, and the plain list of bytes that they compare it with.
+//! Tests of `term_log`, and the plain lists of frames and bytes that they compare it with.
 #![tactic(auto)]
 
 mod filling;
 mod plain;
+mod reading;
 
-pub use filling::{fill, is_held, open};
-pub use plain::Plain;
+pub use filling::{fill, follow, is_held, open};
+pub use plain::{Plain, Row};
+pub use reading::{begin_at, gives_all, gives_rows};
 
+#[cfg(test)]
+mod sending;
 #[cfg(test)]
 mod tests;

@@ -1,19 +1,42 @@
-// All bytes of a log in one list, from position 0 on, laid out by hand.
+// All frames and bytes of a log in one list each, from position 0 on, laid out by hand.
 ghost use Rattle.std.specs.Prelude.{◌<◌};
 
 use std::alloc::{AllocError, Global};
 
-/// The bytes of all frames of a log that starts at position 0, of session 7 and stream 1001, with terms of 64 KiB from
+/// A frame of a log.
+#[derive(Clone, Copy, Debug)]
+pub struct Row {
+    pub position: u64,
+    /// What its header says: of a data frame header and payload, of a pad all that it covers.
+    pub length: u32,
+    pub flags: u8,
+    /// 0 of a pad, 1 of a data frame.
+    pub kind: u8,
+}
+
+impl Row {
+    /// How many bytes of it are sent.
+    pub fn sent_size(&self) -> u64 {
+        if self.kind == 0 {
+            return 32;
+        }
+        (u64::from(self.length) + 31) / 32 * 32
+    }
+}
+
+/// All frames of a log, and their bytes. The log starts at position 0, of session 7 and stream 1001, with terms of 64 KiB from
 /// id 5 on and an MTU of 1408.
 #[derive(Drop)]
 pub struct Plain {
     pub bytes: Vec<u8>,
+    pub rows: Vec<Row>,
 }
 
 impl Plain {
     pub fn new(alloc: Global) -> Plain {
         Plain {
             bytes: Vec::new(alloc),
+            rows: Vec::new(alloc),
         }
     }
 
@@ -25,6 +48,12 @@ impl Plain {
     // A header, with its length, flags and type.
     fn put_header(&mut self, length: u32, flags: u8, kind: u8) -> Result<(), AllocError> {
         let tail = self.bytes.len() as u64;
+        self.rows.push(Row {
+            position: tail,
+            length,
+            flags,
+            kind,
+        })?;
         let offset = (tail % 65_536) as u32;
         let term = 5u32.wrapping_add((tail / 65_536 % 4_294_967_296) as u32);
         self.bytes

@@ -2,12 +2,13 @@ ghost use Rattle.std.specs.Prelude.{◌≡◌, ◌%◌, ◌^◌, ◌*◌, ◌<�
 ghost use Rattle.term_log.specs.Ident.{IsIdent};
 
 use super::*;
-use log_arena::Arena;
+use log_arena::{Arena, NoRoom};
+use std::alloc::Global;
 use std::test::Fail;
-use term_log::{Ident, LogKind, Offer};
+use term_log::{Ident, LogKind, Offer, TermLog};
 
 // What a log is made for that reads its frames in this host, from a position on.
-fn ident(kind: LogKind, start: u64) -> Ident
+pub(crate) fn ident(kind: LogKind, start: u64) -> Ident
     requires { (start % 32 ≡ 0) × (start < 65536 * 2 ^ 31) }
     ensures sound { IsIdent result }
     ensures value { result ≡ record { kind = kind; session = pos 7; stream = pos 1001; initial_term = pos 5; term_length = 65536; mtu = 1408; start = start } }
@@ -106,17 +107,81 @@ fn slowest_pair_limits(rt: HostRuntime) -> Result<(), Fail> {
     Ok(())
 }
 
-// Three terms many times over: each answer, and at the end each byte, is that of a plain list.
+// Three terms many times over: each answer, the frames from each frame on, and at the end each byte are those of plain
+// lists.
 #[test]
 fn terms_are_used_again(rt: HostRuntime) -> Result<(), Fail> {
     let mut arena = Arena::new(rt.alloc(), 48)?;
     let mut log = open(rt.alloc(), &mut arena, ident(LogKind::Udp, 0))?;
     let mut plain = Plain::new(rt.alloc());
-    assert!(rt; fill(rt.alloc(), &mut log, &mut plain, 400)?);
+    assert!(rt; fill(rt.alloc(), &mut log, &mut plain, 30)?);
+    assert!(rt; gives_all(&log, &plain, 1408));
+    assert!(rt; fill(rt.alloc(), &mut log, &mut plain, 170)?);
+    assert!(rt; gives_all(&log, &plain, 0));
+    assert!(rt; gives_all(&log, &plain, 63));
+    assert!(rt; gives_all(&log, &plain, 1408));
+    assert!(rt; fill(rt.alloc(), &mut log, &mut plain, 200)?);
     assert!(rt; plain.tail() > 655_360);
+    assert!(rt; gives_all(&log, &plain, 1407));
+    assert!(rt; gives_all(&log, &plain, 5000));
+    assert!(rt; gives_all(&log, &plain, 65_536));
     assert_eq!(rt; log.tail(), plain.tail());
     assert_eq!(rt; log.messages(), 400);
     let lease = log.close();
     assert!(rt; is_held(lease.bytes(), &plain));
+    Ok(())
+}
+
+// A log with a pad at the end of a term, and two messages behind it: of 64 and of 160 positions.
+fn padded_log(alloc: Global, arena: &mut Arena) -> Result<TermLog, NoRoom> {
+    let mut log = open(alloc, arena, ident(LogKind::Udp, 65_504))?;
+    let _ = log.offer(b"x");
+    let _ = log.offer(b"x");
+    let _ = log.offer([7; 100].as_slice());
+    Ok(log)
+}
+
+// How many frames the log gives from a position on.
+fn count_from(log: &TermLog, position: u64, budget: usize) -> usize {
+    if position < log.low() || log.tail() < position {
+        return 999;
+    }
+    let mut count = 0usize;
+    for _ in log.frames_from(position, budget) {
+        count = count.wrapping_add(1);
+    }
+    count
+}
+
+// A budget ends between frames; of a pad it counts 32 bytes, and nothing is given behind one.
+#[test]
+fn frames_within_a_budget(rt: HostRuntime) -> Result<(), Fail> {
+    let mut arena = Arena::new(rt.alloc(), 48)?;
+    let log = padded_log(rt.alloc(), &mut arena)?;
+    assert!(rt; log.tail() == 65_760);
+    assert!(rt; count_from(&log, 65_504, 31) == 0);
+    assert!(rt; count_from(&log, 65_504, 100_000) == 1);
+    assert!(rt; count_from(&log, 65_536, 63) == 0);
+    assert!(rt; count_from(&log, 65_536, 64) == 1);
+    assert!(rt; count_from(&log, 65_536, 223) == 1);
+    assert!(rt; count_from(&log, 65_536, 224) == 2);
+    assert!(rt; count_from(&log, 65_760, 224) == 0);
+    Ok(())
+}
+
+// A frame meets a range also where they share but its filling, over the end of a term too.
+#[test]
+fn frames_over_a_range(rt: HostRuntime) -> Result<(), Fail> {
+    let mut arena = Arena::new(rt.alloc(), 48)?;
+    let log = padded_log(rt.alloc(), &mut arena)?;
+    let all = [65_504, 65_536, 65_600];
+    assert!(rt; begin_at(log.frames_over(0, u64::MAX), all.as_slice()));
+    assert!(rt; begin_at(log.frames_over(65_535, 1), &all[..1]));
+    assert!(rt; begin_at(log.frames_over(65_535, 2), &all[..2]));
+    assert!(rt; begin_at(log.frames_over(65_599, 1), &all[1..2]));
+    assert!(rt; begin_at(log.frames_over(65_599, 2), &all[1..]));
+    assert!(rt; begin_at(log.frames_over(65_600, 0), &all[..0]));
+    assert!(rt; begin_at(log.frames_over(65_760, 1), &all[..0]));
+    assert!(rt; begin_at(log.frames_over(u64::MAX, u64::MAX), &all[..0]));
     Ok(())
 }

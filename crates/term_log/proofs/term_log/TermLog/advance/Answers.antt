@@ -12,6 +12,7 @@ invariant_of-self c =
     let from = rw (← c.self.view_is) at c.requires.from in
     let to = rw (← c.self.view_is) at c.requires.to in
     record {
+      high = c.self.invariant.high;
       near = subst (λ (pairs : List Pair). AreNear i.start s.appender.tail i.term_length pairs) (sym c.advance.ensures)
           (near_map i.start s.appender.tail i.term_length c.args.subscription c.args.position s.pairs near
           (near_ahead i.start s.appender.tail i.term_length c.args.subscription c.args.position s.pairs near from to));

@@ -11,6 +11,7 @@ invariant_of-self c =
     let tail = c.tail-position.ensures.value in
     let low = c.tail-position.ensures.low in
     record {
+      high = c.self.invariant.high;
       near = subst (λ (pairs : List Pair). AreNear i.start s.appender.tail i.term_length pairs) (sym c.join.ensures)
           (near_push i.start s.appender.tail i.term_length s.pairs (record { subscription = c.args.subscription; position = c.tail-position.result }) c.self.invariant.near (omega arith, omega arith, omega arith));
       sender_near = c.self.invariant.sender_near;

@@ -9,6 +9,7 @@ invariant_of-self c =
     let s = c.self.inside in
     let i = s.appender.ident in
     record {
+      high = c.self.invariant.high;
       near = subst (λ (pairs : List Pair). AreNear i.start s.appender.tail i.term_length pairs) (sym c.leave.ensures)
           (near_filter i.start s.appender.tail i.term_length c.args.subscription s.pairs c.self.invariant.near);
       sender_near = c.self.invariant.sender_near;

@@ -8,8 +8,8 @@ overflow_add-result c =
     let s = c.self.inside in
     let i = s.appender.ident in
     let term : c.ident-ident.result.term_length ≡ i.term_length = ap (λ (j : Ident). j.term_length) c.ident-ident.ensures.value in
-    let within = sender_within i.kind i.start s.appender.tail i.term_length s.sender_position c.self.invariant.sender_near in
-    omega (arith, within.1, least_le s.sender_position s.pairs, c.least.ensures, c.tail-tail.ensures.high, c.ident-ident.ensures.sound.term_high, c.from-half.ensures)
+    let within = sender_within i.kind i.start s.appender.tail i.term_length s.sender.position c.self.invariant.sender_near in
+    omega (arith, within.1, least_le c.position.result s.pairs, c.position.ensures, c.least.ensures, c.tail-tail.ensures.high, c.ident-ident.ensures.sound.term_high, c.from-half.ensures)
 
 pub overflow_add-result-in-len1-up : goal.overflow_add-result-in-len1-up
 overflow_add-result-in-len1-up c =

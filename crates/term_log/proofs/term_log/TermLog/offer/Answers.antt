@@ -12,18 +12,18 @@ use Rattle.term_log.proofs.term_log.TermLog.offer.Goals as goal
 pub invariant_of-self : goal.invariant_of-self
 invariant_of-self c =
     let s = c.self.inside in
-    let l : Log = record { kept = s.appender; pairs = s.pairs; sender_position = s.sender_position } in
+    let l : Log = record { kept = s.appender; pairs = s.pairs; sender = s.sender } in
     let room = rw (c.in-At.is) at c.decide-answer.ensures.room in
     let here = rw (← c.self.view_is) at room in
-    log_grows l c.append_message.new.self (frames_of s.appender c.args.message.now) c.self.invariant c.append_message.ensures here.3 here.4
+    log_grows l c.append_message.new.self (frames_of s.appender c.args.message.now) c.self.invariant c.append_message.ensures here.2 here.3 here.4
 
 pub invariant_of-self-in-AdminAction : goal.invariant_of-self-in-AdminAction
 invariant_of-self-in-AdminAction c =
     let s = c.self.inside in
-    let l : Log = record { kept = s.appender; pairs = s.pairs; sender_position = s.sender_position } in
+    let l : Log = record { kept = s.appender; pairs = s.pairs; sender = s.sender } in
     let room = rw (c.in-AdminAction.is) at c.decide-answer.ensures.room in
     let here = rw (← c.self.view_is) at room in
-    log_grows l c.pad.new.self (pad (rest_of s.appender) ∷ []) c.self.invariant c.pad.ensures (omega (arith, here.1)) here.2
+    log_grows l c.pad.new.self (pad (rest_of s.appender) ∷ []) c.self.invariant c.pad.ensures (omega (arith, here.0)) (omega (arith, here.1)) here.2
 
 pub returns-in-At-clause-stands : goal.returns-in-At-clause-stands
 returns-in-At-clause-stands c frames stands =

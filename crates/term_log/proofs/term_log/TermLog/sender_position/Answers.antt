@@ -7,6 +7,6 @@ pub returns-clause-within : goal.returns-clause-within
 returns-clause-within c =
     let s = c.self.inside in
     let i = s.appender.ident in
-    let within = sender_within i.kind i.start s.appender.tail i.term_length s.sender_position c.self.invariant.sender_near in
+    let within = sender_within i.kind i.start s.appender.tail i.term_length s.sender.position c.self.invariant.sender_near in
     let tail = ap (λ (l : Log). l.kept.tail) c.self.view_is in
     omega (arith, within.1)

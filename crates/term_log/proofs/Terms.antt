@@ -1,0 +1,307 @@
+-- All frames that are held, term by term.
+use Rattle.std.proofs.Common.{◌≡◌, ℕ, ◌+◌, ◌*◌, ◌-◌, ◌/◌, ◌%◌, ◌<◌, ◌≤◌, Bool, true, false, cond, List, [], ◌∷◌, ◌++◌, min, refl, sym, ap, ap₂, ◌∙◌, subst, arith, append_assoc}
+use Rattle.std.specs.Prelude.{nat_lt, nat_le, ◌&&◌, if◌then◌else◌, filter}
+use Rattle.std.proofs.lemmas.Bool.Decides.{nat_tests}
+use Rattle.std.proofs.lemmas.List.{append-nil}
+use Rattle.std.proofs.lemmas.List.Elements.{filter-append}
+use Rattle.std.proofs.lemmas.Nat.{div-add-mod', mod-mul-add, mul-le}
+use Rattle.term_log.specs.declared.ident.Ident.{Ident}
+use Rattle.term_log.specs.Ident.{IsIdent}
+use Rattle.term_log.specs.Frames.{Frame, fragment, pad, span, total, IsFrame, IsRun}
+use Rattle.term_log.specs.Kept.{Kept, StandsFor}
+use Rattle.term_log.specs.Log.{low_of}
+use Rattle.term_log.specs.Reading.{Given, given, all_given, sent_size, of_term, within, GivesFrom}
+use Rattle.term_log.specs.Ranges.{meets, is_over, GivesOver}
+use Rattle.term_log.proofs.Held.{run_front, run_rest, total_both, term_near}
+use Rattle.term_log.proofs.Places.{mod_within}
+use Rattle.term_log.proofs.Stands.{frame_fits}
+
+-- ---- the frames of one term
+
+-- the start of the next term
+abbrev pub term_end : ℕ → ℕ → ℕ
+term_end term position = position - position % term + term
+
+-- the frames behind those of a term
+abbrev later_of : ℕ → ℕ → List Frame → List Frame
+later_of term position [] = []
+later_of term position (f ∷ fs) = if nat_le term (position % term + span f) then fs else later_of term (position + span f) fs
+
+some_span : (i : Ident) (position : ℕ) (f : Frame) → IsFrame i position f → 0 < span f
+some_span i position (fragment flags payload) is = omega arith
+some_span i position (pad size) is = omega (arith, is.0)
+
+sent_less : (i : Ident) (position : ℕ) (f : Frame) → IsFrame i position f → sent_size f ≤ span f
+sent_less i position (fragment flags payload) is = omega arith
+sent_less i position (pad size) is = is.0
+
+term_split : (term position : ℕ) (fs : List Frame) → fs ≡ of_term term position fs ++ later_of term position fs
+term_split term position [] = refl
+term_split term position (f ∷ fs) =
+    let rest = term_split term (position + span f) fs in
+    elim (nat_le term (position % term + span f)) as (λ b. f ∷ fs ≡ f ∷ (if b then [] else of_term term (position + span f) fs) ++ (if b then fs else later_of term (position + span f) fs)) [
+      | true ↦ refl
+      | false ↦ ap (λ (gs : List Frame). f ∷ gs) rest
+    ]
+
+-- the frames of a term end at its end or at the last one's
+term_total : (i : Ident) (position : ℕ) (fs : List Frame) → IsIdent i → IsRun i position fs
+    → position + total (of_term i.term_length position fs) ≡ min (position + total fs) (term_end i.term_length position)
+term_total i position [] sound run =
+    let term_low = sound.term_low in
+    let split = div-add-mod' position i.term_length in
+    let below : position % i.term_length < i.term_length = omega arith in
+    omega arith
+term_total i position (f ∷ fs) sound run =
+    let term : ℕ = i.term_length in
+    let term_low = sound.term_low in
+    let split = div-add-mod' position term in
+    let fits = frame_fits i position f run.0 in
+    let rest = term_total i (position + span f) fs sound run.1 in
+    elim (nat_le term (position % term + span f)) as (λ b. nat_le term (position % term + span f) ≡ b
+    → position + total (f ∷ (if b then [] else of_term term (position + span f) fs)) ≡ min (position + (span f + total fs)) (term_end term position)) [
+      | true ↦ λ ends.
+          let last : term ≤ position % term + span f = grind (arith, nat_tests, ends) in
+          omega arith
+      | false ↦ λ goes.
+          let before : position % term + span f < term = grind (arith, nat_tests, goes) in
+          let here : (position + span f) % term ≡ position % term + span f = mod_within position (span f) term (omega arith) before in
+          omega arith
+    ]
+    refl
+
+within_whole : (i : Ident) (position budget : ℕ) (fs : List Frame) → IsRun i position fs → total fs ≤ budget → within budget fs ≡ fs
+within_whole i position budget [] run fits = refl
+within_whole i position budget (f ∷ fs) run fits =
+    let less = sent_less i position f run.0 in
+    let rest = within_whole i (position + span f) (budget - sent_size f) fs run.1 (omega arith) in
+    let admits : nat_lt budget (sent_size f) ≡ false = grind (arith, nat_tests, less, fits) in
+    ap (λ (b : Bool). if b then [] else f ∷ within (budget - sent_size f) fs) admits ∙ ap (λ (gs : List Frame). f ∷ gs) rest
+
+pub given_both : (i : Ident) (position : ℕ) (fs gs : List Frame) → all_given i position (fs ++ gs) ≡ all_given i position fs ++ all_given i (position + total fs) gs
+given_both i position [] gs =
+    let here : position ≡ position + 0 = omega arith in
+    ap (λ (p : ℕ). all_given i p gs) here
+given_both i position (f ∷ fs) gs =
+    let here : position + span f + total fs ≡ position + (span f + total fs) = omega arith in
+    ap (λ (xs : List Given). given i position f ∷ xs) (given_both i (position + span f) fs gs ∙ ap (λ (p : ℕ). all_given i (position + span f) fs ++ all_given i p gs) here)
+
+-- ---- one term after another
+
+-- what is known of all frames from a position on
+record From (k : Kept) (position : ℕ) (after : List Frame) : Type 0 where
+  before : List Frame
+  stands : StandsFor k (before ++ after)
+  place : position ≡ k.ident.start + total before
+
+-- the frames of a term that are given, and those behind it
+record Turn (k : Kept) (position next : ℕ) (after : List Frame) (left : List Given) : Type 0 where
+  later : List Frame
+  rest : From k next later
+  all : all_given k.ident position after ≡ left ++ all_given k.ident next later
+
+turn : (k : Kept) (position next : ℕ) (after : List Frame) (left : List Given) → IsIdent k.ident → From k position after
+    → GivesFrom k position k.ident.term_length left → next ≡ min k.tail (term_end k.ident.term_length position) → Turn k position next after left
+turn k position next after left sound from gives next_is =
+    let i : Ident = k.ident in
+    let term : ℕ = i.term_length in
+    let s = from.stands in
+    let place = from.place in
+    let here : List Frame = of_term term position after in
+    let later : List Frame = later_of term position after in
+    let split : after ≡ here ++ later = term_split term position after in
+    let run = subst (λ (p : ℕ). IsRun i p after) (sym place) (run_rest i i.start from.before after s.sound) in
+    let tail = s.tail in
+    let both = total_both from.before after in
+    let ends = term_total i position after sound run in
+    let next_here : next ≡ position + total here = omega arith in
+    let split_offset = div-add-mod' position term in
+    let least : total here ≤ term = omega arith in
+    let here_run = run_front i position here later (subst (λ (fs : List Frame). IsRun i position fs) split run) in
+    let given_is : left ≡ all_given i position here =
+    gives.on from.before after s place ∙ ap (all_given i position) (within_whole i position term here here_run least) in
+    let whole : from.before ++ after ≡ (from.before ++ here) ++ later = ap (λ (fs : List Frame). from.before ++ fs) split ∙ sym (append_assoc from.before here later) in
+    record {
+      later = later;
+      rest = record {
+        before = from.before ++ here;
+        stands = subst (λ (fs : List Frame). StandsFor k fs) whole s;
+        place = omega (arith, total_both from.before here);
+      };
+      all = ap (all_given i position) split ∙ given_both i position here later ∙ ap₂ (λ (xs : List Given) (p : ℕ). xs ++ all_given i p later) (sym given_is) (sym next_here);
+    }
+
+-- fewer terms are left
+terms_less : (tail position next term more : ℕ) → 0 < term → next ≡ min tail (term_end term position) → tail ≤ term_end term position + more → term ≤ more
+    → tail ≤ next - next % term + more
+terms_less tail position next term more some is left enough =
+    let own = div-add-mod' next term in
+    let split = div-add-mod' position term in
+    elim (nat_le tail (term_end term position)) as (λ b. nat_le tail (term_end term position) ≡ b → tail ≤ next - next % term + more) [
+      | true ↦ λ last.
+          let near : tail ≤ term_end term position = grind (arith, nat_tests, last) in
+          let below : next % term < term = omega arith in
+          omega arith
+      | false ↦ λ full.
+          let far : term_end term position < tail = grind (arith, nat_tests, full) in
+          let up : (position / term + 1) * term ≡ position / term * term + term = omega arith in
+          let here : next ≡ (position / term + 1) * term + 0 = omega arith in
+          let start : next % term ≡ 0 = ap (λ (n : ℕ). n % term) here ∙ mod-mul-add (position / term + 1) term 0 some in
+          omega arith
+    ]
+    refl
+
+-- nothing is left at the tail
+none_left : (k : Kept) (position : ℕ) (after : List Frame) → From k position after → k.tail ≤ position → all_given k.ident position after ≡ []
+none_left k position [] from ends = refl
+none_left k position (f ∷ fs) from ends =
+    let i : Ident = k.ident in
+    let s = from.stands in
+    let place = from.place in
+    let tail = s.tail in
+    let run = subst (λ (p : ℕ). IsRun i p (f ∷ fs)) (sym place) (run_rest i i.start from.before (f ∷ fs) s.sound) in
+    let some = some_span i position f run.0 in
+    absurd (omega (arith, total_both from.before (f ∷ fs)))
+
+-- all frames from the first held term on
+three_terms : (k : Kept) (low second third : ℕ) (after : List Frame) (a b c : List Given) → IsIdent k.ident → From k low after
+    → (k.tail / k.ident.term_length - 2) * k.ident.term_length ≤ low
+    → GivesFrom k low k.ident.term_length a → GivesFrom k second k.ident.term_length b → GivesFrom k third k.ident.term_length c
+    → second ≡ min k.tail (term_end k.ident.term_length low) → third ≡ min k.tail (term_end k.ident.term_length second)
+    → all_given k.ident low after ≡ a ++ b ++ c
+three_terms k low second third after a b c sound from held gives_a gives_b gives_c second_is third_is =
+    let i : Ident = k.ident in
+    let term : ℕ = i.term_length in
+    let term_low = sound.term_low in
+    let some : 0 < term = omega arith in
+    let end : ℕ = min k.tail (term_end term third) in
+    let one = turn k low second after a sound from gives_a second_is in
+    let two = turn k second third one.later b sound one.rest gives_b third_is in
+    let three = turn k third end two.later c sound two.rest gives_c refl in
+    let near = term_near k.tail low term some held in
+    let own = div-add-mod' k.tail term in
+    let split = div-add-mod' low term in
+    let up : (low / term + 2) * term ≡ low / term * term + 2 * term = omega arith in
+    let bound : k.tail / term * term ≤ (low / term + 2) * term = mul-le (k.tail / term) term (low / term + 2) term near (omega arith) in
+    let offset : k.tail % term < term = omega arith in
+    let first_left : k.tail ≤ term_end term low + 2 * term = omega arith in
+    let second_left : k.tail ≤ second - second % term + 2 * term = terms_less k.tail low second term (2 * term) some second_is first_left (omega arith) in
+    let third_left : k.tail ≤ third - third % term + term = terms_less k.tail second third term term some third_is (omega arith) (omega arith) in
+    let last : k.tail ≤ end = omega arith in
+    one.all
+    ∙ ap (λ (xs : List Given). a ++ xs) (two.all ∙ ap (λ (xs : List Given). b ++ xs) (three.all ∙ ap (λ (xs : List Given). c ++ xs) (none_left k end three.later three.rest last) ∙ append-nil c))
+    ∙ sym (append_assoc a b c)
+
+-- ---- what is held, of all frames
+
+-- a frame begins where a term does
+boundary : (position at term : ℕ) → 0 < term → position < at → at % term ≡ 0 → term_end term position ≤ at
+boundary position at term some before is =
+    let x = div-add-mod' position term in
+    let y = div-add-mod' at term in
+    elim (nat_le (at / term) (position / term)) as (λ b. nat_le (at / term) (position / term) ≡ b → term_end term position ≤ at) [
+      | true ↦ λ not_over.
+          let less : at / term ≤ position / term = grind (arith, nat_tests, not_over) in
+          let under : at / term * term ≤ position / term * term = mul-le (at / term) term (position / term) term less (omega arith) in
+          absurd (omega arith)
+      | false ↦ λ over.
+          let more : position / term + 1 ≤ at / term = grind (arith, nat_tests, over) in
+          let up : (position / term + 1) * term ≡ position / term * term + term = omega arith in
+          let above : (position / term + 1) * term ≤ at / term * term = mul-le (position / term + 1) term (at / term) term more (omega arith) in
+          omega arith
+    ]
+    refl
+
+record Parted (position at : ℕ) (fs : List Frame) : Type 0 where
+  before : List Frame
+  after : List Frame
+  is : fs ≡ before ++ after
+  place : at ≡ position + total before
+
+part_at : (i : Ident) (position at : ℕ) (fs : List Frame) → IsIdent i → IsRun i position fs → position ≤ at → at ≤ position + total fs
+    → (position < at → at % i.term_length ≡ 0) → Parted position at fs
+part_at i position at [] sound run low high starts = record { before = []; after = []; is = refl; place = omega arith }
+part_at i position at (f ∷ fs) sound run low high starts =
+    let term_low = sound.term_low in
+    let fits = frame_fits i position f run.0 in
+    let split = div-add-mod' position i.term_length in
+    elim (nat_le at position) as (λ b. nat_le at position ≡ b → Parted position at (f ∷ fs)) [
+      | true ↦ λ here.
+          let same : at ≤ position = grind (arith, nat_tests, here) in
+          record { before = []; after = f ∷ fs; is = refl; place = omega arith }
+      | false ↦ λ there.
+          let ahead : position < at = grind (arith, nat_tests, there) in
+          let over = boundary position at i.term_length (omega arith) ahead (starts ahead) in
+          let some = some_span i position f run.0 in
+          let rest = part_at i (position + span f) at fs sound run.1 (omega arith) (omega arith) (λ more. starts ahead) in
+          let place = rest.place in
+          record { before = f ∷ rest.before; after = rest.after; is = ap (λ (gs : List Frame). f ∷ gs) rest.is; place = omega arith }
+    ]
+    refl
+
+-- no frame before `low` is held
+none_below : (i : Ident) (position low at size : ℕ) (fs : List Frame) → IsRun i position fs → position + total fs ≤ low
+    → filter (is_over low at size) (all_given i position fs) ≡ []
+none_below i position low at size [] run under = refl
+none_below i position low at size (f ∷ fs) run under =
+    let some = some_span i position f run.0 in
+    let below : nat_le low position ≡ false = grind (arith, nat_tests, some, under) in
+    let rest = none_below i (position + span f) low at size fs run.1 (omega arith) in
+    let others : List Given = filter (is_over low at size) (all_given i (position + span f) fs) in
+    ap (λ (b : Bool). cond (b && meets at size (given i position f)) (given i position f ∷ others) others) below ∙ rest
+
+all_above : (i : Ident) (position low at size : ℕ) (fs : List Frame) → low ≤ position
+    → filter (is_over low at size) (all_given i position fs) ≡ filter (meets at size) (all_given i position fs)
+all_above i position low at size [] above = refl
+all_above i position low at size (f ∷ fs) above =
+    let held : nat_le low position ≡ true = grind (arith, nat_tests, above) in
+    let rest = all_above i (position + span f) low at size fs (omega arith) in
+    let g : Given = given i position f in
+    ap₂ (λ (b : Bool) (others : List Given). cond (b && meets at size g) (g ∷ others) others) held rest
+
+low_within : (tail term : ℕ) → (tail / term - 2) * term ≤ tail
+low_within tail term =
+    let own = div-add-mod' tail term in
+    let less : (tail / term - 2) * term ≤ tail / term * term = mul-le (tail / term - 2) term (tail / term) term (omega arith) (omega arith) in
+    omega arith
+
+pub low_before : (k : Kept) → k.ident.start ≤ k.tail → low_of k ≤ k.tail
+low_before k low = omega (arith, low, low_within k.tail k.ident.term_length)
+
+low_starts : (k : Kept) → 0 < k.ident.term_length → k.ident.start < low_of k → low_of k % k.ident.term_length ≡ 0
+low_starts k some ahead =
+    let term : ℕ = k.ident.term_length in
+    let is : low_of k ≡ (k.tail / term - 2) * term + 0 = omega (arith, ahead) in
+    ap (λ (n : ℕ). n % term) is ∙ mod-mul-add (k.tail / term - 2) term 0 some
+
+pub gives_over : (k : Kept) (second third at size : ℕ) (a b c left : List Given) → IsIdent k.ident
+    → GivesFrom k (low_of k) k.ident.term_length a → GivesFrom k second k.ident.term_length b → GivesFrom k third k.ident.term_length c
+    → second ≡ min k.tail (term_end k.ident.term_length (low_of k)) → third ≡ min k.tail (term_end k.ident.term_length second)
+    → left ≡ filter (meets at size) (a ++ b ++ c) → GivesOver k at size left
+gives_over k second third at size a b c left sound gives_a gives_b gives_c second_is third_is left_is =
+    record {
+      on = λ frames s.
+          let i : Ident = k.ident in
+          let low : ℕ = low_of k in
+          let term_low = sound.term_low in
+          let tail = s.tail in
+          let some : 0 < i.term_length = omega arith in
+          let before_tail = low_before k (omega arith) in
+          let parted = part_at i i.start low frames sound s.sound (omega arith) (omega arith) (low_starts k some) in
+          let from : From k low parted.after = record {
+            before = parted.before;
+            stands = subst (λ (fs : List Frame). StandsFor k fs) parted.is s;
+            place = parted.place;
+          } in
+          let place = parted.place in
+          let front_run = run_front i i.start parted.before parted.after (subst (λ (fs : List Frame). IsRun i i.start fs) parted.is s.sound) in
+          let three = three_terms k low second third parted.after a b c sound from (omega arith) gives_a gives_b gives_c second_is third_is in
+          let test : Given → Bool = is_over low at size in
+          left_is
+          ∙ ap (filter (meets at size)) (sym three)
+          ∙ sym (all_above i low low at size parted.after (omega arith))
+          ∙ ap (λ (p : ℕ). filter test (all_given i p parted.after)) place
+          ∙ sym (ap (λ (xs : List Given). xs ++ filter test (all_given i (i.start + total parted.before) parted.after)) (none_below i i.start low at size parted.before front_run (omega arith)))
+          ∙ sym (filter-append test (all_given i i.start parted.before) (all_given i (i.start + total parted.before) parted.after))
+          ∙ ap (filter test) (sym (given_both i i.start parted.before parted.after) ∙ ap (all_given i i.start) (sym parted.is));
+    }

@@ -1,0 +1,48 @@
+-- The bytes that are lent are those of the frames from the position on.
+use Rattle.std.proofs.Common.{◌≡◌, ℕ, ◌+◌, ◌-◌, ◌*◌, ◌/◌, ◌%◌, ◌<◌, ◌≤◌, min, refl, sym, ap, subst, arith}
+use Rattle.term_log.specs.Buffers.{IsBase}
+use Rattle.term_log.specs.Kept.{Kept}
+use Rattle.term_log.specs.Reading.{frames_left}
+use Rattle.std.proofs.lemmas.Nat.{div-add-mod', mul-le}
+use Rattle.term_log.proofs.Held.{base_is, term_near, gives_from}
+use Rattle.term_log.proofs.appender.Appender.frames_from.Goals as goal
+
+pub part-bytes-requires-clause-base : goal.part-bytes-requires-clause-base
+part-bytes-requires-clause-base c =
+    let s = c.self.inside in
+    let same = c.self.invariant.same in
+    let low = rw (← c.self.view_is) at c.requires.low in
+    let high = rw (← c.self.view_is) at c.requires.high in
+    let term : ℕ = s.ident.term_length in
+    let term_low = c.self.invariant.ident.term_low in
+    let is : c.from-term_length.result ≡ term = c.from-term_length.ensures in
+    let base : ℕ = c.args.position - c.args.position % term + 2 * term - (s.tail - s.tail % term) in
+    let here : IsBase term base = base_is s.tail c.args.position term base (omega arith) (omega (arith, low)) high refl in
+    subst (λ (t : ℕ). IsBase s.buffers.term_length (c.args.position - c.args.position % t + 2 * t - (s.tail - s.tail % t))) (sym is)
+    (subst (λ (t : ℕ). IsBase t base) (sym same) here)
+
+pub returns : goal.returns
+returns c =
+    let s = c.self.inside in
+    let k : Kept = record { ident = s.ident; tail = s.tail; messages = s.messages; buffers = s.buffers } in
+    let position : ℕ = c.args.position in
+    let low = rw (← c.self.view_is) at c.requires.low in
+    let high = rw (← c.self.view_is) at c.requires.high in
+    let t : ℕ = c.from-term_length.result in
+    let term : ℕ = s.ident.term_length in
+    let term_low = c.self.invariant.ident.term_low in
+    let is : t ≡ term = c.from-term_length.ensures in
+    let own = div-add-mod' s.tail term in
+    let base : IsBase term (position - position % term + 2 * term - (s.tail - s.tail % term)) =
+    base_is s.tail position term (position - position % term + 2 * term - (s.tail - s.tail % term)) (omega arith) (omega (arith, low)) high refl in
+    let split = div-add-mod' position term in
+    let near = term_near s.tail position term (omega arith) (omega (arith, low)) in
+    let more : (position / term + 2) * term ≡ position / term * term + 2 * term = omega arith in
+    let below : s.tail / term * term ≤ (position / term + 2) * term = mul-le (s.tail / term) term (position / term + 2) term near (omega arith) in
+    let offset : position % t ≡ position % term = ap (λ (n : ℕ). position % n) is in
+    let tail_offset : s.tail % t ≡ s.tail % term = ap (λ (n : ℕ). s.tail % n) is in
+    let end : c.min-end.result ≡ min s.tail (position - position % t + t) = c.min-end.ensures in
+    let rest : position % term < term = omega arith in
+    rw (← c.self.view_is)
+    (gives_from k position c.args.budget (position - position % t + 2 * t - (s.tail - s.tail % t) + position % t) (c.min-end.result - position) c.min-end.result
+    c.part-bytes.result.now (frames_left c.new.result) c.self.invariant.ident (omega arith) (omega arith) (omega arith) c.part-bytes.ensures c.new.ensures)

@@ -1,0 +1,29 @@
+-- The frames of a log whose ranges meet a range of positions, over all the terms that are held. Own rules.
+use Rattle.std.specs.Prelude.{◌≡◌, ℕ, ◌+◌, max, min, nat_lt, nat_le, ◌&&◌, Bool, List, ◌++◌, filter}
+use Rattle.term_log.specs.declared.ranges.FramesOver.{FramesOver}
+use Rattle.term_log.specs.Frames.{Frame, span}
+use Rattle.term_log.specs.Kept.{Kept, StandsFor}
+use Rattle.term_log.specs.Log.{low_of}
+use Rattle.term_log.specs.Reading.{Given, all_given, frames_left}
+
+-- The frame's range and that of `size` positions from `position` on have a position in common: the greater of their
+-- starts is below the lesser of their ends.
+abbrev pub meets : ℕ → ℕ → Given → Bool
+meets position size g = nat_lt (max g.position position) (min (g.position + span g.frame) (position + size))
+
+-- the frame is held, and its range meets that one
+abbrev pub is_over : ℕ → ℕ → ℕ → Given → Bool
+is_over low position size g = nat_le low g.position && meets position size g
+
+-- what is given over a range: of all frames, whichever the log stands for, those that are held and meet it
+pub record GivesOver (k : Kept) (position size : ℕ) (left : List Given) : Type 0 where
+  pub on : (frames : List Frame) → StandsFor k frames
+      → left ≡ filter (is_over (low_of k) position size) (all_given k.ident k.ident.start frames)
+
+-- all that is to come of three terms, before it is asked what meets the range
+abbrev pub all_left : FramesOver → List Given
+all_left over = frames_left over.first ++ frames_left over.second ++ frames_left over.third
+
+-- the frames that are still to come
+unfoldable pub over_left : FramesOver → List Given
+over_left over = filter (meets over.position over.size) (all_left over)
