@@ -1,0 +1,11 @@
+pub mod Adding
+pub mod Joining
+pub mod Leaving
+pub mod LimitLaws
+pub mod Lingering
+pub mod Measures
+pub mod Pairs
+pub mod Places
+pub mod SessionLaws
+pub mod Sessions
+pub mod Streams

@@ -1,0 +1,60 @@
+-- Which subscription reads which log: a function of the lists and the policy alone. Own rules.
+use Rattle.std.specs.Prelude.{ℕ, Bool, false, ◌&&◌, List, map, filter, Option, Some, None}
+use Rattle.std.specs.List.{flat_map}
+use Rattle.std.specs.Ordering.{int_eq}
+use Rattle.stream_registry.specs.declared.pairs.Pair.{Pair}
+use Rattle.stream_registry.specs.declared.rows.Publication.{Publication}
+use Rattle.stream_registry.specs.declared.rows.Subscription.{Subscription}
+use Rattle.stream_registry.specs.Places.{is_ipc}
+use Rattle.stream_registry.specs.Sessions.{agrees_with}
+use Rattle.stream_registry.specs.Streams.{Streams}
+use Rattle.channel_uri.specs.Parameters.{stated_session_of}
+use Rattle.client_registry.specs.declared.client.Client.{Client}
+use Rattle.client_registry.specs.Clients.{principal_at}
+use Rattle.policy_core.specs.declared.act.Act.TheVariants.{Image}
+use Rattle.policy_core.specs.Question.{Question}
+use Rattle.policy_core.specs.RuleList.{Rules}
+use Rattle.policy_core.specs.Rules.{verdict_of}
+
+-- a subscription to shared memory reads the logs there that are of its stream, and of its session where it states one
+unfoldable pub fits : Publication → Subscription → Bool
+fits publication subscription =
+    is_ipc publication.channel.media && is_ipc subscription.channel.media
+    && int_eq publication.stream subscription.stream
+    && agrees_with publication.session (stated_session_of subscription.channel)
+
+-- what the policy is asked of a pair: whether the subscriber may have the messages of a log on the subscription's channel
+-- and stream
+abbrev pub image_question : ℕ → Subscription → Question
+image_question principal subscription = record {
+  principal = principal;
+  act = Image;
+  channel = subscription.channel;
+  stream = subscription.stream;
+}
+
+abbrev pub is_allowed_to : Rules → ℕ → Subscription → Option ℕ → Bool
+is_allowed_to policy epoch subscription None = false
+is_allowed_to policy epoch subscription (Some principal) =
+    (verdict_of policy epoch (image_question principal subscription)).allow
+
+-- the policy, which goes by this number, allows it to the client whose subscription it is
+unfoldable pub is_allowed : List Client → Rules → ℕ → Subscription → Bool
+is_allowed clients policy epoch subscription =
+    is_allowed_to policy epoch subscription (principal_at clients subscription.client)
+
+abbrev pub is_pair : List Client → Rules → ℕ → Publication → Subscription → Bool
+is_pair clients policy epoch publication subscription =
+    fits publication subscription && is_allowed clients policy epoch subscription
+
+abbrev pub pair_of : Publication → Subscription → Pair
+pair_of publication subscription = record { source = publication.source; subscription = subscription.number }
+
+-- the pairs of this log, by subscription
+abbrev pub pairs_at : List Client → Rules → ℕ → List Subscription → Publication → List Pair
+pairs_at clients policy epoch subscriptions publication =
+    map (pair_of publication) (filter (is_pair clients policy epoch publication) subscriptions)
+
+-- by source and then subscription
+unfoldable pub pairs_of : Streams → List Client → Rules → ℕ → List Pair
+pairs_of s clients policy epoch = flat_map (pairs_at clients policy epoch s.subscriptions) s.publications

@@ -1,0 +1,241 @@
+ghost use Rattle.stream_registry.specs.Adding.{added, adding_of, has_room_for_log, has_room_for_registration, has_room_for_subscription, joining_of, log_of, made, making_of, registered, registration_of, session_of, subscribed};
+ghost use Rattle.stream_registry.specs.declared.fault.StreamFault.TheVariants.{Full, NoMemory};
+ghost use Rattle.std.specs.Prelude.{◌≡◌, ◌++◌, ◌∷◌, [], IfOk, IfErr, OnOk, OnErr, Ok, Err, is_ok, true, false};
+
+use crate::fault::StreamFault;
+use crate::joining::{contradicts, joined_at};
+use crate::rows::{Publication, Registration, Subscription};
+use crate::sessions::{after, free_session, is_stated_again};
+use crate::streams::Streams;
+use crate::wanted::{Adding, Wanted};
+use channel_uri::Channel;
+use std::alloc::AllocError;
+
+/// How many logs of publications there are at most.
+const LOGS: usize = 256;
+
+/// How many registrations with publications there are at most.
+const REGISTRATIONS: usize = 1024;
+
+/// How many subscriptions there are at most.
+const SUBSCRIPTIONS: usize = 512;
+
+/// Registers the client with the publication of this source number.
+fn register(
+    registrations: &mut Vec<Registration>,
+    number: u64,
+    client: u64,
+    wanted: Wanted,
+    source: u64,
+) -> Result<(), AllocError>
+    ensures ok { OnOk result (registrations.new.items ≡ registrations.old.items ++ registration_of number client wanted source ∷ []) }
+    ensures err { OnErr result (registrations.new.items ≡ registrations.old.items) }
+{
+    registrations.push(Registration {
+        number,
+        client,
+        channel: wanted.channel,
+        source,
+    })?;
+    Ok(())
+}
+
+impl Streams {
+    fn has_room_for_log(&self) -> bool
+        ensures { result ≡ has_room_for_log self.now }
+    {
+        self.publications.len() < LOGS
+    }
+
+    fn has_room_for_registration(&self) -> bool
+        ensures { result ≡ has_room_for_registration self.now }
+    {
+        self.registrations.len() < REGISTRATIONS
+    }
+
+    fn has_room_for_subscription(&self) -> bool
+        ensures { result ≡ has_room_for_subscription self.now }
+    {
+        self.subscriptions.len() < SUBSCRIPTIONS
+    }
+
+    /// A channel that would join this publication.
+    #[tactic(auto, unfolding(crate::specs::Adding::joining_of))]
+    fn joining(&self, channel: &Channel, publication: &Publication) -> Result<Adding, StreamFault>
+        ensures { result ≡ joining_of self.now channel.now publication.now }
+    {
+        if contradicts(self.defaults, channel, publication) {
+            return Err(StreamFault::Conflict);
+        }
+        if !self.has_room_for_registration() {
+            return Err(StreamFault::Full);
+        }
+        Ok(Adding::Join {
+            source: publication.source,
+            session: publication.session,
+        })
+    }
+
+    /// The session of a new log.
+    fn session(&self, channel: &Channel) -> i32
+        ensures { result ≡ session_of self.now channel.now }
+    {
+        match channel.session_id() {
+            Some(stated) => stated,
+            None => free_session(self.publications.as_slice(), self.next_session),
+        }
+    }
+
+    /// A log that would be made.
+    #[tactic(auto, unfolding(crate::specs::Adding::making_of))]
+    fn making(&self, wanted: &Wanted) -> Result<Adding, StreamFault>
+        ensures { result ≡ making_of self.now wanted.now }
+    {
+        let channel = &wanted.channel;
+        let publications = self.publications.as_slice();
+        if is_stated_again(
+            publications,
+            channel.media(),
+            wanted.stream,
+            channel.session_id(),
+        ) {
+            return Err(StreamFault::Conflict);
+        }
+        if !(self.has_room_for_registration() && self.has_room_for_log()) {
+            return Err(StreamFault::Full);
+        }
+        Ok(Adding::Make {
+            session: self.session(channel),
+        })
+    }
+
+    /// What would become of a publication that is asked for. It takes no memory.
+    ///
+    /// # Errors
+    /// [`StreamFault::Conflict`] where the publication that it would join has another log or session than its channel
+    /// says, or where it would make a log and states the session of another one of its medium and stream.
+    /// [`StreamFault::Full`] where 1,024 registrations are there, or 256 logs and one would be made.
+    #[tactic(auto, unfolding(crate::specs::Adding::adding_of))]
+    pub fn adding(&self, wanted: &Wanted) -> Result<Adding, StreamFault>
+        ensures { result ≡ adding_of self.now wanted.now }
+    {
+        if wanted.exclusive {
+            return self.making(wanted);
+        }
+        let publications = self.publications.as_slice();
+        match joined_at(publications, &wanted.channel, wanted.stream) {
+            Some(publication) => self.joining(&wanted.channel, publication),
+            None => self.making(wanted),
+        }
+    }
+
+    /// The row of a new log.
+    fn log(
+        &self,
+        number: u64,
+        wanted: &Wanted,
+        place: u64,
+        session: i32,
+    ) -> Result<Publication, AllocError>
+        ensures { IfOk result (λ log. log ≡ log_of self.now number wanted.now place session) }
+    {
+        Ok(Publication {
+            source: number,
+            channel: wanted.channel.copy()?,
+            stream: wanted.stream,
+            session,
+            exclusive: wanted.exclusive,
+            place,
+            measures: self.defaults.with_those_of(&wanted.channel),
+            lingering_since: None,
+        })
+    }
+
+    /// Makes a log, and registers the client with it.
+    fn make(
+        &mut self,
+        number: u64,
+        client: u64,
+        wanted: Wanted,
+        place: u64,
+        session: i32,
+    ) -> Result<(), AllocError>
+        ensures ok { OnOk result (self.new ≡ registered (made self.old number wanted place session) number client wanted number) }
+        ensures err { OnErr result (self.new ≡ self.old) }
+    {
+        let log = self.log(number, &wanted, place, session)?;
+        let is_stated = wanted.channel.session_id().is_some();
+        self.publications.reserve(1)?;
+        register(&mut self.registrations, number, client, wanted, number)?;
+        match self.publications.push(log) {
+            Ok(()) => {}
+            Err(_) => unreachable!(),
+        }
+        if !is_stated {
+            self.next_session = after(session);
+        }
+        Ok(())
+    }
+
+    /// A client publishes: it is registered, under this number, with the publication that [`Streams::adding`] names, or
+    /// with a new one, whose source number this is and whose log lies at `place`. The answer is that of
+    /// [`Streams::adding`].
+    ///
+    /// # Errors
+    /// As [`Streams::adding`]; [`StreamFault::NoMemory`] only where the client would be registered. Nothing is changed by
+    /// an error.
+    pub fn add_publication(
+        &mut self,
+        number: u64,
+        client: u64,
+        wanted: Wanted,
+        place: u64,
+    ) -> Result<Adding, StreamFault>
+        ensures answer { IfOk result (λ adding. adding_of self.old wanted ≡ Ok adding) }
+        ensures refused { is_ok (adding_of self.old wanted) ≡ false → result ≡ adding_of self.old wanted }
+        ensures granted { is_ok (adding_of self.old wanted) ≡ true → IfErr result (λ fault. fault ≡ NoMemory) }
+        ensures added { IfOk result (λ adding. self.new ≡ added self.old number client wanted place adding) }
+        ensures err { OnErr result (self.new ≡ self.old) }
+    {
+        let adding = self.adding(&wanted)?;
+        match adding {
+            Adding::Join { source, .. } => {
+                register(&mut self.registrations, number, client, wanted, source)?
+            }
+            Adding::Make { session } => self.make(number, client, wanted, place, session)?,
+        }
+        Ok(adding)
+    }
+
+    /// A client subscribes, under this number.
+    ///
+    /// # Errors
+    /// [`StreamFault::Full`] where there are 512 subscriptions; nothing is changed by an error.
+    #[tactic(auto, unfolding(crate::specs::Adding::subscribed))]
+    pub fn add_subscription(
+        &mut self,
+        number: u64,
+        client: u64,
+        channel: Channel,
+        stream: i32,
+    ) -> Result<(), StreamFault>
+        ensures full { has_room_for_subscription self.old ≡ false → result ≡ Err Full }
+        ensures room { has_room_for_subscription self.old ≡ true → IfErr result (λ fault. fault ≡ NoMemory) }
+        ensures added { OnOk result (self.new ≡ subscribed self.old number client channel stream) }
+        ensures err { OnErr result (self.new ≡ self.old) }
+    {
+        if !self.has_room_for_subscription() {
+            return Err(StreamFault::Full);
+        }
+        let subscription = Subscription {
+            number,
+            client,
+            channel,
+            stream,
+        };
+        match self.subscriptions.push(subscription) {
+            Ok(()) => Ok(()),
+            Err(_) => Err(StreamFault::NoMemory),
+        }
+    }
+}

@@ -1,0 +1,28 @@
+ghost use Rattle.std.specs.Prelude.{◌≡◌};
+
+use std::alloc::AllocError;
+
+/// Why nothing is done about a publication or a subscription.
+#[derive(Clone, Copy, Debug, PartialEq, Eq)]
+pub enum StreamFault {
+    /// The client has no registration of this number.
+    UnknownPublication,
+    /// The client has no subscription of this number.
+    UnknownSubscription,
+    /// The channel says something else than the publication that it would join, or states the session of another one.
+    Conflict,
+    /// There would be too many publications, registrations or subscriptions.
+    Full,
+    /// There was no memory.
+    NoMemory,
+}
+
+impl From<AllocError> for StreamFault {
+    ghost use Rattle.stream_registry.specs.declared.fault.StreamFault.TheVariants.{NoMemory};
+
+    ghost from_gives = { λ refused fault. fault ≡ NoMemory };
+
+    fn from(_: AllocError) -> StreamFault {
+        StreamFault::NoMemory
+    }
+}

@@ -1,0 +1,31 @@
+//! What is published and what is subscribed to: the part of a driver's state that says which logs there are, who is
+//! registered with them, and which subscription reads which.
+//!
+//! The lists are plain data for contracts (`Streams` of `specs/Streams.antt`). A publication is one log. Those who add a
+//! publication of the same place and stream are registered with one log; once the last registration with it goes it
+//! lingers, and closes when it has lingered for too long. `Streams::adding` says what would become of an ADD, and
+//! `Streams::add_publication` does it. Pairs of a log and a subscription are computed from the lists and a policy alone.
+#![tactic(auto)]
+
+mod adding;
+mod fault;
+mod joining;
+mod laws;
+mod leaving;
+mod lingering;
+mod measures;
+mod pairs;
+mod places;
+mod rows;
+mod sessions;
+mod streams;
+mod wanted;
+
+pub use fault::StreamFault;
+pub use laws::{limits_are_kept, sessions_are_free};
+pub use lingering::LogPlace;
+pub use measures::Measures;
+pub use pairs::Pair;
+pub use rows::{Publication, Registration, Subscription};
+pub use streams::Streams;
+pub use wanted::{Adding, Wanted};

@@ -1,0 +1,112 @@
+ghost use Rattle.stream_registry.specs.Pairs.{fits, is_allowed, is_pair, pairs_at, pairs_of};
+ghost use Rattle.std.specs.Prelude.{◌≡◌, ◌++◌, IfOk, OnOk};
+
+use crate::places::is_ipc;
+use crate::rows::{Publication, Subscription};
+use crate::sessions::agrees_with;
+use crate::streams::Streams;
+use byte_strings::Items;
+use client_registry::Clients;
+use policy_core::{Act, Policy, Request};
+use std::alloc::{AllocError, Global};
+
+/// A log and a subscription that reads it.
+#[derive(Clone, Copy, Debug, PartialEq, Eq)]
+pub struct Pair {
+    /// The log's source number.
+    pub source: u64,
+    /// The registration number of the subscription.
+    pub subscription: u64,
+}
+
+/// Whether the subscription reads the log, if the policy lets it.
+#[tactic(auto, unfolding(crate::specs::Pairs::fits))]
+fn fits(publication: &Publication, subscription: &Subscription) -> bool
+    ensures { result ≡ fits publication.now subscription.now }
+{
+    is_ipc(publication.channel.media())
+        && is_ipc(subscription.channel.media())
+        && publication.stream == subscription.stream
+        && agrees_with(publication.session, subscription.channel.session_id())
+}
+
+/// Whether the policy, which goes by this number, lets the client have messages on its subscription.
+#[tactic(auto, unfolding(crate::specs::Pairs::is_allowed))]
+fn is_allowed(clients: &Clients, policy: &Policy, epoch: u64, subscription: &Subscription) -> bool
+    ensures { result ≡ is_allowed clients.now.rows policy.now epoch subscription.now }
+{
+    let Some(principal) = clients.principal_of(subscription.client) else {
+        return false;
+    };
+    let request = Request {
+        principal,
+        act: Act::Image,
+        channel: &subscription.channel,
+        stream: subscription.stream,
+    };
+    policy.verdict(epoch, &request).allow
+}
+
+/// Whether the subscription reads the log.
+fn is_pair(
+    clients: &Clients,
+    policy: &Policy,
+    epoch: u64,
+    publication: &Publication,
+    subscription: &Subscription,
+) -> bool
+    ensures { result ≡ is_pair clients.now.rows policy.now epoch publication.now subscription.now }
+{
+    fits(publication, subscription) && is_allowed(clients, policy, epoch, subscription)
+}
+
+/// Puts the pairs of a log behind the others.
+fn push_pairs(
+    pairs: &mut Items<Pair>,
+    clients: &Clients,
+    policy: &Policy,
+    epoch: u64,
+    subscriptions: &[Subscription],
+    publication: &Publication,
+) -> Result<(), AllocError>
+    ensures { OnOk result (pairs.new ≡ pairs.old ++ pairs_at clients.now.rows policy.now epoch subscriptions.now publication.now) }
+{
+    for subscription in subscriptions {
+        if is_pair(clients, policy, epoch, publication, subscription) {
+            pairs.push(Pair {
+                source: publication.source,
+                subscription: subscription.number,
+            })?;
+        }
+    }
+    Ok(())
+}
+
+impl Streams {
+    /// Which subscription reads which log, by source and then subscription: those that fit, where the policy, which goes
+    /// by the number `epoch`, allows the act `image` to the subscription's client.
+    #[tactic(auto, unfolding(crate::specs::Pairs::pairs_of))]
+    pub fn pairs(
+        &self,
+        alloc: Global,
+        clients: &Clients,
+        policy: &Policy,
+        epoch: u64,
+    ) -> Result<Items<Pair>, AllocError>
+        ensures { IfOk result (λ pairs. pairs ≡ pairs_of self.now clients.now.rows policy.now epoch) }
+    {
+        let mut pairs = Items::new(alloc);
+        let subscriptions = self.subscriptions.as_slice();
+        for publication in &self.publications {
+            push_pairs(
+                &mut pairs,
+                clients,
+                policy,
+                epoch,
+                subscriptions,
+                publication,
+            )?;
+        }
+        Ok(pairs)
+    }
+}

@@ -1,0 +1,96 @@
+ghost use Rattle.std.specs.Prelude.{◌≡◌, IfOk};
+
+use crate::measures::Measures;
+use channel_uri::Channel;
+use std::alloc::AllocError;
+
+/// A live publication: one log, which all that are registered with it share.
+#[derive(Debug, Drop)]
+pub struct Publication {
+    /// The registration number of the ADD that made it, by which the log is known as a source.
+    pub source: u64,
+    /// The channel of that ADD.
+    pub channel: Channel,
+    /// The stream id.
+    pub stream: i32,
+    /// The session id.
+    pub session: i32,
+    /// Whether nobody else may join it.
+    pub exclusive: bool,
+    /// The page at which the log's memory begins.
+    pub place: u64,
+    pub measures: Measures,
+    /// The moment from which on nobody was registered with it, in nanoseconds; `None` while somebody is.
+    pub lingering_since: Option<u64>,
+}
+
+/// A client's registration with a publication.
+#[derive(Debug, Drop)]
+pub struct Registration {
+    /// The registration number.
+    pub number: u64,
+    /// The id of the client that it belongs to.
+    pub client: u64,
+    /// The channel that the client named.
+    pub channel: Channel,
+    /// The source number of the publication.
+    pub source: u64,
+}
+
+/// A subscription of a client.
+#[derive(Debug, Drop)]
+pub struct Subscription {
+    /// The registration number.
+    pub number: u64,
+    /// The id of the client that it belongs to.
+    pub client: u64,
+    pub channel: Channel,
+    /// The stream id.
+    pub stream: i32,
+}
+
+impl Publication {
+    /// Another publication, equal to this one.
+    pub(crate) fn copy(&self) -> Result<Publication, AllocError>
+        ensures { IfOk result (λ copy. copy ≡ self.now) }
+    {
+        Ok(Publication {
+            source: self.source,
+            channel: self.channel.copy()?,
+            stream: self.stream,
+            session: self.session,
+            exclusive: self.exclusive,
+            place: self.place,
+            measures: self.measures,
+            lingering_since: self.lingering_since,
+        })
+    }
+}
+
+impl Registration {
+    /// Another registration, equal to this one.
+    pub(crate) fn copy(&self) -> Result<Registration, AllocError>
+        ensures { IfOk result (λ copy. copy ≡ self.now) }
+    {
+        Ok(Registration {
+            number: self.number,
+            client: self.client,
+            channel: self.channel.copy()?,
+            source: self.source,
+        })
+    }
+}
+
+impl Subscription {
+    /// Another subscription, equal to this one.
+    pub(crate) fn copy(&self) -> Result<Subscription, AllocError>
+        ensures { IfOk result (λ copy. copy ≡ self.now) }
+    {
+        Ok(Subscription {
+            number: self.number,
+            client: self.client,
+            channel: self.channel.copy()?,
+            stream: self.stream,
+        })
+    }
+}

@@ -1,0 +1,85 @@
+ghost use Rattle.stream_registry.specs.Sessions.{after, is_taken, free_session, agrees_with, has_session_at, is_stated_again};
+ghost use Rattle.std.specs.List.{list_any};
+ghost use Rattle.std.specs.Prelude.{◌≡◌};
+
+use crate::places::is_same_media;
+use crate::rows::Publication;
+use channel_uri::Media;
+
+/// The session id after this one; the least comes after the greatest.
+pub(crate) fn after(session: i32) -> i32
+    ensures { result ≡ after session }
+{
+    session.wrapping_add(1)
+}
+
+/// Whether a live publication has this session.
+fn is_taken(publications: &[Publication], session: i32) -> bool
+    ensures { result ≡ is_taken publications.now session }
+{
+    publications
+        .iter()
+        .any(|publication| publication.session == session)
+}
+
+/// The first session from this one on that no live publication has.
+#[tactic(auto, unfolding(crate::specs::Sessions::free_session))]
+pub(crate) fn free_session(publications: &[Publication], first: i32) -> i32
+    ensures { result ≡ free_session publications.now first }
+{
+    let mut session = first;
+    for _other in publications {
+        if !is_taken(publications, session) {
+            return session;
+        }
+        session = after(session);
+    }
+    session
+}
+
+/// Whether a channel that states this session, or none, is one of the publication's.
+pub(crate) fn agrees_with(session: i32, stated: Option<i32>) -> bool
+    ensures { result ≡ agrees_with session stated }
+{
+    match stated {
+        Some(stated) => stated == session,
+        None => true,
+    }
+}
+
+/// Whether the publication has the session, on this medium and stream.
+#[tactic(auto, unfolding(crate::specs::Sessions::has_session_at))]
+fn has_session_at(publication: &Publication, media: Media, stream: i32, session: i32) -> bool
+    ensures { result ≡ has_session_at media stream session publication.now }
+{
+    is_same_media(publication.channel.media(), media)
+        && publication.stream == stream
+        && publication.session == session
+}
+
+/// Whether a publication has the session, on this medium and stream.
+fn is_used_at(publications: &[Publication], media: Media, stream: i32, session: i32) -> bool
+    ensures { result ≡ list_any (has_session_at media stream session) publications.now }
+{
+    for publication in publications {
+        if has_session_at(publication, media, stream, session) {
+            return true;
+        }
+    }
+    false
+}
+
+/// Whether a live publication of this medium and stream has the session that is stated.
+pub(crate) fn is_stated_again(
+    publications: &[Publication],
+    media: Media,
+    stream: i32,
+    stated: Option<i32>,
+) -> bool
+    ensures { result ≡ is_stated_again publications.now media stream stated }
+{
+    match stated {
+        Some(session) => is_used_at(publications, media, stream, session),
+        None => false,
+    }
+}

@@ -1,0 +1,15 @@
+//! Tests of `stream_registry`.
+#![tactic(auto)]
+
+#[cfg(test)]
+mod leaving;
+#[cfg(test)]
+mod limits;
+#[cfg(test)]
+mod pairing;
+#[cfg(test)]
+mod play;
+#[cfg(test)]
+mod publishing;
+#[cfg(test)]
+mod sessions;

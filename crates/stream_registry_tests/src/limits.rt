@@ -1,0 +1,72 @@
+//! How much there may be.
+
+use crate::play::{Play, joined, made};
+use std::test::Fail;
+use stream_registry::StreamFault;
+
+/// Whether 256 logs can be made.
+fn logs_are_made(play: &mut Play) -> bool {
+    let mut session = 0i32;
+    for number in 1..257u64 {
+        session = session.wrapping_add(1);
+        if !play.publishes_on(number, "aeron:ipc", 10, true, made(session)) {
+            return false;
+        }
+    }
+    true
+}
+
+fn further_logs_are_refused(play: &mut Play) -> bool {
+    let conflict = Err(StreamFault::Conflict);
+    play.publishes_on(257, "aeron:ipc", 10, true, Err(StreamFault::Full))
+        && play.publishes_on(257, "aeron:ipc?session-id=7", 10, true, conflict)
+}
+
+#[test]
+fn there_are_256_logs_at_most(rt: HostRuntime) -> Result<(), Fail> {
+    let mut play = Play::new(rt.alloc());
+    assert!(rt; logs_are_made(&mut play) && further_logs_are_refused(&mut play));
+    Ok(())
+}
+
+/// Whether 1,024 can be registered with one log.
+fn one_log_is_joined(play: &mut Play) -> bool {
+    for number in 2..1025u64 {
+        if !play.publishes(number, 1, "aeron:ipc", joined(1, 1)) {
+            return false;
+        }
+    }
+    true
+}
+
+fn further_registrations_are_refused(play: &mut Play) -> bool {
+    let full = Err(StreamFault::Full);
+    play.publishes(1025, 1, "aeron:ipc", full)
+        && play.publishes_on(1025, "aeron:ipc", 11, false, full)
+}
+
+#[test]
+fn there_are_1024_registrations_at_most(rt: HostRuntime) -> Result<(), Fail> {
+    let mut play = Play::new(rt.alloc());
+    assert!(rt; play.publishes(1, 1, "aeron:ipc", made(1)));
+    assert!(rt; one_log_is_joined(&mut play) && further_registrations_are_refused(&mut play));
+    Ok(())
+}
+
+/// Whether 512 can subscribe.
+fn many_subscribe(play: &mut Play) -> bool {
+    for number in 1..513u64 {
+        if !play.subscribes(number, 1, "aeron:ipc", Ok(())) {
+            return false;
+        }
+    }
+    true
+}
+
+#[test]
+fn there_are_512_subscriptions_at_most(rt: HostRuntime) -> Result<(), Fail> {
+    let mut play = Play::new(rt.alloc());
+    let full = Err(StreamFault::Full);
+    assert!(rt; many_subscribe(&mut play) && play.subscribes(513, 1, "aeron:ipc", full));
+    Ok(())
+}

@@ -1,0 +1,130 @@
+//! Streams that tests play with, all on stream 10. Where no memory is there, nothing is as a test expects.
+
+use channel_uri::{Channel, UriError};
+use std::alloc::Global;
+use stream_registry::{Adding, LogPlace, Measures, StreamFault, Streams, Wanted};
+
+/// How long a log lingers whose channel does not say.
+pub(crate) const LINGER: u64 = 5_000_000_000;
+
+/// Streams, and where their memory comes from.
+#[derive(Drop)]
+pub(crate) struct Play {
+    pub(crate) alloc: Global,
+    pub(crate) streams: Streams,
+}
+
+/// A log of its own.
+pub(crate) fn made(session: i32) -> Result<Adding, StreamFault> {
+    Ok(Adding::Make { session })
+}
+
+/// The log of another.
+pub(crate) fn joined(source: u64, session: i32) -> Result<Adding, StreamFault> {
+    Ok(Adding::Join { source, session })
+}
+
+fn wanted(alloc: Global, text: &str, stream: i32, exclusive: bool) -> Result<Wanted, UriError> {
+    Ok(Wanted {
+        channel: Channel::parse(alloc, text)?,
+        stream,
+        exclusive,
+    })
+}
+
+impl Play {
+    /// The first session that is looked for is `first`.
+    pub(crate) fn from_session(alloc: Global, first: i32) -> Play {
+        let defaults = Measures {
+            mtu: 1408,
+            term_length: 65_536,
+            linger: LINGER,
+        };
+        Play {
+            alloc,
+            streams: Streams::new(alloc, defaults, first),
+        }
+    }
+
+    pub(crate) fn new(alloc: Global) -> Play {
+        Play::from_session(alloc, 1)
+    }
+
+    /// Whether this is answered, first to the question and then to the ADD. The log lies at the page of its number.
+    pub(crate) fn adds(
+        &mut self,
+        number: u64,
+        client: u64,
+        wanted: Wanted,
+        answer: Result<Adding, StreamFault>,
+    ) -> bool {
+        self.streams.adding(&wanted) == answer
+            && self.streams.add_publication(number, client, wanted, number) == answer
+    }
+
+    /// Whether a publication of this stream is answered so.
+    pub(crate) fn publishes_on(
+        &mut self,
+        number: u64,
+        text: &str,
+        stream: i32,
+        exclusive: bool,
+        answer: Result<Adding, StreamFault>,
+    ) -> bool {
+        match wanted(self.alloc, text, stream, exclusive) {
+            Ok(wanted) => self.adds(number, 1, wanted, answer),
+            Err(_) => false,
+        }
+    }
+
+    /// Whether a publication that others may join is answered so.
+    pub(crate) fn publishes(
+        &mut self,
+        number: u64,
+        client: u64,
+        text: &str,
+        answer: Result<Adding, StreamFault>,
+    ) -> bool {
+        match wanted(self.alloc, text, 10, false) {
+            Ok(wanted) => self.adds(number, client, wanted, answer),
+            Err(_) => false,
+        }
+    }
+
+    /// Whether a subscription is answered so.
+    pub(crate) fn subscribes(
+        &mut self,
+        number: u64,
+        client: u64,
+        text: &str,
+        answer: Result<(), StreamFault>,
+    ) -> bool {
+        match Channel::parse(self.alloc, text) {
+            Ok(channel) => self.streams.add_subscription(number, client, channel, 10) == answer,
+            Err(_) => false,
+        }
+    }
+
+    /// Whether these logs close at this moment.
+    pub(crate) fn closes(&mut self, now: u64, logs: &[LogPlace]) -> bool {
+        match self.streams.close_lingering(self.alloc, now) {
+            Ok(closed) => closed.as_slice() == logs,
+            Err(_) => false,
+        }
+    }
+
+    /// Whether the log of this source is there, and lingers since this moment, or not at all.
+    pub(crate) fn lingers(&self, source: u64, since: Option<u64>) -> bool {
+        self.streams
+            .publications()
+            .iter()
+            .any(|log| log.source == source && log.lingering_since == since)
+    }
+
+    /// Whether there are so many logs, registrations and subscriptions.
+    pub(crate) fn has(&self, logs: usize, registrations: usize, subscriptions: usize) -> bool {
+        self.streams.publications().len() == logs
+            && self.streams.registrations().len() == registrations
+            && self.streams.subscriptions().len() == subscriptions
+    }
+}
