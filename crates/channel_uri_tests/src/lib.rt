@@ -6,4 +6,6 @@ mod channels;
 #[cfg(test)]
 mod patterns;
 #[cfg(test)]
+mod readings;
+#[cfg(test)]
 mod values;
