@@ -10,6 +10,7 @@ use Rattle.command_codec.specs.declared.command.Kind.{Kind}
 use Rattle.command_codec.specs.declared.command.Kind.TheVariants as kinds
 use Rattle.command_codec.specs.Gives.{◌>>=◌}
 use Rattle.command_codec.specs.Fields.{number_in, number_at, number_bytes, IsBytes}
+use Rattle.command_codec.specs.AddPublication.{add_publication_of}
 use Rattle.command_codec.specs.AddSubscription.{add_subscription_of}
 use Rattle.command_codec.specs.Removal.{removal_of}
 use Rattle.command_codec.specs.AddCounter.{add_counter_of}
@@ -18,6 +19,7 @@ use Rattle.command_codec.specs.SetCounter.{set_counter_of}
 use Rattle.command_codec.specs.Command.{all_kinds, kind_number, kind_of, kind_in, fields_of, fields_bytes, AreFields, command_of, command_bytes, correlation_of, IsCommand}
 use Rattle.command_codec.proofs.FieldLemmas.{bind_ok, step, guard_ok, made_from, ok_is, Takes, Takes-then, number_takes, number_again, ended_takes}
 use Rattle.command_codec.proofs.Finding.{found_by_number}
+use Rattle.command_codec.proofs.AddPublicationLemmas.{add_publication_takes, add_publication_again}
 use Rattle.command_codec.proofs.AddSubscriptionLemmas.{add_subscription_takes, add_subscription_again}
 use Rattle.command_codec.proofs.RemovalLemmas.{removal_takes, removal_again}
 use Rattle.command_codec.proofs.AddCounterLemmas.{add_counter_takes, add_counter_again}
@@ -28,6 +30,9 @@ use Rattle.command_codec.proofs.SetCounterLemmas.{set_counter_takes, set_counter
 
 kind_again : (kind : Kind) → kind_of (kind_number kind) ≡ Ok kind
 unfolding kind_of kind_number
+kind_again kinds.AddPublication = refl
+kind_again kinds.RemovePublication = refl
+kind_again kinds.AddExclusivePublication = refl
 kind_again kinds.AddSubscription = refl
 kind_again kinds.RemoveSubscription = refl
 kind_again kinds.ClientKeepalive = refl
@@ -39,6 +44,9 @@ kind_again kinds.SetCounter = refl
 
 number_fits : (kind : Kind) → kind_number kind < 256 ^ 4
 unfolding kind_number
+number_fits kinds.AddPublication = omega arith
+number_fits kinds.RemovePublication = omega arith
+number_fits kinds.AddExclusivePublication = omega arith
 number_fits kinds.AddSubscription = omega arith
 number_fits kinds.RemoveSubscription = omega arith
 number_fits kinds.ClientKeepalive = omega arith
@@ -50,6 +58,9 @@ number_fits kinds.SetCounter = omega arith
 
 fields_again : (body : Body) → AreFields body → fields_of (kind_in body) (fields_bytes body) ≡ Ok body
 unfolding fields_of fields_bytes
+fields_again (bodies.AddPublication fields) h = rw (add_publication_again fields h) refl
+fields_again (bodies.RemovePublication fields) h = rw (removal_again fields h) refl
+fields_again (bodies.AddExclusivePublication fields) h = rw (add_publication_again fields h) refl
 fields_again (bodies.AddSubscription fields) h = rw (add_subscription_again fields h) refl
 fields_again (bodies.RemoveSubscription fields) h = rw (removal_again fields h) refl
 fields_again bodies.ClientKeepalive h = refl
@@ -71,6 +82,18 @@ record Reads (kind : Kind) (bytes : List ℕ) (body : Body) : Type 0 where
 
 fields_take : (kind : Kind) (bytes : List ℕ) (body : Body) → IsBytes bytes → fields_of kind bytes ≡ Ok body → Reads kind bytes body
 unfolding fields_of fields_bytes
+fields_take kinds.AddPublication bytes body fits e =
+    made_from (add_publication_of bytes) (λ fields. bodies.AddPublication fields) (Reads kinds.AddPublication bytes) body (λ fields is.
+    let t = add_publication_takes bytes fields fits is in
+    record { is_kind = refl; spelt = t.0; sound = t.1 }) e
+fields_take kinds.RemovePublication bytes body fits e =
+    made_from (removal_of bytes) (λ fields. bodies.RemovePublication fields) (Reads kinds.RemovePublication bytes) body (λ fields is.
+    let t = removal_takes bytes fields fits is in
+    record { is_kind = refl; spelt = t.0; sound = t.1 }) e
+fields_take kinds.AddExclusivePublication bytes body fits e =
+    made_from (add_publication_of bytes) (λ fields. bodies.AddExclusivePublication fields) (Reads kinds.AddExclusivePublication bytes) body (λ fields is.
+    let t = add_publication_takes bytes fields fits is in
+    record { is_kind = refl; spelt = t.0; sound = t.1 }) e
 fields_take kinds.AddSubscription bytes body fits e =
     made_from (add_subscription_of bytes) (λ fields. bodies.AddSubscription fields) (Reads kinds.AddSubscription bytes) body (λ fields is.
     let t = add_subscription_takes bytes fields fits is in

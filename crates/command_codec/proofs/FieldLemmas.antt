@@ -194,6 +194,9 @@ Takes-all bytes front rest t e = t.parts ∙ ap (λ (r : List ℕ). front ++ r) 
 pub number_last : (n x : ℕ) → x < 256 ^ n → number_at n (number_bytes n x) ≡ Ok (x, [])
 number_last n x h = ap (number_at n) (sym (append-nil (number_bytes n x))) ∙ number_again n x [] h
 
+pub signed32_last : (z : ℤ) → FitsSigned w32 z → signed_at w32 4 (signed_bytes w32 4 z) ≡ Ok (z, [])
+signed32_last z h = ap (signed_at w32 4) (sym (append-nil (signed_bytes w32 4 z))) ∙ signed32_again z [] h
+
 pub signed64_last : (z : ℤ) → FitsSigned w64 z → signed_at w64 8 (signed_bytes w64 8 z) ≡ Ok (z, [])
 signed64_last z h = ap (signed_at w64 8) (sym (append-nil (signed_bytes w64 8 z))) ∙ signed64_again z [] h
 

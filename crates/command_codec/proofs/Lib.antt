@@ -3,6 +3,7 @@ pub mod Numbers
 pub mod FieldLemmas
 pub mod Finding
 pub mod CodeLemmas
+pub mod AddPublicationLemmas
 pub mod AddSubscriptionLemmas
 pub mod RemovalLemmas
 pub mod AddCounterLemmas
@@ -10,7 +11,10 @@ pub mod SetCounterLemmas
 pub mod TerminateDriverLemmas
 pub mod CommandLemmas
 pub mod ErrorReplyLemmas
+pub mod AvailableImageLemmas
+pub mod PublicationReadyLemmas
 pub mod OperationSuccessLemmas
+pub mod UnavailableImageLemmas
 pub mod SubscriptionReadyLemmas
 pub mod CounterReadyLemmas
 pub mod UnavailableCounterLemmas

@@ -8,7 +8,10 @@ use Rattle.command_codec.specs.declared.reply.Kind.TheVariants as kinds
 use Rattle.command_codec.specs.Gives.{◌>>=◌}
 use Rattle.command_codec.specs.Fields.{number_at, number_bytes, IsBytes}
 use Rattle.command_codec.specs.ErrorReply.{error_of}
+use Rattle.command_codec.specs.AvailableImage.{available_image_of}
+use Rattle.command_codec.specs.PublicationReady.{publication_ready_of}
 use Rattle.command_codec.specs.OperationSuccess.{operation_success_of}
+use Rattle.command_codec.specs.UnavailableImage.{unavailable_image_of}
 use Rattle.command_codec.specs.SubscriptionReady.{subscription_ready_of}
 use Rattle.command_codec.specs.CounterReady.{counter_ready_of}
 use Rattle.command_codec.specs.UnavailableCounter.{unavailable_counter_of}
@@ -17,7 +20,10 @@ use Rattle.command_codec.specs.Reply.{all_reply_kinds, reply_number, reply_kind_
 use Rattle.command_codec.proofs.FieldLemmas.{bind_ok, step, made_from, number_takes, number_again}
 use Rattle.command_codec.proofs.Finding.{found_by_number}
 use Rattle.command_codec.proofs.ErrorReplyLemmas.{error_takes, error_again}
+use Rattle.command_codec.proofs.AvailableImageLemmas.{available_image_takes, available_image_again}
+use Rattle.command_codec.proofs.PublicationReadyLemmas.{publication_ready_takes, publication_ready_again}
 use Rattle.command_codec.proofs.OperationSuccessLemmas.{operation_success_takes, operation_success_again}
+use Rattle.command_codec.proofs.UnavailableImageLemmas.{unavailable_image_takes, unavailable_image_again}
 use Rattle.command_codec.proofs.SubscriptionReadyLemmas.{subscription_ready_takes, subscription_ready_again}
 use Rattle.command_codec.proofs.CounterReadyLemmas.{counter_ready_takes, counter_ready_again}
 use Rattle.command_codec.proofs.UnavailableCounterLemmas.{unavailable_counter_takes, unavailable_counter_again}
@@ -28,7 +34,11 @@ use Rattle.command_codec.proofs.ClientTimeoutLemmas.{client_timeout_takes, clien
 kind_again : (kind : Kind) → reply_kind_of (reply_number kind) ≡ Ok kind
 unfolding reply_kind_of reply_number
 kind_again kinds.Error = refl
+kind_again kinds.AvailableImage = refl
+kind_again kinds.PublicationReady = refl
 kind_again kinds.OperationSuccess = refl
+kind_again kinds.UnavailableImage = refl
+kind_again kinds.ExclusivePublicationReady = refl
 kind_again kinds.SubscriptionReady = refl
 kind_again kinds.CounterReady = refl
 kind_again kinds.UnavailableCounter = refl
@@ -37,7 +47,11 @@ kind_again kinds.ClientTimeout = refl
 number_fits : (kind : Kind) → reply_number kind < 256 ^ 4
 unfolding reply_number
 number_fits kinds.Error = omega arith
+number_fits kinds.AvailableImage = omega arith
+number_fits kinds.PublicationReady = omega arith
 number_fits kinds.OperationSuccess = omega arith
+number_fits kinds.UnavailableImage = omega arith
+number_fits kinds.ExclusivePublicationReady = omega arith
 number_fits kinds.SubscriptionReady = omega arith
 number_fits kinds.CounterReady = omega arith
 number_fits kinds.UnavailableCounter = omega arith
@@ -46,7 +60,11 @@ number_fits kinds.ClientTimeout = omega arith
 fields_again : (reply : Reply) → IsReply reply → reply_fields_of (reply_kind_in reply) (reply_fields_bytes reply) ≡ Ok reply
 unfolding reply_fields_of reply_fields_bytes
 fields_again (replies.Error fields) h = rw (error_again fields h) refl
+fields_again (replies.AvailableImage fields) h = rw (available_image_again fields h) refl
+fields_again (replies.PublicationReady fields) h = rw (publication_ready_again fields h) refl
 fields_again (replies.OperationSuccess fields) h = rw (operation_success_again fields h) refl
+fields_again (replies.UnavailableImage fields) h = rw (unavailable_image_again fields h) refl
+fields_again (replies.ExclusivePublicationReady fields) h = rw (publication_ready_again fields h) refl
 fields_again (replies.SubscriptionReady fields) h = rw (subscription_ready_again fields h) refl
 fields_again (replies.CounterReady fields) h = rw (counter_ready_again fields h) refl
 fields_again (replies.UnavailableCounter fields) h = rw (unavailable_counter_again fields h) refl
@@ -68,9 +86,25 @@ fields_take kinds.Error bytes reply fits e =
     made_from (error_of bytes) (λ fields. replies.Error fields) (Reads kinds.Error bytes) reply (λ fields is.
     let t = error_takes bytes fields fits is in
     record { is_kind = refl; spelt = t.0; sound = t.1 }) e
+fields_take kinds.AvailableImage bytes reply fits e =
+    made_from (available_image_of bytes) (λ fields. replies.AvailableImage fields) (Reads kinds.AvailableImage bytes) reply (λ fields is.
+    let t = available_image_takes bytes fields fits is in
+    record { is_kind = refl; spelt = t.0; sound = t.1 }) e
+fields_take kinds.PublicationReady bytes reply fits e =
+    made_from (publication_ready_of bytes) (λ fields. replies.PublicationReady fields) (Reads kinds.PublicationReady bytes) reply (λ fields is.
+    let t = publication_ready_takes bytes fields fits is in
+    record { is_kind = refl; spelt = t.0; sound = t.1 }) e
 fields_take kinds.OperationSuccess bytes reply fits e =
     made_from (operation_success_of bytes) (λ fields. replies.OperationSuccess fields) (Reads kinds.OperationSuccess bytes) reply (λ fields is.
     let t = operation_success_takes bytes fields fits is in
+    record { is_kind = refl; spelt = t.0; sound = t.1 }) e
+fields_take kinds.UnavailableImage bytes reply fits e =
+    made_from (unavailable_image_of bytes) (λ fields. replies.UnavailableImage fields) (Reads kinds.UnavailableImage bytes) reply (λ fields is.
+    let t = unavailable_image_takes bytes fields fits is in
+    record { is_kind = refl; spelt = t.0; sound = t.1 }) e
+fields_take kinds.ExclusivePublicationReady bytes reply fits e =
+    made_from (publication_ready_of bytes) (λ fields. replies.ExclusivePublicationReady fields) (Reads kinds.ExclusivePublicationReady bytes) reply (λ fields is.
+    let t = publication_ready_takes bytes fields fits is in
     record { is_kind = refl; spelt = t.0; sound = t.1 }) e
 fields_take kinds.SubscriptionReady bytes reply fits e =
     made_from (subscription_ready_of bytes) (λ fields. replies.SubscriptionReady fields) (Reads kinds.SubscriptionReady bytes) reply (λ fields is.

@@ -10,6 +10,7 @@ use Rattle.command_codec.specs.declared.command.Kind.{Kind}
 use Rattle.command_codec.specs.declared.command.Kind.TheVariants as kinds
 use Rattle.command_codec.specs.Gives.{◌>>=◌}
 use Rattle.command_codec.specs.Fields.{number_in, number_at, ended, number_bytes}
+use Rattle.command_codec.specs.AddPublication.{add_publication_of, add_publication_bytes, IsAddPublication}
 use Rattle.command_codec.specs.AddSubscription.{add_subscription_of, add_subscription_bytes, IsAddSubscription}
 use Rattle.command_codec.specs.Removal.{removal_of, removal_bytes, IsRemoval}
 use Rattle.command_codec.specs.AddCounter.{add_counter_of, add_counter_bytes, IsAddCounter}
@@ -20,11 +21,15 @@ use Rattle.command_codec.specs.SetCounter.{set_counter_of, set_counter_bytes, Is
 
 abbrev pub all_kinds : List Kind
 all_kinds =
-    kinds.AddSubscription ∷ kinds.RemoveSubscription ∷ kinds.ClientKeepalive ∷ kinds.AddCounter ∷ kinds.RemoveCounter
-    ∷ kinds.ClientClose ∷ kinds.TerminateDriver ∷ kinds.SetCounter ∷ []
+    kinds.AddPublication ∷ kinds.RemovePublication ∷ kinds.AddExclusivePublication ∷ kinds.AddSubscription
+    ∷ kinds.RemoveSubscription ∷ kinds.ClientKeepalive ∷ kinds.AddCounter ∷ kinds.RemoveCounter ∷ kinds.ClientClose
+    ∷ kinds.TerminateDriver ∷ kinds.SetCounter ∷ []
 
 -- the number of a kind
 unfoldable pub kind_number : Kind → ℕ
+kind_number kinds.AddPublication = 1
+kind_number kinds.RemovePublication = 2
+kind_number kinds.AddExclusivePublication = 3
 kind_number kinds.AddSubscription = 4
 kind_number kinds.RemoveSubscription = 5
 kind_number kinds.ClientKeepalive = 6
@@ -40,6 +45,9 @@ kind_of number = ok_or (find (λ kind. number == kind_number kind) all_kinds) Un
 
 -- the kind of a command, by what it asks for
 abbrev pub kind_in : Body → Kind
+kind_in (bodies.AddPublication fields) = kinds.AddPublication
+kind_in (bodies.RemovePublication fields) = kinds.RemovePublication
+kind_in (bodies.AddExclusivePublication fields) = kinds.AddExclusivePublication
 kind_in (bodies.AddSubscription fields) = kinds.AddSubscription
 kind_in (bodies.RemoveSubscription fields) = kinds.RemoveSubscription
 kind_in bodies.ClientKeepalive = kinds.ClientKeepalive
@@ -51,6 +59,9 @@ kind_in (bodies.SetCounter fields) = kinds.SetCounter
 
 -- what the bytes behind a command's head ask for
 unfoldable pub fields_of : Kind → List ℕ → Result Body CommandFault
+fields_of kinds.AddPublication bytes = add_publication_of bytes >>= λ fields. Ok (bodies.AddPublication fields)
+fields_of kinds.RemovePublication bytes = removal_of bytes >>= λ fields. Ok (bodies.RemovePublication fields)
+fields_of kinds.AddExclusivePublication bytes = add_publication_of bytes >>= λ fields. Ok (bodies.AddExclusivePublication fields)
 fields_of kinds.AddSubscription bytes = add_subscription_of bytes >>= λ fields. Ok (bodies.AddSubscription fields)
 fields_of kinds.RemoveSubscription bytes = removal_of bytes >>= λ fields. Ok (bodies.RemoveSubscription fields)
 fields_of kinds.ClientKeepalive bytes = ended bodies.ClientKeepalive bytes
@@ -61,6 +72,9 @@ fields_of kinds.TerminateDriver bytes = terminate_driver_of bytes >>= λ fields.
 fields_of kinds.SetCounter bytes = set_counter_of bytes >>= λ fields. Ok (bodies.SetCounter fields)
 
 unfoldable pub fields_bytes : Body → List ℕ
+fields_bytes (bodies.AddPublication fields) = add_publication_bytes fields
+fields_bytes (bodies.RemovePublication fields) = removal_bytes fields
+fields_bytes (bodies.AddExclusivePublication fields) = add_publication_bytes fields
 fields_bytes (bodies.AddSubscription fields) = add_subscription_bytes fields
 fields_bytes (bodies.RemoveSubscription fields) = removal_bytes fields
 fields_bytes bodies.ClientKeepalive = []
@@ -72,6 +86,9 @@ fields_bytes (bodies.SetCounter fields) = set_counter_bytes fields
 
 -- what can be read again
 abbrev pub AreFields : Body → Type 0
+AreFields (bodies.AddPublication fields) = IsAddPublication fields
+AreFields (bodies.RemovePublication fields) = IsRemoval fields
+AreFields (bodies.AddExclusivePublication fields) = IsAddPublication fields
 AreFields (bodies.AddSubscription fields) = IsAddSubscription fields
 AreFields (bodies.RemoveSubscription fields) = IsRemoval fields
 AreFields bodies.ClientKeepalive = Unit {0}
@@ -83,6 +100,9 @@ AreFields (bodies.SetCounter fields) = IsSetCounter fields
 
 -- whether a command's fields have a text or a byte string
 abbrev pub has_bytes : Body → Bool
+has_bytes (bodies.AddPublication fields) = true
+has_bytes (bodies.RemovePublication fields) = false
+has_bytes (bodies.AddExclusivePublication fields) = true
 has_bytes (bodies.AddSubscription fields) = true
 has_bytes (bodies.RemoveSubscription fields) = false
 has_bytes bodies.ClientKeepalive = false

@@ -1,6 +1,7 @@
 pub mod Gives
 pub mod Fields
 pub mod ErrorCode
+pub mod AddPublication
 pub mod AddSubscription
 pub mod Removal
 pub mod AddCounter
@@ -8,7 +9,10 @@ pub mod SetCounter
 pub mod TerminateDriver
 pub mod Command
 pub mod ErrorReply
+pub mod AvailableImage
+pub mod PublicationReady
 pub mod OperationSuccess
+pub mod UnavailableImage
 pub mod SubscriptionReady
 pub mod CounterReady
 pub mod UnavailableCounter

@@ -2,6 +2,7 @@ ghost use Rattle.std.specs.Prelude.{◌≡◌, ◌++◌, false, true, IfOk, OnOk
 ghost use Rattle.command_codec.specs.Gives.{Gives, takes_memory};
 
 use crate::add_counter::AddCounter;
+use crate::add_publication::AddPublication;
 use crate::add_subscription::AddSubscription;
 use crate::fault::CommandFault;
 use crate::fields;
@@ -25,6 +26,9 @@ pub struct Command {
 /// What a command asks for.
 #[derive(Debug, PartialEq, Eq, Drop)]
 pub enum Body {
+    AddPublication(AddPublication),
+    RemovePublication(Removal),
+    AddExclusivePublication(AddPublication),
     AddSubscription(AddSubscription),
     RemoveSubscription(Removal),
     /// The client is there still (CLIENT_KEEPALIVE).
@@ -40,6 +44,9 @@ pub enum Body {
 /// The types of commands that have a number here.
 #[derive(Clone, Copy)]
 enum Kind {
+    AddPublication,
+    RemovePublication,
+    AddExclusivePublication,
     AddSubscription,
     RemoveSubscription,
     ClientKeepalive,
@@ -58,6 +65,9 @@ impl Kind {
         ensures { result ≡ kind_of number }
     {
         match number {
+            1 => Ok(Kind::AddPublication),
+            2 => Ok(Kind::RemovePublication),
+            3 => Ok(Kind::AddExclusivePublication),
             4 => Ok(Kind::AddSubscription),
             5 => Ok(Kind::RemoveSubscription),
             6 => Ok(Kind::ClientKeepalive),
@@ -77,6 +87,11 @@ impl Kind {
             → result ≡ fields_of self bytes.now }
     {
         match self {
+            Kind::AddPublication => Ok(Body::AddPublication(AddPublication::read(alloc, bytes)?)),
+            Kind::RemovePublication => Ok(Body::RemovePublication(Removal::read(bytes)?)),
+            Kind::AddExclusivePublication => Ok(Body::AddExclusivePublication(AddPublication::read(
+                alloc, bytes,
+            )?)),
             Kind::AddSubscription => Ok(Body::AddSubscription(AddSubscription::read(
                 alloc, bytes,
             )?)),
@@ -101,6 +116,9 @@ impl Body {
         ensures { result ≡ kind_number (kind_in self.now) }
     {
         match self {
+            Body::AddPublication(_) => 1,
+            Body::RemovePublication(_) => 2,
+            Body::AddExclusivePublication(_) => 3,
             Body::AddSubscription(_) => 4,
             Body::RemoveSubscription(_) => 5,
             Body::ClientKeepalive => 6,
@@ -117,6 +135,9 @@ impl Body {
         ensures { OnOk result (out.new.items ≡ out.old.items ++ fields_bytes self.now) }
     {
         match self {
+            Body::AddPublication(fields) => fields.put(out),
+            Body::RemovePublication(fields) => fields.put(out),
+            Body::AddExclusivePublication(fields) => fields.put(out),
             Body::AddSubscription(fields) => fields.put(out),
             Body::RemoveSubscription(fields) => fields.put(out),
             Body::ClientKeepalive => Ok(()),
@@ -132,6 +153,11 @@ impl Body {
         ensures { IfOk result (λ copy. copy ≡ self.now) }
     {
         match self {
+            Body::AddPublication(fields) => Ok(Body::AddPublication(fields.copy(alloc)?)),
+            Body::RemovePublication(fields) => Ok(Body::RemovePublication(*fields)),
+            Body::AddExclusivePublication(fields) => {
+                Ok(Body::AddExclusivePublication(fields.copy(alloc)?))
+            }
             Body::AddSubscription(fields) => Ok(Body::AddSubscription(fields.copy(alloc)?)),
             Body::RemoveSubscription(fields) => Ok(Body::RemoveSubscription(*fields)),
             Body::ClientKeepalive => Ok(Body::ClientKeepalive),

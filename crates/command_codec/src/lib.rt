@@ -6,7 +6,9 @@
 #![tactic(auto)]
 
 mod add_counter;
+mod add_publication;
 mod add_subscription;
+mod available_image;
 mod client_timeout;
 mod command;
 mod counter_ready;
@@ -16,15 +18,19 @@ mod fault;
 mod fields;
 mod laws;
 mod operation_success;
+mod publication_ready;
 mod removal;
 mod reply;
 mod set_counter;
 mod subscription_ready;
 mod terminate_driver;
 mod unavailable_counter;
+mod unavailable_image;
 
 pub use add_counter::AddCounter;
+pub use add_publication::AddPublication;
 pub use add_subscription::AddSubscription;
+pub use available_image::AvailableImage;
 pub use client_timeout::ClientTimeout;
 pub use command::{Body, Command};
 pub use counter_ready::CounterReady;
@@ -36,9 +42,11 @@ pub use laws::{
     correlation_is_in_place, replies_read_back, replies_write_back,
 };
 pub use operation_success::OperationSuccess;
+pub use publication_ready::PublicationReady;
 pub use removal::Removal;
 pub use reply::Reply;
 pub use set_counter::SetCounter;
 pub use subscription_ready::SubscriptionReady;
 pub use terminate_driver::TerminateDriver;
 pub use unavailable_counter::UnavailableCounter;
+pub use unavailable_image::UnavailableImage;

@@ -4,7 +4,8 @@ use crate::fault::CommandFault;
 use crate::fields;
 use std::alloc::AllocError;
 
-/// A client asks that what stands under a registration be removed (REMOVE_SUBSCRIPTION, REMOVE_COUNTER).
+/// A client asks that what stands under a registration be removed (REMOVE_PUBLICATION, REMOVE_SUBSCRIPTION,
+/// REMOVE_COUNTER).
 #[derive(Clone, Copy, Debug, PartialEq, Eq)]
 pub struct Removal {
     /// The number under which it was registered.

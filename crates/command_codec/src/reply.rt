@@ -1,14 +1,17 @@
 ghost use Rattle.std.specs.Prelude.{◌≡◌, ◌++◌, false, IfOk, OnOk};
 ghost use Rattle.command_codec.specs.Gives.{Gives, takes_memory};
 
+use crate::available_image::AvailableImage;
 use crate::client_timeout::ClientTimeout;
 use crate::counter_ready::CounterReady;
 use crate::error_reply::ErrorReply;
 use crate::fault::CommandFault;
 use crate::fields;
 use crate::operation_success::OperationSuccess;
+use crate::publication_ready::PublicationReady;
 use crate::subscription_ready::SubscriptionReady;
 use crate::unavailable_counter::UnavailableCounter;
+use crate::unavailable_image::UnavailableImage;
 use byte_strings::Bytes;
 use std::alloc::{AllocError, Global};
 
@@ -16,7 +19,11 @@ use std::alloc::{AllocError, Global};
 #[derive(Debug, PartialEq, Eq, Drop)]
 pub enum Reply {
     Error(ErrorReply),
+    AvailableImage(AvailableImage),
+    PublicationReady(PublicationReady),
     OperationSuccess(OperationSuccess),
+    UnavailableImage(UnavailableImage),
+    ExclusivePublicationReady(PublicationReady),
     SubscriptionReady(SubscriptionReady),
     CounterReady(CounterReady),
     UnavailableCounter(UnavailableCounter),
@@ -27,7 +34,11 @@ pub enum Reply {
 #[derive(Clone, Copy)]
 enum Kind {
     Error,
+    AvailableImage,
+    PublicationReady,
     OperationSuccess,
+    UnavailableImage,
+    ExclusivePublicationReady,
     SubscriptionReady,
     CounterReady,
     UnavailableCounter,
@@ -43,7 +54,11 @@ impl Kind {
     {
         match number {
             0x0F01 => Ok(Kind::Error),
+            0x0F02 => Ok(Kind::AvailableImage),
+            0x0F03 => Ok(Kind::PublicationReady),
             0x0F04 => Ok(Kind::OperationSuccess),
+            0x0F05 => Ok(Kind::UnavailableImage),
+            0x0F06 => Ok(Kind::ExclusivePublicationReady),
             0x0F07 => Ok(Kind::SubscriptionReady),
             0x0F08 => Ok(Kind::CounterReady),
             0x0F09 => Ok(Kind::UnavailableCounter),
@@ -60,7 +75,13 @@ impl Kind {
     {
         match self {
             Kind::Error => Ok(Reply::Error(ErrorReply::read(alloc, bytes)?)),
+            Kind::AvailableImage => Ok(Reply::AvailableImage(AvailableImage::read(alloc, bytes)?)),
+            Kind::PublicationReady => Ok(Reply::PublicationReady(PublicationReady::read(bytes)?)),
             Kind::OperationSuccess => Ok(Reply::OperationSuccess(OperationSuccess::read(bytes)?)),
+            Kind::UnavailableImage => Ok(Reply::UnavailableImage(UnavailableImage::read(bytes)?)),
+            Kind::ExclusivePublicationReady => Ok(Reply::ExclusivePublicationReady(
+                PublicationReady::read(bytes)?,
+            )),
             Kind::SubscriptionReady => Ok(Reply::SubscriptionReady(SubscriptionReady::read(
                 bytes,
             )?)),
@@ -95,7 +116,11 @@ impl Reply {
     {
         match self {
             Reply::Error(_) => 0x0F01,
+            Reply::AvailableImage(_) => 0x0F02,
+            Reply::PublicationReady(_) => 0x0F03,
             Reply::OperationSuccess(_) => 0x0F04,
+            Reply::UnavailableImage(_) => 0x0F05,
+            Reply::ExclusivePublicationReady(_) => 0x0F06,
             Reply::SubscriptionReady(_) => 0x0F07,
             Reply::CounterReady(_) => 0x0F08,
             Reply::UnavailableCounter(_) => 0x0F09,
@@ -109,7 +134,11 @@ impl Reply {
     {
         match self {
             Reply::Error(fields) => fields.put(out),
+            Reply::AvailableImage(fields) => fields.put(out),
+            Reply::PublicationReady(fields) => fields.put(out),
             Reply::OperationSuccess(fields) => fields.put(out),
+            Reply::UnavailableImage(fields) => fields.put(out),
+            Reply::ExclusivePublicationReady(fields) => fields.put(out),
             Reply::SubscriptionReady(fields) => fields.put(out),
             Reply::CounterReady(fields) => fields.put(out),
             Reply::UnavailableCounter(fields) => fields.put(out),
@@ -135,7 +164,11 @@ impl Reply {
     {
         Ok(match self {
             Reply::Error(fields) => Reply::Error(fields.copy(alloc)?),
+            Reply::AvailableImage(fields) => Reply::AvailableImage(fields.copy(alloc)?),
+            Reply::PublicationReady(fields) => Reply::PublicationReady(*fields),
             Reply::OperationSuccess(fields) => Reply::OperationSuccess(*fields),
+            Reply::UnavailableImage(fields) => Reply::UnavailableImage(*fields),
+            Reply::ExclusivePublicationReady(fields) => Reply::ExclusivePublicationReady(*fields),
             Reply::SubscriptionReady(fields) => Reply::SubscriptionReady(*fields),
             Reply::CounterReady(fields) => Reply::CounterReady(*fields),
             Reply::UnavailableCounter(fields) => Reply::UnavailableCounter(*fields),

@@ -8,4 +8,6 @@ mod counters;
 #[cfg(test)]
 mod layouts;
 #[cfg(test)]
+mod publications;
+#[cfg(test)]
 mod tests;
