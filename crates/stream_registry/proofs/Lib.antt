@@ -1,2 +1,4 @@
 pub mod LimitLemmas
+pub mod PageLawLemmas
+pub mod PageLemmas
 pub mod SessionLemmas

@@ -3,7 +3,9 @@ pub mod Joining
 pub mod Leaving
 pub mod LimitLaws
 pub mod Lingering
+pub mod LogPages
 pub mod Measures
+pub mod PageLaws
 pub mod Pairs
 pub mod Places
 pub mod SessionLaws

@@ -13,6 +13,7 @@ mod joining;
 mod laws;
 mod leaving;
 mod lingering;
+mod log_pages;
 mod measures;
 mod pairs;
 mod places;
@@ -22,7 +23,7 @@ mod streams;
 mod wanted;
 
 pub use fault::StreamFault;
-pub use laws::{limits_are_kept, sessions_are_free};
+pub use laws::{limits_are_kept, places_are_least, places_share_nothing, sessions_are_free};
 pub use lingering::LogPlace;
 pub use measures::Measures;
 pub use pairs::Pair;

@@ -8,6 +8,8 @@ mod limits;
 #[cfg(test)]
 mod pairing;
 #[cfg(test)]
+mod placing;
+#[cfg(test)]
 mod play;
 #[cfg(test)]
 mod publishing;

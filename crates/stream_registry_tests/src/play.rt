@@ -91,6 +91,28 @@ impl Play {
         }
     }
 
+    /// Whether a log of this channel would go there, in an arena of so many pages.
+    pub(crate) fn goes_to(&self, arena_pages: u32, text: &str, place: Option<u64>) -> bool {
+        match wanted(self.alloc, text, 10, true) {
+            Ok(wanted) => self.streams.place_for(arena_pages, &wanted) == place,
+            Err(_) => false,
+        }
+    }
+
+    /// Whether a log of this number is made there, of a client of the same number.
+    pub(crate) fn makes(&mut self, number: u64, arena_pages: u32, text: &str, place: u64) -> bool {
+        match wanted(self.alloc, text, 10, true) {
+            Ok(wanted) => {
+                self.streams.place_for(arena_pages, &wanted) == Some(place)
+                    && self
+                        .streams
+                        .add_publication(number, number, wanted, place)
+                        .is_ok()
+            }
+            Err(_) => false,
+        }
+    }
+
     /// Whether a subscription is answered so.
     pub(crate) fn subscribes(
         &mut self,
