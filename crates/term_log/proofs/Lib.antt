@@ -4,8 +4,11 @@ pub mod Fronts
 pub mod Held
 pub mod Nears
 pub mod Places
+pub mod Polls
 pub mod Sizes
+pub mod Standing
 pub mod Stands
 pub mod Terms
 pub mod Turns
 pub mod Walks
+pub mod WholeLaws

@@ -1,5 +1,5 @@
 -- Positions stay within a term of the tail.
-use Rattle.std.proofs.Common.{◌≡◌, ℕ, zero, suc, ◌+◌, ◌*◌, ◌-◌, ◌/◌, ◌%◌, ◌<◌, ◌≤◌, true, false, cond, List, [], ◌∷◌, ◌++◌, Some, length, get_or, map, min, sym, ap, ◌∙◌, subst, arith}
+use Rattle.std.proofs.Common.{◌≡◌, ℕ, zero, suc, ◌+◌, ◌*◌, ◌-◌, ◌/◌, ◌%◌, ◌<◌, ◌≤◌, true, false, cond, List, [], ◌∷◌, ◌++◌, Option, None, Some, length, get_or, map, min, sym, ap, ◌∙◌, subst, arith}
 use Rattle.std.specs.Prelude.{filter, find, ◌==◌}
 use Rattle.std.specs.Option.{option_map}
 use Rattle.term_log.specs.declared.ident.Ident.{Ident}
@@ -9,7 +9,7 @@ use Rattle.term_log.specs.declared.pair.Pair.{Pair}
 use Rattle.term_log.specs.Frames.{Frame, total}
 use Rattle.term_log.specs.Ident.{greatest_position}
 use Rattle.term_log.specs.Kept.{Kept, after_frames}
-use Rattle.term_log.specs.Pairs.{position_of, is_other, moved_one, least_of, IsNear, AreNear, ReadsUpTo}
+use Rattle.term_log.specs.Pairs.{position_of, is_other, moved_one, least_of, reads_on, rejoined_pairs, IsNear, AreNear, ReadsUpTo}
 use Rattle.std.specs.Prelude.{IfSome, max}
 use Rattle.std.proofs.lemmas.Nat.{div-add-mod', mul-le}
 use Rattle.term_log.specs.Log.{Log, IsLog, IsSenderNear, limit_among, limit_of}
@@ -44,6 +44,28 @@ near_map start tail term subscription position (p ∷ pairs) near is =
       | false ↦ near.0
     ] in
     (first, near_map start tail term subscription position pairs near.1 is)
+
+near_found : (start tail term subscription : ℕ) (pairs : List Pair) → AreNear start tail term pairs
+    → IfSome (position_of pairs subscription) (IsNear start tail term)
+near_found start tail term subscription [] near = tt
+near_found start tail term subscription (p ∷ pairs) near =
+    let rest = near_found start tail term subscription pairs near.1 in
+    elim (p.subscription == subscription) as (λ b. IfSome (option_map (λ (pair : Pair). pair.position) (cond b (Some p) (find (λ (pair : Pair). pair.subscription == subscription) pairs))) (IsNear start tail term)) [
+      | true ↦ near.0
+      | false ↦ rest
+    ]
+
+pub near_rejoined : (start tail term new : ℕ) (pairs : List Pair) (subscriptions : List ℕ) → AreNear start tail term pairs → IsNear start tail term new
+    → AreNear start tail term (rejoined_pairs new pairs subscriptions)
+near_rejoined start tail term new pairs [] near is = tt
+near_rejoined start tail term new pairs (s ∷ subscriptions) near is =
+    let first : IsNear start tail term (reads_on new (position_of pairs s)) =
+    elim (position_of pairs s) as (λ (o : Option ℕ). IfSome o (IsNear start tail term) → IsNear start tail term (reads_on new o)) [
+      | None ↦ (λ none. is)
+      | Some at ↦ (λ here. here)
+    ]
+    (near_found start tail term s pairs near) in
+    (first, near_rejoined start tail term new pairs subscriptions near is)
 
 -- a position before the tail to which a pair may move
 pub near_ahead : (start tail term subscription position : ℕ) (pairs : List Pair) → AreNear start tail term pairs

@@ -1,6 +1,6 @@
 -- All frames that are held, term by term.
 use Rattle.std.proofs.Common.{◌≡◌, ℕ, ◌+◌, ◌*◌, ◌-◌, ◌/◌, ◌%◌, ◌<◌, ◌≤◌, Bool, true, false, cond, List, [], ◌∷◌, ◌++◌, min, refl, sym, ap, ap₂, ◌∙◌, subst, arith, append_assoc}
-use Rattle.std.specs.Prelude.{nat_lt, nat_le, ◌&&◌, if◌then◌else◌, filter}
+use Rattle.std.specs.Prelude.{max, nat_lt, nat_le, ◌&&◌, if◌then◌else◌, filter}
 use Rattle.std.proofs.lemmas.Bool.Decides.{nat_tests}
 use Rattle.std.proofs.lemmas.List.{append-nil}
 use Rattle.std.proofs.lemmas.List.Elements.{filter-append}
@@ -10,7 +10,7 @@ use Rattle.term_log.specs.Ident.{IsIdent}
 use Rattle.term_log.specs.Frames.{Frame, fragment, pad, span, total, IsFrame, IsRun}
 use Rattle.term_log.specs.Kept.{Kept, StandsFor}
 use Rattle.term_log.specs.Log.{low_of}
-use Rattle.term_log.specs.Reading.{Given, given, all_given, sent_size, of_term, within, GivesFrom}
+use Rattle.term_log.specs.Reading.{Given, given, all_given, sent_size, of_term, within, GivesFrom, GivesAll}
 use Rattle.term_log.specs.Ranges.{meets, is_over, GivesOver}
 use Rattle.term_log.proofs.Held.{run_front, run_rest, total_both, term_near}
 use Rattle.term_log.proofs.Places.{mod_within}
@@ -27,7 +27,7 @@ abbrev later_of : ℕ → ℕ → List Frame → List Frame
 later_of term position [] = []
 later_of term position (f ∷ fs) = if nat_le term (position % term + span f) then fs else later_of term (position + span f) fs
 
-some_span : (i : Ident) (position : ℕ) (f : Frame) → IsFrame i position f → 0 < span f
+pub some_span : (i : Ident) (position : ℕ) (f : Frame) → IsFrame i position f → 0 < span f
 some_span i position (fragment flags payload) is = omega arith
 some_span i position (pad size) is = omega (arith, is.0)
 
@@ -274,11 +274,21 @@ low_starts k some ahead =
     let is : low_of k ≡ (k.tail / term - 2) * term + 0 = omega (arith, ahead) in
     ap (λ (n : ℕ). n % term) is ∙ mod-mul-add (k.tail / term - 2) term 0 some
 
-pub gives_over : (k : Kept) (second third at size : ℕ) (a b c left : List Given) → IsIdent k.ident
-    → GivesFrom k (low_of k) k.ident.term_length a → GivesFrom k second k.ident.term_length b → GivesFrom k third k.ident.term_length c
-    → second ≡ min k.tail (term_end k.ident.term_length (low_of k)) → third ≡ min k.tail (term_end k.ident.term_length second)
-    → left ≡ filter (meets at size) (a ++ b ++ c) → GivesOver k at size left
-gives_over k second third at size a b c left sound gives_a gives_b gives_c second_is third_is left_is =
+-- the frames of three terms are all from the first position on
+pub gives_all : (k : Kept) (position second third : ℕ) (a b c : List Given) → IsIdent k.ident → low_of k ≤ position
+    → GivesFrom k position k.ident.term_length a → GivesFrom k second k.ident.term_length b → GivesFrom k third k.ident.term_length c
+    → second ≡ min k.tail (term_end k.ident.term_length position) → third ≡ min k.tail (term_end k.ident.term_length second)
+    → GivesAll k position (a ++ b ++ c)
+gives_all k position second third a b c sound low gives_a gives_b gives_c second_is third_is =
+    record {
+      on = λ before after s place.
+          let from : From k position after = record { before = before; stands = s; place = place } in
+          sym (three_terms k position second third after a b c sound from (omega (arith, low)) gives_a gives_b gives_c second_is third_is);
+    }
+
+pub gives_over : (k : Kept) (at size : ℕ) (all left : List Given) → IsIdent k.ident → GivesAll k (low_of k) all
+    → left ≡ filter (meets at size) all → GivesOver k at size left
+gives_over k at size all left sound gives left_is =
     record {
       on = λ frames s.
           let i : Ident = k.ident in
@@ -288,20 +298,42 @@ gives_over k second third at size a b c left sound gives_a gives_b gives_c secon
           let some : 0 < i.term_length = omega arith in
           let before_tail = low_before k (omega arith) in
           let parted = part_at i i.start low frames sound s.sound (omega arith) (omega arith) (low_starts k some) in
-          let from : From k low parted.after = record {
-            before = parted.before;
-            stands = subst (λ (fs : List Frame). StandsFor k fs) parted.is s;
-            place = parted.place;
-          } in
           let place = parted.place in
+          let stands = subst (λ (fs : List Frame). StandsFor k fs) parted.is s in
           let front_run = run_front i i.start parted.before parted.after (subst (λ (fs : List Frame). IsRun i i.start fs) parted.is s.sound) in
-          let three = three_terms k low second third parted.after a b c sound from (omega arith) gives_a gives_b gives_c second_is third_is in
           let test : Given → Bool = is_over low at size in
           left_is
-          ∙ ap (filter (meets at size)) (sym three)
+          ∙ ap (filter (meets at size)) (gives.on parted.before parted.after stands place)
           ∙ sym (all_above i low low at size parted.after (omega arith))
           ∙ ap (λ (p : ℕ). filter test (all_given i p parted.after)) place
           ∙ sym (ap (λ (xs : List Given). xs ++ filter test (all_given i (i.start + total parted.before) parted.after)) (none_below i i.start low at size parted.before front_run (omega arith)))
           ∙ sym (filter-append test (all_given i i.start parted.before) (all_given i (i.start + total parted.before) parted.after))
           ∙ ap (filter test) (sym (given_both i i.start parted.before parted.after) ∙ ap (all_given i i.start) (sym parted.is));
+    }
+
+-- each of the frames from a position on meets the range up to the tail
+all_meet : (i : Ident) (position at size : ℕ) (fs : List Frame) → IsRun i position fs → at ≤ position → position + total fs ≤ at + size
+    → filter (meets at size) (all_given i position fs) ≡ all_given i position fs
+all_meet i position at size [] run low high = refl
+all_meet i position at size (f ∷ fs) run low high =
+    let some = some_span i position f run.0 in
+    let rest = all_meet i (position + span f) at size fs run.1 (omega arith) (omega arith) in
+    let start : max position at ≡ position = omega arith in
+    let end : min (position + span f) (at + size) ≡ position + span f = omega arith in
+    let before : nat_lt position (position + span f) ≡ true = grind (arith, nat_tests, some) in
+    let meet : meets at size (given i position f) ≡ true = ap₂ nat_lt start end ∙ before in
+    ap₂ (λ (b : Bool) (others : List Given). cond b (given i position f ∷ others) others) meet rest
+
+pub gives_behind : (k : Kept) (position size : ℕ) (all left : List Given) → size + position ≡ k.tail → GivesAll k position all
+    → left ≡ filter (meets position size) all → GivesAll k position left
+gives_behind k position size all left room gives left_is =
+    record {
+      on = λ before after s place.
+          let i : Ident = k.ident in
+          let run = subst (λ (p : ℕ). IsRun i p after) (sym place) (run_rest i i.start before after s.sound) in
+          let tail = s.tail in
+          let both = total_both before after in
+          left_is
+          ∙ ap (filter (meets position size)) (gives.on before after s place)
+          ∙ all_meet i position position size after run (omega arith) (omega arith);
     }

@@ -9,3 +9,6 @@ pub mod Sender
 pub mod Log
 pub mod Reading
 pub mod Ranges
+pub mod Polling
+pub mod Whole
+pub mod PollLaws

@@ -1,6 +1,6 @@
 -- A term log: what it keeps of its frames, who reads it, and what becomes of an offer. Own rules but for the greatest
 -- position (Aeron Transport Protocol Specification, positions, and flow control by a limit).
-use Rattle.std.specs.Prelude.{ℕ, ◌+◌, ◌-◌, ◌*◌, ◌/◌, ◌<◌, ◌≤◌, ◌^◌, Bool, true, false, not, List, [], ◌∷◌, length, min, max, nat_lt, nat_le, if◌then◌else◌, refl}
+use Rattle.std.specs.Prelude.{ℕ, ◌+◌, ◌-◌, ◌*◌, ◌/◌, ◌%◌, ◌<◌, ◌≤◌, ◌^◌, Bool, true, false, not, List, [], ◌∷◌, length, min, max, nat_lt, nat_le, if◌then◌else◌, refl}
 use Rattle.std.specs.Coded.{Coded, code_by, coded×, coded_list}
 use Rattle.term_log.specs.declared.ident.Ident.{Ident}
 use Rattle.term_log.specs.declared.ident.LogKind.{LogKind}
@@ -59,22 +59,32 @@ greatest_message i = min (i.term_length / 8) 16777216
 abbrev pub frames_of : Kept → List ℕ → List Frame
 frames_of k message = cut (payload_length k.ident) message
 
--- the first that applies
-unfoldable pub offer_of : Log → List ℕ → Offer
-offer_of l message =
-    if nat_lt (greatest_message l.kept.ident) (length message) then TooLong
-    else if nat_lt (greatest_position l.kept.ident) (l.kept.tail + total (frames_of l.kept message)) then MaxPosition
-    else if nat_le (limit_of l) l.kept.tail then BackPressured
-    else if nat_lt (rest_of l.kept) (total (frames_of l.kept message)) then AdminAction
-    else At (l.kept.tail + total (frames_of l.kept message))
+-- how many bytes of the tail's term are left
+abbrev pub rest_at : Ident → ℕ → ℕ
+rest_at i tail = i.term_length - tail % i.term_length
 
--- what is appended: the whole message, or a pad over the rest of the term, or nothing
+-- what a log with that tail answers, which takes no offer from `limit` on: the first that applies
+unfoldable pub answer_of : Ident → ℕ → ℕ → List ℕ → Offer
+answer_of i tail limit message =
+    if nat_lt (greatest_message i) (length message) then TooLong
+    else if nat_lt (greatest_position i) (tail + total (cut (payload_length i) message)) then MaxPosition
+    else if nat_le limit tail then BackPressured
+    else if nat_lt (rest_at i tail) (total (cut (payload_length i) message)) then AdminAction
+    else At (tail + total (cut (payload_length i) message))
+
+abbrev pub offer_of : Log → List ℕ → Offer
+offer_of l message = answer_of l.kept.ident l.kept.tail (limit_of l) message
+
+-- what is appended at that tail: the whole message, or a pad over the rest of the term, or nothing
+abbrev pub appended_at : Offer → Ident → ℕ → List ℕ → List Frame
+appended_at (At position) i tail message = cut (payload_length i) message
+appended_at AdminAction i tail message = pad (rest_at i tail) ∷ []
+appended_at TooLong i tail message = []
+appended_at MaxPosition i tail message = []
+appended_at BackPressured i tail message = []
+
 abbrev pub appended : Offer → Kept → List ℕ → List Frame
-appended (At position) k message = frames_of k message
-appended AdminAction k message = pad (rest_of k) ∷ []
-appended TooLong k message = []
-appended MaxPosition k message = []
-appended BackPressured k message = []
+appended answer k message = appended_at answer k.ident k.tail message
 
 -- why what is appended fits, where something is
 abbrev pub HasRoom : Offer → Log → List ℕ → Type 0

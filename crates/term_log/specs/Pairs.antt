@@ -1,5 +1,5 @@
 -- The subscriptions that read a log, and how far each has read. Own rules.
-use Rattle.std.specs.Prelude.{ℕ, ◌+◌, ◌≤◌, ◌==◌, Bool, not, min, find, List, [], ◌∷◌, Option, Some, None, if◌then◌else◌, refl}
+use Rattle.std.specs.Prelude.{ℕ, ◌+◌, ◌≤◌, ◌==◌, Bool, not, min, find, map, List, [], ◌∷◌, Option, Some, None, if◌then◌else◌, refl}
 use Rattle.std.specs.List.{fold}
 use Rattle.std.specs.Option.{option_map}
 use Rattle.std.specs.Coded.{Coded, code_by, coded×, coded_ℕ}
@@ -40,3 +40,16 @@ AreNear start tail term (pair ∷ pairs) = IsNear start tail term pair.position 
 abbrev pub ReadsUpTo : Option ℕ → ℕ → Type 0
 ReadsUpTo None position = ⊥
 ReadsUpTo (Some at) position = at ≤ position
+
+-- where a subscription reads on: one that was there where it is, a new one at the tail
+abbrev pub reads_on : ℕ → Option ℕ → ℕ
+reads_on tail None = tail
+reads_on tail (Some at) = at
+
+abbrev pub rejoined_one : ℕ → List Pair → ℕ → Pair
+rejoined_one tail pairs subscription =
+    record { subscription = subscription; position = reads_on tail (position_of pairs subscription) }
+
+-- exactly these subscriptions read from now on, in this order; all others are gone
+abbrev pub rejoined_pairs : ℕ → List Pair → List ℕ → List Pair
+rejoined_pairs tail pairs subscriptions = map (rejoined_one tail pairs) subscriptions

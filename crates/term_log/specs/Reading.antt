@@ -61,6 +61,11 @@ pub record GivesFrom (k : Kept) (position budget : ℕ) (left : List Given) : Ty
   pub on : (before after : List Frame) → StandsFor k (before ++ after) → position ≡ k.ident.start + total before
       → left ≡ all_given k.ident position (within budget (of_term k.ident.term_length position after))
 
+-- all frames from there on
+pub record GivesAll (k : Kept) (position : ℕ) (left : List Given) : Type 0 where
+  pub on : (before after : List Frame) → StandsFor k (before ++ after) → position ≡ k.ident.start + total before
+      → left ≡ all_given k.ident position after
+
 -- ---- of any bytes
 
 -- a pad, of which the header is there

@@ -2,14 +2,14 @@
 
 ghost use Rattle.frame_codec.specs.Frame.{padded};
 ghost use Rattle.log_arena.specs.Lease.{lease_bytes, lease_home, lease_len, lease_place};
-ghost use Rattle.std.specs.Prelude.{◌≡◌, ℕ, ◌+◌, ◌-◌, ◌*◌, ◌%◌, ◌^◌, ◌<◌, ◌≤◌, ◌==◌, List, length, min, replicate};
+ghost use Rattle.std.specs.Prelude.{◌≡◌, ℕ, ◌+◌, ◌-◌, ◌*◌, ◌%◌, ◌^◌, ◌<◌, ◌≤◌, ◌==◌, ◌++◌, List, length, min, replicate};
 ghost use Rattle.term_log.specs.Buffers.{Buffers, settled};
 ghost use Rattle.term_log.specs.Cut.{cut};
 ghost use Rattle.term_log.specs.Frames.{Frame, fragment, pad, total};
 ghost use Rattle.term_log.specs.Ident.{IsIdent, greatest_position, payload_length, place_at};
 ghost use Rattle.term_log.specs.Log.{low_of};
 ghost use Rattle.term_log.specs.Ranges.{GivesOver, over_left};
-ghost use Rattle.term_log.specs.Reading.{GivesFrom, frames_left};
+ghost use Rattle.term_log.specs.Reading.{GivesAll, GivesFrom, frames_left};
 ghost use Rattle.term_log.specs.Kept.{Kept, after_frame, after_frames, offset_of, opened, rest_of};
 
 use crate::buffers::TermBuffers;
@@ -210,22 +210,42 @@ impl Appender {
             .min(position - position % term_length + term_length)
     }
 
-    /// The frames that are held and meet a range.
-    #[tactic(auto, using(crate::proofs::Terms::gives_over, crate::proofs::Terms::low_before))]
-    pub(crate) fn frames_over(&self, low: u64, position: u64, size: u64) -> FramesOver<'_>
-        requires { low ≡ low_of self.now }
-        ensures { GivesOver self.now position size (over_left result) }
+    /// The frames from a position on that is held: a frame's start or the tail. They are those of its term, of the next one
+    /// and of the one behind that: all up to the tail.
+    fn terms_from(&self, position: u64) -> (Frames<'_>, Frames<'_>, Frames<'_>)
+        requires low { low_of self.now ≤ position }
+        requires high { position ≤ self.now.tail }
+        ensures all { GivesAll self.now position (frames_left result.0 ++ frames_left result.1 ++ frames_left result.2) }
+        ensures sound { IsIdent self.now.ident }
     {
         let budget = self.ident.term_length as usize;
-        let second = self.next_term(low);
+        let second = self.next_term(position);
         let third = self.next_term(second);
-        FramesOver::new(
-            self.frames_from(low, budget),
+        (
+            self.frames_from(position, budget),
             self.frames_from(second, budget),
             self.frames_from(third, budget),
-            position,
-            size,
         )
+    }
+
+    /// The frames that are held and meet a range.
+    pub(crate) fn frames_over(&self, low: u64, position: u64, size: u64) -> FramesOver<'_>
+        requires exact { low ≡ low_of self.now }
+        requires within { low ≤ self.now.tail }
+        ensures { GivesOver self.now position size (over_left result) }
+    {
+        let (first, second, third) = self.terms_from(low);
+        FramesOver::new(first, second, third, position, size)
+    }
+
+    /// The frames from a position on that is held: a frame's start or the tail. They are all up to the tail.
+    pub(crate) fn frames_behind(&self, position: u64) -> FramesOver<'_>
+        requires low { low_of self.now ≤ position }
+        requires high { position ≤ self.now.tail }
+        ensures { GivesAll self.now position (over_left result) }
+    {
+        let (first, second, third) = self.terms_from(position);
+        FramesOver::new(first, second, third, position, self.tail - position)
     }
 
     /// The lease, whatever its bytes are.

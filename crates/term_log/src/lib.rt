@@ -3,7 +3,8 @@
 //!
 //! [`TermLog::offer`] appends a message, cut into frames, or a pad to the end of a term. [`TermLog::frames_from`] and
 //! [`TermLog::frames_over`] lend frames that are held. Contracts say of which lists of frames a log stands for all
-//! (`StandsFor`). [`TermLog::status`] and the calls behind it tell how far a sender may send, and when what is due. But
+//! (`StandsFor`), and of which whole logs (`Stands`). [`TermLog::fragments`] and [`TermLog::poll`] are the two halves of a
+//! poll. [`TermLog::status`] and the calls behind it tell how far a sender may send, and when what is due. But
 //! for [`TermLog::open`] nothing here takes memory.
 #![tactic(auto)]
 
@@ -11,9 +12,11 @@ mod appender;
 mod buffers;
 mod cutting;
 mod ident;
+mod laws;
 mod offer;
 mod pair;
 mod pairs;
+mod polling;
 mod ranges;
 mod reading;
 mod sender;
@@ -21,8 +24,10 @@ mod status;
 mod term_log;
 
 pub use ident::{Ident, LogKind};
+pub use laws::polls_give_frames;
 pub use offer::Offer;
 pub use pair::Pair;
+pub use polling::{Fragment, Fragments};
 pub use ranges::FramesOver;
 pub use reading::{Content, Frames, LogFrame};
 pub use status::Status;

@@ -7,9 +7,11 @@ ghost use Rattle.term_log.specs.Ident.{IsIdent};
 ghost use Rattle.term_log.specs.Kept.{StandsFor, after_frames, opened};
 ghost use Rattle.term_log.specs.Log.{HasRoom, appended, connected_of, limit_of, low_of, offer_of};
 ghost use Rattle.term_log.specs.Pairs.{ReadsUpTo, is_other, moved_one, position_of};
+ghost use Rattle.term_log.specs.Polling.{fragments_left};
 ghost use Rattle.term_log.specs.Ranges.{GivesOver, over_left};
 ghost use Rattle.term_log.specs.Reading.{GivesFrom, frames_left};
 ghost use Rattle.term_log.specs.Sender.{after_setup, after_status, budget_of, is_past, is_setup_due, later_of, sending, status_of};
+ghost use Rattle.term_log.specs.Whole.{Carries, Fetches, Offers, Stands, fresh, polled, rejoined, rejoined_kept};
 
 use crate::appender::Appender;
 use crate::cutting::size_of;
@@ -17,6 +19,7 @@ use crate::ident::{Ident, LogKind};
 use crate::offer::Offer;
 use crate::pair::Pair;
 use crate::pairs::Pairs;
+use crate::polling::{Fragments, end_of, fragments_from};
 use crate::ranges::FramesOver;
 use crate::reading::Frames;
 use crate::sender::Sender;
@@ -64,6 +67,7 @@ impl TermLog {
         requires zeros { lease_bytes lease ≡ replicate (3 * ident.term_length) 0 }
         ensures opened { IfOk result (λ log. log ≡ record { kept = opened lease ident; pairs = []; sender = sending ident.start }) }
         ensures stands { IfOk result (λ log. StandsFor log.kept []) }
+        ensures whole { IfOk result (λ log. Stands log (fresh ident)) }
         ensures err { IfErr result (λ refused. refused.0 ≡ lease) }
     {
         match Pairs::new(alloc) {
@@ -99,8 +103,10 @@ impl TermLog {
     }
 
     /// The first position whose frame is held: the start of the second term before that of the tail, or the log's start.
+    #[tactic(auto, using(crate::proofs::Terms::low_before))]
     pub fn low(&self) -> u64
-        ensures { result ≡ low_of self.now.kept }
+        ensures value { result ≡ low_of self.now.kept }
+        ensures within { result ≤ self.now.kept.tail }
     {
         let ident = self.appender.ident();
         let term_length = u64::from(ident.term_length);
@@ -144,7 +150,7 @@ impl TermLog {
     }
 
     /// What becomes of a message; nothing is changed yet.
-    #[tactic(auto, unfolding(crate::specs::Log::offer_of))]
+    #[tactic(auto, unfolding(crate::specs::Log::answer_of))]
     fn decide(&self, message: &[u8]) -> Offer
         ensures answer { result ≡ offer_of self.now message.now }
         ensures room { HasRoom result self.now message.now }
@@ -177,6 +183,7 @@ impl TermLog {
         ensures exact { self.new ≡ record self.old { kept = after_frames self.old.kept (appended result self.old.kept message.now) } }
         ensures stands { (frames : List Frame) → StandsFor self.old.kept frames
             → StandsFor self.new.kept (frames ++ appended result self.old.kept message.now) }
+        ensures whole { Offers self.old self.new message.now result }
     {
         let answer = self.decide(message);
         match answer {
@@ -211,6 +218,18 @@ impl TermLog {
         self.pairs.leave(subscription);
     }
 
+    /// Exactly these subscriptions read the log from now on: one that read it before from where it is, a new one from the
+    /// tail. All others read it no longer.
+    #[tactic(auto, unfolding(crate::specs::Whole::rejoined_kept))]
+    pub fn rejoin(&mut self, subscriptions: &[u64])
+        requires { length subscriptions.now ≤ 512 }
+        ensures exact { self.new ≡ rejoined_kept subscriptions.now self.old }
+        ensures whole { Carries self.old self.new (rejoined subscriptions.now) }
+    {
+        let tail = self.appender.tail();
+        self.pairs.rejoin(subscriptions, tail);
+    }
+
     /// How far a subscription has read, if it reads the log: a position that is held, or the tail.
     pub fn pair_position(&self, subscription: u64) -> Option<u64>
         ensures position { result ≡ position_of self.now.pairs subscription }
@@ -226,6 +245,33 @@ impl TermLog {
         ensures { self.new ≡ record self.old { pairs = map (moved_one subscription position) self.old.pairs } }
     {
         self.pairs.advance(subscription, position);
+    }
+
+    /// The fragments that a poll of a subscription gives, over the ends of terms: those from its position on, at most so
+    /// many. None where it does not read the log. Nothing is passed yet: [`TermLog::poll`] does that, once they were taken.
+    pub fn fragments(&self, subscription: u64, limit: usize) -> Fragments<'_>
+        ensures { Fetches self.now subscription limit (fragments_left result) }
+    {
+        match self.pair_position(subscription) {
+            Some(position) => fragments_from(&self.appender, position, limit),
+            None => fragments_from(&self.appender, self.appender.tail(), 0),
+        }
+    }
+
+    /// A subscription is polled: it has read the frames from its position on, until so many fragments were given or there
+    /// are no more. Pads do not count, and one behind the last fragment is left.
+    pub fn poll(&mut self, subscription: u64, limit: usize)
+        ensures kept { self.new.kept ≡ self.old.kept }
+        ensures sender { self.new.sender ≡ self.old.sender }
+        ensures whole { Carries self.old self.new (λ w. (polled w subscription limit).after) }
+    {
+        match self.pair_position(subscription) {
+            Some(position) => {
+                let end = end_of(&self.appender, position, limit);
+                self.advance(subscription, end);
+            }
+            None => {}
+        }
     }
 
     /// The position up to which the sender has sent.

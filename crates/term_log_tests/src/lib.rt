@@ -10,6 +10,8 @@ pub use plain::{Plain, Row};
 pub use reading::{begin_at, gives_all, gives_rows};
 
 #[cfg(test)]
+mod polling;
+#[cfg(test)]
 mod sending;
 #[cfg(test)]
 mod tests;

@@ -1,11 +1,12 @@
 -- What was decided is appended, and the log stands for one message or pad more.
-use Rattle.std.proofs.Common.{◌≡◌, ℕ, ◌%◌, ap, List, ◌++◌, ◌∷◌, [], sym, subst, arith}
+use Rattle.std.proofs.Common.{rules, ◌≡◌, ℕ, ◌%◌, ap, List, ◌++◌, ◌∷◌, [], sym, subst, arith}
 use Rattle.term_log.specs.declared.offer.Offer.{Offer}
 use Rattle.term_log.specs.Ident.{IsIdent}
-use Rattle.term_log.specs.Frames.{pad}
-use Rattle.term_log.specs.Kept.{Kept, StandsFor, rest_of}
-use Rattle.term_log.specs.Log.{Log, frames_of, appended}
+use Rattle.term_log.specs.Frames.{Frame, pad}
+use Rattle.term_log.specs.Kept.{Kept, StandsFor, rest_of, after_frames}
+use Rattle.term_log.specs.Log.{Log, frames_of, appended, offer_of}
 use Rattle.term_log.proofs.Nears.{log_grows}
+use Rattle.term_log.proofs.Standing.{offer_stands}
 use Rattle.term_log.proofs.Stands.{message_stands, pad_stands}
 use Rattle.term_log.proofs.term_log.TermLog.offer.Goals as goal
 
@@ -50,3 +51,27 @@ returns-in-AdminAction-clause-stands c frames stands =
     pad_stands s.appender c.pad.new.self frames sound aligned c.pad.ensures here in
     subst (λ (o : Offer). StandsFor c.pad.new.self (frames ++ appended o c.args.self.now.kept message)) (sym c.in-AdminAction.is)
     (subst (λ (k : Kept). StandsFor c.pad.new.self (frames ++ pad (rest_of k) ∷ [])) (sym kept) more)
+
+pub returns-in-At-clause-whole : goal.returns-in-At-clause-whole
+returns-in-At-clause-whole c =
+    let s = c.self.inside in
+    let new : Log = record { kept = c.append_message.new.self; pairs = s.pairs; sender = s.sender } in
+    let exact : new ≡ record c.args.self.now { kept = after_frames c.args.self.now.kept (appended c.decide-answer.result c.args.self.now.kept c.args.message.now) } = search rules in
+    offer_stands c.args.self.now new c.args.message.now c.decide-answer.result c.decide-answer.ensures.answer exact (returns-in-At-clause-stands c)
+
+pub returns-in-AdminAction-clause-whole : goal.returns-in-AdminAction-clause-whole
+returns-in-AdminAction-clause-whole c =
+    let s = c.self.inside in
+    let new : Log = record { kept = c.pad.new.self; pairs = s.pairs; sender = s.sender } in
+    let exact : new ≡ record c.args.self.now { kept = after_frames c.args.self.now.kept (appended c.decide-answer.result c.args.self.now.kept c.args.message.now) } = search rules in
+    offer_stands c.args.self.now new c.args.message.now c.decide-answer.result c.decide-answer.ensures.answer exact (returns-in-AdminAction-clause-stands c)
+
+pub returns-in-TooLong : goal.returns-in-TooLong
+returns-in-TooLong c =
+    let old : Log = c.args.self.now in
+    let message : List ℕ = c.args.message.now in
+    let answer : Offer = c.decide-answer.result in
+    let is : answer ≡ offer_of old message = c.decide-answer.ensures.answer in
+    let exact : old ≡ record old { kept = after_frames old.kept (appended answer old.kept message) } = search rules in
+    let stands : (frames : List Frame) → StandsFor old.kept frames → StandsFor old.kept (frames ++ appended answer old.kept message) = λ frames s. search rules in
+    record { answer = is; exact = exact; stands = stands; whole = offer_stands old old message answer is exact stands }

@@ -1,0 +1,256 @@
+-- Which logs stand for which whole logs.
+use Rattle.std.proofs.Common.{◌≡◌, ℕ, ◌+◌, ◌/◌, true, false, cond, List, [], ◌∷◌, ◌++◌, Option, Some, None, map, refl, sym, ap, ap₂, ◌∙◌, subst, arith, append_assoc}
+use Rattle.std.specs.Prelude.{◌==◌, nat_le, IfSome, find}
+use Rattle.std.specs.Option.{option_map}
+use Rattle.std.proofs.lemmas.Bool.Decides.{nat_tests}
+use Rattle.std.proofs.lemmas.List.{append-nil}
+use Rattle.term_log.specs.declared.ident.Ident.{Ident}
+use Rattle.term_log.specs.declared.offer.Offer.{Offer}
+use Rattle.term_log.specs.declared.pair.Pair.{Pair}
+use Rattle.term_log.specs.Frames.{Frame, span, total, IsRun}
+use Rattle.term_log.specs.Kept.{Kept, StandsFor, after_frames}
+use Rattle.term_log.specs.Log.{Log, limit_among, limit_of, connected_of, answer_of, offer_of, appended, appended_at}
+use Rattle.term_log.specs.Pairs.{position_of, moved_one, reads_on, rejoined_pairs}
+use Rattle.term_log.specs.Polling.{Fetched, passed, fragments_of, GivesFragments, PassesTo}
+use Rattle.term_log.specs.Sender.{Sending, sending}
+use Rattle.term_log.specs.Whole.{Whole, tail_of, limit_at, is_connected, fresh, answer_to, offered, rejoined, rejoined_kept, frames_behind, Poll, passes, polled_from, polled, IsStart, AreStarts, Stands, Carries, Offers, Fetches}
+use Rattle.term_log.proofs.Appending.{ident_after}
+use Rattle.term_log.proofs.Held.{run_front, total_both}
+use Rattle.term_log.proofs.Polls.{left_behind, passed_split}
+use Rattle.term_log.proofs.Terms.{some_span}
+
+-- ---- where frames begin
+
+abbrev pub end_start : (position : ℕ) (fs : List Frame) → IsStart position fs (position + total fs)
+end_start position fs = record { before = fs; after = []; is = sym (append-nil fs); place = refl }
+
+pub start_more : (position at : ℕ) (fs gs : List Frame) → IsStart position fs at → IsStart position (fs ++ gs) at
+start_more position at fs gs s =
+    record {
+      before = s.before;
+      after = s.after ++ gs;
+      is = ap (λ (xs : List Frame). xs ++ gs) s.is ∙ append_assoc s.before s.after gs;
+      place = s.place;
+    }
+
+pub starts_more : (position : ℕ) (fs gs : List Frame) (pairs : List Pair) → AreStarts position fs pairs → AreStarts position (fs ++ gs) pairs
+starts_more position fs gs [] starts = tt
+starts_more position fs gs (p ∷ pairs) starts = (start_more position p.position fs gs starts.0, starts_more position fs gs pairs starts.1)
+
+pub found_start : (position subscription : ℕ) (fs : List Frame) (pairs : List Pair) → AreStarts position fs pairs
+    → IfSome (position_of pairs subscription) (IsStart position fs)
+found_start position subscription fs [] starts = tt
+found_start position subscription fs (p ∷ pairs) starts =
+    let rest = found_start position subscription fs pairs starts.1 in
+    elim (p.subscription == subscription) as (λ b. IfSome (option_map (λ (pair : Pair). pair.position) (cond b (Some p) (find (λ (pair : Pair). pair.subscription == subscription) pairs))) (IsStart position fs)) [
+      | true ↦ starts.0
+      | false ↦ rest
+    ]
+
+pub rejoined_starts : (position : ℕ) (fs : List Frame) (pairs : List Pair) (subscriptions : List ℕ) → AreStarts position fs pairs
+    → AreStarts position fs (rejoined_pairs (position + total fs) pairs subscriptions)
+rejoined_starts position fs pairs [] starts = tt
+rejoined_starts position fs pairs (s ∷ subscriptions) starts =
+    let first : IsStart position fs (reads_on (position + total fs) (position_of pairs s)) =
+    elim (position_of pairs s) as (λ (o : Option ℕ). IfSome o (IsStart position fs) → IsStart position fs (reads_on (position + total fs) o)) [
+      | None ↦ (λ none. end_start position fs)
+      | Some at ↦ (λ start. start)
+    ]
+    (found_start position s fs pairs starts) in
+    (first, rejoined_starts position fs pairs subscriptions starts)
+
+pub moved_starts : (position subscription at : ℕ) (fs : List Frame) (pairs : List Pair) → AreStarts position fs pairs → IsStart position fs at
+    → AreStarts position fs (map (moved_one subscription at) pairs)
+moved_starts position subscription at fs [] starts start = tt
+moved_starts position subscription at fs (p ∷ pairs) starts start =
+    let first : IsStart position fs (moved_one subscription at p).position =
+    elim (p.subscription == subscription) as (λ b. IsStart position fs (cond b (record p { position = at }) p).position) [
+      | true ↦ start
+      | false ↦ starts.0
+    ] in
+    (first, moved_starts position subscription at fs pairs starts.1 start)
+
+-- the frames that do not begin before a frame's start are those behind it
+behind_start : (i : Ident) (position at : ℕ) (before after : List Frame) → IsRun i position before → at ≡ position + total before
+    → frames_behind at position (before ++ after) ≡ after
+behind_start i position at [] [] run is = refl
+behind_start i position at [] (f ∷ fs) run is =
+    let here : nat_le at position ≡ true = grind (arith, nat_tests, is) in
+    ap (λ b. cond b (f ∷ fs) (frames_behind at (position + span f) fs)) here
+behind_start i position at (f ∷ fs) after run is =
+    let some = some_span i position f run.0 in
+    let ahead : nat_le at position ≡ false = grind (arith, nat_tests, is, some) in
+    ap (λ b. cond b (f ∷ (fs ++ after)) (frames_behind at (position + span f) (fs ++ after))) ahead
+    ∙ behind_start i (position + span f) at fs after run.1 (omega (arith, is))
+
+-- ---- what is one and the same
+
+pub tail_stands : (l : Log) (w : Whole) → Stands l w → l.kept.tail ≡ tail_of w
+tail_stands l w s =
+    let tail = s.frames.tail in
+    tail ∙ ap (λ (i : Ident). i.start + total w.frames) s.ident
+
+pub limit_stands : (l : Log) (w : Whole) → Stands l w → limit_of l ≡ limit_at w
+unfolding limit_of
+limit_stands l w s =
+    ap (λ (i : Ident). limit_among i.kind l.kept.tail (i.term_length / 2) l.sender.position l.pairs) s.ident
+    ∙ ap (λ (t : ℕ). limit_among w.ident.kind t (w.ident.term_length / 2) l.sender.position l.pairs) (tail_stands l w s)
+    ∙ ap₂ (λ (x : Sending) (pairs : List Pair). limit_among w.ident.kind (tail_of w) (w.ident.term_length / 2) x.position pairs) s.sender s.pairs
+
+pub connected_stands : (l : Log) (w : Whole) (now timeout : ℕ) → Stands l w → connected_of l now timeout ≡ is_connected w now timeout
+unfolding connected_of
+connected_stands l w now timeout s = rw (s.ident, s.pairs, s.sender) refl
+
+-- ---- what calls do
+
+pub fresh_stands : (l : Log) (i : Ident) → l.kept.ident ≡ i → StandsFor l.kept [] → l.pairs ≡ [] → l.sender ≡ sending i.start → Stands l (fresh i)
+fresh_stands l i ident frames pairs sender =
+    record {
+      ident = ident;
+      frames = frames;
+      pairs = pairs;
+      sender = sender;
+      read = tt;
+      sent = record { before = []; after = []; is = refl; place = omega arith };
+    }
+
+pub offer_stands : (old new : Log) (message : List ℕ) (answer : Offer) → answer ≡ offer_of old message
+    → new ≡ record old { kept = after_frames old.kept (appended answer old.kept message) }
+    → ((frames : List Frame) → StandsFor old.kept frames → StandsFor new.kept (frames ++ appended answer old.kept message))
+    → Offers old new message answer
+unfolding offered
+offer_stands old new message answer answer_is new_is stands =
+    record {
+      on = λ w s.
+          let tail = tail_stands old w s in
+          let same : answer ≡ answer_to w message =
+          answer_is
+          ∙ ap (λ (i : Ident). answer_of i old.kept.tail (limit_of old) message) s.ident
+          ∙ ap₂ (λ (t n : ℕ). answer_of w.ident t n message) tail (limit_stands old w s) in
+          let more : List Frame = appended_at (answer_to w message) w.ident (tail_of w) message in
+          let more_is : appended answer old.kept message ≡ more =
+          ap (λ (o : Offer). appended_at o old.kept.ident old.kept.tail message) same
+          ∙ ap₂ (λ (i : Ident) (t : ℕ). appended_at (answer_to w message) i t message) s.ident tail in (
+            same,
+            record {
+              ident = ap (λ (l : Log). l.kept.ident) new_is ∙ ident_after old.kept (appended answer old.kept message) ∙ s.ident;
+              frames = subst (λ (fs : List Frame). StandsFor new.kept (w.frames ++ fs)) more_is (stands w.frames s.frames);
+              pairs = ap (λ (l : Log). l.pairs) new_is ∙ s.pairs;
+              sender = ap (λ (l : Log). l.sender) new_is ∙ s.sender;
+              read = starts_more w.ident.start w.frames more w.pairs s.read;
+              sent = start_more w.ident.start w.sender.position w.frames more s.sent;
+            },
+          );
+    }
+
+pub rejoin_stands : (l : Log) (subscriptions : List ℕ) → Carries l (rejoined_kept subscriptions l) (rejoined subscriptions)
+unfolding rejoined rejoined_kept
+rejoin_stands l subscriptions =
+    record {
+      on = λ w s.
+          record {
+            ident = s.ident;
+            frames = s.frames;
+            pairs = ap₂ (λ (t : ℕ) (pairs : List Pair). rejoined_pairs t pairs subscriptions) (tail_stands l w s) s.pairs;
+            sender = s.sender;
+            read = rejoined_starts w.ident.start w.frames w.pairs subscriptions s.read;
+            sent = s.sent;
+          };
+    }
+
+-- ---- polls
+
+-- where a subscription that reads a whole log reads it
+pub record From (l : Log) (w : Whole) (at : ℕ) : Type 0 where
+  pub before : List Frame
+  pub after : List Frame
+  pub whole : w.frames ≡ before ++ after
+  pub stands : StandsFor l.kept (before ++ after)
+  pub place : at ≡ w.ident.start + total before
+  pub kept_place : at ≡ l.kept.ident.start + total before
+  pub behind : frames_behind at w.ident.start w.frames ≡ after
+
+pub reads_from : (l : Log) (w : Whole) (subscription at : ℕ) → Stands l w → position_of l.pairs subscription ≡ Some at → From l w at
+reads_from l w subscription at s is =
+    let here : position_of w.pairs subscription ≡ Some at = ap (λ (pairs : List Pair). position_of pairs subscription) (sym s.pairs) ∙ is in
+    let start : IsStart w.ident.start w.frames at =
+    subst (λ (o : Option ℕ). IfSome o (IsStart w.ident.start w.frames)) here (found_start w.ident.start subscription w.frames w.pairs s.read) in
+    let stands = subst (λ (fs : List Frame). StandsFor l.kept fs) start.is s.frames in
+    let begin : l.kept.ident.start ≡ w.ident.start = ap (λ (i : Ident). i.start) s.ident in
+    let place = start.place in
+    let kept_place : at ≡ l.kept.ident.start + total start.before = omega arith in
+    let run = run_front l.kept.ident l.kept.ident.start start.before start.after stands.sound in
+    record {
+      before = start.before;
+      after = start.after;
+      whole = start.is;
+      stands = stands;
+      place = place;
+      kept_place = kept_place;
+      behind = ap₂ (λ (p : ℕ) (fs : List Frame). frames_behind at p fs) (sym begin) start.is
+          ∙ behind_start l.kept.ident l.kept.ident.start at start.before start.after run kept_place;
+    }
+
+pub polled_is : (w : Whole) (l : Log) (subscription limit : ℕ) (o : Option ℕ) → Stands l w → position_of l.pairs subscription ≡ o
+    → polled w subscription limit ≡ polled_from w subscription limit o
+unfolding polled
+polled_is w l subscription limit o s is =
+    ap (polled_from w subscription limit) (ap (λ (pairs : List Pair). position_of pairs subscription) (sym s.pairs) ∙ is)
+
+pub fetches : (l : Log) (subscription limit at : ℕ) (left : List Fetched) → position_of l.pairs subscription ≡ Some at
+    → GivesFragments l.kept at limit left → Fetches l subscription limit left
+fetches l subscription limit at left is gives =
+    record {
+      on = λ w s.
+          let from = reads_from l w subscription at s is in
+          gives.on from.before from.after from.stands from.kept_place
+          ∙ ap (λ (fs : List Frame). fragments_of at (passed limit fs)) (sym from.behind)
+          ∙ sym (ap (λ (p : Poll). p.fragments) (polled_is w l subscription limit (Some at) s is));
+    }
+
+pub fetches_none : (l : Log) (subscription limit tail : ℕ) (left : List Fetched) → position_of l.pairs subscription ≡ None → tail ≡ l.kept.tail
+    → GivesFragments l.kept tail 0 left → Fetches l subscription limit left
+fetches_none l subscription limit tail left is at_tail gives =
+    record {
+      on = λ w s.
+          let stands = subst (λ (fs : List Frame). StandsFor l.kept fs) (sym (append-nil w.frames)) s.frames in
+          let place = s.frames.tail in
+          gives.on w.frames [] stands (at_tail ∙ place)
+          ∙ sym (ap (λ (p : Poll). p.fragments) (polled_is w l subscription limit None s is));
+    }
+
+pub poll_stands : (l new : Log) (subscription limit at end : ℕ) → position_of l.pairs subscription ≡ Some at → PassesTo l.kept at limit end
+    → new ≡ record l { pairs = map (moved_one subscription end) l.pairs } → Carries l new (λ w. (polled w subscription limit).after)
+poll_stands l new subscription limit at end is to new_is =
+    record {
+      on = λ w s.
+          let from = reads_from l w subscription at s is in
+          let fs : List Frame = passed limit (frames_behind at w.ident.start w.frames) in
+          let end_is : end ≡ at + total fs =
+          to.on from.before from.after from.stands from.kept_place ∙ ap (λ (gs : List Frame). at + total (passed limit gs)) (sym from.behind) in
+          let rest : List Frame = left_behind limit (frames_behind at w.ident.start w.frames) in
+          let split : w.frames ≡ (from.before ++ fs) ++ rest =
+          from.whole
+          ∙ ap (λ (gs : List Frame). from.before ++ gs) (sym from.behind ∙ passed_split limit (frames_behind at w.ident.start w.frames))
+          ∙ sym (append_assoc from.before fs rest) in
+          let place = from.place in
+          let start : IsStart w.ident.start w.frames (at + total fs) = record {
+            before = from.before ++ fs;
+            after = rest;
+            is = split;
+            place = omega (arith, total_both from.before fs);
+          } in
+          let after : Stands new (passes w subscription at fs).after = record {
+            ident = ap (λ (x : Log). x.kept.ident) new_is ∙ s.ident;
+            frames = subst (λ (k : Kept). StandsFor k w.frames) (sym (ap (λ (x : Log). x.kept) new_is)) s.frames;
+            pairs = ap (λ (x : Log). x.pairs) new_is ∙ ap₂ (λ (e : ℕ) (pairs : List Pair). map (moved_one subscription e) pairs) end_is s.pairs;
+            sender = ap (λ (x : Log). x.sender) new_is ∙ s.sender;
+            read = moved_starts w.ident.start subscription (at + total fs) w.frames w.pairs s.read start;
+            sent = s.sent;
+          } in
+          subst (λ (p : Poll). Stands new p.after) (sym (polled_is w l subscription limit (Some at) s is)) after;
+    }
+
+pub poll_none_stands : (l : Log) (subscription limit : ℕ) → position_of l.pairs subscription ≡ None → Carries l l (λ w. (polled w subscription limit).after)
+poll_none_stands l subscription limit is =
+    record { on = λ w s. subst (λ (p : Poll). Stands l p.after) (sym (polled_is w l subscription limit None s is)) s }
