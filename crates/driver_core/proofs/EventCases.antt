@@ -1,34 +1,36 @@
--- What holds of the change that each case of an event makes holds of the event's.
-use Rattle.std.proofs.Common.{◌≡◌, ℕ, ℤ, pos, ◌==◌, Bool, true, false, not, List, [], ◌∷◌, Option, Some, None, Result, Ok, Err, inl, inr, refl, ap, ◌∙◌}
+-- What holds of the draft that each case of an event makes holds of the event's.
+use Rattle.std.proofs.Common.{◌≡◌, ℕ, ℤ, pos, ◌==◌, Bool, true, false, not, List, [], ◌∷◌, Option, Some, None, Result, Ok, Err, if◌then◌else◌, inl, inr, refl, ap, ◌∙◌}
 use Rattle.std.proofs.lemmas.Bool.{eqb-true, cond_both, not-true, not-false}
-use Rattle.driver_core.specs.declared.change.Change.{Change}
+use Rattle.driver_core.specs.declared.draft.Draft.{Draft}
 use Rattle.driver_core.specs.declared.event.Event.TheVariants.{Command}
-use Rattle.driver_core.specs.declared.event.Inputs.{Inputs}
 use Rattle.driver_core.specs.declared.outcome.Response.TheVariants as response
 use Rattle.driver_core.specs.declared.refusal.Refusal.{Refusal}
-use Rattle.driver_core.specs.declared.refusal.Refusal.TheVariants.{WrongClient, InvalidChannel, UnknownSubscription, UnknownCounter, Denied, Full}
+use Rattle.driver_core.specs.declared.refusal.Refusal.TheVariants.{WrongClient, InvalidChannel, UnknownSubscription, UnknownPublication, UnknownCounter, Denied, Full, NoRoom}
 use Rattle.client_registry.specs.declared.client.Client.{Client}
 use Rattle.driver_core.specs.Attaching.{attach, attached}
-use Rattle.driver_core.specs.Change.{answered, refused}
+use Rattle.driver_core.specs.Draft.{answered, refused}
 use Rattle.driver_core.specs.Closing.{keep_alive, close}
 use Rattle.driver_core.specs.Counting.{add_counter, counted, counter_decision, has_room_for_counter, set_counter, valued, remove_counter, uncounted}
 use Rattle.driver_core.specs.Deciding.{decision_by, question_by}
 use Rattle.client_registry.specs.Clients.{client_at, has_room}
 use Rattle.counters.specs.Counters.{has}
 use Rattle.driver_core.specs.Commands.{heard, requested, asked, asked_by, command, command_from, body_change, refusal_for}
-use Rattle.driver_core.specs.Conduct.{conduct}
+use Rattle.driver_core.specs.Conduct.{drafted}
 use Rattle.driver_core.specs.Laws.{is_heard}
+use Rattle.driver_core.specs.Publishing.{is_publishable, add_publication, publication_decision, publish, publish_by, publish_on, publish_under, published, publishing_act, refused_by_streams, has_place, has_room_for_publication}
 use Rattle.driver_core.specs.Reloading.{reload, reloaded, has_room_for_policy}
-use Rattle.driver_core.specs.Requests.{Asks, SubscriptionRequest, AsksToSubscribe, RemovalRequest, AsksToRemove, IsAsked}
+use Rattle.driver_core.specs.Requests.{Asks, PublicationRequest, AsksToPublish, wanted_by, SubscriptionRequest, AsksToSubscribe, RemovalRequest, AsksToRemove, IsAsked}
 use Rattle.driver_core.specs.State.{State, at_moment}
 use Rattle.driver_core.specs.Subscribing.{is_subscribable, subscribe, subscribe_on, add_subscription, subscribed, decision_of, has_room_for_subscription}
 use Rattle.driver_core.specs.Terminating.{terminate, terminated, termination_decision}
-use Rattle.driver_core.specs.Unsubscribing.{remove_subscription, unsubscribed, has_subscription}
+use Rattle.driver_core.specs.Unpublishing.{remove_publication, unpublished}
+use Rattle.driver_core.specs.Unsubscribing.{remove_subscription, unsubscribed}
 use Rattle.channel_uri.specs.declared.error.UriError.{UriError}
 use Rattle.channel_uri.specs.Channel.{Shape, denotes, counter_shape, ipc_shape}
+use Rattle.command_codec.specs.declared.add_publication.AddPublication.{AddPublication}
 use Rattle.command_codec.specs.declared.add_subscription.AddSubscription.{AddSubscription}
 use Rattle.command_codec.specs.declared.command.Body.{Body}
-use Rattle.command_codec.specs.declared.command.Body.TheVariants.{AddSubscription as Adds, RemoveSubscription as Removes, ClientKeepalive as Keeps, AddCounter as AddsCounter, RemoveCounter as RemovesCounter, ClientClose as Closes, TerminateDriver as Terminates, SetCounter as Sets}
+use Rattle.command_codec.specs.declared.command.Body.TheVariants.{AddPublication as Publishes, AddExclusivePublication as PublishesExclusively, RemovePublication as Unpublishes, AddSubscription as Adds, RemoveSubscription as Removes, ClientKeepalive as Keeps, AddCounter as AddsCounter, RemoveCounter as RemovesCounter, ClientClose as Closes, TerminateDriver as Terminates, SetCounter as Sets}
 use Rattle.command_codec.specs.declared.command.Command.{Command as Read}
 use Rattle.command_codec.specs.declared.fault.CommandFault.{CommandFault}
 use Rattle.command_codec.specs.declared.fault.CommandFault.TheVariants.{Unknown, Malformed, NoMemory}
@@ -41,14 +43,20 @@ use Rattle.policy_core.specs.declared.act.Act.{Act}
 use Rattle.policy_core.specs.declared.act.Act.TheVariants.{Counter as MakeCounter, Terminate}
 use Rattle.policy_core.specs.declared.decision.Decision.{Decision}
 use Rattle.policy_core.specs.RuleList.{Rules}
+use Rattle.stream_registry.specs.declared.fault.StreamFault.{StreamFault}
+use Rattle.stream_registry.specs.declared.fault.StreamFault.TheVariants as fault
+use Rattle.stream_registry.specs.declared.wanted.Adding.{Adding}
+use Rattle.stream_registry.specs.declared.wanted.Wanted.{Wanted}
+use Rattle.stream_registry.specs.Adding.{adding_of}
+use Rattle.stream_registry.specs.Leaving.{has_registration, has_subscription}
 
 -- a refusal for which the policy is not asked
 abbrev pub IsPlain : Refusal → Type 0
 IsPlain (Denied verdict) = ⊥
 IsPlain refusal = Unit {0}
 
--- what has to be shown of each change that bytes over a handle may make
-pub record Cases (P : Change → Type 0) (s : State) (handle : ℕ) (bytes : List ℕ) : Type 0 where
+-- what has to be shown of each draft that bytes over a handle may make
+pub record Cases (P : Draft → Type 0) (s : State) (handle : ℕ) (bytes : List ℕ) : Type 0 where
   pub unheard :
       (correlation : ℕ) (refusal : Refusal) → IsPlain refusal → is_heard s handle bytes ≡ false →
       P (refused s [] handle correlation refusal)
@@ -65,8 +73,19 @@ pub record Cases (P : Change → Type 0) (s : State) (handle : ℕ) (bytes : Lis
   pub subscription :
       (request : SubscriptionRequest) → is_heard s handle bytes ≡ true → AsksToSubscribe s handle bytes request →
       (decision_of (heard s handle) request.client request.channel request.fields.stream).verdict.allow ≡ true →
-      has_room_for_subscription (heard s handle) ≡ true →
+      has_room_for_subscription (heard s handle) request.client.number request.channel request.fields.stream ≡ true →
       P (subscribed (heard s handle) request.client request.correlation request.channel request.fields.stream)
+  pub publication :
+      (request : PublicationRequest) (adding : Adding) → is_heard s handle bytes ≡ true → AsksToPublish s handle bytes request →
+      (publication_decision (heard s handle) request.client (wanted_by request)).verdict.allow ≡ true →
+      adding_of (heard s handle).streams (wanted_by request) ≡ Ok adding →
+      has_room_for_publication (heard s handle) request.client.number (wanted_by request) adding ≡ true →
+      has_place (heard s handle) (wanted_by request) adding ≡ true →
+      P (published (heard s handle) request.client request.correlation (wanted_by request) adding)
+  pub publication_removal :
+      (client : Client) (correlation : ℕ) (fields : Removal) → is_heard s handle bytes ≡ true →
+      Asks s handle bytes client correlation (Unpublishes fields) →
+      P (unpublished (heard s handle) client correlation fields.registration)
   pub removal :
       (request : RemovalRequest) → is_heard s handle bytes ≡ true → AsksToRemove s handle bytes request →
       P (unsubscribed (heard s handle) request.client request.correlation request.fields.registration)
@@ -104,10 +123,12 @@ whole read handle body own is = rw (← own, ← is) refl
 
 -- ---- the policy, and then the room
 
-pub subscribe_cases : (P : Change → Type 0) (s : State) (client : Client) (correlation : ℕ) (channel : Shape) (stream : ℤ) →
-    ((decision_of s client channel stream).verdict.allow ≡ true → has_room_for_subscription s ≡ true →
+pub subscribe_cases : (P : Draft → Type 0) (s : State) (client : Client) (correlation : ℕ) (channel : Shape) (stream : ℤ) →
+    ((decision_of s client channel stream).verdict.allow ≡ true →
+    has_room_for_subscription s client.number channel stream ≡ true →
     P (subscribed s client correlation channel stream)) →
-    ((decision_of s client channel stream).verdict.allow ≡ true → has_room_for_subscription s ≡ false →
+    ((decision_of s client channel stream).verdict.allow ≡ true →
+    has_room_for_subscription s client.number channel stream ≡ false →
     P (refused s (decision_of s client channel stream ∷ []) client.number correlation Full)) →
     ((decision_of s client channel stream).verdict.allow ≡ false →
     P (refused s (decision_of s client channel stream ∷ []) client.number correlation
@@ -117,22 +138,85 @@ unfolding subscribe
 subscribe_cases P s client correlation channel stream granted full denied =
     let allow : Bool = (decision_of s client channel stream).verdict.allow in
     cond_both (not allow) _ _ P (λ e. denied (not-true allow e))
-    (λ e. cond_both (has_room_for_subscription s) _ _ P (granted (not-false allow e)) (full (not-false allow e)))
+    (λ e. cond_both (has_room_for_subscription s client.number channel stream) _ _ P (granted (not-false allow e)) (full (not-false allow e)))
+
+-- ---- a publication
+
+-- the lists refuse for reasons of their own
+plain_refusal : (why : StreamFault) → IsPlain (refused_by_streams why)
+plain_refusal fault.UnknownPublication = tt
+plain_refusal fault.UnknownSubscription = tt
+plain_refusal fault.Conflict = tt
+plain_refusal fault.Full = tt
+plain_refusal fault.NoMemory = tt
+
+-- what has to be shown of each draft that an allowed request for a publication may make
+pub record PublishCases (P : Draft → Type 0) (s : State) (client : Client) (correlation : ℕ) (wanted : Wanted) : Type 0 where
+  pub denied :
+      (publication_decision s client wanted).verdict.allow ≡ false →
+      P (refused s (publication_decision s client wanted ∷ []) client.number correlation
+      (Denied (publication_decision s client wanted).verdict))
+  pub refused_by :
+      (why : StreamFault) → (publication_decision s client wanted).verdict.allow ≡ true →
+      adding_of s.streams wanted ≡ Err why →
+      P (refused s (publication_decision s client wanted ∷ []) client.number correlation (refused_by_streams why))
+  pub full :
+      (adding : Adding) → (publication_decision s client wanted).verdict.allow ≡ true →
+      adding_of s.streams wanted ≡ Ok adding → has_room_for_publication s client.number wanted adding ≡ false →
+      P (refused s (publication_decision s client wanted ∷ []) client.number correlation Full)
+  pub no_room :
+      (adding : Adding) → (publication_decision s client wanted).verdict.allow ≡ true →
+      adding_of s.streams wanted ≡ Ok adding → has_room_for_publication s client.number wanted adding ≡ true →
+      has_place s wanted adding ≡ false →
+      P (refused s (publication_decision s client wanted ∷ []) client.number correlation NoRoom)
+  pub granted :
+      (adding : Adding) → (publication_decision s client wanted).verdict.allow ≡ true →
+      adding_of s.streams wanted ≡ Ok adding → has_room_for_publication s client.number wanted adding ≡ true →
+      has_place s wanted adding ≡ true → P (published s client correlation wanted adding)
+
+publish_by_cases : (P : Draft → Type 0) (s : State) (client : Client) (correlation : ℕ) (wanted : Wanted) →
+    PublishCases P s client correlation wanted → (publication_decision s client wanted).verdict.allow ≡ true →
+    (found : Result Adding StreamFault) → adding_of s.streams wanted ≡ found →
+    P (publish_by s client correlation wanted found)
+unfolding publish_under
+publish_by_cases P s client correlation wanted cases allows (Err why) is = cases.refused_by why allows is
+publish_by_cases P s client correlation wanted cases allows (Ok adding) is =
+    let room : Bool = has_room_for_publication s client.number wanted adding in
+    cond_both (not room) _ _ P (λ e. cases.full adding allows is (not-true room e))
+    (λ e.
+    cond_both (has_place s wanted adding) _ _ P (cases.granted adding allows is (not-false room e))
+    (cases.no_room adding allows is (not-false room e)))
+
+pub publish_cases : (P : Draft → Type 0) (s : State) (client : Client) (correlation : ℕ) (wanted : Wanted) →
+    PublishCases P s client correlation wanted → P (publish s client correlation wanted)
+unfolding publish
+publish_cases P s client correlation wanted cases =
+    let allow : Bool = (publication_decision s client wanted).verdict.allow in
+    cond_both (not allow) _ _ P (λ e. cases.denied (not-true allow e))
+    (λ e.
+    publish_by_cases P s client correlation wanted cases (not-false allow e) (adding_of s.streams wanted) refl)
+
+remove_publication_cases : (P : Draft → Type 0) (s : State) (client : Client) (correlation : ℕ) (fields : Removal) →
+    P (unpublished s client correlation fields.registration) →
+    P (refused s [] client.number correlation UnknownPublication) → P (remove_publication s client correlation fields)
+unfolding remove_publication
+remove_publication_cases P s client correlation fields known unknown =
+    cond_both (has_registration s.streams client.number fields.registration) _ _ P (λ e. known) (λ e. unknown)
 
 -- ---- a subscription that goes
 
-pub remove_cases : (P : Change → Type 0) (s : State) (client : Client) (correlation : ℕ) (fields : Removal) →
-    (has_subscription s client.number fields.registration ≡ true →
+pub remove_cases : (P : Draft → Type 0) (s : State) (client : Client) (correlation : ℕ) (fields : Removal) →
+    (has_subscription s.streams client.number fields.registration ≡ true →
     P (unsubscribed s client correlation fields.registration)) →
-    (has_subscription s client.number fields.registration ≡ false →
+    (has_subscription s.streams client.number fields.registration ≡ false →
     P (refused s [] client.number correlation UnknownSubscription)) → P (remove_subscription s client correlation fields)
 unfolding remove_subscription
 remove_cases P s client correlation fields known unknown =
-    cond_both (has_subscription s client.number fields.registration) _ _ P known unknown
+    cond_both (has_subscription s.streams client.number fields.registration) _ _ P known unknown
 
 -- ---- a counter
 
-pub add_counter_cases : (P : Change → Type 0) (s : State) (client : Client) (correlation : ℕ) (fields : AddCounter) →
+pub add_counter_cases : (P : Draft → Type 0) (s : State) (client : Client) (correlation : ℕ) (fields : AddCounter) →
     ((counter_decision s client fields).verdict.allow ≡ true → has_room_for_counter s ≡ true →
     P (counted s client correlation fields)) →
     ((counter_decision s client fields).verdict.allow ≡ true → has_room_for_counter s ≡ false →
@@ -147,14 +231,14 @@ add_counter_cases P s client correlation fields granted full denied =
     cond_both (not allow) _ _ P (λ e. denied (not-true allow e))
     (λ e. cond_both (has_room_for_counter s) _ _ P (granted (not-false allow e)) (full (not-false allow e)))
 
-set_counter_cases : (P : Change → Type 0) (s : State) (client : Client) (correlation : ℕ) (fields : SetCounter) →
+set_counter_cases : (P : Draft → Type 0) (s : State) (client : Client) (correlation : ℕ) (fields : SetCounter) →
     P (valued s client correlation fields) → P (refused s [] client.number correlation UnknownCounter) →
     P (set_counter s client correlation fields)
 unfolding set_counter
 set_counter_cases P s client correlation fields known unknown =
     cond_both (has s.counters client.number fields.registration) _ _ P (λ e. known) (λ e. unknown)
 
-remove_counter_cases : (P : Change → Type 0) (s : State) (client : Client) (correlation : ℕ) (fields : Removal) →
+remove_counter_cases : (P : Draft → Type 0) (s : State) (client : Client) (correlation : ℕ) (fields : Removal) →
     P (uncounted s client correlation fields.registration) →
     P (refused s [] client.number correlation UnknownCounter) → P (remove_counter s client correlation fields)
 unfolding remove_counter
@@ -163,7 +247,7 @@ remove_counter_cases P s client correlation fields known unknown =
 
 -- ---- the end of the driver
 
-pub terminate_cases : (P : Change → Type 0) (s : State) (client : Client) (correlation : ℕ) →
+pub terminate_cases : (P : Draft → Type 0) (s : State) (client : Client) (correlation : ℕ) →
     ((termination_decision s client).verdict.allow ≡ true → P (terminated s client correlation)) →
     ((termination_decision s client).verdict.allow ≡ false →
     P (refused s (termination_decision s client ∷ []) client.number correlation
@@ -176,7 +260,7 @@ terminate_cases P s client correlation granted denied =
 
 -- ---- a client that is there
 
-decided_cases : (P : Change → Type 0) (s : State) (handle : ℕ) (bytes : List ℕ) (request : SubscriptionRequest) →
+decided_cases : (P : Draft → Type 0) (s : State) (handle : ℕ) (bytes : List ℕ) (request : SubscriptionRequest) →
     Cases P s handle bytes → is_heard s handle bytes ≡ true → AsksToSubscribe s handle bytes request →
     P (subscribe (heard s handle) request.client request.correlation request.channel request.fields.stream)
 decided_cases P s handle bytes request cases known asks =
@@ -186,7 +270,7 @@ decided_cases P s handle bytes request cases known asks =
     (cases.denial request.client request.correlation _ request.channel request.fields.stream known asks.attached
     (inl (record { request = request; asks = asks; correlation_is = refl; question_is = refl })))
 
-channel_cases : (P : Change → Type 0) (s : State) (handle : ℕ) (bytes : List ℕ) (client : Client) (correlation : ℕ)
+channel_cases : (P : Draft → Type 0) (s : State) (handle : ℕ) (bytes : List ℕ) (client : Client) (correlation : ℕ)
     (fields : AddSubscription) → Cases P s handle bytes → is_heard s handle bytes ≡ true →
     command_of bytes ≡ Ok (record { client = handle; correlation = correlation; body = Adds fields }) →
     client_at s.clients.rows handle ≡ Some client → (channel : Result Shape UriError) → denotes fields.channel ≡ channel →
@@ -204,7 +288,41 @@ channel_cases P s handle bytes client correlation fields cases known is found (O
     (record { command = is; attached = found; denotes_channel = denoted; takes_channel = takes }))
     (λ other. cases.refusal [] client correlation InvalidChannel tt known)
 
-counter_cases : (P : Change → Type 0) (s : State) (handle : ℕ) (bytes : List ℕ) (client : Client) (correlation : ℕ)
+published_cases : (P : Draft → Type 0) (s : State) (handle : ℕ) (bytes : List ℕ) (request : PublicationRequest) →
+    Cases P s handle bytes → is_heard s handle bytes ≡ true → AsksToPublish s handle bytes request →
+    P (publish (heard s handle) request.client request.correlation (wanted_by request))
+published_cases P s handle bytes request cases known asks =
+    publish_cases P (heard s handle) request.client request.correlation (wanted_by request) (record {
+      denied = cases.denial request.client request.correlation (publishing_act request.exclusive) request.channel
+          request.fields.stream known asks.asks.attached
+          (inr (inr (inr (record { request = request; asks = asks; correlation_is = refl; question_is = refl }))));
+      refused_by = λ why allows is.
+          cases.refusal _ request.client request.correlation (refused_by_streams why) (plain_refusal why) known;
+      full = λ adding allows is full. cases.refusal _ request.client request.correlation Full tt known;
+      no_room = λ adding allows is room lacks. cases.refusal _ request.client request.correlation NoRoom tt known;
+      granted = λ adding. cases.publication request adding known asks;
+    })
+
+publication_cases : (P : Draft → Type 0) (s : State) (handle : ℕ) (bytes : List ℕ) (client : Client) (correlation : ℕ)
+    (fields : AddPublication) (exclusive : Bool) → Cases P s handle bytes → is_heard s handle bytes ≡ true →
+    Asks s handle bytes client correlation (if exclusive then PublishesExclusively fields else Publishes fields) →
+    (channel : Result Shape UriError) → denotes fields.channel ≡ channel →
+    P (publish_on (heard s handle) client correlation channel fields.stream exclusive)
+publication_cases P s handle bytes client correlation fields exclusive cases known asks (Err fault) denoted =
+    cases.refusal [] client correlation InvalidChannel tt known
+publication_cases P s handle bytes client correlation fields exclusive cases known asks (Ok channel) denoted =
+    cond_both (is_publishable channel) _ _ P
+    (λ takes.
+    published_cases P s handle bytes (record {
+      client = client;
+      correlation = correlation;
+      fields = fields;
+      channel = channel;
+      exclusive = exclusive;
+    }) cases known (record { asks = asks; denotes_channel = denoted; takes_channel = takes }))
+    (λ other. cases.refusal [] client correlation InvalidChannel tt known)
+
+counter_cases : (P : Draft → Type 0) (s : State) (handle : ℕ) (bytes : List ℕ) (client : Client) (correlation : ℕ)
     (fields : AddCounter) → Cases P s handle bytes → is_heard s handle bytes ≡ true →
     Asks s handle bytes client correlation (AddsCounter fields) →
     P (add_counter (heard s handle) client correlation fields)
@@ -215,14 +333,14 @@ counter_cases P s handle bytes client correlation fields cases known asks =
     (cases.denial client correlation MakeCounter counter_shape fields.type_id known asks.attached
     (inr (inl (record { client = client; fields = fields; asks = asks; question_is = refl }))))
 
-termination_cases : (P : Change → Type 0) (s : State) (handle : ℕ) (bytes : List ℕ) (client : Client) (correlation : ℕ)
+termination_cases : (P : Draft → Type 0) (s : State) (handle : ℕ) (bytes : List ℕ) (client : Client) (correlation : ℕ)
     (fields : TerminateDriver) → Cases P s handle bytes → is_heard s handle bytes ≡ true →
     Asks s handle bytes client correlation (Terminates fields) → P (terminate (heard s handle) client correlation)
 termination_cases P s handle bytes client correlation fields cases known asks =
     terminate_cases P (heard s handle) client correlation
     (cases.termination client correlation fields known asks)
     (cases.denial client correlation Terminate ipc_shape (pos 0) known asks.attached
-    (inr (inr (record { client = client; fields = fields; asks = asks; question_is = refl }))))
+    (inr (inr (inl (record { client = client; fields = fields; asks = asks; question_is = refl })))))
 
 -- the bytes ask for what their body says
 asks_for : (s : State) (handle : ℕ) (bytes : List ℕ) (client : Client) (read : Read) (body : Body) →
@@ -231,11 +349,22 @@ asks_for : (s : State) (handle : ℕ) (bytes : List ℕ) (client : Client) (read
 asks_for s handle bytes client read body is own found same =
     record { command = is ∙ ap Ok (whole read handle body own same); attached = found }
 
-body_cases : (P : Change → Type 0) (s : State) (handle : ℕ) (bytes : List ℕ) (client : Client) (read : Read) →
+body_cases : (P : Draft → Type 0) (s : State) (handle : ℕ) (bytes : List ℕ) (client : Client) (read : Read) →
     Cases P s handle bytes → is_heard s handle bytes ≡ true → command_of bytes ≡ Ok read → read.client ≡ handle →
     client_at s.clients.rows handle ≡ Some client → (body : Body) → read.body ≡ body →
     P (body_change (heard s handle) client read.correlation body)
-unfolding add_subscription
+unfolding add_subscription add_publication
+body_cases P s handle bytes client read cases known is own found (Publishes fields) same =
+    publication_cases P s handle bytes client read.correlation fields false cases known
+    (asks_for s handle bytes client read (Publishes fields) is own found same) (denotes fields.channel) refl
+body_cases P s handle bytes client read cases known is own found (PublishesExclusively fields) same =
+    publication_cases P s handle bytes client read.correlation fields true cases known
+    (asks_for s handle bytes client read (PublishesExclusively fields) is own found same) (denotes fields.channel) refl
+body_cases P s handle bytes client read cases known is own found (Unpublishes fields) same =
+    remove_publication_cases P (heard s handle) client read.correlation fields
+    (cases.publication_removal client read.correlation fields known
+    (asks_for s handle bytes client read (Unpublishes fields) is own found same))
+    (cases.refusal [] client read.correlation UnknownPublication tt known)
 body_cases P s handle bytes client read cases known is own found (Adds fields) same =
     channel_cases P s handle bytes client read.correlation fields cases known
     (is ∙ ap Ok (whole read handle (Adds fields) own same)) found (denotes fields.channel) refl
@@ -267,7 +396,7 @@ body_cases P s handle bytes client read cases known is own found (Sets fields) s
 
 -- ---- any bytes
 
-found_cases : (P : Change → Type 0) (s : State) (handle : ℕ) (bytes : List ℕ) (read : Read) → Cases P s handle bytes →
+found_cases : (P : Draft → Type 0) (s : State) (handle : ℕ) (bytes : List ℕ) (read : Read) → Cases P s handle bytes →
     command_of bytes ≡ Ok read → (read.client == handle) ≡ true → (found : Option Client) →
     client_at s.clients.rows handle ≡ found → P (asked_by s handle read found)
 unfolding requested
@@ -277,7 +406,7 @@ found_cases P s handle bytes read cases is own (Some client) found =
     body_cases P s handle bytes client read cases (rw (is, own, found) refl) is (eqb-true read.client handle own) found
     read.body refl
 
-read_cases : (P : Change → Type 0) (s : State) (handle : ℕ) (bytes : List ℕ) → Cases P s handle bytes →
+read_cases : (P : Draft → Type 0) (s : State) (handle : ℕ) (bytes : List ℕ) → Cases P s handle bytes →
     (read : Result Read CommandFault) → command_of bytes ≡ read → P (command_from s handle bytes read)
 unfolding asked
 read_cases P s handle bytes cases (Err fault) is =
@@ -290,15 +419,15 @@ read_cases P s handle bytes cases (Ok read) is =
     (λ own. found_cases P s handle bytes read cases is own (client_at s.clients.rows handle) refl)
     (λ other. cases.unheard read.correlation WrongClient tt (rw (is, other) refl))
 
-pub command_cases : (P : Change → Type 0) (s : State) (now handle : ℕ) (bytes : List ℕ) (inputs : Inputs) →
-    Cases P (at_moment s now) handle bytes → P (conduct s (Command now handle bytes) inputs)
-unfolding conduct command
-command_cases P s now handle bytes inputs cases =
+pub command_cases : (P : Draft → Type 0) (s : State) (now handle : ℕ) (bytes : List ℕ) →
+    Cases P (at_moment s now) handle bytes → P (drafted s (Command now handle bytes))
+unfolding drafted command
+command_cases P s now handle bytes cases =
     read_cases P (at_moment s now) handle bytes cases (command_of bytes) refl
 
 -- ---- a policy that is put in force
 
-pub reload_cases : (P : Change → Type 0) (s : State) (policy : Rules) →
+pub reload_cases : (P : Draft → Type 0) (s : State) (policy : Rules) →
     (has_room_for_policy s policy ≡ true → P (reloaded s policy)) →
     (has_room_for_policy s policy ≡ false → P (answered s response.PolicyFull)) → P (reload s policy)
 unfolding reload
@@ -306,7 +435,7 @@ reload_cases P s policy done full = cond_both (has_room_for_policy s policy) _ _
 
 -- ---- a client that comes
 
-pub attach_cases : (P : Change → Type 0) (s : State) (principal : ℕ) → P (answered s response.Stopped) →
+pub attach_cases : (P : Draft → Type 0) (s : State) (principal : ℕ) → P (answered s response.Stopped) →
     P (attached s principal) → P (answered s response.Full) → P (attach s principal)
 unfolding attach
 attach_cases P s principal stopped done full =

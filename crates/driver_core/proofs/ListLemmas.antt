@@ -8,7 +8,7 @@ pub left_was_there : {X : Type 0} (test : X → Bool) (xs : List X) (x : X) → 
 left_was_there test xs x has =
     All-contains (Contains xs) (filter test xs) x (All-filter test (Contains xs) xs (All-contains_itself xs)) has
 
-only_one : {X : Type 0} (y x : X) → Contains (y ∷ []) x → y ≡ x
+pub only_one : {X : Type 0} (y x : X) → Contains (y ∷ []) x → y ≡ x
 only_one y x has = ⊎_elim (λ none. absurd (omega (arith, none.1))) (λ is. is) (Contains-push_cases [] y x has)
 
 -- what passes is left

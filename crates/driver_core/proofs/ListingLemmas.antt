@@ -3,7 +3,8 @@ use Rattle.std.proofs.Common.{◌≡◌, ℕ, Bool, List, [], ◌∷◌, Some, N
 use Rattle.std.specs.List.{filter}
 use Rattle.driver_core.specs.declared.answer.Answer.TheVariants.{UnknownCounter, WrongClient}
 use Rattle.driver_core.specs.Listing.{list, value}
-use Rattle.driver_core.specs.ListingLaws.{ListsExactly, ShowsExactly, LooksExactly, look_question, is_shown_to}
+use Rattle.driver_core.specs.ListingLaws.{ListsExactly, ShowsExactly, ShowsPublicationExactly, LooksExactly, look_question, is_shown_to, publication_look}
+use Rattle.driver_core.specs.Renewal.{publication_at}
 use Rattle.driver_core.specs.State.{State}
 use Rattle.driver_core.specs.Verdicts.{verdict_on}
 use Rattle.client_registry.specs.declared.client.Client.{Client}
@@ -11,6 +12,7 @@ use Rattle.client_registry.specs.Clients.{client_at}
 use Rattle.counters.specs.declared.counter.Counter.{Counter}
 use Rattle.counters.specs.Counters.{counter_at, is_visible, visible_of}
 use Rattle.counters.proofs.VisibleLemmas.{any_number}
+use Rattle.stream_registry.specs.declared.rows.Publication.{Publication}
 use Rattle.driver_core.proofs.VerdictLemmas.{by_policy, epoch_of, denial_words, denial_is_named}
 
 -- tests that agree leave the same
@@ -30,6 +32,7 @@ lists_exactly s handle client found = record {
       )
       refl;
   by = λ counter. by_policy s (look_question client counter);
+  publications_by = λ publication. by_policy s (publication_look client publication);
 }
 
 shows_exactly : (s : State) (handle : ℕ) (client : Client) (number : ℕ) (counter : Counter) →
@@ -47,11 +50,27 @@ shows_exactly s handle client number counter found there =
           ∙ denial_is_named (verdict_on s question) s.epoch denies (epoch_of s question);
     }
 
+shows_publication_exactly : (s : State) (handle : ℕ) (client : Client) (number : ℕ) (publication : Publication) →
+    client_at s.clients.rows handle ≡ Some client → counter_at s.counters number ≡ None →
+    publication_at s.streams.publications number ≡ Some publication →
+    ShowsPublicationExactly s client publication (value s handle number)
+unfolding value
+shows_publication_exactly s handle client number publication found none there =
+    let question = publication_look client publication in
+    record {
+      by = by_policy s question;
+      shown = λ allows. rw (found, none, there, allows) refl;
+      denied = λ denies. rw (found, none, there, denies) refl;
+      text = λ denies.
+          sym (denial_words (verdict_on s question))
+          ∙ denial_is_named (verdict_on s question) s.epoch denies (epoch_of s question);
+    }
+
 unknown_is_told : (s : State) (handle : ℕ) (client : Client) (number : ℕ) →
     client_at s.clients.rows handle ≡ Some client → counter_at s.counters number ≡ None →
-    value s handle number ≡ UnknownCounter
+    publication_at s.streams.publications number ≡ None → value s handle number ≡ UnknownCounter
 unfolding value
-unknown_is_told s handle client number found none = rw (found, none) refl
+unknown_is_told s handle client number found none nothing = rw (found, none, nothing) refl
 
 nobody_is_listed : (s : State) (handle : ℕ) → client_at s.clients.rows handle ≡ None →
     list s handle ≡ WrongClient
@@ -67,7 +86,9 @@ pub looks_exactly : (s : State) (handle : ℕ) → LooksExactly s handle
 looks_exactly s handle = record {
   listed = λ client found. lists_exactly s handle client found;
   valued = λ client number counter found there. shows_exactly s handle client number counter found there;
-  unknown = λ client number found none. unknown_is_told s handle client number found none;
+  published = λ client number publication found none there.
+      shows_publication_exactly s handle client number publication found none there;
+  unknown = λ client number found none nothing. unknown_is_told s handle client number found none nothing;
   lists_nobody = λ gone. nobody_is_listed s handle gone;
   values_nobody = λ number gone. nobody_is_shown s handle number gone;
 }

@@ -1,5 +1,6 @@
 -- One event of the conductor: two total functions, neither of which reads the other.
 use Rattle.driver_core.specs.declared.change.Change.{Change}
+use Rattle.driver_core.specs.declared.draft.Draft.{Draft}
 use Rattle.driver_core.specs.declared.event.Event.{Event}
 use Rattle.driver_core.specs.declared.event.Event.TheVariants.{Attach, Command, Reload, Tick}
 use Rattle.driver_core.specs.declared.event.Inputs.{Inputs}
@@ -7,14 +8,20 @@ use Rattle.driver_core.specs.declared.outcome.Outcome.{Outcome}
 use Rattle.driver_core.specs.Attaching.{attach}
 use Rattle.driver_core.specs.Commands.{command}
 use Rattle.driver_core.specs.Reloading.{reload}
+use Rattle.driver_core.specs.Renewal.{renewed}
 use Rattle.driver_core.specs.State.{State, at_moment}
 use Rattle.driver_core.specs.Ticking.{tick}
 
+-- what the event's own rule makes of the registry
+unfoldable pub drafted : State → Event → Draft
+drafted s (Attach now principal) = attach (at_moment s now) principal
+drafted s (Command now client bytes) = command (at_moment s now) client bytes
+drafted s (Reload now policy) = reload (at_moment s now) policy
+drafted s (Tick now) = tick (at_moment s now)
+
+-- and then the pairs are renewed
 unfoldable pub conduct : State → Event → Inputs → Change
-conduct s (Attach now principal) inputs = attach (at_moment s now) principal
-conduct s (Command now client bytes) inputs = command (at_moment s now) client bytes
-conduct s (Reload now policy) inputs = reload (at_moment s now) policy
-conduct s (Tick now) inputs = tick (at_moment s now)
+conduct s event inputs = renewed s inputs (drafted s event)
 
 -- what the event tells
 abbrev pub outcome_of : State → Event → Inputs → Outcome

@@ -1,9 +1,9 @@
 -- ADD_COUNTER, SET_COUNTER and REMOVE_COUNTER.
 use Rattle.std.specs.Prelude.{ℕ, ◌+◌, Bool, not, ◌&&◌, nat_lt, [], ◌∷◌, ◌++◌, if◌then◌else◌}
-use Rattle.driver_core.specs.declared.change.Change.{Change}
+use Rattle.driver_core.specs.declared.draft.Draft.{Draft}
 use Rattle.driver_core.specs.declared.refusal.Refusal.TheVariants.{UnknownCounter, Denied, Full}
 use Rattle.driver_core.specs.declared.replies.Reply.TheVariants.{OperationSuccess, CounterReady, UnavailableCounter}
-use Rattle.driver_core.specs.Change.{told, replied, refused}
+use Rattle.driver_core.specs.Draft.{told, replied, refused}
 use Rattle.driver_core.specs.Deciding.{decision_by}
 use Rattle.driver_core.specs.State.{State}
 use Rattle.channel_uri.specs.Channel.{counter_shape}
@@ -28,7 +28,7 @@ with_counter s client fields = record s {
   last_number = s.last_number + 1;
 }
 
-unfoldable pub counted : State → Client → ℕ → AddCounter → Change
+unfoldable pub counted : State → Client → ℕ → AddCounter → Draft
 counted s client correlation fields =
     replied (with_counter s client.number fields) (counter_decision s client fields ∷ []) client.number
     (CounterReady correlation (s.last_number + 1))
@@ -38,7 +38,7 @@ abbrev pub has_room_for_counter : State → Bool
 has_room_for_counter s = has_room s.counters && nat_lt s.last_number 18446744073709551615
 
 -- denied, full, or done
-unfoldable pub add_counter : State → Client → ℕ → AddCounter → Change
+unfoldable pub add_counter : State → Client → ℕ → AddCounter → Draft
 add_counter s client correlation fields =
     if not (counter_decision s client fields).verdict.allow
     then refused s (counter_decision s client fields ∷ []) client.number correlation
@@ -50,26 +50,25 @@ add_counter s client correlation fields =
 -- ---- a counter that is there
 
 -- the client's counter of this number has this value; a counter of another client is as unknown as one of nobody
-unfoldable pub valued : State → Client → ℕ → SetCounter → Change
+unfoldable pub valued : State → Client → ℕ → SetCounter → Draft
 valued s client correlation fields =
     replied (record s { counters = set s.counters client.number fields.registration fields.value }) [] client.number
     (OperationSuccess correlation)
 
-unfoldable pub set_counter : State → Client → ℕ → SetCounter → Change
+unfoldable pub set_counter : State → Client → ℕ → SetCounter → Draft
 set_counter s client correlation fields =
     if has s.counters client.number fields.registration
     then valued s client correlation fields
     else refused s [] client.number correlation UnknownCounter
 
 -- it goes, and its owner is told behind the command's own reply
-unfoldable pub uncounted : State → Client → ℕ → ℕ → Change
+unfoldable pub uncounted : State → Client → ℕ → ℕ → Draft
 uncounted s client correlation number =
-    told (record s { counters = without s.counters client.number number }) [] (
-    record { client = client.number; reply = OperationSuccess correlation }
-    ∷ record { client = client.number; reply = UnavailableCounter number }
-    ∷ [])
+    told (record s { counters = without s.counters client.number number }) []
+    (record { client = client.number; reply = OperationSuccess correlation } ∷ [])
+    (record { client = client.number; reply = UnavailableCounter number } ∷ [])
 
-unfoldable pub remove_counter : State → Client → ℕ → Removal → Change
+unfoldable pub remove_counter : State → Client → ℕ → Removal → Draft
 remove_counter s client correlation fields =
     if has s.counters client.number fields.registration
     then uncounted s client correlation fields.registration

@@ -1,5 +1,5 @@
 -- What the policy in force decides on a client's command.
-use Rattle.std.specs.Prelude.{ℕ, ℤ}
+use Rattle.std.specs.Prelude.{ℤ}
 use Rattle.driver_core.specs.State.{State}
 use Rattle.channel_uri.specs.Channel.{Shape}
 use Rattle.client_registry.specs.declared.client.Client.{Client}

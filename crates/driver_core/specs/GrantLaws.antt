@@ -1,5 +1,5 @@
 -- Over every list of events: counters and the end of the driver are granted as the policy in force says, and not otherwise.
-use Rattle.std.specs.Prelude.{◌≡◌, ℕ, ◌+◌, true, false, List, [], ◌∷◌, ◌++◌, Contains, ◌⊎◌}
+use Rattle.std.specs.Prelude.{◌≡◌, ℕ, ◌+◌, true, false, List, [], ◌∷◌, ◌++◌, map, Contains, ◌⊎◌}
 use Rattle.driver_core.specs.declared.change.Change.{Change}
 use Rattle.driver_core.specs.declared.event.Event.{Event}
 use Rattle.driver_core.specs.declared.event.Event.TheVariants.{Command}
@@ -24,6 +24,8 @@ use Rattle.counters.specs.declared.counter.Counter.{Counter}
 use Rattle.counters.specs.Counters.{made}
 use Rattle.policy_core.specs.declared.decision.Decision.{Decision}
 use Rattle.policy_core.specs.Question.{Question}
+use Rattle.stream_registry.specs.Lingering.{place_of}
+use Rattle.stream_registry.specs.Streams.{cleared as all_closed}
 
 -- what is told of a question to those who audit
 abbrev pub decided_on : State → Question → Decision
@@ -82,9 +84,10 @@ CountersAreGrantedExactly =
 pub record IsTerminated (s : State) (now handle correlation : ℕ) (client : Client) (change : Change) : Type 0 where
   pub after_is :
       change.after
-      ≡ record (at_moment s now) { clients = cleared s.clients; subscriptions = []; counters = []; stopped = true }
+      ≡ record (at_moment s now) { clients = cleared s.clients; streams = all_closed s.streams; counters = []; stopped = true }
   pub told : change.outcome.replies ≡ record { client = handle; reply = OperationSuccess correlation } ∷ []
   pub decided : change.outcome.decisions ≡ decided_on s (termination_question client) ∷ []
+  pub closes : change.outcome.closes ≡ map place_of s.streams.publications
 
 pub record IsTerminatedExactly (s : State) (now handle correlation : ℕ) (client : Client) (change : Change) : Type 0 where
   pub by : IsByPolicy s (termination_question client) (verdict_on s (termination_question client))

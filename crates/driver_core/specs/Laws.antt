@@ -1,5 +1,5 @@
 -- Laws over every list of events, from a registry in which nobody is.
-use Rattle.std.specs.Prelude.{◌≡◌, ℕ, ◌+◌, ◌==◌, ◌&&◌, max, Bool, true, false, List, [], ◌∷◌, ◌++◌, Contains, Option, Some, None, is_some, Result, Ok, Err, ◌⊎◌, if◌then◌else◌}
+use Rattle.std.specs.Prelude.{◌≡◌, ℕ, ◌+◌, ◌==◌, ◌&&◌, max, Bool, true, false, List, [], ◌∷◌, ◌++◌, Contains, is_some, Result, Ok, Err, ◌⊎◌, if◌then◌else◌}
 use Rattle.std.specs.List.{AllByRecursion}
 use Rattle.driver_core.specs.declared.answer.Answer.{Answer}
 use Rattle.driver_core.specs.declared.answer.Answer.TheVariants.{NoMemory, Attached, Full as IsFull, Stopped, PolicyInForce, PolicyFull, Replies, Counters, Value as ValueIs, Denied as DeniedBy, UnknownCounter, WrongClient}
@@ -14,14 +14,14 @@ use Rattle.driver_core.specs.declared.peer.Peer.{Peer}
 use Rattle.driver_core.specs.declared.refusal.Refusal.{Refusal}
 use Rattle.driver_core.specs.declared.refusal.Refusal.TheVariants.{Denied, Full}
 use Rattle.driver_core.specs.declared.replies.Reply.{Reply}
-use Rattle.driver_core.specs.declared.replies.Reply.TheVariants.{Error, OperationSuccess, SubscriptionReady, CounterReady, UnavailableCounter, ClientTimeout}
-use Rattle.driver_core.specs.declared.rows.Subscription.{Subscription}
+use Rattle.driver_core.specs.declared.replies.Reply.TheVariants.{Error, OperationSuccess, PublicationReady, ExclusivePublicationReady, SubscriptionReady, AvailableImage, UnavailableImage, CounterReady, UnavailableCounter, ClientTimeout}
 use Rattle.driver_core.specs.declared.settings.Settings.{Settings}
 use Rattle.driver_core.specs.declared.step.Step.{Step}
 use Rattle.driver_core.specs.declared.step.Step.TheVariants.{Conductor, List as Lists, Value}
 use Rattle.driver_core.specs.Commands.{heard}
 use Rattle.driver_core.specs.Conduct.{conduct, outcome_of, state_after}
 use Rattle.driver_core.specs.Listing.{list, value}
+use Rattle.driver_core.specs.Renewal.{images_told, images_decided, renewed}
 use Rattle.driver_core.specs.Replies.{refusal_text}
 use Rattle.driver_core.specs.Requests.{SubscriptionRequest, AsksToSubscribe, IsAsked, question_of}
 use Rattle.driver_core.specs.Runs.{opening_end, no_inputs, end_of, IsAnswer}
@@ -37,6 +37,7 @@ use Rattle.policy_core.specs.declared.verdict.Verdict.{Verdict}
 use Rattle.policy_core.specs.Question.{Question}
 use Rattle.policy_core.specs.RuleList.{Rules}
 use Rattle.policy_core.specs.Verdict.{verdict_text}
+use Rattle.stream_registry.specs.declared.rows.Subscription.{Subscription}
 
 -- the registry after these events, each with what the logs said at it
 abbrev pub state_of : State → List (Event × Inputs) → State
@@ -72,34 +73,42 @@ subscription_for s handle request = record {
 
 -- ---- granted exactly
 
--- the subscription stands behind the others, and the one reply names it
-pub record IsGranted (s : State) (now handle : ℕ) (request : SubscriptionRequest) (change : Change) : Type 0 where
+-- the subscription stands behind the others, and its own reply names it, before those of the images that come by it
+pub record IsGranted (s : State) (now handle : ℕ) (inputs : Inputs) (request : SubscriptionRequest) (change : Change) : Type 0 where
   pub change_is :
       change
-      ≡ subscribed (heard (at_moment s now) handle) request.client request.correlation request.channel request.fields.stream
-  pub stands : change.after.subscriptions ≡ s.subscriptions ++ subscription_for s handle request ∷ []
+      ≡ renewed s inputs
+      (subscribed (heard (at_moment s now) handle) request.client request.correlation request.channel request.fields.stream)
+  pub stands : change.after.streams.subscriptions ≡ s.streams.subscriptions ++ subscription_for s handle request ∷ []
   pub numbered : change.after.last_number ≡ s.last_number + 1
   pub told :
       change.outcome.replies
-      ≡ record { client = handle; reply = SubscriptionReady request.correlation (s.last_number + 1) } ∷ []
-  pub decided : change.outcome.decisions ≡ decision_on s request ∷ []
+      ≡ record { client = handle; reply = SubscriptionReady request.correlation (s.last_number + 1) }
+      ∷ images_told change.after inputs change.outcome.gone change.outcome.come
+  pub decided :
+      change.outcome.decisions
+      ≡ decision_on s request ∷ images_decided change.after change.outcome.gone change.outcome.come
 
 -- nothing is added, and the one reply says why
 pub record IsRefused (s : State) (now handle : ℕ) (request : SubscriptionRequest) (refusal : Refusal) (change : Change) : Type 0 where
   pub after_is : change.after ≡ heard (at_moment s now) handle
-  pub stands : change.after.subscriptions ≡ s.subscriptions
+  pub stands : change.after.streams ≡ s.streams
   pub numbered : change.after.last_number ≡ s.last_number
   pub told :
       change.outcome.replies ≡ record { client = handle; reply = Error request.correlation refusal } ∷ []
   pub decided : change.outcome.decisions ≡ decision_on s request ∷ []
 
+-- there is room for the subscription, its number and its pairs
+abbrev pub has_room_for_request : State → ℕ → SubscriptionRequest → Bool
+has_room_for_request s handle request = has_room_for_subscription s handle request.channel request.fields.stream
+
 -- the verdict decides, which is the first matching rule's or the default's, and then the room
-pub record IsDecidedExactly (s : State) (now handle : ℕ) (request : SubscriptionRequest) (change : Change) : Type 0 where
+pub record IsDecidedExactly (s : State) (now handle : ℕ) (inputs : Inputs) (request : SubscriptionRequest) (change : Change) : Type 0 where
   pub by : IsByPolicy s (question_of request) (verdict_on s (question_of request))
   pub granted :
-      (verdict_on s (question_of request)).allow ≡ true → has_room_for_subscription s ≡ true → IsGranted s now handle request change
+      (verdict_on s (question_of request)).allow ≡ true → has_room_for_request s handle request ≡ true → IsGranted s now handle inputs request change
   pub full :
-      (verdict_on s (question_of request)).allow ≡ true → has_room_for_subscription s ≡ false → IsRefused s now handle request Full change
+      (verdict_on s (question_of request)).allow ≡ true → has_room_for_request s handle request ≡ false → IsRefused s now handle request Full change
   pub denied :
       (verdict_on s (question_of request)).allow ≡ false → IsRefused s now handle request (Denied (verdict_on s (question_of request))) change
 
@@ -108,7 +117,7 @@ SubscriptionsAreGrantedExactly =
     AfterAnyEvents (λ s.
     (now handle : ℕ) (bytes : List ℕ) (inputs : Inputs) (request : SubscriptionRequest) →
     AsksToSubscribe s handle bytes request →
-    IsDecidedExactly s now handle request (conduct s (Command now handle bytes) inputs))
+    IsDecidedExactly s now handle inputs request (conduct s (Command now handle bytes) inputs))
 
 -- ---- granted only
 
@@ -121,7 +130,7 @@ pub record IsMadeBy (s : State) (event : Event) (correlation : ℕ) (made : Subs
   pub asks : AsksToSubscribe s made.client bytes request
   pub by : IsByPolicy s (question_of request) (verdict_on s (question_of request))
   pub allowed : (verdict_on s (question_of request)).allow ≡ true
-  pub room : has_room_for_subscription s ≡ true
+  pub room : has_room_for_request s made.client request ≡ true
   pub correlation_is : correlation ≡ request.correlation
   pub made_is : made ≡ subscription_for s made.client request
 
@@ -131,10 +140,14 @@ IsGrantTold s event after client (SubscriptionReady correlation registration) =
     (made : Subscription)
     × (made.client ≡ client)
     × (made.number ≡ registration)
-    × Contains after.subscriptions made
+    × Contains after.streams.subscriptions made
     × IsMadeBy s event correlation made
 IsGrantTold s event after client (Error correlation refusal) = Unit {0}
 IsGrantTold s event after client (OperationSuccess correlation) = Unit {0}
+IsGrantTold s event after client (PublicationReady correlation registration session stream) = Unit {0}
+IsGrantTold s event after client (ExclusivePublicationReady correlation registration session stream) = Unit {0}
+IsGrantTold s event after client (AvailableImage source subscription session stream position) = Unit {0}
+IsGrantTold s event after client (UnavailableImage source subscription stream) = Unit {0}
 IsGrantTold s event after client (CounterReady correlation registration) = Unit {0}
 IsGrantTold s event after client (UnavailableCounter registration) = Unit {0}
 IsGrantTold s event after client (ClientTimeout number) = Unit {0}
@@ -143,8 +156,8 @@ pub record GrantsOnly (s : State) (event : Event) (change : Change) : Type 0 whe
   pub told :
       AllByRecursion (λ message. IsGrantTold s event change.after message.client message.reply) change.outcome.replies
   pub stands :
-      (subscription : Subscription) → Contains change.after.subscriptions subscription →
-      Contains s.subscriptions subscription ⊎ ((correlation : ℕ) × IsMadeBy s event correlation subscription)
+      (subscription : Subscription) → Contains change.after.streams.subscriptions subscription →
+      Contains s.streams.subscriptions subscription ⊎ ((correlation : ℕ) × IsMadeBy s event correlation subscription)
 
 abbrev pub SubscriptionsAreGrantedOnly : Type 0
 SubscriptionsAreGrantedOnly =
@@ -173,6 +186,10 @@ abbrev pub IsDenialNamed : State → Event → ℕ → Reply → Type 0
 IsDenialNamed s event client (Error correlation refusal) = IsNamedRefusal s event client correlation refusal
 IsDenialNamed s event client (OperationSuccess correlation) = Unit {0}
 IsDenialNamed s event client (SubscriptionReady correlation registration) = Unit {0}
+IsDenialNamed s event client (PublicationReady correlation registration session stream) = Unit {0}
+IsDenialNamed s event client (ExclusivePublicationReady correlation registration session stream) = Unit {0}
+IsDenialNamed s event client (AvailableImage source subscription session stream position) = Unit {0}
+IsDenialNamed s event client (UnavailableImage source subscription stream) = Unit {0}
 IsDenialNamed s event client (CounterReady correlation registration) = Unit {0}
 IsDenialNamed s event client (UnavailableCounter registration) = Unit {0}
 IsDenialNamed s event client (ClientTimeout number) = Unit {0}
@@ -189,6 +206,10 @@ abbrev pub IsRefusal : Reply → Type 0
 IsRefusal (Error correlation refusal) = Unit {0}
 IsRefusal (OperationSuccess correlation) = ⊥
 IsRefusal (SubscriptionReady correlation registration) = ⊥
+IsRefusal (PublicationReady correlation registration session stream) = ⊥
+IsRefusal (ExclusivePublicationReady correlation registration session stream) = ⊥
+IsRefusal (AvailableImage source subscription session stream position) = ⊥
+IsRefusal (UnavailableImage source subscription stream) = ⊥
 IsRefusal (CounterReady correlation registration) = ⊥
 IsRefusal (UnavailableCounter registration) = ⊥
 IsRefusal (ClientTimeout number) = ⊥
@@ -201,8 +222,10 @@ IsNoGrant response.Stopped = Unit {0}
 IsNoGrant (response.PolicyInForce epoch) = ⊥
 IsNoGrant response.PolicyFull = Unit {0}
 
+-- no reply grants anything, and no log closes
 pub record GrantsNothing (outcome : Outcome) : Type 0 where
   pub response : IsNoGrant outcome.response
+  pub closes : outcome.closes ≡ []
   pub replies : AllByRecursion (λ message. IsRefusal message.reply) outcome.replies
 
 -- a client is heard of by a command that is laid out as one and names it, over its own handle

@@ -1,19 +1,16 @@
 -- A client goes, and all that it registered goes with it.
-use Rattle.std.specs.Prelude.{ℕ, ◌==◌, Bool, not, List, [], ◌∷◌, filter}
-use Rattle.driver_core.specs.declared.rows.Subscription.{Subscription}
+use Rattle.std.specs.Prelude.{ℕ, List, [], ◌∷◌}
 use Rattle.driver_core.specs.State.{State}
 use Rattle.client_registry.specs.Clients.{without}
 use Rattle.counters.specs.Counters.{without_those_of}
+use Rattle.stream_registry.specs.Leaving.{left as left_in}
 
--- all but the subscriptions of this client
-abbrev pub is_of_another : ℕ → Subscription → Bool
-is_of_another client subscription = not (subscription.client == client)
-
--- the client of this id, its subscriptions and its counters are gone
+-- the client of this id is gone, with its registrations, its subscriptions and its counters; the publications that it
+-- leaves alone linger from now on
 unfoldable pub left : State → ℕ → State
 left s client = record s {
   clients = without s.clients client;
-  subscriptions = filter (is_of_another client) s.subscriptions;
+  streams = left_in s.streams client s.moment;
   counters = without_those_of s.counters client;
 }
 

@@ -1,15 +1,23 @@
 -- What a client is shown of the counters. It looks, and changes nothing.
-use Rattle.std.specs.Prelude.{ℕ, List, map, Option, Some, None, if◌then◌else◌}
+use Rattle.std.specs.Prelude.{ℕ, ℤ, pos, min, Bool, nat_lt, List, [], ◌∷◌, map, filter, Option, Some, None, if◌then◌else◌}
 use Rattle.driver_core.specs.declared.answer.Answer.{Answer}
 use Rattle.driver_core.specs.declared.answer.Answer.TheVariants.{Counters, Value, Denied, UnknownCounter, WrongClient}
 use Rattle.driver_core.specs.declared.listing.ListedCounter.{ListedCounter}
+use Rattle.driver_core.specs.Renewal.{publication_at}
 use Rattle.driver_core.specs.State.{State}
+use Rattle.channel_uri.specs.Canonical.{canonical_of}
 use Rattle.client_registry.specs.declared.client.Client.{Client}
 use Rattle.client_registry.specs.Clients.{client_at}
 use Rattle.counters.specs.declared.counter.Counter.{Counter}
 use Rattle.counters.specs.Counters.{counter_at, question_for, visible_of}
+use Rattle.policy_core.specs.declared.act.Act.TheVariants.{List as SeeCounter}
 use Rattle.policy_core.specs.declared.verdict.Verdict.{Verdict}
+use Rattle.policy_core.specs.Question.{Question}
 use Rattle.policy_core.specs.Rules.{verdict_of}
+use Rattle.stream_registry.specs.declared.rows.Publication.{Publication}
+use Rattle.stream_registry.specs.Lingering.{registrations_of}
+
+-- ---- what is listed
 
 -- what is told of a counter in a list
 abbrev pub row_of : Counter → ListedCounter
@@ -20,9 +28,54 @@ row_of counter = record {
   label = counter.label;
 }
 
+-- how many are registered with the publication of that source, at most the greatest value of a counter
+abbrev pub registered_with : State → ℕ → ℤ
+registered_with s source = pos (min (registrations_of s.streams source) 9223372036854775807)
+
+-- each live publication is a counter of the driver's own: its number is the source's, its value how many are registered
+-- with it
+abbrev pub publication_row : State → Publication → ListedCounter
+publication_row s publication = record {
+  number = publication.source;
+  type_id = pos 10001;
+  value = registered_with s publication.source;
+  label = canonical_of publication.channel;
+}
+
+-- what the policy is asked before that is shown: channel and stream are the publication's
+abbrev pub publication_question : ℕ → Publication → Question
+publication_question principal publication = record {
+  principal = principal;
+  act = SeeCounter;
+  channel = publication.channel;
+  stream = publication.stream;
+}
+
+abbrev pub publication_verdict : State → ℕ → Publication → Verdict
+publication_verdict s principal publication = verdict_of s.policy s.epoch (publication_question principal publication)
+
+abbrev pub shows_publication : State → ℕ → Publication → Bool
+shows_publication s principal publication = (publication_verdict s principal publication).allow
+
+-- the row stands before the first one of a greater number
+abbrev pub with_row : List ListedCounter → ListedCounter → List ListedCounter
+with_row [] row = row ∷ []
+with_row (other ∷ others) row =
+    if nat_lt row.number other.number then row ∷ other ∷ others else other ∷ with_row others row
+
+abbrev pub with_rows : List ListedCounter → List ListedCounter → List ListedCounter
+with_rows rows [] = rows
+with_rows rows (row ∷ more) = with_rows (with_row rows row) more
+
+-- the publications that the policy in force shows to the principal
+abbrev pub listed_publications : State → ℕ → List ListedCounter
+listed_publications s principal =
+    map (publication_row s) (filter (shows_publication s principal) s.streams.publications)
+
 -- the counters that the policy in force shows to the principal, by their numbers
 abbrev pub listed : State → ℕ → List ListedCounter
-listed s principal = map row_of (visible_of s.counters s.policy principal)
+listed s principal =
+    with_rows (map row_of (visible_of s.counters s.policy principal)) (listed_publications s principal)
 
 abbrev pub list_by : State → Option Client → Answer
 list_by s None = WrongClient
@@ -32,20 +85,29 @@ list_by s (Some client) = Counters (listed s client.principal)
 unfoldable pub list : State → ℕ → Answer
 list s client = list_by s (client_at s.clients.rows client)
 
+-- ---- one counter
+
 -- what the policy in force decides on the principal's question for the counter
 abbrev pub verdict_for : State → ℕ → Counter → Verdict
 verdict_for s principal counter = verdict_of s.policy s.epoch (question_for principal counter)
 
-abbrev pub value_under : Verdict → Counter → Answer
-value_under verdict counter = if verdict.allow then Value counter.value else Denied verdict
+abbrev pub value_under : Verdict → ℤ → Answer
+value_under verdict value = if verdict.allow then Value value else Denied verdict
 
-abbrev pub value_by : State → ℕ → Option Counter → Answer
-value_by s principal None = UnknownCounter
-value_by s principal (Some counter) = value_under (verdict_for s principal counter) counter
+abbrev pub publication_value : State → ℕ → Option Publication → Answer
+publication_value s principal None = UnknownCounter
+publication_value s principal (Some publication) =
+    value_under (publication_verdict s principal publication) (registered_with s publication.source)
+
+-- numbers are drawn from one sequence, so that no publication has that of a counter
+abbrev pub value_by : State → ℕ → ℕ → Option Counter → Answer
+value_by s principal number None =
+    publication_value s principal (publication_at s.streams.publications number)
+value_by s principal number (Some counter) = value_under (verdict_for s principal counter) counter.value
 
 abbrev pub value_for : State → ℕ → Option Client → Answer
 value_for s number None = WrongClient
-value_for s number (Some client) = value_by s client.principal (counter_at s.counters number)
+value_for s number (Some client) = value_by s client.principal number (counter_at s.counters number)
 
 -- a client that is there is told the counter's value, or by what it is denied
 unfoldable pub value : State → ℕ → ℕ → Answer

@@ -1,32 +1,35 @@
 -- Over every list of events: which subscriptions go.
-use Rattle.std.specs.Prelude.{◌≡◌, ℕ, true, false, List, [], ◌∷◌, filter, Contains, Some, Ok, ◌⊎◌}
+use Rattle.std.specs.Prelude.{◌≡◌, ℕ, true, false, List, [], ◌∷◌, Contains, ◌⊎◌}
 use Rattle.driver_core.specs.declared.change.Change.{Change}
 use Rattle.driver_core.specs.declared.event.Event.{Event}
 use Rattle.driver_core.specs.declared.event.Event.TheVariants.{Command}
 use Rattle.driver_core.specs.declared.event.Inputs.{Inputs}
 use Rattle.driver_core.specs.declared.refusal.Refusal.TheVariants.{UnknownSubscription}
 use Rattle.driver_core.specs.declared.replies.Reply.TheVariants.{Error, OperationSuccess}
-use Rattle.driver_core.specs.declared.rows.Subscription.{Subscription}
 use Rattle.driver_core.specs.Commands.{heard}
 use Rattle.driver_core.specs.Conduct.{conduct, state_after}
 use Rattle.driver_core.specs.Laws.{AfterAnyEvents}
 use Rattle.driver_core.specs.LeavingLaws.{IsGoneBy}
+use Rattle.driver_core.specs.Renewal.{images_told, images_decided}
 use Rattle.driver_core.specs.Requests.{RemovalRequest, AsksToRemove}
 use Rattle.driver_core.specs.State.{State, at_moment}
-use Rattle.driver_core.specs.Unsubscribing.{stays, has_subscription}
+use Rattle.stream_registry.specs.declared.rows.Subscription.{Subscription}
+use Rattle.stream_registry.specs.Leaving.{has_subscription, unsubscribed}
 
 -- ---- removed exactly
 
 -- the client's subscription of that number goes, and all else stays but for the moments
-pub record IsRemoved (s : State) (now handle : ℕ) (request : RemovalRequest) (change : Change) : Type 0 where
+pub record IsRemoved (s : State) (now handle : ℕ) (inputs : Inputs) (request : RemovalRequest) (change : Change) : Type 0 where
   pub after_is :
       change.after
       ≡ record (heard (at_moment s now) handle) {
-        subscriptions = filter (stays handle request.fields.registration) s.subscriptions;
+        streams = unsubscribed s.streams handle request.fields.registration;
       }
   pub told :
-      change.outcome.replies ≡ record { client = handle; reply = OperationSuccess request.correlation } ∷ []
-  pub decided : change.outcome.decisions ≡ []
+      change.outcome.replies
+      ≡ record { client = handle; reply = OperationSuccess request.correlation }
+      ∷ images_told change.after inputs change.outcome.gone change.outcome.come
+  pub decided : change.outcome.decisions ≡ images_decided change.after change.outcome.gone change.outcome.come
 
 -- nothing goes
 pub record IsUnknown (s : State) (now handle : ℕ) (request : RemovalRequest) (change : Change) : Type 0 where
@@ -36,16 +39,16 @@ pub record IsUnknown (s : State) (now handle : ℕ) (request : RemovalRequest) (
       ≡ record { client = handle; reply = Error request.correlation UnknownSubscription } ∷ []
   pub decided : change.outcome.decisions ≡ []
 
-pub record IsRemovedExactly (s : State) (now handle : ℕ) (request : RemovalRequest) (change : Change) : Type 0 where
-  pub known : has_subscription s handle request.fields.registration ≡ true → IsRemoved s now handle request change
-  pub unknown : has_subscription s handle request.fields.registration ≡ false → IsUnknown s now handle request change
+pub record IsRemovedExactly (s : State) (now handle : ℕ) (inputs : Inputs) (request : RemovalRequest) (change : Change) : Type 0 where
+  pub known : has_subscription s.streams handle request.fields.registration ≡ true → IsRemoved s now handle inputs request change
+  pub unknown : has_subscription s.streams handle request.fields.registration ≡ false → IsUnknown s now handle request change
 
 abbrev pub SubscriptionsAreRemovedExactly : Type 0
 SubscriptionsAreRemovedExactly =
     AfterAnyEvents (λ s.
     (now handle : ℕ) (bytes : List ℕ) (inputs : Inputs) (request : RemovalRequest) →
     AsksToRemove s handle bytes request →
-    IsRemovedExactly s now handle request (conduct s (Command now handle bytes) inputs))
+    IsRemovedExactly s now handle inputs request (conduct s (Command now handle bytes) inputs))
 
 -- ---- removed only
 
@@ -65,5 +68,5 @@ Goes s event subscription = IsRemovedBy s event subscription ⊎ IsGoneBy s even
 abbrev pub SubscriptionsAreRemovedOnly : Type 0
 SubscriptionsAreRemovedOnly =
     AfterAnyEvents (λ s.
-    (event : Event) (inputs : Inputs) (subscription : Subscription) → Contains s.subscriptions subscription →
-    Contains (state_after s event inputs).subscriptions subscription ⊎ Goes s event subscription)
+    (event : Event) (inputs : Inputs) (subscription : Subscription) → Contains s.streams.subscriptions subscription →
+    Contains (state_after s event inputs).streams.subscriptions subscription ⊎ Goes s event subscription)

@@ -1,26 +1,55 @@
 -- Well-formed requests of clients, and what the policy is asked about them.
-use Rattle.std.specs.Prelude.{◌≡◌, ℕ, pos, true, List, Some, Ok, ◌⊎◌}
+use Rattle.std.specs.Prelude.{◌≡◌, ℕ, pos, Bool, true, List, Some, Ok, ◌⊎◌, if◌then◌else◌}
 use Rattle.driver_core.specs.Deciding.{question_by}
+use Rattle.driver_core.specs.Publishing.{is_publishable, publishing_act, wanted_of}
 use Rattle.driver_core.specs.State.{State}
 use Rattle.driver_core.specs.Subscribing.{is_subscribable, act_of}
 use Rattle.channel_uri.specs.Channel.{Shape, denotes, counter_shape, ipc_shape}
 use Rattle.client_registry.specs.declared.client.Client.{Client}
 use Rattle.client_registry.specs.Clients.{client_at}
 use Rattle.command_codec.specs.declared.add_counter.AddCounter.{AddCounter}
+use Rattle.command_codec.specs.declared.add_publication.AddPublication.{AddPublication}
 use Rattle.command_codec.specs.declared.add_subscription.AddSubscription.{AddSubscription}
 use Rattle.command_codec.specs.declared.command.Body.{Body}
-use Rattle.command_codec.specs.declared.command.Body.TheVariants.{AddSubscription as Adds, RemoveSubscription as Removes, AddCounter as AddsCounter, TerminateDriver as Terminates}
+use Rattle.command_codec.specs.declared.command.Body.TheVariants.{AddPublication as Publishes, AddExclusivePublication as PublishesExclusively, AddSubscription as Adds, RemoveSubscription as Removes, AddCounter as AddsCounter, TerminateDriver as Terminates}
 use Rattle.command_codec.specs.declared.removal.Removal.{Removal}
 use Rattle.command_codec.specs.declared.terminate_driver.TerminateDriver.{TerminateDriver}
 use Rattle.command_codec.specs.Command.{command_of}
 use Rattle.policy_core.specs.declared.act.Act.TheVariants.{Counter as MakeCounter, Terminate}
 use Rattle.policy_core.specs.Question.{Question}
+use Rattle.stream_registry.specs.declared.wanted.Wanted.{Wanted}
 
 -- The bytes that come over a handle are this client's request under that correlation id: they are laid out as one and name
 -- the handle's own client, which is there.
 pub record Asks (s : State) (handle : ℕ) (bytes : List ℕ) (client : Client) (correlation : ℕ) (body : Body) : Type 0 where
   pub command : command_of bytes ≡ Ok (record { client = handle; correlation = correlation; body = body })
   pub attached : client_at s.clients.rows handle ≡ Some client
+
+-- ---- a publication
+
+-- who asks, under which correlation id, with which fields, on which channel, and whether for a log of its own
+pub record PublicationRequest : Type 0 where
+  pub client : Client
+  pub correlation : ℕ
+  pub fields : AddPublication
+  pub channel : Shape
+  pub exclusive : Bool
+
+abbrev pub publication_body : PublicationRequest → Body
+publication_body request = if request.exclusive then PublishesExclusively request.fields else Publishes request.fields
+
+-- the bytes are this request, and their text is a channel that a publication takes
+pub record AsksToPublish (s : State) (handle : ℕ) (bytes : List ℕ) (request : PublicationRequest) : Type 0 where
+  pub asks : Asks s handle bytes request.client request.correlation (publication_body request)
+  pub denotes_channel : denotes request.fields.channel ≡ Ok request.channel
+  pub takes_channel : is_publishable request.channel ≡ true
+
+abbrev pub wanted_by : PublicationRequest → Wanted
+wanted_by request = wanted_of request.channel request.fields.stream request.exclusive
+
+abbrev pub publication_question : PublicationRequest → Question
+publication_question request =
+    question_by request.client (publishing_act request.exclusive) request.channel request.fields.stream
 
 -- ---- a subscription
 
@@ -68,6 +97,12 @@ pub record IsSubscriptionQuestion (s : State) (handle : ℕ) (bytes : List ℕ) 
   pub correlation_is : correlation ≡ request.correlation
   pub question_is : question ≡ question_of request
 
+pub record IsPublicationQuestion (s : State) (handle : ℕ) (bytes : List ℕ) (correlation : ℕ) (question : Question) : Type 0 where
+  pub request : PublicationRequest
+  pub asks : AsksToPublish s handle bytes request
+  pub correlation_is : correlation ≡ request.correlation
+  pub question_is : question ≡ publication_question request
+
 pub record IsCounterQuestion (s : State) (handle : ℕ) (bytes : List ℕ) (correlation : ℕ) (question : Question) : Type 0 where
   pub client : Client
   pub fields : AddCounter
@@ -85,4 +120,5 @@ abbrev pub IsAsked : State → ℕ → List ℕ → ℕ → Question → Type 0
 IsAsked s handle bytes correlation question =
     IsSubscriptionQuestion s handle bytes correlation question
     ⊎ (IsCounterQuestion s handle bytes correlation question
-    ⊎ IsTerminationQuestion s handle bytes correlation question)
+    ⊎ (IsTerminationQuestion s handle bytes correlation question
+    ⊎ IsPublicationQuestion s handle bytes correlation question))

@@ -1,14 +1,15 @@
 -- What the conductor knows, as plain data.
-use Rattle.std.specs.Prelude.{ℕ, Bool, false, List, [], max}
+use Rattle.std.specs.Prelude.{ℕ, Bool, false, nat_lt, List, [], max}
 use Rattle.driver_core.specs.declared.peer.Peer.{Peer}
-use Rattle.driver_core.specs.declared.rows.Subscription.{Subscription}
 use Rattle.driver_core.specs.declared.settings.Settings.{Settings}
 use Rattle.client_registry.specs.Clients.{ClientList, opened as nobody}
 use Rattle.counters.specs.declared.counter.Counter.{Counter}
 use Rattle.policy_core.specs.RuleList.{Rules}
+use Rattle.stream_registry.specs.declared.measures.Measures.{Measures}
+use Rattle.stream_registry.specs.Streams.{Streams, opened as nothing_published}
 
--- the policy in force with its number, the greatest moment seen, the clients, their subscriptions and their counters in the
--- order in which they came, the number that was drawn last, and whether the driver was stopped
+-- the policy in force with its number, the greatest moment seen, the clients, what they publish and subscribe to, their
+-- counters in the order in which they came, the number that was drawn last, and whether the driver was stopped
 pub record State : Type 0 where
   pub settings : Settings
   pub peers : List Peer
@@ -16,10 +17,15 @@ pub record State : Type 0 where
   pub epoch : ℕ
   pub moment : ℕ
   pub clients : ClientList
-  pub subscriptions : List Subscription
+  pub streams : Streams
   pub counters : List Counter
   pub last_number : ℕ
   pub stopped : Bool
+
+-- what a log is made by where its channel says nothing
+abbrev pub measures_in : Settings → Measures
+measures_in settings =
+    record { mtu = settings.mtu; term_length = settings.term_length; linger = settings.linger }
 
 -- nobody is there, under policy 1
 unfoldable pub opened : Settings → Rules → List Peer → State
@@ -30,11 +36,15 @@ opened settings policy peers = record {
   epoch = 1;
   moment = 0;
   clients = nobody settings.client_liveness;
-  subscriptions = [];
+  streams = nothing_published (measures_in settings) settings.first_session;
   counters = [];
   last_number = 0;
   stopped = false;
 }
+
+-- a number is left that was not drawn yet
+unfoldable pub has_number : State → Bool
+has_number s = nat_lt s.last_number 18446744073709551615
 
 -- at this moment; an earlier one counts as the one seen
 unfoldable pub at_moment : State → ℕ → State

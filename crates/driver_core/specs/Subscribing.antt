@@ -1,11 +1,12 @@
 -- ADD_SUBSCRIPTION.
-use Rattle.std.specs.Prelude.{ℕ, ◌+◌, ℤ, Bool, true, false, not, ◌&&◌, nat_lt, length, [], ◌∷◌, ◌++◌, is_some, is_none, Result, Ok, Err, codes, if◌then◌else◌}
-use Rattle.driver_core.specs.declared.change.Change.{Change}
+use Rattle.std.specs.Prelude.{ℕ, ◌+◌, ℤ, Bool, true, false, not, ◌&&◌, [], ◌∷◌, is_some, is_none, Result, Ok, Err, codes, if◌then◌else◌}
+use Rattle.driver_core.specs.declared.draft.Draft.{Draft}
 use Rattle.driver_core.specs.declared.refusal.Refusal.TheVariants.{InvalidChannel, Denied, Full}
 use Rattle.driver_core.specs.declared.replies.Reply.TheVariants.{SubscriptionReady}
-use Rattle.driver_core.specs.Change.{replied, refused}
+use Rattle.driver_core.specs.Draft.{replied, refused}
 use Rattle.driver_core.specs.Deciding.{decision_by}
-use Rattle.driver_core.specs.State.{State}
+use Rattle.driver_core.specs.Pairs.{is_within_pairs}
+use Rattle.driver_core.specs.State.{State, has_number}
 use Rattle.client_registry.specs.declared.client.Client.{Client}
 use Rattle.channel_uri.specs.declared.error.UriError.{UriError}
 use Rattle.channel_uri.specs.declared.media.Media.{Media}
@@ -17,6 +18,7 @@ use Rattle.command_codec.specs.declared.add_subscription.AddSubscription.{AddSub
 use Rattle.policy_core.specs.declared.act.Act.{Act}
 use Rattle.policy_core.specs.declared.act.Act.TheVariants.{Subscribe, Spy}
 use Rattle.policy_core.specs.declared.decision.Decision.{Decision}
+use Rattle.stream_registry.specs.Adding.{subscribed as subscribed_in, has_room_for_subscription as has_room_in}
 
 -- without the prefix, any `ipc`, and `udp` with an endpoint and no control mode
 abbrev pub is_plainly_subscribable : Media → Shape → Bool
@@ -37,37 +39,43 @@ act_of channel = if channel.spy then Spy else Subscribe
 abbrev pub decision_of : State → Client → Shape → ℤ → Decision
 decision_of s client channel stream = decision_by s client (act_of channel) channel stream
 
--- the subscription stands, under the next number
-unfoldable pub subscribed : State → Client → ℕ → Shape → ℤ → Change
-subscribed s client correlation channel stream =
-    replied (record s {
-      subscriptions = s.subscriptions
-          ++ record { number = s.last_number + 1; client = client.number; channel = channel; stream = stream } ∷ [];
-      last_number = s.last_number + 1;
-    }) (decision_of s client channel stream ∷ []) client.number (SubscriptionReady correlation (s.last_number + 1))
+-- the client subscribes, under the next number
+unfoldable pub with_subscription : State → ℕ → Shape → ℤ → State
+with_subscription s client channel stream = record s {
+  streams = subscribed_in s.streams (s.last_number + 1) client channel stream;
+  last_number = s.last_number + 1;
+}
 
--- there are at most 512 subscriptions, and no number is used again
-abbrev pub has_room_for_subscription : State → Bool
-has_room_for_subscription s = nat_lt (length s.subscriptions) 512 && nat_lt s.last_number 18446744073709551615
+-- the subscription stands
+unfoldable pub subscribed : State → Client → ℕ → Shape → ℤ → Draft
+subscribed s client correlation channel stream =
+    replied (with_subscription s client.number channel stream) (decision_of s client channel stream ∷ []) client.number
+    (SubscriptionReady correlation (with_subscription s client.number channel stream).last_number)
+
+-- there are at most 512 subscriptions, no number is used again, and there are at most 4,096 pairs
+unfoldable pub has_room_for_subscription : State → ℕ → Shape → ℤ → Bool
+has_room_for_subscription s client channel stream =
+    has_number s && has_room_in s.streams
+    && is_within_pairs (with_subscription s client channel stream)
 
 -- denied, full, or done
-unfoldable pub subscribe : State → Client → ℕ → Shape → ℤ → Change
+unfoldable pub subscribe : State → Client → ℕ → Shape → ℤ → Draft
 subscribe s client correlation channel stream =
     if not (decision_of s client channel stream).verdict.allow
     then refused s (decision_of s client channel stream ∷ []) client.number correlation
     (Denied (decision_of s client channel stream).verdict)
-    else if has_room_for_subscription s
+    else if has_room_for_subscription s client.number channel stream
     then subscribed s client correlation channel stream
     else refused s (decision_of s client channel stream ∷ []) client.number correlation Full
 
 -- the text has to be a channel that the command takes
-abbrev pub subscribe_on : State → Client → ℕ → Result Shape UriError → ℤ → Change
+abbrev pub subscribe_on : State → Client → ℕ → Result Shape UriError → ℤ → Draft
 subscribe_on s client correlation (Err fault) stream = refused s [] client.number correlation InvalidChannel
 subscribe_on s client correlation (Ok channel) stream =
     if is_subscribable channel
     then subscribe s client correlation channel stream
     else refused s [] client.number correlation InvalidChannel
 
-unfoldable pub add_subscription : State → Client → ℕ → AddSubscription → Change
+unfoldable pub add_subscription : State → Client → ℕ → AddSubscription → Draft
 add_subscription s client correlation fields =
     subscribe_on s client correlation (denotes fields.channel) fields.stream

@@ -1,9 +1,10 @@
 -- TERMINATE_DRIVER.
-use Rattle.std.specs.Prelude.{ℕ, true, not, pos, [], ◌∷◌, if◌then◌else◌}
-use Rattle.driver_core.specs.declared.change.Change.{Change}
+use Rattle.std.specs.Prelude.{ℕ, true, not, pos, [], ◌∷◌, map, None, if◌then◌else◌}
+use Rattle.driver_core.specs.declared.draft.Draft.{Draft}
+use Rattle.driver_core.specs.declared.outcome.Response.TheVariants.{Nothing}
 use Rattle.driver_core.specs.declared.refusal.Refusal.TheVariants.{Denied}
 use Rattle.driver_core.specs.declared.replies.Reply.TheVariants.{OperationSuccess}
-use Rattle.driver_core.specs.Change.{replied, refused}
+use Rattle.driver_core.specs.Draft.{refused}
 use Rattle.driver_core.specs.Deciding.{decision_by}
 use Rattle.driver_core.specs.State.{State}
 use Rattle.channel_uri.specs.Channel.{ipc_shape}
@@ -11,19 +12,32 @@ use Rattle.client_registry.specs.declared.client.Client.{Client}
 use Rattle.client_registry.specs.Clients.{cleared}
 use Rattle.policy_core.specs.declared.act.Act.TheVariants.{Terminate}
 use Rattle.policy_core.specs.declared.decision.Decision.{Decision}
+use Rattle.stream_registry.specs.Lingering.{place_of}
+use Rattle.stream_registry.specs.Streams.{cleared as all_closed}
 
 -- what the policy in force decides: the driver goes by shared memory and stream 0
 abbrev pub termination_decision : State → Client → Decision
 termination_decision s client = decision_by s client Terminate ipc_shape (pos 0)
 
--- all clients go, with all that they registered, and nobody comes any more; who asked is told
-unfoldable pub terminated : State → Client → ℕ → Change
-terminated s client correlation =
-    replied (record s { clients = cleared s.clients; subscriptions = []; counters = []; stopped = true })
-    (termination_decision s client ∷ []) client.number (OperationSuccess correlation)
+-- all clients go, with all that they registered, and nobody comes any more
+unfoldable pub stopped_for_good : State → State
+stopped_for_good s =
+    record s { clients = cleared s.clients; streams = all_closed s.streams; counters = []; stopped = true }
+
+-- all logs close at once, and who asked is told
+unfoldable pub terminated : State → Client → ℕ → Draft
+terminated s client correlation = record {
+  after = stopped_for_good s;
+  response = Nothing;
+  replies = record { client = client.number; reply = OperationSuccess correlation } ∷ [];
+  later = [];
+  decisions = termination_decision s client ∷ [];
+  opens = None;
+  closes = map place_of s.streams.publications;
+}
 
 -- denied, or done
-unfoldable pub terminate : State → Client → ℕ → Change
+unfoldable pub terminate : State → Client → ℕ → Draft
 terminate s client correlation =
     if not (termination_decision s client).verdict.allow
     then refused s (termination_decision s client ∷ []) client.number correlation

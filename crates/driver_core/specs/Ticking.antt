@@ -1,12 +1,13 @@
--- Time goes on: clients of which nothing was heard for too long go.
-use Rattle.std.specs.Prelude.{ℕ, List, [], map}
-use Rattle.driver_core.specs.declared.change.Change.{Change}
+-- Time goes on: clients of which nothing was heard for too long go, and publications that linger for too long close.
+use Rattle.std.specs.Prelude.{ℕ, List, [], map, None}
+use Rattle.driver_core.specs.declared.draft.Draft.{Draft}
+use Rattle.driver_core.specs.declared.outcome.Response.TheVariants.{Nothing}
 use Rattle.driver_core.specs.declared.replies.Message.{Message}
 use Rattle.driver_core.specs.declared.replies.Reply.TheVariants.{ClientTimeout}
-use Rattle.driver_core.specs.Change.{told}
 use Rattle.driver_core.specs.Leaving.{all_left}
 use Rattle.driver_core.specs.State.{State}
 use Rattle.client_registry.specs.Clients.{expired_of}
+use Rattle.stream_registry.specs.Lingering.{closed, closing_of}
 
 -- the clients of which nothing was heard for longer than the liveness, by their ids
 abbrev pub late : State → List ℕ
@@ -16,6 +17,18 @@ late s = expired_of s.clients s.moment
 abbrev pub timeout_of : ℕ → Message
 timeout_of client = record { client = client; reply = ClientTimeout client }
 
--- they go, each with what it registered, and are told so; nobody else is told anything
-unfoldable pub tick : State → Change
-tick s = told (all_left s (late s)) [] (map timeout_of (late s))
+-- the logs close that linger for too long, and these clients are told that they are gone
+unfoldable pub ticked : State → List ℕ → Draft
+ticked s clients = record {
+  after = record s { streams = closed s.streams s.moment };
+  response = Nothing;
+  replies = [];
+  later = map timeout_of clients;
+  decisions = [];
+  opens = None;
+  closes = closing_of s.streams s.moment;
+}
+
+-- the late ones go first, each with what it registered
+unfoldable pub tick : State → Draft
+tick s = ticked (all_left s (late s)) (late s)

@@ -1,7 +1,7 @@
 ghost use Rattle.driver_core.specs.Attaching.{attach};
 ghost use Rattle.std.specs.Prelude.{◌≡◌, IfOk};
 
-use crate::change::Change;
+use crate::draft::Draft;
 use crate::outcome::Response;
 use crate::registry::Registry;
 use client_registry::AdmitError;
@@ -9,20 +9,16 @@ use std::alloc::{AllocError, Global};
 
 /// A client comes.
 #[tactic(auto, unfolding(crate::specs::Attaching::attach, crate::specs::Attaching::attached, client_registry::specs::Clients::admission))]
-pub(crate) fn attach(
-    registry: Registry,
-    alloc: Global,
-    principal: u32,
-) -> Result<Change, AllocError>
-    ensures { IfOk result (λ change. change ≡ attach registry principal) }
+pub(crate) fn attach(registry: Registry, alloc: Global, principal: u32) -> Result<Draft, AllocError>
+    ensures { IfOk result (λ draft. draft ≡ attach registry principal) }
 {
     if registry.stopped {
-        return Ok(Change::answered(alloc, registry, Response::Stopped));
+        return Ok(Draft::answered(alloc, registry, Response::Stopped));
     }
     let mut registry = registry;
     match registry.clients.admit(principal, registry.moment) {
-        Ok(number) => Ok(Change::answered(alloc, registry, Response::Attached(number))),
-        Err(AdmitError::Full) => Ok(Change::answered(alloc, registry, Response::Full)),
+        Ok(number) => Ok(Draft::answered(alloc, registry, Response::Attached(number))),
+        Err(AdmitError::Full) => Ok(Draft::answered(alloc, registry, Response::Full)),
         Err(AdmitError::NoMemory) => Err(AllocError),
     }
 }

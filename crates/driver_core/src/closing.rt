@@ -1,7 +1,7 @@
 ghost use Rattle.driver_core.specs.Closing.{keep_alive, close};
 ghost use Rattle.std.specs.Prelude.{◌≡◌, IfOk};
 
-use crate::change::Change;
+use crate::draft::Draft;
 use crate::leaving;
 use crate::registry::Registry;
 use crate::replies::Reply;
@@ -11,10 +11,16 @@ use std::alloc::{AllocError, Global};
 
 /// The command CLIENT_KEEPALIVE of a client that is there, which was heard of by it already. It takes no memory.
 #[tactic(auto, unfolding(crate::specs::Closing::keep_alive))]
-pub(crate) fn keep_alive(registry: Registry, alloc: Global) -> Change
+pub(crate) fn keep_alive(registry: Registry, alloc: Global) -> Draft
     ensures { result ≡ keep_alive registry }
 {
-    Change::told(alloc, registry, Items::new(alloc), Items::new(alloc))
+    Draft::told(
+        alloc,
+        registry,
+        Items::new(alloc),
+        Items::new(alloc),
+        Items::new(alloc),
+    )
 }
 
 /// The command CLIENT_CLOSE of a client that is there.
@@ -24,11 +30,11 @@ pub(crate) fn close(
     alloc: Global,
     client: Client,
     correlation: u64,
-) -> Result<Change, AllocError>
-    ensures { IfOk result (λ change. change ≡ close registry client correlation) }
+) -> Result<Draft, AllocError>
+    ensures { IfOk result (λ draft. draft ≡ close registry client correlation) }
 {
     let mut registry = registry;
     leaving::leave(&mut registry, client.number);
     let reply = Reply::OperationSuccess { correlation };
-    Change::replied(alloc, registry, Items::new(alloc), client.number, reply)
+    Draft::replied(alloc, registry, Items::new(alloc), client.number, reply)
 }

@@ -1,10 +1,10 @@
 ghost use Rattle.driver_core.specs.Commands.{requested, asked, command};
 ghost use Rattle.std.specs.Prelude.{◌≡◌, IfOk};
 
-use crate::change::Change;
+use crate::draft::Draft;
 use crate::refusal::Refusal;
 use crate::registry::Registry;
-use crate::{closing, counting, subscribing, terminating, unsubscribing};
+use crate::{closing, counting, publishing, subscribing, terminating, unpublishing, unsubscribing};
 use byte_strings::Items;
 use client_registry::Client;
 use command_codec::{Body, Command, CommandFault};
@@ -17,11 +17,20 @@ fn requested(
     alloc: Global,
     client: Client,
     command: &Command,
-) -> Result<Change, AllocError>
-    ensures { IfOk result (λ change. change ≡ requested registry client command.now) }
+) -> Result<Draft, AllocError>
+    ensures { IfOk result (λ draft. draft ≡ requested registry client command.now) }
 {
     let correlation = command.correlation;
     match &command.body {
+        Body::AddPublication(fields) => {
+            publishing::add_publication(registry, alloc, client, correlation, fields, false)
+        }
+        Body::RemovePublication(fields) => {
+            unpublishing::remove_publication(registry, alloc, client, correlation, *fields)
+        }
+        Body::AddExclusivePublication(fields) => {
+            publishing::add_publication(registry, alloc, client, correlation, fields, true)
+        }
         Body::AddSubscription(fields) => {
             subscribing::add_subscription(registry, alloc, client, correlation, fields)
         }
@@ -50,11 +59,11 @@ fn asked(
     alloc: Global,
     handle: u64,
     command: &Command,
-) -> Result<Change, AllocError>
-    ensures { IfOk result (λ change. change ≡ asked registry handle command.now) }
+) -> Result<Draft, AllocError>
+    ensures { IfOk result (λ draft. draft ≡ asked registry handle command.now) }
 {
     if command.client != handle {
-        return Change::refused(
+        return Draft::refused(
             alloc,
             registry,
             Items::new(alloc),
@@ -64,7 +73,7 @@ fn asked(
         );
     }
     let Some(client) = registry.clients.get(handle) else {
-        return Change::refused(
+        return Draft::refused(
             alloc,
             registry,
             Items::new(alloc),
@@ -86,8 +95,8 @@ pub(crate) fn command(
     alloc: Global,
     handle: u64,
     bytes: &[u8],
-) -> Result<Change, AllocError>
-    ensures { IfOk result (λ change. change ≡ command registry handle bytes.now) }
+) -> Result<Draft, AllocError>
+    ensures { IfOk result (λ draft. draft ≡ command registry handle bytes.now) }
 {
     match Command::read(alloc, bytes) {
         Ok(command) => asked(registry, alloc, handle, &command),
@@ -98,7 +107,7 @@ pub(crate) fn command(
                 CommandFault::NoMemory => return Err(AllocError),
             };
             let correlation = Command::correlation_of(bytes);
-            Change::refused(
+            Draft::refused(
                 alloc,
                 registry,
                 Items::new(alloc),

@@ -1,8 +1,8 @@
 ghost use Rattle.driver_core.specs.Counting.{has_room_for_counter, with_counter, add_counter, set_counter, remove_counter};
 ghost use Rattle.std.specs.Prelude.{◌≡◌, ◌+◌, true, IfOk, OnOk};
 
-use crate::change::Change;
 use crate::deciding;
+use crate::draft::Draft;
 use crate::refusal::Refusal;
 use crate::registry::Registry;
 use crate::replies::{Message, Reply};
@@ -55,15 +55,15 @@ pub(crate) fn add_counter(
     client: Client,
     correlation: u64,
     fields: &AddCounter,
-) -> Result<Change, AllocError>
-    ensures { IfOk result (λ change. change ≡ add_counter registry client correlation fields.now) }
+) -> Result<Draft, AllocError>
+    ensures { IfOk result (λ draft. draft ≡ add_counter registry client correlation fields.now) }
 {
     let channel = Channel::counter(alloc);
     let decision = deciding::decide(&registry, client, Act::Counter, &channel, fields.type_id);
     let decisions = deciding::only(alloc, decision)?;
     if !decision.verdict.allow {
         let refusal = Refusal::Denied(decision.verdict);
-        return Change::refused(
+        return Draft::refused(
             alloc,
             registry,
             decisions,
@@ -74,7 +74,7 @@ pub(crate) fn add_counter(
     }
     if !has_room(&registry) {
         let refusal = Refusal::Full;
-        return Change::refused(
+        return Draft::refused(
             alloc,
             registry,
             decisions,
@@ -89,7 +89,7 @@ pub(crate) fn add_counter(
         correlation,
         registration: number,
     };
-    Change::replied(alloc, registry, decisions, client.number, reply)
+    Draft::replied(alloc, registry, decisions, client.number, reply)
 }
 
 /// The command SET_COUNTER of a client that is there.
@@ -100,8 +100,8 @@ pub(crate) fn set_counter(
     client: Client,
     correlation: u64,
     fields: SetCounter,
-) -> Result<Change, AllocError>
-    ensures { IfOk result (λ change. change ≡ set_counter registry client correlation fields) }
+) -> Result<Draft, AllocError>
+    ensures { IfOk result (λ draft. draft ≡ set_counter registry client correlation fields) }
 {
     let mut registry = registry;
     let decisions = Items::new(alloc);
@@ -111,9 +111,9 @@ pub(crate) fn set_counter(
     {
         Ok(()) => {
             let reply = Reply::OperationSuccess { correlation };
-            Change::replied(alloc, registry, decisions, client.number, reply)
+            Draft::replied(alloc, registry, decisions, client.number, reply)
         }
-        Err(_) => Change::refused(
+        Err(_) => Draft::refused(
             alloc,
             registry,
             decisions,
@@ -132,28 +132,28 @@ pub(crate) fn remove_counter(
     client: Client,
     correlation: u64,
     fields: Removal,
-) -> Result<Change, AllocError>
-    ensures { IfOk result (λ change. change ≡ remove_counter registry client correlation fields) }
+) -> Result<Draft, AllocError>
+    ensures { IfOk result (λ draft. draft ≡ remove_counter registry client correlation fields) }
 {
     let mut registry = registry;
     let decisions = Items::new(alloc);
     let number = fields.registration;
     match registry.counters.remove(client.number, number) {
         Ok(()) => {
-            let mut replies = Items::new(alloc);
-            replies.push(Message {
+            let done = Message {
                 client: client.number,
                 reply: Reply::OperationSuccess { correlation },
-            })?;
-            replies.push(Message {
+            };
+            let gone = Message {
                 client: client.number,
                 reply: Reply::UnavailableCounter {
                     registration: number,
                 },
-            })?;
-            Ok(Change::told(alloc, registry, decisions, replies))
+            };
+            let (replies, later) = (done.alone(alloc)?, gone.alone(alloc)?);
+            Ok(Draft::told(alloc, registry, decisions, replies, later))
         }
-        Err(_) => Change::refused(
+        Err(_) => Draft::refused(
             alloc,
             registry,
             decisions,

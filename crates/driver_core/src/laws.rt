@@ -1,8 +1,10 @@
 //! What holds over every list of events: each function does nothing, and its clause is the law.
 
 ghost use Rattle.driver_core.specs.GrantLaws.{CountersAreGrantedExactly, TerminationsAreGrantedExactly, CountersAndTerminationsAreGrantedOnly};
+ghost use Rattle.driver_core.specs.ImageLaws.{ImagesAreGrantedExactly};
 ghost use Rattle.driver_core.specs.ListingLaws.{CountersAreShownExactly};
 ghost use Rattle.driver_core.specs.Laws.{SubscriptionsAreGrantedExactly, SubscriptionsAreGrantedOnly, DenialsAreNamed, RefusalsChangeNoMoreThanMoments, RunsTakeEvents};
+ghost use Rattle.driver_core.specs.PublishingLaws.{PublicationsAreGrantedExactly, PublicationsAreGrantedOnly};
 ghost use Rattle.driver_core.specs.ReloadLaws.{ReloadsCloseExactly, NewestPolicyIsInForce};
 ghost use Rattle.driver_core.specs.RemovalLaws.{SubscriptionsAreRemovedExactly, SubscriptionsAreRemovedOnly};
 
@@ -17,6 +19,25 @@ pub fn subscriptions_are_granted_only()
     ensures { SubscriptionsAreGrantedOnly }
 {}
 
+/// A client's well-formed request for a publication, exclusive or not, is granted where the first rule that matches allows
+/// it, or where none matches and the default does, nothing of the same place or session contradicts it, and there is room
+/// and a place for its log; else it is refused by the first of these that fails.
+pub fn publications_are_granted_exactly()
+    ensures { PublicationsAreGrantedExactly }
+{}
+
+/// A registration with a publication, and its log, come, and are told of, only where a well-formed request was allowed by
+/// the policy in force.
+pub fn publications_are_granted_only()
+    ensures { PublicationsAreGrantedOnly }
+{}
+
+/// A subscription reads a log exactly where the two fit and the policy in force allows the image to the subscription's
+/// client; what an event opens and closes of these is the difference that it makes.
+pub fn images_are_granted_exactly()
+    ensures { ImagesAreGrantedExactly }
+{}
+
 /// A client's well-formed request for a counter is granted where the first rule that matches allows it, or where none
 /// matches and the default does, and there is room; else it is refused, by the verdict or as full.
 pub fn counters_are_granted_exactly()
@@ -24,7 +45,7 @@ pub fn counters_are_granted_exactly()
 {}
 
 /// A client's well-formed request that the driver end is granted where the first rule that matches allows it, or where
-/// none matches and the default does; then all clients are gone. Else it is refused, by the verdict.
+/// none matches and the default does; then all clients are gone, and all logs close. Else it is refused, by the verdict.
 pub fn terminations_are_granted_exactly()
     ensures { TerminationsAreGrantedExactly }
 {}
@@ -34,8 +55,8 @@ pub fn counters_and_terminations_are_granted_only()
     ensures { CountersAndTerminationsAreGrantedOnly }
 {}
 
-/// A client is listed exactly the counters that the policy in force shows it, and is told the value of one exactly where
-/// the policy shows that one; a denial names the least rule that matches, or the default where none does.
+/// A client is listed exactly the counters and publications that the policy in force shows it, and is told the value of
+/// one exactly where the policy shows that one; a denial names the least rule that matches, or the default where none does.
 pub fn counters_are_shown_exactly()
     ensures { CountersAreShownExactly }
 {}
@@ -69,7 +90,8 @@ pub fn newest_policy_is_in_force()
     ensures { NewestPolicyIsInForce }
 {}
 
-/// An event that grants nothing sets the moment of the registry and of the client that was heard of, and no more.
+/// An event that grants nothing and closes no log sets the moment of the registry and of the client that was heard of,
+/// and no more.
 pub fn refusals_change_no_more_than_moments()
     ensures { RefusalsChangeNoMoreThanMoments }
 {}

@@ -13,15 +13,19 @@ mod closing;
 mod commands;
 mod counting;
 mod deciding;
+mod draft;
 mod event;
 mod laws;
 mod leaving;
 mod listing;
 mod outcome;
+mod pairs;
 mod peer;
+mod publishing;
 mod refusal;
 mod registry;
 mod reloading;
+mod renewal;
 mod replies;
 mod rows;
 mod settings;
@@ -29,6 +33,7 @@ mod step;
 mod subscribing;
 mod terminating;
 mod ticking;
+mod unpublishing;
 mod unsubscribing;
 mod world;
 
@@ -36,19 +41,19 @@ pub use answer::Answer;
 pub use event::{End, Event, Inputs};
 pub use laws::{
     counters_and_terminations_are_granted_only, counters_are_granted_exactly,
-    counters_are_shown_exactly, denials_are_named, newest_policy_is_in_force,
+    counters_are_shown_exactly, denials_are_named, images_are_granted_exactly,
+    newest_policy_is_in_force, publications_are_granted_exactly, publications_are_granted_only,
     refusals_change_no_more_than_moments, reloads_close_exactly, runs_take_events,
     subscriptions_are_granted_exactly, subscriptions_are_granted_only,
     subscriptions_are_removed_exactly, subscriptions_are_removed_only,
     terminations_are_granted_exactly,
 };
 pub use listing::ListedCounter;
-pub use outcome::{Opening, Outcome, Pair, Response};
+pub use outcome::{Outcome, Response};
 pub use peer::{Address, Peer};
 pub use refusal::Refusal;
 pub use registry::Registry;
 pub use replies::{Message, Reply};
-pub use rows::Subscription;
 pub use settings::Settings;
 pub use step::Step;
 pub use world::World;

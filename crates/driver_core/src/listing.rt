@@ -1,5 +1,6 @@
-ghost use Rattle.driver_core.specs.Listing.{row_of, listed, list, value_under, value};
-ghost use Rattle.std.specs.Prelude.{◌≡◌, map, IfOk};
+ghost use Rattle.driver_core.specs.Listing.{row_of, registered_with, publication_row, publication_verdict, shows_publication, with_row, with_rows, list, publication_value, value_under, value};
+ghost use Rattle.driver_core.specs.Renewal.{publication_at};
+ghost use Rattle.std.specs.Prelude.{◌≡◌, map, filter, IfOk, OnOk};
 
 use crate::answer::Answer;
 use crate::registry::Registry;
@@ -8,6 +9,10 @@ use channel_uri::Channel;
 use counters::Counter;
 use policy_core::{Act, Request, Verdict};
 use std::alloc::{AllocError, Global};
+use stream_registry::Publication;
+
+/// The type id of the counters that tell of publications.
+const PUBLICATION_TYPE: i32 = 10001;
 
 /// A counter as it is listed.
 #[derive(Debug, PartialEq, Eq, Drop)]
@@ -34,14 +39,80 @@ fn row_of(alloc: Global, counter: &Counter) -> Result<ListedCounter, AllocError>
 }
 
 /// The counters as they are listed.
-fn rows_of(alloc: Global, counters: &[Counter]) -> Result<Items<ListedCounter>, AllocError>
-    ensures { IfOk result (λ rows. rows ≡ map row_of counters.now) }
+fn rows_of(alloc: Global, counters: &[Counter]) -> Result<Vec<ListedCounter>, AllocError>
+    ensures { IfOk result (λ rows. rows.items ≡ map row_of counters.now) }
 {
-    let mut rows = Items::new(alloc);
+    let mut rows = Vec::new(alloc);
     for counter in counters {
         rows.push(row_of(alloc, counter)?)?;
     }
     Ok(rows)
+}
+
+/// How many are registered with the publication of this source number, at most the greatest value of a counter.
+fn registrations_of(registry: &Registry, source: u64) -> i64
+    ensures { result ≡ registered_with registry.now source }
+{
+    i64::try_from(registry.streams.registrations_of(source)).unwrap_or(i64::MAX)
+}
+
+/// The publication as it is listed.
+fn publication_row(
+    registry: &Registry,
+    alloc: Global,
+    publication: &Publication,
+) -> Result<ListedCounter, AllocError>
+    ensures { IfOk result (λ row. row ≡ publication_row registry.now publication.now) }
+{
+    Ok(ListedCounter {
+        number: publication.source,
+        type_id: PUBLICATION_TYPE,
+        value: registrations_of(registry, publication.source),
+        label: publication.channel.canonical(alloc)?,
+    })
+}
+
+/// What the policy in force decides on showing the publication.
+fn publication_verdict(registry: &Registry, principal: u32, publication: &Publication) -> Verdict
+    ensures { result ≡ publication_verdict registry.now principal publication.now }
+{
+    let request = Request {
+        principal,
+        act: Act::List,
+        channel: &publication.channel,
+        stream: publication.stream,
+    };
+    registry.policy.verdict(registry.epoch, &request)
+}
+
+/// Puts the row before the first one of a greater number.
+fn put_row(rows: &mut Vec<ListedCounter>, row: ListedCounter) -> Result<(), AllocError>
+    ensures { OnOk result (rows.new.items ≡ with_row rows.old.items row) }
+{
+    let mut at = 0;
+    while at < rows.len() && rows[at].number <= row.number {
+        at += 1;
+    }
+    rows.insert(at, row)?;
+    Ok(())
+}
+
+/// Puts the publications, as they are listed, among the rows that the policy in force shows.
+fn put_publications(
+    rows: &mut Vec<ListedCounter>,
+    registry: &Registry,
+    alloc: Global,
+    principal: u32,
+    publications: &[Publication],
+) -> Result<(), AllocError>
+    ensures { OnOk result (rows.new.items ≡ with_rows rows.old.items (map (publication_row registry.now) (filter (shows_publication registry.now principal) publications.now))) }
+{
+    for publication in publications {
+        if publication_verdict(registry, principal, publication).allow {
+            put_row(rows, publication_row(registry, alloc, publication)?)?;
+        }
+    }
+    Ok(())
 }
 
 /// What a client is shown of the counters.
@@ -58,18 +129,32 @@ pub(crate) fn list(registry: &Registry, alloc: Global, client: u64) -> Result<An
     let shown = registry
         .counters
         .visible(alloc, &registry.policy, client.principal)?;
-    Ok(Answer::Counters(rows_of(alloc, shown.as_slice())?))
+    let mut rows = rows_of(alloc, shown.as_slice())?;
+    let publications = registry.streams.publications();
+    put_publications(&mut rows, registry, alloc, client.principal, publications)?;
+    Ok(Answer::Counters(Items::from(rows)))
 }
 
-/// The value of the counter, where the verdict allows that it is shown.
-fn value_under(verdict: Verdict, counter: &Counter) -> Answer
-    ensures { result ≡ value_under verdict counter.now }
+/// The value, where the verdict allows that it is shown.
+fn value_under(verdict: Verdict, value: i64) -> Answer
+    ensures { result ≡ value_under verdict value }
 {
     if verdict.allow {
-        Answer::Value(counter.value)
+        Answer::Value(value)
     } else {
         Answer::Denied(verdict)
     }
+}
+
+/// What a client is told of the publication of this number.
+fn publication_value(registry: &Registry, principal: u32, number: u64) -> Answer
+    ensures { result ≡ publication_value registry.now principal (publication_at registry.now.streams.publications number) }
+{
+    let Some(publication) = registry.publication(number) else {
+        return Answer::UnknownCounter;
+    };
+    let verdict = publication_verdict(registry, principal, publication);
+    value_under(verdict, registrations_of(registry, publication.source))
 }
 
 /// What a client is told of the counter of this number. It takes no memory.
@@ -81,7 +166,7 @@ pub(crate) fn value(registry: &Registry, alloc: Global, client: u64, number: u64
         return Answer::WrongClient;
     };
     let Some(counter) = registry.counters.get(number) else {
-        return Answer::UnknownCounter;
+        return publication_value(registry, client.principal, number);
     };
     let channel = Channel::counter(alloc);
     let request = Request {
@@ -91,5 +176,5 @@ pub(crate) fn value(registry: &Registry, alloc: Global, client: u64, number: u64
         stream: counter.type_id,
     };
     let verdict = registry.policy.verdict(registry.epoch, &request);
-    value_under(verdict, counter)
+    value_under(verdict, counter.value)
 }

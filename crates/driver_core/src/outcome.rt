@@ -1,6 +1,7 @@
 use crate::replies::Message;
 use byte_strings::Items;
 use policy_core::Decision;
+use stream_registry::{LogPlace, Pair};
 
 /// What an event itself is answered. The replies of commands stand apart.
 #[derive(Clone, Copy, Debug, PartialEq, Eq)]
@@ -18,23 +19,6 @@ pub enum Response {
     PolicyFull,
 }
 
-/// A log that opens, and the page at which its memory begins.
-#[derive(Clone, Copy, Debug, PartialEq, Eq)]
-pub struct Opening {
-    /// The log's source number.
-    pub source: u64,
-    pub place: u64,
-}
-
-/// A log and a subscription that reads it.
-#[derive(Clone, Copy, Debug, PartialEq, Eq)]
-pub struct Pair {
-    /// The log's source number.
-    pub source: u64,
-    /// The registration id of the subscription.
-    pub subscription: u64,
-}
-
 /// All that an event tells and does outside the registry.
 #[derive(Debug, PartialEq, Eq, Drop)]
 pub struct Outcome {
@@ -44,9 +28,9 @@ pub struct Outcome {
     /// What the policy decided, in the order in which it was asked.
     pub decisions: Items<Decision>,
     /// The log that the event opens.
-    pub opens: Option<Opening>,
-    /// The source numbers of the logs that it closes.
-    pub closes: Items<u64>,
+    pub opens: Option<LogPlace>,
+    /// The logs that it closes.
+    pub closes: Items<LogPlace>,
     /// The pairs that go, by source and then subscription.
     pub gone: Items<Pair>,
     /// The pairs that come, by source and then subscription.

@@ -13,10 +13,16 @@ pub enum Refusal {
     InvalidChannel,
     /// The client has no subscription under this registration id, whoever else may have.
     UnknownSubscription,
+    /// The client has no registration with a publication under this registration id, whoever else may have.
+    UnknownPublication,
     /// The client has no counter under this registration number, whoever else may have.
     UnknownCounter,
     /// The policy denies the request, by this verdict.
     Denied(Verdict),
+    /// The channel says something else than the publication that it would join, or states the session of another one.
+    Conflict,
     /// The command would break a limit of the driver.
     Full,
+    /// The arena has no room for three terms.
+    NoRoom,
 }

@@ -1,19 +1,21 @@
-ghost use Rattle.std.specs.Prelude.{◌≡◌, IfOk, OnOk, OnErr};
+ghost use Rattle.std.specs.Prelude.{◌≡◌, ◌+◌, true, IfOk, OnOk, OnErr};
 
 use crate::change::Change;
+use crate::draft::Draft;
 use crate::event::{Event, Inputs};
 use crate::outcome::Outcome;
 use crate::peer::Peer;
-use crate::rows::Subscription;
 use crate::settings::Settings;
-use crate::{attaching, commands, reloading, ticking};
+use crate::{attaching, commands, reloading, renewal, ticking};
 use client_registry::Clients;
 use counters::Counters;
 use policy_core::Policy;
 use std::alloc::{AllocError, Global};
 use std::marker::Model;
+use stream_registry::{Measures, Streams};
 
-/// What the conductor knows: its settings, the policy in force, the clients, their subscriptions and their counters.
+/// What the conductor knows: its settings, the policy in force, the clients, what they publish and subscribe to, and
+/// their counters.
 #[derive(Drop)]
 pub struct Registry {
     pub(crate) settings: Settings,
@@ -22,7 +24,7 @@ pub struct Registry {
     pub(crate) epoch: u64,
     pub(crate) moment: u64,
     pub(crate) clients: Clients,
-    pub(crate) subscriptions: Vec<Subscription>,
+    pub(crate) streams: Streams,
     pub(crate) counters: Counters,
     pub(crate) last_number: u64,
     pub(crate) stopped: bool,
@@ -40,27 +42,16 @@ impl Model for Registry {
       epoch = registry.epoch;
       moment = registry.moment;
       clients = registry.clients;
-      subscriptions = registry.subscriptions.items;
+      streams = registry.streams;
       counters = registry.counters;
       last_number = registry.last_number;
       stopped = registry.stopped;
     } };
 }
 
-/// Other subscriptions, equal to these.
-fn copies(alloc: Global, subscriptions: &[Subscription]) -> Result<Vec<Subscription>, AllocError>
-    ensures { IfOk result (λ copies. copies.items ≡ subscriptions.now) }
-{
-    let mut copies = Vec::new(alloc);
-    for subscription in subscriptions {
-        copies.push(subscription.copy()?)?;
-    }
-    Ok(copies)
-}
-
 impl Registry {
-    ghost use Rattle.driver_core.specs.State.{opened, at_moment};
-    ghost use Rattle.driver_core.specs.Conduct.{conduct, state_after, outcome_of};
+    ghost use Rattle.driver_core.specs.State.{opened, has_number, at_moment};
+    ghost use Rattle.driver_core.specs.Conduct.{drafted, conduct, state_after, outcome_of};
 
     /// A registry with nobody in it, under a policy that has the number 1. The policy and the peers are taken over.
     #[tactic(auto, unfolding(crate::specs::State::opened))]
@@ -72,6 +63,11 @@ impl Registry {
     ) -> Result<Registry, AllocError>
         ensures { IfOk result (λ registry. registry ≡ opened settings policy peers.now) }
     {
+        let measures = Measures {
+            mtu: settings.mtu,
+            term_length: settings.term_length,
+            linger: settings.linger,
+        };
         Ok(Registry {
             settings,
             peers: Vec::from_slice(alloc, peers)?,
@@ -79,7 +75,7 @@ impl Registry {
             epoch: 1,
             moment: 0,
             clients: Clients::new(alloc, settings.client_liveness),
-            subscriptions: Vec::new(alloc),
+            streams: Streams::new(alloc, measures, settings.first_session),
             counters: Counters::new(alloc),
             last_number: 0,
             stopped: false,
@@ -97,11 +93,28 @@ impl Registry {
             epoch: self.epoch,
             moment: self.moment,
             clients: self.clients.copy(alloc)?,
-            subscriptions: copies(alloc, self.subscriptions.as_slice())?,
+            streams: self.streams.copy(alloc)?,
             counters: self.counters.copy(alloc)?,
             last_number: self.last_number,
             stopped: self.stopped,
         })
+    }
+
+    /// Whether a number is left that was not drawn yet.
+    #[tactic(auto, unfolding(crate::specs::State::has_number))]
+    pub(crate) fn has_number(&self) -> bool
+        ensures { result ≡ has_number self.now }
+    {
+        self.last_number < u64::MAX
+    }
+
+    /// The number that is drawn next.
+    #[tactic(auto, unfolding(crate::specs::State::has_number))]
+    pub(crate) fn next_number(&self) -> u64
+        requires { has_number self.now ≡ true }
+        ensures { result ≡ self.now.last_number + 1 }
+    {
+        self.last_number + 1
     }
 
     /// A copy at this moment, or at the one already seen where that is later.
@@ -114,15 +127,10 @@ impl Registry {
         Ok(copy)
     }
 
-    /// What the event makes of the registry, which itself stays as it is.
-    #[tactic(auto, unfolding(crate::specs::Conduct::conduct))]
-    pub(crate) fn next(
-        &self,
-        alloc: Global,
-        event: &Event,
-        _inputs: &Inputs,
-    ) -> Result<Change, AllocError>
-        ensures { IfOk result (λ change. change ≡ conduct self.now event.now _inputs.now) }
+    /// What the event's own rule makes of the registry, which itself stays as it is.
+    #[tactic(auto, unfolding(crate::specs::Conduct::drafted))]
+    fn draft(&self, alloc: Global, event: &Event) -> Result<Draft, AllocError>
+        ensures { IfOk result (λ draft. draft ≡ drafted self.now event.now) }
     {
         match event {
             Event::Attach { now, principal } => {
@@ -135,13 +143,27 @@ impl Registry {
             }
             Event::Reload { now, policy } => {
                 let registry = self.at_moment(alloc, *now)?;
-                Ok(reloading::reload(registry, alloc, policy.copy(alloc)?))
+                reloading::reload(registry, alloc, policy.copy(alloc)?)
             }
             Event::Tick { now } => {
                 let registry = self.at_moment(alloc, *now)?;
                 ticking::tick(registry, alloc)
             }
         }
+    }
+
+    /// What the event makes of the registry, which itself stays as it is.
+    #[tactic(auto, unfolding(crate::specs::Conduct::conduct))]
+    pub(crate) fn next(
+        &self,
+        alloc: Global,
+        event: &Event,
+        inputs: &Inputs,
+    ) -> Result<Change, AllocError>
+        ensures { IfOk result (λ change. change ≡ conduct self.now event.now inputs.now) }
+    {
+        let draft = self.draft(alloc, event)?;
+        renewal::renew(self, alloc, inputs, draft)
     }
 
     /// Takes one event, with what the logs say at it.

@@ -1,12 +1,12 @@
 ghost use Rattle.command_codec.specs.Reply.{reply_bytes};
 ghost use Rattle.driver_core.specs.Replies.{code_for, refusal_text, layout_of};
-ghost use Rattle.std.specs.Prelude.{◌≡◌, IfOk};
+ghost use Rattle.std.specs.Prelude.{◌≡◌, ◌∷◌, [], IfOk};
 
 use crate::refusal::Refusal;
-use byte_strings::{Bytes, Text};
+use byte_strings::{Bytes, Items, Text};
 use command_codec::{
-    ClientTimeout, CounterReady, ErrorCode, ErrorReply, OperationSuccess, SubscriptionReady,
-    UnavailableCounter,
+    AvailableImage, ClientTimeout, CounterReady, ErrorCode, ErrorReply, OperationSuccess,
+    PublicationReady, SubscriptionReady, UnavailableCounter, UnavailableImage,
 };
 use std::alloc::{AllocError, Global};
 
@@ -14,17 +14,60 @@ use std::alloc::{AllocError, Global};
 #[derive(Clone, Copy, Debug, PartialEq, Eq)]
 pub enum Reply {
     /// The command of this correlation id is refused.
-    Error { correlation: u64, refusal: Refusal },
+    Error {
+        correlation: u64,
+        refusal: Refusal,
+    },
     /// The command of this correlation id is done.
-    OperationSuccess { correlation: u64 },
+    OperationSuccess {
+        correlation: u64,
+    },
+    /// The publication stands, under this registration id.
+    PublicationReady {
+        correlation: u64,
+        registration: u64,
+        session: i32,
+        stream: i32,
+    },
+    /// The exclusive publication stands, under this registration id.
+    ExclusivePublicationReady {
+        correlation: u64,
+        registration: u64,
+        session: i32,
+        stream: i32,
+    },
     /// The subscription stands, under this registration id.
-    SubscriptionReady { correlation: u64, registration: u64 },
+    SubscriptionReady {
+        correlation: u64,
+        registration: u64,
+    },
+    /// The subscription reads the log of this source from this position on.
+    AvailableImage {
+        source: u64,
+        subscription: u64,
+        session: i32,
+        stream: i32,
+        position: u64,
+    },
+    /// The subscription does not read the log of this source any more.
+    UnavailableImage {
+        source: u64,
+        subscription: u64,
+        stream: i32,
+    },
     /// The counter stands, under this registration number.
-    CounterReady { correlation: u64, registration: u64 },
+    CounterReady {
+        correlation: u64,
+        registration: u64,
+    },
     /// The counter of this registration number is gone.
-    UnavailableCounter { registration: u64 },
+    UnavailableCounter {
+        registration: u64,
+    },
     /// Nothing was heard of the client of this id for too long, and it is gone.
-    ClientTimeout { client: u64 },
+    ClientTimeout {
+        client: u64,
+    },
 }
 
 /// A reply with the client over whose handle it goes.
@@ -32,6 +75,17 @@ pub enum Reply {
 pub struct Message {
     pub client: u64,
     pub reply: Reply,
+}
+
+impl Message {
+    /// The message as the only one.
+    pub(crate) fn alone(self, alloc: Global) -> Result<Items<Message>, AllocError>
+        ensures { IfOk result (λ messages. messages ≡ self ∷ []) }
+    {
+        let mut messages = Items::new(alloc);
+        messages.push(self)?;
+        Ok(messages)
+    }
 }
 
 impl Refusal {
@@ -46,9 +100,12 @@ impl Refusal {
             Refusal::WrongClient => ErrorCode::WrongClient,
             Refusal::InvalidChannel => ErrorCode::InvalidChannel,
             Refusal::UnknownSubscription => ErrorCode::UnknownSubscription,
+            Refusal::UnknownPublication => ErrorCode::UnknownPublication,
             Refusal::UnknownCounter => ErrorCode::UnknownCounter,
             Refusal::Denied(_) => ErrorCode::Denied,
+            Refusal::Conflict => ErrorCode::Conflict,
             Refusal::Full => ErrorCode::Full,
+            Refusal::NoRoom => ErrorCode::NoRoom,
         }
     }
 
@@ -87,6 +144,51 @@ impl Reply {
                     correlation: *correlation,
                 }))
             }
+            Reply::PublicationReady {
+                correlation,
+                registration,
+                session,
+                stream,
+            } => Ok(command_codec::Reply::PublicationReady(PublicationReady {
+                correlation: *correlation,
+                registration: *registration,
+                session: *session,
+                stream: *stream,
+            })),
+            Reply::ExclusivePublicationReady {
+                correlation,
+                registration,
+                session,
+                stream,
+            } => Ok(command_codec::Reply::ExclusivePublicationReady(PublicationReady {
+                correlation: *correlation,
+                registration: *registration,
+                session: *session,
+                stream: *stream,
+            })),
+            Reply::AvailableImage {
+                source,
+                subscription,
+                session,
+                stream,
+                position,
+            } => Ok(command_codec::Reply::AvailableImage(AvailableImage {
+                source: *source,
+                subscription: *subscription,
+                session: *session,
+                stream: *stream,
+                position: *position,
+                origin: Text::new(alloc, "aeron:ipc")?,
+            })),
+            Reply::UnavailableImage {
+                source,
+                subscription,
+                stream,
+            } => Ok(command_codec::Reply::UnavailableImage(UnavailableImage {
+                source: *source,
+                subscription: *subscription,
+                stream: *stream,
+            })),
             Reply::SubscriptionReady {
                 correlation,
                 registration,

@@ -1,21 +1,21 @@
-ghost use Rattle.driver_core.specs.Subscribing.{is_subscribable, act_of, subscribe, add_subscription};
-ghost use Rattle.std.specs.Prelude.{◌≡◌, IfOk};
+ghost use Rattle.driver_core.specs.Subscribing.{is_subscribable, act_of, subscribe, add_subscription, with_subscription};
+ghost use Rattle.std.specs.Prelude.{◌≡◌, true, false, IfOk, IfErr};
+ghost use Rattle.driver_core.specs.State.{has_number};
+ghost use Rattle.stream_registry.specs.Adding.{has_room_for_subscription as has_room_in};
+ghost use Rattle.stream_registry.specs.declared.fault.StreamFault.TheVariants.{Full as IsFull};
 
-use crate::change::Change;
 use crate::deciding;
+use crate::draft::Draft;
 use crate::refusal::Refusal;
 use crate::registry::Registry;
 use crate::replies::Reply;
-use crate::rows::Subscription;
 use byte_strings::Items;
 use channel_uri::{Channel, Media, UriError};
 use client_registry::Client;
 use command_codec::AddSubscription;
 use policy_core::Act;
 use std::alloc::{AllocError, Global};
-
-/// How many subscriptions a driver has at most.
-const SUBSCRIPTIONS: usize = 512;
+use stream_registry::StreamFault;
 
 /// Whether a subscription takes such a channel: a spy needs a place, and `udp` an endpoint and no control mode.
 #[tactic(auto, unfolding(crate::specs::Subscribing::is_subscribable))]
@@ -43,8 +43,30 @@ fn act_of(channel: &Channel) -> Act
     }
 }
 
+/// A copy in which the client subscribes under the next number.
+#[tactic(auto, unfolding(crate::specs::Subscribing::with_subscription))]
+fn with_subscription(
+    registry: &Registry,
+    alloc: Global,
+    client: u64,
+    channel: Channel,
+    stream: i32,
+) -> Result<Registry, StreamFault>
+    requires { has_number registry.now ≡ true }
+    ensures full { IfErr result (λ fault. fault ≡ IsFull → has_room_in registry.now.streams ≡ false) }
+    ensures added { IfOk result (λ after. (has_room_in registry.now.streams ≡ true) × (after ≡ with_subscription registry.now client channel stream)) }
+{
+    let number = registry.next_number();
+    let mut after = registry.copy(alloc)?;
+    after
+        .streams
+        .add_subscription(number, client, channel, stream)?;
+    after.last_number = number;
+    Ok(after)
+}
+
 /// A subscription on a channel that such a command takes.
-#[tactic(auto, unfolding(crate::specs::Subscribing::subscribe, crate::specs::Subscribing::subscribed))]
+#[tactic(auto, unfolding(crate::specs::Subscribing::subscribe, crate::specs::Subscribing::subscribed, crate::specs::Subscribing::has_room_for_subscription))]
 fn subscribe(
     registry: Registry,
     alloc: Global,
@@ -52,14 +74,14 @@ fn subscribe(
     correlation: u64,
     channel: Channel,
     stream: i32,
-) -> Result<Change, AllocError>
-    ensures { IfOk result (λ change. change ≡ subscribe registry client correlation channel stream) }
+) -> Result<Draft, AllocError>
+    ensures { IfOk result (λ draft. draft ≡ subscribe registry client correlation channel stream) }
 {
     let act = act_of(&channel);
     let decision = deciding::decide(&registry, client, act, &channel, stream);
     let decisions = deciding::only(alloc, decision)?;
     if !decision.verdict.allow {
-        return Change::refused(
+        return Draft::refused(
             alloc,
             registry,
             decisions,
@@ -68,8 +90,8 @@ fn subscribe(
             Refusal::Denied(decision.verdict),
         );
     }
-    if registry.subscriptions.len() >= SUBSCRIPTIONS || registry.last_number == u64::MAX {
-        return Change::refused(
+    if !registry.has_number() {
+        return Draft::refused(
             alloc,
             registry,
             decisions,
@@ -78,20 +100,35 @@ fn subscribe(
             Refusal::Full,
         );
     }
-    let mut registry = registry;
-    let number = registry.last_number + 1;
-    registry.subscriptions.push(Subscription {
-        number,
-        client: client.number,
-        channel,
-        stream,
-    })?;
-    registry.last_number = number;
+    let after = match with_subscription(&registry, alloc, client.number, channel, stream) {
+        Ok(after) => after,
+        Err(StreamFault::Full) => {
+            return Draft::refused(
+                alloc,
+                registry,
+                decisions,
+                client.number,
+                correlation,
+                Refusal::Full,
+            );
+        }
+        Err(_) => return Err(AllocError),
+    };
+    if !after.is_within_pairs(alloc)? {
+        return Draft::refused(
+            alloc,
+            registry,
+            decisions,
+            client.number,
+            correlation,
+            Refusal::Full,
+        );
+    }
     let reply = Reply::SubscriptionReady {
         correlation,
-        registration: number,
+        registration: after.last_number,
     };
-    Change::replied(alloc, registry, decisions, client.number, reply)
+    Draft::replied(alloc, after, decisions, client.number, reply)
 }
 
 /// The command ADD_SUBSCRIPTION of a client that is there.
@@ -102,14 +139,14 @@ pub(crate) fn add_subscription(
     client: Client,
     correlation: u64,
     fields: &AddSubscription,
-) -> Result<Change, AllocError>
-    ensures { IfOk result (λ change. change ≡ add_subscription registry client correlation fields.now) }
+) -> Result<Draft, AllocError>
+    ensures { IfOk result (λ draft. draft ≡ add_subscription registry client correlation fields.now) }
 {
     let channel = match Channel::parse(alloc, fields.channel.as_str()) {
         Ok(channel) => channel,
         Err(UriError::NoMemory) => return Err(AllocError),
         Err(_) => {
-            return Change::refused(
+            return Draft::refused(
                 alloc,
                 registry,
                 Items::new(alloc),
@@ -120,7 +157,7 @@ pub(crate) fn add_subscription(
         }
     };
     if !is_subscribable(&channel) {
-        return Change::refused(
+        return Draft::refused(
             alloc,
             registry,
             Items::new(alloc),

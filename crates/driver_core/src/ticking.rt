@@ -1,8 +1,9 @@
 ghost use Rattle.driver_core.specs.Ticking.{timeout_of, tick};
 ghost use Rattle.std.specs.Prelude.{◌≡◌, map, IfOk};
 
-use crate::change::Change;
+use crate::draft::Draft;
 use crate::leaving;
+use crate::outcome::Response;
 use crate::registry::Registry;
 use crate::replies::{Message, Reply};
 use byte_strings::Items;
@@ -22,14 +23,25 @@ fn timeouts(alloc: Global, clients: &[u64]) -> Result<Items<Message>, AllocError
     Ok(replies)
 }
 
-/// Time went on: the clients go of which nothing was heard for too long.
-#[tactic(auto, unfolding(crate::specs::Ticking::tick))]
-pub(crate) fn tick(registry: Registry, alloc: Global) -> Result<Change, AllocError>
-    ensures { IfOk result (λ change. change ≡ tick registry) }
+/// Time went on: the clients go of which nothing was heard for too long, and then the logs close that linger for too
+/// long.
+#[tactic(auto, unfolding(crate::specs::Ticking::tick, crate::specs::Ticking::ticked))]
+pub(crate) fn tick(registry: Registry, alloc: Global) -> Result<Draft, AllocError>
+    ensures { IfOk result (λ draft. draft ≡ tick registry) }
 {
     let late = registry.clients.expired(alloc, registry.moment)?;
-    let replies = timeouts(alloc, late.as_slice())?;
+    let later = timeouts(alloc, late.as_slice())?;
     let mut registry = registry;
     leaving::leave_all(&mut registry, late.as_slice());
-    Ok(Change::told(alloc, registry, Items::new(alloc), replies))
+    let now = registry.moment;
+    let closes = registry.streams.close_lingering(alloc, now)?;
+    Ok(Draft {
+        after: registry,
+        response: Response::Nothing,
+        replies: Items::new(alloc),
+        later,
+        decisions: Items::new(alloc),
+        opens: None,
+        closes,
+    })
 }

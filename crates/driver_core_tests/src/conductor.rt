@@ -1,11 +1,13 @@
 //! A registry that tests put events to. Where no memory is there, nothing is as a test expects.
 
-use byte_strings::{Bytes, Text};
-use command_codec::{AddSubscription, Body, Command};
-use driver_core::{Event, Inputs, Outcome, Registry, Response, Settings};
+use crate::play::subscription;
+use byte_strings::{Bytes, Items};
+use command_codec::{Body, Command};
+use driver_core::{End, Event, Inputs, Message, Outcome, Registry, Response, Settings};
 use policy_core::{Act, Decision, Policy, Verdict};
 use std::alloc::{AllocError, Global};
 use std::test::Fail;
+use stream_registry::{LogPlace, Pair};
 
 /// A registry, and where its memory comes from.
 #[derive(Drop)]
@@ -23,20 +25,16 @@ pub(crate) fn sent(alloc: Global, bytes: &[u8]) -> Result<Event, AllocError> {
     })
 }
 
-/// ADD_SUBSCRIPTION of client 1 on a channel, stream 10.
-fn subscription(alloc: Global, channel: &str) -> Result<Event, AllocError> {
+/// A command of client 1 with correlation id 11.
+pub(crate) fn asked(alloc: Global, now: u64, body: Body) -> Result<Event, AllocError> {
     let bytes = Command {
         client: 1,
         correlation: 11,
-        body: Body::AddSubscription(AddSubscription {
-            registration_correlation: 0,
-            stream: 10,
-            channel: Text::new(alloc, channel)?,
-        }),
+        body,
     }
     .write(alloc)?;
     Ok(Event::Command {
-        now: 0,
+        now,
         client: 1,
         bytes,
     })
@@ -59,12 +57,21 @@ fn is_decided(decisions: &[Decision], act: Act, verdict: Verdict) -> bool {
 }
 
 impl Conductor {
-    /// A registry under a policy.
-    pub(crate) fn under(alloc: Global, policy: Policy) -> Result<Conductor, Fail> {
+    /// A registry with these settings, under a policy.
+    pub(crate) fn set_to(
+        alloc: Global,
+        settings: Settings,
+        policy: Policy,
+    ) -> Result<Conductor, Fail> {
         Ok(Conductor {
             alloc,
-            registry: Registry::new(alloc, Settings::default(), policy, &[])?,
+            registry: Registry::new(alloc, settings, policy, &[])?,
         })
+    }
+
+    /// A registry under a policy.
+    pub(crate) fn under(alloc: Global, policy: Policy) -> Result<Conductor, Fail> {
+        Conductor::set_to(alloc, Settings::default(), policy)
     }
 
     /// A registry under a policy without rules.
@@ -76,6 +83,89 @@ impl Conductor {
     fn outcome(&mut self, event: &Event) -> Result<Outcome, AllocError> {
         self.registry
             .step(self.alloc, event, &Inputs::none(self.alloc))
+    }
+
+    fn told_by(&mut self, event: &Event, ends: &[End]) -> Result<Outcome, AllocError> {
+        let inputs = Inputs {
+            silent: Items::new(self.alloc),
+            ends: Items::from(Vec::from_slice(self.alloc, ends)?),
+        };
+        self.registry.step(self.alloc, event, &inputs)
+    }
+
+    /// Whether these replies are given to client 1 by the event, where the logs reach so far.
+    pub(crate) fn replies(&mut self, event: &Event, ends: &[End], messages: &[Message]) -> bool {
+        match self.told_by(event, ends) {
+            Ok(outcome) => outcome.replies.as_slice() == messages,
+            Err(_) => false,
+        }
+    }
+
+    /// Whether the policy decides this by the event, in turn.
+    pub(crate) fn decides_all(&mut self, event: &Event, decisions: &[Decision]) -> bool {
+        match self.outcome(event) {
+            Ok(outcome) => outcome.decisions.as_slice() == decisions,
+            Err(_) => false,
+        }
+    }
+
+    /// Whether the event opens this log, if there is one, and closes these.
+    pub(crate) fn opens_and_closes(
+        &mut self,
+        event: &Event,
+        opens: Option<LogPlace>,
+        closes: &[LogPlace],
+    ) -> bool {
+        match self.outcome(event) {
+            Ok(outcome) => outcome.opens == opens && outcome.closes.as_slice() == closes,
+            Err(_) => false,
+        }
+    }
+
+    /// Whether these pairs go by the event, those come, and these are there behind it.
+    pub(crate) fn renews(
+        &mut self,
+        event: &Event,
+        gone: &[Pair],
+        come: &[Pair],
+        pairs: &[Pair],
+    ) -> bool {
+        match self.outcome(event) {
+            Ok(outcome) => {
+                outcome.gone.as_slice() == gone
+                    && outcome.come.as_slice() == come
+                    && self.has_pairs(pairs)
+            }
+            Err(_) => false,
+        }
+    }
+
+    /// Whether so many pairs come by the event, and none goes.
+    pub(crate) fn brings(&mut self, event: &Event, come: usize) -> bool {
+        match self.outcome(event) {
+            Ok(outcome) => outcome.come.len() == come && outcome.gone.is_empty(),
+            Err(_) => false,
+        }
+    }
+
+    /// Whether the event is answered so, and so many pairs go by it and none comes.
+    pub(crate) fn closes(&mut self, event: &Event, response: Response, gone: usize) -> bool {
+        match self.outcome(event) {
+            Ok(outcome) => {
+                outcome.response == response
+                    && outcome.gone.len() == gone
+                    && outcome.come.is_empty()
+            }
+            Err(_) => false,
+        }
+    }
+
+    /// Whether these pairs are there.
+    fn has_pairs(&self, pairs: &[Pair]) -> bool {
+        match self.registry.pairs(self.alloc) {
+            Ok(found) => found.as_slice() == pairs,
+            Err(_) => false,
+        }
     }
 
     /// Whether a client of principal 7 comes, and has this number.
@@ -114,7 +204,10 @@ impl Conductor {
     /// Whether ADD_SUBSCRIPTION on the channel is decided once, on this act, so.
     pub(crate) fn asks(&mut self, channel: &str, act: Act, verdict: Verdict) -> bool {
         match subscription(self.alloc, channel) {
-            Ok(event) => self.decides(&event, act, verdict),
+            Ok(body) => match asked(self.alloc, 0, body) {
+                Ok(event) => self.decides(&event, act, verdict),
+                Err(_) => false,
+            },
             Err(_) => false,
         }
     }

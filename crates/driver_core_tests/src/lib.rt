@@ -8,6 +8,14 @@ mod conductor;
 #[cfg(test)]
 mod counting;
 #[cfg(test)]
+mod logs;
+#[cfg(test)]
+mod outcomes;
+#[cfg(test)]
 mod play;
+#[cfg(test)]
+mod publications;
+#[cfg(test)]
+mod streams;
 #[cfg(test)]
 mod tests;

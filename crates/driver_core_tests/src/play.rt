@@ -10,12 +10,12 @@ use std::test::Fail;
 /// A world, and where its memory comes from.
 #[derive(Drop)]
 pub(crate) struct Play {
-    alloc: Global,
+    pub(crate) alloc: Global,
     world: World,
 }
 
 /// Whether it came about.
-fn is_so(answered: Result<bool, AllocError>) -> bool {
+pub(crate) fn is_so(answered: Result<bool, AllocError>) -> bool {
     match answered {
         Ok(so) => so,
         Err(_) => false,
@@ -30,7 +30,7 @@ pub(crate) fn only(alloc: Global, client: u64, reply: Reply) -> Result<Items<Mes
 }
 
 /// A command of a client over its own handle.
-fn command(
+pub(crate) fn command(
     alloc: Global,
     now: u64,
     client: u64,
@@ -56,14 +56,14 @@ fn counter(alloc: Global, type_id: i32, label: &str) -> Result<Body, AllocError>
 }
 
 /// The end of the driver, without a token.
-fn termination(alloc: Global) -> Result<Body, AllocError> {
+pub(crate) fn termination(alloc: Global) -> Result<Body, AllocError> {
     Ok(Body::TerminateDriver(TerminateDriver {
         token: Bytes::new(alloc, b"")?,
     }))
 }
 
 /// A subscription to a channel, stream 10.
-fn subscription(alloc: Global, channel: &str) -> Result<Body, AllocError> {
+pub(crate) fn subscription(alloc: Global, channel: &str) -> Result<Body, AllocError> {
     Ok(Body::AddSubscription(AddSubscription {
         registration_correlation: 0,
         stream: 10,
@@ -142,12 +142,17 @@ pub(crate) fn is_called(alloc: Global, refusal: Refusal, code: i32, text: &str) 
 }
 
 impl Play {
-    /// A world under a policy.
-    pub(crate) fn under(alloc: Global, policy: Policy) -> Result<Play, Fail> {
+    /// A world with these settings, under a policy.
+    pub(crate) fn set_to(alloc: Global, settings: Settings, policy: Policy) -> Result<Play, Fail> {
         Ok(Play {
             alloc,
-            world: World::new(alloc, Settings::default(), policy, &[])?,
+            world: World::new(alloc, settings, policy, &[])?,
         })
+    }
+
+    /// A world under a policy.
+    pub(crate) fn under(alloc: Global, policy: Policy) -> Result<Play, Fail> {
+        Play::set_to(alloc, Settings::default(), policy)
     }
 
     /// A world under a policy without rules.
@@ -156,7 +161,7 @@ impl Play {
     }
 
     /// Whether the step is answered so.
-    fn gives(&mut self, step: &Step, answer: Answer) -> bool {
+    pub(crate) fn gives(&mut self, step: &Step, answer: Answer) -> bool {
         self.world.step(self.alloc, step) == answer
     }
 

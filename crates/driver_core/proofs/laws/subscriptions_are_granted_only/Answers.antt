@@ -1,4 +1,4 @@
-use Rattle.driver_core.proofs.LawLemmas.{grants_only}
+use Rattle.driver_core.proofs.SubscribingLemmas.{grants_only}
 use Rattle.driver_core.proofs.laws.subscriptions_are_granted_only.Goals as goal
 
 pub returns : goal.returns

@@ -1,0 +1,129 @@
+-- ADD_PUBLICATION and ADD_EXCLUSIVE_PUBLICATION.
+use Rattle.std.specs.Prelude.{ℕ, ◌+◌, ℤ, Bool, true, not, ◌&&◌, [], ◌∷◌, Option, Some, None, Result, Ok, Err, is_some, unwrap_or, if◌then◌else◌}
+use Rattle.driver_core.specs.declared.draft.Draft.{Draft}
+use Rattle.driver_core.specs.declared.refusal.Refusal.{Refusal}
+use Rattle.driver_core.specs.declared.refusal.Refusal.TheVariants.{InvalidChannel, Denied, Conflict, Full, NoRoom}
+use Rattle.driver_core.specs.declared.replies.Reply.{Reply}
+use Rattle.driver_core.specs.declared.replies.Reply.TheVariants.{PublicationReady, ExclusivePublicationReady}
+use Rattle.driver_core.specs.Deciding.{decision_by}
+use Rattle.driver_core.specs.Draft.{replied_opening, refused}
+use Rattle.driver_core.specs.Pairs.{is_within_pairs}
+use Rattle.driver_core.specs.State.{State, has_number}
+use Rattle.channel_uri.specs.declared.error.UriError.{UriError}
+use Rattle.channel_uri.specs.Channel.{Shape, denotes}
+use Rattle.channel_uri.specs.Place.{spot_of}
+use Rattle.client_registry.specs.declared.client.Client.{Client}
+use Rattle.command_codec.specs.declared.add_publication.AddPublication.{AddPublication}
+use Rattle.policy_core.specs.declared.act.Act.{Act}
+use Rattle.policy_core.specs.declared.act.Act.TheVariants.{Publish, PublishExclusive}
+use Rattle.policy_core.specs.declared.decision.Decision.{Decision}
+use Rattle.stream_registry.specs.declared.fault.StreamFault.{StreamFault}
+use Rattle.stream_registry.specs.declared.fault.StreamFault.TheVariants as fault
+use Rattle.stream_registry.specs.declared.lingering.LogPlace.{LogPlace}
+use Rattle.stream_registry.specs.declared.wanted.Adding.{Adding}
+use Rattle.stream_registry.specs.declared.wanted.Adding.TheVariants.{Join, Make}
+use Rattle.stream_registry.specs.declared.wanted.Wanted.{Wanted}
+use Rattle.stream_registry.specs.Adding.{adding_of, added}
+use Rattle.stream_registry.specs.LogPages.{place_for}
+
+-- the channels that the commands take: no spy, `ipc`, and `udp` with an endpoint or with destinations named by hand
+unfoldable pub is_publishable : Shape → Bool
+is_publishable channel = not channel.spy && is_some (spot_of channel)
+
+abbrev pub publishing_act : Bool → Act
+publishing_act exclusive = if exclusive then PublishExclusive else Publish
+
+-- what the policy in force decides
+abbrev pub publication_decision : State → Client → Wanted → Decision
+publication_decision s client wanted =
+    decision_by s client (publishing_act wanted.exclusive) wanted.channel wanted.stream
+
+-- ---- what is made
+
+-- the least place where the log has room among the live ones
+abbrev pub place_of_new : State → Wanted → Option ℕ
+place_of_new s wanted = place_for s.streams s.settings.arena_pages wanted
+
+-- a log that is joined needs none
+unfoldable pub has_place : State → Wanted → Adding → Bool
+has_place s wanted (Join source session) = true
+has_place s wanted (Make session) = is_some (place_of_new s wanted)
+
+-- the client is registered under the next number, with a log that is there or with a new one
+unfoldable pub with_publication : State → ℕ → Wanted → Adding → State
+with_publication s client wanted adding = record s {
+  streams = added s.streams (s.last_number + 1) client wanted (unwrap_or (place_of_new s wanted) 0) adding;
+  last_number = s.last_number + 1;
+}
+
+-- the log that opens
+unfoldable pub opening_of : State → Wanted → Adding → Option LogPlace
+opening_of s wanted (Join source session) = None
+opening_of s wanted (Make session) =
+    Some (record { source = s.last_number + 1; place = unwrap_or (place_of_new s wanted) 0 })
+
+abbrev pub session_of : Adding → ℤ
+session_of (Join source session) = session
+session_of (Make session) = session
+
+abbrev pub ready_for : Wanted → ℕ → ℕ → ℤ → Reply
+ready_for wanted correlation number session =
+    if wanted.exclusive
+    then ExclusivePublicationReady correlation number session wanted.stream
+    else PublicationReady correlation number session wanted.stream
+
+unfoldable pub published : State → Client → ℕ → Wanted → Adding → Draft
+published s client correlation wanted adding =
+    replied_opening (with_publication s client.number wanted adding) (publication_decision s client wanted ∷ [])
+    client.number
+    (ready_for wanted correlation (s.last_number + 1) (session_of adding))
+    (opening_of s wanted adding)
+
+-- ---- in which order it is refused
+
+-- no number is used again, and there are at most 4,096 pairs
+abbrev pub has_room_for_publication : State → ℕ → Wanted → Adding → Bool
+has_room_for_publication s client wanted adding =
+    has_number s && is_within_pairs (with_publication s client wanted adding)
+
+abbrev pub refused_by_streams : StreamFault → Refusal
+refused_by_streams fault.Conflict = Conflict
+refused_by_streams other = Full
+
+-- full, without room for the log, or done
+unfoldable pub publish_under : State → Client → ℕ → Wanted → Adding → Draft
+publish_under s client correlation wanted adding =
+    if not (has_room_for_publication s client.number wanted adding)
+    then refused s (publication_decision s client wanted ∷ []) client.number correlation Full
+    else if has_place s wanted adding
+    then published s client correlation wanted adding
+    else refused s (publication_decision s client wanted ∷ []) client.number correlation NoRoom
+
+-- in conflict with the lists, or past their limits
+abbrev pub publish_by : State → Client → ℕ → Wanted → Result Adding StreamFault → Draft
+publish_by s client correlation wanted (Err why) =
+    refused s (publication_decision s client wanted ∷ []) client.number correlation (refused_by_streams why)
+publish_by s client correlation wanted (Ok adding) = publish_under s client correlation wanted adding
+
+-- denied, or as the lists say
+unfoldable pub publish : State → Client → ℕ → Wanted → Draft
+publish s client correlation wanted =
+    if not (publication_decision s client wanted).verdict.allow
+    then refused s (publication_decision s client wanted ∷ []) client.number correlation
+    (Denied (publication_decision s client wanted).verdict)
+    else publish_by s client correlation wanted (adding_of s.streams wanted)
+
+abbrev pub wanted_of : Shape → ℤ → Bool → Wanted
+wanted_of channel stream exclusive = record { channel = channel; stream = stream; exclusive = exclusive }
+
+-- the text has to be a channel that the commands take
+abbrev pub publish_on : State → Client → ℕ → Result Shape UriError → ℤ → Bool → Draft
+publish_on s client correlation (Err why) stream exclusive = refused s [] client.number correlation InvalidChannel
+publish_on s client correlation (Ok channel) stream exclusive =
+    if is_publishable channel
+    then publish s client correlation (wanted_of channel stream exclusive)
+    else refused s [] client.number correlation InvalidChannel
+
+unfoldable pub add_publication : State → Client → ℕ → AddPublication → Bool → Draft
+add_publication s client correlation fields exclusive =
+    publish_on s client correlation (denotes fields.channel) fields.stream exclusive

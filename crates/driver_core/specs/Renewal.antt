@@ -1,0 +1,125 @@
+-- After each event the pairs are those of the lists and the policy in force. What that closes and opens is told.
+use Rattle.std.specs.Prelude.{ℕ, ◌==◌, List, [], ◌∷◌, ◌++◌, find, Option, Some, None}
+use Rattle.std.specs.List.{flat_map}
+use Rattle.driver_core.specs.declared.change.Change.{Change}
+use Rattle.driver_core.specs.declared.draft.Draft.{Draft}
+use Rattle.driver_core.specs.declared.event.End.{End}
+use Rattle.driver_core.specs.declared.event.Inputs.{Inputs}
+use Rattle.driver_core.specs.declared.replies.Message.{Message}
+use Rattle.driver_core.specs.declared.replies.Reply.TheVariants.{AvailableImage, UnavailableImage}
+use Rattle.driver_core.specs.Pairs.{pairs_of, lacking}
+use Rattle.driver_core.specs.State.{State}
+use Rattle.client_registry.specs.Clients.{principal_at}
+use Rattle.policy_core.specs.declared.act.Act.TheVariants.{Image}
+use Rattle.policy_core.specs.declared.decision.Decision.{Decision}
+use Rattle.policy_core.specs.Rules.{verdict_of}
+use Rattle.stream_registry.specs.declared.pairs.Pair.{Pair}
+use Rattle.stream_registry.specs.declared.rows.Publication.{Publication}
+use Rattle.stream_registry.specs.declared.rows.Subscription.{Subscription}
+use Rattle.stream_registry.specs.Pairs.{image_question}
+
+-- the rows of a pair
+abbrev pub publication_at : List Publication → ℕ → Option Publication
+publication_at publications source = find (λ publication. publication.source == source) publications
+
+abbrev pub subscription_at : List Subscription → ℕ → Option Subscription
+subscription_at subscriptions number = find (λ subscription. subscription.number == number) subscriptions
+
+-- ---- what clients are told
+
+-- a subscription that went in the same event is told nothing
+abbrev pub unavailable_to : Pair → Option Subscription → List Message
+unavailable_to pair None = []
+unavailable_to pair (Some subscription) =
+    record {
+      client = subscription.client;
+      reply = UnavailableImage pair.source pair.subscription subscription.stream;
+    }
+    ∷ []
+
+unfoldable pub unavailable_for : State → Pair → List Message
+unavailable_for s pair = unavailable_to pair (subscription_at s.streams.subscriptions pair.subscription)
+
+-- how far the log of that source reaches; one that no log tells of begins
+abbrev pub position_by : Option End → ℕ
+position_by None = 0
+position_by (Some end) = end.position
+
+abbrev pub position_at : List End → ℕ → ℕ
+position_at ends source = position_by (find (λ end. end.source == source) ends)
+
+abbrev pub available_to : List End → Pair → Option Publication → Option Subscription → List Message
+available_to ends pair None subscription = []
+available_to ends pair (Some publication) None = []
+available_to ends pair (Some publication) (Some subscription) =
+    record {
+      client = subscription.client;
+      reply = AvailableImage pair.source pair.subscription publication.session publication.stream (position_at ends pair.source);
+    }
+    ∷ []
+
+unfoldable pub available_for : State → List End → Pair → List Message
+available_for s ends pair =
+    available_to ends pair (publication_at s.streams.publications pair.source)
+    (subscription_at s.streams.subscriptions pair.subscription)
+
+-- first of the pairs that went, then of those that came, each by source and then subscription
+unfoldable pub images_told : State → Inputs → List Pair → List Pair → List Message
+images_told s inputs gone come = flat_map (unavailable_for s) gone ++ flat_map (available_for s inputs.ends) come
+
+-- ---- what is told to those who audit
+
+-- what the policy in force decides on the pair of a subscription
+abbrev pub image_decision : State → Subscription → ℕ → Decision
+image_decision s subscription principal = record {
+  principal = principal;
+  act = Image;
+  subject = subscription.number;
+  stream = subscription.stream;
+  verdict = verdict_of s.policy s.epoch (image_question principal subscription);
+}
+
+abbrev pub decided_for : State → Subscription → Option ℕ → List Decision
+decided_for s subscription None = []
+decided_for s subscription (Some principal) = image_decision s subscription principal ∷ []
+
+abbrev pub decided_to : State → Option Publication → Option Subscription → List Decision
+decided_to s None subscription = []
+decided_to s (Some publication) None = []
+decided_to s (Some publication) (Some subscription) =
+    decided_for s subscription (principal_at s.clients.rows subscription.client)
+
+-- nothing is decided on a pair whose log or subscription went: it is the policy that takes the others away
+unfoldable pub decided_on : State → Pair → List Decision
+decided_on s pair =
+    decided_to s (publication_at s.streams.publications pair.source)
+    (subscription_at s.streams.subscriptions pair.subscription)
+
+unfoldable pub images_decided : State → List Pair → List Pair → List Decision
+images_decided s gone come = flat_map (decided_on s) gone ++ flat_map (decided_on s) come
+
+-- ---- the whole change
+
+-- the pairs that an event takes away, and those that it brings
+abbrev pub gone_from : State → State → List Pair
+gone_from before after = lacking (pairs_of before) (pairs_of after)
+
+abbrev pub come_to : State → State → List Pair
+come_to before after = lacking (pairs_of after) (pairs_of before)
+
+-- the event's own replies, those of images, and the later ones
+unfoldable pub renewed : State → Inputs → Draft → Change
+renewed before inputs draft = record {
+  after = draft.after;
+  outcome = record {
+    response = draft.response;
+    replies = draft.replies
+        ++ (images_told draft.after inputs (gone_from before draft.after) (come_to before draft.after) ++ draft.later);
+    decisions = draft.decisions
+        ++ images_decided draft.after (gone_from before draft.after) (come_to before draft.after);
+    opens = draft.opens;
+    closes = draft.closes;
+    gone = gone_from before draft.after;
+    come = come_to before draft.after;
+  };
+}

@@ -1,0 +1,237 @@
+ghost use Rattle.driver_core.specs.Renewal.{available_for, decided_on, images_decided, images_told, position_at, renewed, unavailable_for};
+ghost use Rattle.std.specs.List.{flat_map};
+ghost use Rattle.std.specs.Prelude.{◌≡◌, ◌++◌, IfOk, OnOk};
+
+use crate::change::Change;
+use crate::draft::Draft;
+use crate::event::{End, Inputs};
+use crate::outcome::Outcome;
+use crate::pairs::lacking;
+use crate::registry::Registry;
+use crate::replies::{Message, Reply};
+use byte_strings::Items;
+use policy_core::{Act, Decision, Request};
+use std::alloc::{AllocError, Global};
+use stream_registry::Pair;
+
+/// How far the log of that source reaches; one of which nothing is told begins.
+fn position_at(ends: &[End], source: u64) -> u64
+    ensures { result ≡ position_at ends.now source }
+{
+    for end in ends {
+        if end.source == source {
+            return end.position;
+        }
+    }
+    0
+}
+
+/// Tells the client of the subscription, if that is still there, that the image is gone.
+#[tactic(auto, unfolding(crate::specs::Renewal::unavailable_for))]
+fn tell_unavailable(
+    messages: &mut Items<Message>,
+    after: &Registry,
+    pair: Pair,
+) -> Result<(), AllocError>
+    ensures { OnOk result (messages.new ≡ messages.old ++ unavailable_for after.now pair) }
+{
+    let Some(subscription) = after.subscription(pair.subscription) else {
+        return Ok(());
+    };
+    let reply = Reply::UnavailableImage {
+        source: pair.source,
+        subscription: pair.subscription,
+        stream: subscription.stream,
+    };
+    messages.push(Message {
+        client: subscription.client,
+        reply,
+    })
+}
+
+/// Tells the client of the subscription of an image that is there now, and from which position on it reads.
+#[tactic(auto, unfolding(crate::specs::Renewal::available_for))]
+fn tell_available(
+    messages: &mut Items<Message>,
+    after: &Registry,
+    ends: &[End],
+    pair: Pair,
+) -> Result<(), AllocError>
+    ensures { OnOk result (messages.new ≡ messages.old ++ available_for after.now ends.now pair) }
+{
+    let Some(publication) = after.publication(pair.source) else {
+        return Ok(());
+    };
+    let Some(subscription) = after.subscription(pair.subscription) else {
+        return Ok(());
+    };
+    let reply = Reply::AvailableImage {
+        source: pair.source,
+        subscription: pair.subscription,
+        session: publication.session,
+        stream: publication.stream,
+        position: position_at(ends, pair.source),
+    };
+    messages.push(Message {
+        client: subscription.client,
+        reply,
+    })
+}
+
+fn tell_all_unavailable(
+    messages: &mut Items<Message>,
+    after: &Registry,
+    gone: &[Pair],
+) -> Result<(), AllocError>
+    ensures { OnOk result (messages.new ≡ messages.old ++ flat_map (unavailable_for after.now) gone.now) }
+{
+    for pair in gone {
+        tell_unavailable(messages, after, *pair)?;
+    }
+    Ok(())
+}
+
+fn tell_all_available(
+    messages: &mut Items<Message>,
+    after: &Registry,
+    ends: &[End],
+    come: &[Pair],
+) -> Result<(), AllocError>
+    ensures { OnOk result (messages.new ≡ messages.old ++ flat_map (available_for after.now ends.now) come.now) }
+{
+    for pair in come {
+        tell_available(messages, after, ends, *pair)?;
+    }
+    Ok(())
+}
+
+/// Tells of the images that went, and then of those that came.
+#[tactic(auto, unfolding(crate::specs::Renewal::images_told))]
+fn tell_images(
+    messages: &mut Items<Message>,
+    after: &Registry,
+    inputs: &Inputs,
+    gone: &[Pair],
+    come: &[Pair],
+) -> Result<(), AllocError>
+    ensures { OnOk result (messages.new ≡ messages.old ++ images_told after.now inputs.now gone.now come.now) }
+{
+    tell_all_unavailable(messages, after, gone)?;
+    tell_all_available(messages, after, inputs.ends.as_slice(), come)
+}
+
+/// What the policy in force decides on a pair whose log and subscription are there.
+#[tactic(auto, unfolding(crate::specs::Renewal::decided_on))]
+fn decide_on(
+    decisions: &mut Items<Decision>,
+    after: &Registry,
+    pair: Pair,
+) -> Result<(), AllocError>
+    ensures { OnOk result (decisions.new ≡ decisions.old ++ decided_on after.now pair) }
+{
+    if after.publication(pair.source).is_none() {
+        return Ok(());
+    }
+    let Some(subscription) = after.subscription(pair.subscription) else {
+        return Ok(());
+    };
+    let Some(principal) = after.clients.principal_of(subscription.client) else {
+        return Ok(());
+    };
+    let request = Request {
+        principal,
+        act: Act::Image,
+        channel: &subscription.channel,
+        stream: subscription.stream,
+    };
+    decisions.push(Decision {
+        principal,
+        act: Act::Image,
+        subject: subscription.number,
+        stream: subscription.stream,
+        verdict: after.policy.verdict(after.epoch, &request),
+    })
+}
+
+fn decide_on_all(
+    decisions: &mut Items<Decision>,
+    after: &Registry,
+    pairs: &[Pair],
+) -> Result<(), AllocError>
+    ensures { OnOk result (decisions.new ≡ decisions.old ++ flat_map (decided_on after.now) pairs.now) }
+{
+    for pair in pairs {
+        decide_on(decisions, after, *pair)?;
+    }
+    Ok(())
+}
+
+/// What the policy in force decides on the images that went, and then on those that came.
+#[tactic(auto, unfolding(crate::specs::Renewal::images_decided))]
+fn decide_images(
+    decisions: &mut Items<Decision>,
+    after: &Registry,
+    gone: &[Pair],
+    come: &[Pair],
+) -> Result<(), AllocError>
+    ensures { OnOk result (decisions.new ≡ decisions.old ++ images_decided after.now gone.now come.now) }
+{
+    decide_on_all(decisions, after, gone)?;
+    decide_on_all(decisions, after, come)
+}
+
+/// Puts messages behind the others.
+fn append(messages: &mut Items<Message>, more: &[Message]) -> Result<(), AllocError>
+    ensures { OnOk result (messages.new ≡ messages.old ++ more.now) }
+{
+    for message in more {
+        messages.push(*message)?;
+    }
+    Ok(())
+}
+
+/// Compares the pairs after an event's own rule with those before it, and tells what that opens and closes.
+#[tactic(auto, unfolding(crate::specs::Renewal::renewed))]
+pub(crate) fn renew(
+    before: &Registry,
+    alloc: Global,
+    inputs: &Inputs,
+    draft: Draft,
+) -> Result<Change, AllocError>
+    ensures { IfOk result (λ change. change ≡ renewed before.now inputs.now draft) }
+{
+    let Draft {
+        after,
+        response,
+        mut replies,
+        later,
+        mut decisions,
+        opens,
+        closes,
+    } = draft;
+    let old = before.pairs(alloc)?;
+    let new = after.pairs(alloc)?;
+    let gone = lacking(alloc, old.as_slice(), new.as_slice())?;
+    let come = lacking(alloc, new.as_slice(), old.as_slice())?;
+    tell_images(
+        &mut replies,
+        &after,
+        inputs,
+        gone.as_slice(),
+        come.as_slice(),
+    )?;
+    append(&mut replies, later.as_slice())?;
+    decide_images(&mut decisions, &after, gone.as_slice(), come.as_slice())?;
+    Ok(Change {
+        after,
+        outcome: Outcome {
+            response,
+            replies,
+            decisions,
+            opens,
+            closes,
+            gone,
+            come,
+        },
+    })
+}
