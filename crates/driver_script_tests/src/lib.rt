@@ -10,6 +10,8 @@ mod ends;
 #[cfg(test)]
 mod play;
 #[cfg(test)]
+mod publications;
+#[cfg(test)]
 mod reading;
 #[cfg(test)]
 mod running;
