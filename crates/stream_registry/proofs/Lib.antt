@@ -1,4 +1,5 @@
 pub mod LimitLemmas
 pub mod PageLawLemmas
 pub mod PageLemmas
+pub mod PairLemmas
 pub mod SessionLemmas

@@ -1,6 +1,6 @@
 -- Which subscription reads which log: a function of the lists and the policy alone. Own rules.
-use Rattle.std.specs.Prelude.{ℕ, Bool, false, ◌&&◌, List, map, filter, Option, Some, None}
-use Rattle.std.specs.List.{flat_map}
+use Rattle.std.specs.Prelude.{ℕ, Bool, false, ◌==◌, ◌&&◌, List, map, filter, Option, Some, None}
+use Rattle.std.specs.List.{flat_map, list_any}
 use Rattle.std.specs.Ordering.{int_eq}
 use Rattle.stream_registry.specs.declared.pairs.Pair.{Pair}
 use Rattle.stream_registry.specs.declared.rows.Publication.{Publication}
@@ -58,3 +58,17 @@ pairs_at clients policy epoch subscriptions publication =
 -- by source and then subscription
 unfoldable pub pairs_of : Streams → List Client → Rules → ℕ → List Pair
 pairs_of s clients policy epoch = flat_map (pairs_at clients policy epoch s.subscriptions) s.publications
+
+-- the pair is of that log and that subscription, by their numbers
+abbrev pub is_of : ℕ → ℕ → Pair → Bool
+is_of source subscription pair = pair.source == source && pair.subscription == subscription
+
+-- the subscription has that number, and reads the log
+abbrev pub reads_as : List Client → Rules → ℕ → Publication → ℕ → Subscription → Bool
+reads_as clients policy epoch publication number subscription =
+    subscription.number == number && is_pair clients policy epoch publication subscription
+
+-- the log is of that source, and a subscription of that number reads it
+abbrev pub is_read : List Client → Rules → ℕ → List Subscription → ℕ → ℕ → Publication → Bool
+is_read clients policy epoch subscriptions source number publication =
+    publication.source == source && list_any (reads_as clients policy epoch publication number) subscriptions

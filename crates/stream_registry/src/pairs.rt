@@ -1,4 +1,5 @@
-ghost use Rattle.stream_registry.specs.Pairs.{fits, is_allowed, is_pair, pairs_at, pairs_of};
+ghost use Rattle.stream_registry.specs.Pairs.{fits, is_allowed, is_of, is_pair, is_read, pairs_at, pairs_of, reads_as};
+ghost use Rattle.std.specs.List.{list_any};
 ghost use Rattle.std.specs.Prelude.{◌≡◌, ◌++◌, IfOk, OnOk};
 
 use crate::places::is_ipc;
@@ -82,6 +83,55 @@ fn push_pairs(
     Ok(())
 }
 
+/// Whether a subscription of this number reads the log.
+fn is_read_by(
+    clients: &Clients,
+    policy: &Policy,
+    epoch: u64,
+    subscriptions: &[Subscription],
+    publication: &Publication,
+    number: u64,
+) -> bool
+    ensures { result ≡ list_any (reads_as clients.now.rows policy.now epoch publication.now number) subscriptions.now }
+{
+    for subscription in subscriptions {
+        if subscription.number == number
+            && is_pair(clients, policy, epoch, publication, subscription)
+        {
+            return true;
+        }
+    }
+    false
+}
+
+/// Whether a subscription of that number reads a log of that source.
+fn is_any_read(
+    clients: &Clients,
+    policy: &Policy,
+    epoch: u64,
+    publications: &[Publication],
+    subscriptions: &[Subscription],
+    pair: Pair,
+) -> bool
+    ensures { result ≡ list_any (is_read clients.now.rows policy.now epoch subscriptions.now pair.source pair.subscription) publications.now }
+{
+    for publication in publications {
+        if publication.source == pair.source
+            && is_read_by(
+                clients,
+                policy,
+                epoch,
+                subscriptions,
+                publication,
+                pair.subscription,
+            )
+        {
+            return true;
+        }
+    }
+    false
+}
+
 impl Streams {
     /// Which subscription reads which log, by source and then subscription: those that fit, where the policy, which goes
     /// by the number `epoch`, allows the act `image` to the subscription's client.
@@ -108,5 +158,29 @@ impl Streams {
             )?;
         }
         Ok(pairs)
+    }
+
+    /// Whether the subscription of this number reads a log of this source number. It takes no memory.
+    pub fn has_pair(
+        &self,
+        clients: &Clients,
+        policy: &Policy,
+        epoch: u64,
+        source: u64,
+        subscription: u64,
+    ) -> bool
+        ensures { result ≡ list_any (is_of source subscription) (pairs_of self.now clients.now.rows policy.now epoch) }
+    {
+        is_any_read(
+            clients,
+            policy,
+            epoch,
+            self.publications.as_slice(),
+            self.subscriptions.as_slice(),
+            Pair {
+                source,
+                subscription,
+            },
+        )
     }
 }

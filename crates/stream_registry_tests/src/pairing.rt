@@ -72,6 +72,23 @@ fn reload_closes_one_image(rt: HostRuntime) -> Result<(), Fail> {
     Ok(())
 }
 
+/// Whether the subscription reads the log under this policy.
+fn is_read(play: &Play, policy: &Policy, source: u64, subscription: u64) -> bool {
+    play.streams
+        .has_pair(&two_clients(play.alloc), policy, 1, source, subscription)
+}
+
+#[test]
+fn one_subscription_reads_a_log(rt: HostRuntime) -> Result<(), Fail> {
+    let mut play = Play::new(rt.alloc());
+    assert!(rt; two_subscribe_and_one_publishes(&mut play));
+    let closed = image_denied(rt.alloc())?;
+    assert!(rt; is_read(&play, &closed, 3, 1));
+    assert!(rt; !is_read(&play, &closed, 3, 2));
+    assert!(rt; !is_read(&play, &closed, 4, 1));
+    Ok(())
+}
+
 fn lingering_is_read(play: &mut Play) -> bool {
     let opened = play.publishes(1, 1, "aeron:ipc", made(1))
         && play.subscribes(2, 2, "aeron:ipc", Ok(()));
