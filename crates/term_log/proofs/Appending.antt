@@ -32,6 +32,23 @@ pub ident_after : (k : Kept) (fs : List Frame) → (after_frames k fs).ident ≡
 ident_after k [] = refl
 ident_after k (f ∷ fs) = ident_after (after_frame k f) fs ∙ step_ident k f
 
+step_home : (k : Kept) (f : Frame) → ((after_frame k f).buffers.home ≡ k.buffers.home)
+    × ((after_frame k f).buffers.place ≡ k.buffers.place)
+    × ((after_frame k f).buffers.term_length ≡ k.buffers.term_length)
+unfolding after_frame
+step_home k f = (refl, refl, refl)
+
+-- whatever is appended, the log is the same one, in the same place of its home
+pub after_frames_home : (k : Kept) (fs : List Frame) → ((after_frames k fs).ident ≡ k.ident)
+    × ((after_frames k fs).buffers.home ≡ k.buffers.home)
+    × ((after_frames k fs).buffers.place ≡ k.buffers.place)
+    × ((after_frames k fs).buffers.term_length ≡ k.buffers.term_length)
+after_frames_home k [] = (refl, refl, refl, refl)
+after_frames_home k (f ∷ fs) =
+    let step = step_home k f in
+    let rest = after_frames_home (after_frame k f) fs in
+    (rest.0 ∙ step_ident k f, rest.1 ∙ step.0, rest.2 ∙ step.1, rest.3 ∙ step.2)
+
 -- the next frame of a message fits where the whole cut does
 pub next_fits : (k now : Kept) (message here : List ℕ) (payload i : ℕ) → now ≡ after_frames k (map (part_of payload message) (range_with_len 0 i))
     → payload ≡ payload_length k.ident → 0 < k.ident.term_length → i < last_part payload (length message) + 1 → here ≡ take payload (drop (i * payload) message)

@@ -13,8 +13,8 @@ use Rattle.term_log.proofs.Standing.{reads_from, polled_is}
 
 -- ---- each fragment that a poll gives is a frame of the log
 
-fragments_are : (w : Whole) (at : ℕ) (before fs rest : List Frame) → w.frames ≡ before ++ (fs ++ rest) → at ≡ w.ident.start + total before
-    → AreFragmentsOf w (fragments_of at fs)
+pub fragments_are : (w : Whole) (at : ℕ) (before fs rest : List Frame) → w.frames ≡ before ++ (fs ++ rest)
+    → at ≡ w.ident.start + total before → AreFragmentsOf w (fragments_of at fs)
 fragments_are w at before [] rest is place = tt
 fragments_are w at before (fragment flags payload ∷ fs) rest is place =
     let f : Frame = fragment flags payload in

@@ -5,7 +5,7 @@ ghost use Rattle.std.specs.Prelude.{◌≡◌, ◌+◌, ◌*◌, ◌/◌, ◌%�
 ghost use Rattle.term_log.specs.Frames.{Frame};
 ghost use Rattle.term_log.specs.Ident.{IsIdent};
 ghost use Rattle.term_log.specs.Kept.{StandsFor, after_frames, opened};
-ghost use Rattle.term_log.specs.Log.{HasRoom, appended, connected_of, limit_of, low_of, offer_of};
+ghost use Rattle.term_log.specs.Log.{HasRoom, appended, connected_of, greatest_message, limit_of, low_of, offer_of};
 ghost use Rattle.term_log.specs.Pairs.{ReadsUpTo, is_other, moved_one, position_of};
 ghost use Rattle.term_log.specs.Polling.{fragments_left};
 ghost use Rattle.term_log.specs.Ranges.{GivesOver, over_left};
@@ -88,6 +88,13 @@ impl TermLog {
         self.appender.ident()
     }
 
+    /// The greatest length of a message, in bytes: an eighth of a term, and at most 16 MiB.
+    pub fn greatest_message(&self) -> usize
+        ensures { result ≡ greatest_message self.now.kept.ident }
+    {
+        (self.appender.ident().term_length as usize / 8).min(GREATEST_MESSAGE)
+    }
+
     /// The position behind the last frame.
     pub fn tail(&self) -> u64
         ensures { result ≡ self.now.kept.tail }
@@ -159,7 +166,7 @@ impl TermLog {
     {
         let ident = self.appender.ident();
         let tail = self.appender.tail();
-        if message.len() > (ident.term_length as usize / 8).min(GREATEST_MESSAGE) {
+        if message.len() > self.greatest_message() {
             return Offer::TooLong;
         }
         let size = size_of(message, ident.mtu as usize - Header::SIZE);

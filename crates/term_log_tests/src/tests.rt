@@ -30,6 +30,7 @@ fn message_fragments(rt: HostRuntime) -> Result<(), Fail> {
     let mut arena = Arena::new(rt.alloc(), 48)?;
     let mut log = open(rt.alloc(), &mut arena, ident(LogKind::Ipc, 0))?;
     assert_eq!(rt; log.join_pair(1), 0);
+    assert_eq!(rt; log.greatest_message(), 8192);
     let message = Vec::from_elem(rt.alloc(), 9u8, 8193)?;
     assert_eq!(rt; log.offer(&message[..1376]), Offer::At(1408));
     assert_eq!(rt; log.offer(&message[..1377]), Offer::At(2880));
