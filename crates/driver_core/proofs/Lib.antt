@@ -7,6 +7,7 @@ pub mod LawLemmas
 pub mod LeavingLemmas
 pub mod ListLemmas
 pub mod ListingLemmas
+pub mod LogListLemmas
 pub mod PublishingLemmas
 pub mod PublishingOnlyLemmas
 pub mod ReloadLemmas
@@ -14,7 +15,7 @@ pub mod RemovalLemmas
 pub mod PublishLemmas
 pub mod RefusalLemmas
 pub mod RenewalLemmas
-pub mod RunLemmas
+pub mod SizeLemmas
+pub mod SoundnessLemmas
 pub mod SubscribingLemmas
-pub mod TakenLemmas
 pub mod VerdictLemmas

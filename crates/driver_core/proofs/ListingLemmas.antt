@@ -1,7 +1,8 @@
 -- A client is shown exactly the counters that the policy in force shows it.
 use Rattle.std.proofs.Common.{◌≡◌, ℕ, Bool, List, [], ◌∷◌, Some, None, refl, sym, ◌∙◌}
 use Rattle.std.specs.List.{filter}
-use Rattle.driver_core.specs.declared.answer.Answer.TheVariants.{UnknownCounter, WrongClient}
+use Rattle.driver_core.specs.declared.listing.Listed.TheVariants as listed_as
+use Rattle.driver_core.specs.declared.listing.Shown.TheVariants as shown_as
 use Rattle.driver_core.specs.Listing.{list, value}
 use Rattle.driver_core.specs.ListingLaws.{ListsExactly, ShowsExactly, ShowsPublicationExactly, LooksExactly, look_question, is_shown_to, publication_look}
 use Rattle.driver_core.specs.Renewal.{publication_at}
@@ -68,17 +69,17 @@ shows_publication_exactly s handle client number publication found none there =
 
 unknown_is_told : (s : State) (handle : ℕ) (client : Client) (number : ℕ) →
     client_at s.clients.rows handle ≡ Some client → counter_at s.counters number ≡ None →
-    publication_at s.streams.publications number ≡ None → value s handle number ≡ UnknownCounter
+    publication_at s.streams.publications number ≡ None → value s handle number ≡ shown_as.UnknownCounter
 unfolding value
 unknown_is_told s handle client number found none nothing = rw (found, none, nothing) refl
 
 nobody_is_listed : (s : State) (handle : ℕ) → client_at s.clients.rows handle ≡ None →
-    list s handle ≡ WrongClient
+    list s handle ≡ listed_as.WrongClient
 unfolding list
 nobody_is_listed s handle gone = rw gone refl
 
 nobody_is_shown : (s : State) (handle number : ℕ) → client_at s.clients.rows handle ≡ None →
-    value s handle number ≡ WrongClient
+    value s handle number ≡ shown_as.WrongClient
 unfolding value
 nobody_is_shown s handle number gone = rw gone refl
 

@@ -1,8 +1,6 @@
 -- Laws over every list of events, from a registry in which nobody is.
 use Rattle.std.specs.Prelude.{◌≡◌, ℕ, ◌+◌, ◌==◌, ◌&&◌, max, Bool, true, false, List, [], ◌∷◌, ◌++◌, Contains, is_some, Result, Ok, Err, ◌⊎◌, if◌then◌else◌}
 use Rattle.std.specs.List.{AllByRecursion}
-use Rattle.driver_core.specs.declared.answer.Answer.{Answer}
-use Rattle.driver_core.specs.declared.answer.Answer.TheVariants.{NoMemory, Attached, Full as IsFull, Stopped, PolicyInForce, PolicyFull, Replies, Counters, Value as ValueIs, Denied as DeniedBy, UnknownCounter, WrongClient}
 use Rattle.driver_core.specs.declared.change.Change.{Change}
 use Rattle.driver_core.specs.declared.event.Event.{Event}
 use Rattle.driver_core.specs.declared.event.Event.TheVariants.{Attach, Command, Reload, Tick}
@@ -16,15 +14,11 @@ use Rattle.driver_core.specs.declared.refusal.Refusal.TheVariants.{Denied, Full}
 use Rattle.driver_core.specs.declared.replies.Reply.{Reply}
 use Rattle.driver_core.specs.declared.replies.Reply.TheVariants.{Error, OperationSuccess, PublicationReady, ExclusivePublicationReady, SubscriptionReady, AvailableImage, UnavailableImage, CounterReady, UnavailableCounter, ClientTimeout}
 use Rattle.driver_core.specs.declared.settings.Settings.{Settings}
-use Rattle.driver_core.specs.declared.step.Step.{Step}
-use Rattle.driver_core.specs.declared.step.Step.TheVariants.{Conductor, List as Lists, Value}
 use Rattle.driver_core.specs.Commands.{heard}
 use Rattle.driver_core.specs.Conduct.{conduct, outcome_of, state_after}
-use Rattle.driver_core.specs.Listing.{list, value}
 use Rattle.driver_core.specs.Renewal.{images_told, images_decided, renewed}
 use Rattle.driver_core.specs.Replies.{refusal_text}
 use Rattle.driver_core.specs.Requests.{SubscriptionRequest, AsksToSubscribe, IsAsked, question_of}
-use Rattle.driver_core.specs.Runs.{opening_end, no_inputs, end_of, IsAnswer}
 use Rattle.driver_core.specs.State.{State, opened, at_moment}
 use Rattle.driver_core.specs.Subscribing.{act_of, subscribed, has_room_for_subscription}
 use Rattle.driver_core.specs.Verdicts.{IsByPolicy, verdict_on, denial_text}
@@ -250,59 +244,3 @@ abbrev pub RefusalsChangeNoMoreThanMoments : Type 0
 RefusalsChangeNoMoreThanMoments =
     AfterAnyEvents (λ s. (event : Event) (inputs : Inputs) → GrantsNothing (outcome_of s event inputs) →
     state_after s event inputs ≡ only_moments s event)
-
--- ---- runs
-
--- the events that a run took: those of the conductor's steps that were not refused memory
-abbrev pub taken : List Step → List Answer → List (Event × Inputs)
-taken [] answers = []
-taken (step ∷ steps) [] = []
-taken (step ∷ steps) (NoMemory ∷ answers) = taken steps answers
-taken (Conductor event ∷ steps) (answer ∷ answers) = (event, no_inputs) ∷ taken steps answers
-taken (Lists now client ∷ steps) (answer ∷ answers) = taken steps answers
-taken (Value now client number ∷ steps) (answer ∷ answers) = taken steps answers
-
--- what an answer says is what the event tells; want of memory says nothing
-abbrev pub IsTold : Answer → Outcome → Type 0
-IsTold NoMemory outcome = Unit {0}
-IsTold (Attached number) outcome = outcome.response ≡ response.Attached number
-IsTold IsFull outcome = outcome.response ≡ response.Full
-IsTold Stopped outcome = outcome.response ≡ response.Stopped
-IsTold (PolicyInForce epoch messages) outcome =
-    (outcome.response ≡ response.PolicyInForce epoch) × (messages ≡ outcome.replies)
-IsTold PolicyFull outcome = outcome.response ≡ response.PolicyFull
-IsTold (Replies messages) outcome = (outcome.response ≡ response.Nothing) × (messages ≡ outcome.replies)
-IsTold (Counters rows) outcome = ⊥
-IsTold (ValueIs number) outcome = ⊥
-IsTold (DeniedBy verdict) outcome = ⊥
-IsTold UnknownCounter outcome = ⊥
-IsTold WrongClient outcome = ⊥
-
--- what a look is told, unless there was no memory for it
-abbrev pub IsLook : Answer → Answer → Type 0
-IsLook NoMemory told = Unit {0}
-IsLook answer told = answer ≡ told
-
--- at its end stands the registry that those events leave; a further event is answered what it tells, and a further look
--- what that registry shows
-pub record TakesEvents (settings : Settings) (policy : Rules) (peers : List Peer) (steps : List Step) (answers : List Answer) : Type 0 where
-  pub leaves :
-      (end_of (opening_end settings policy peers) steps answers).registry
-      ≡ state_of (opened settings policy peers) (taken steps answers)
-  pub tells :
-      (event : Event) (answer : Answer) →
-      IsAnswer (end_of (opening_end settings policy peers) steps answers) (Conductor event) answer →
-      IsTold answer (outcome_of (state_of (opened settings policy peers) (taken steps answers)) event no_inputs)
-  pub lists :
-      (now client : ℕ) (answer : Answer) →
-      IsAnswer (end_of (opening_end settings policy peers) steps answers) (Lists now client) answer →
-      IsLook answer (list (state_of (opened settings policy peers) (taken steps answers)) client)
-  pub values :
-      (now client number : ℕ) (answer : Answer) →
-      IsAnswer (end_of (opening_end settings policy peers) steps answers) (Value now client number) answer →
-      IsLook answer (value (state_of (opened settings policy peers) (taken steps answers)) client number)
-
-abbrev pub RunsTakeEvents : Type 0
-RunsTakeEvents =
-    (settings : Settings) (policy : Rules) (peers : List Peer) (steps : List Step) (answers : List Answer) →
-    TakesEvents settings policy peers steps answers

@@ -12,6 +12,7 @@ pub mod Leaving
 pub mod LeavingLaws
 pub mod Listing
 pub mod ListingLaws
+pub mod LogRequests
 pub mod Pairs
 pub mod Publishing
 pub mod PublishingLaws
@@ -21,8 +22,8 @@ pub mod RemovalLaws
 pub mod Renewal
 pub mod Replies
 pub mod Requests
-pub mod Runs
 pub mod Settings
+pub mod Soundness
 pub mod State
 pub mod Subscribing
 pub mod Terminating

@@ -1,8 +1,10 @@
 -- What a client is shown of the counters. It looks, and changes nothing.
 use Rattle.std.specs.Prelude.{ℕ, ℤ, pos, min, Bool, nat_lt, List, [], ◌∷◌, map, filter, Option, Some, None, if◌then◌else◌}
-use Rattle.driver_core.specs.declared.answer.Answer.{Answer}
-use Rattle.driver_core.specs.declared.answer.Answer.TheVariants.{Counters, Value, Denied, UnknownCounter, WrongClient}
+use Rattle.driver_core.specs.declared.listing.Listed.{Listed}
+use Rattle.driver_core.specs.declared.listing.Listed.TheVariants as listed_as
 use Rattle.driver_core.specs.declared.listing.ListedCounter.{ListedCounter}
+use Rattle.driver_core.specs.declared.listing.Shown.{Shown}
+use Rattle.driver_core.specs.declared.listing.Shown.TheVariants as shown_as
 use Rattle.driver_core.specs.Renewal.{publication_at}
 use Rattle.driver_core.specs.State.{State}
 use Rattle.channel_uri.specs.Canonical.{canonical_of}
@@ -73,16 +75,16 @@ listed_publications s principal =
     map (publication_row s) (filter (shows_publication s principal) s.streams.publications)
 
 -- the counters that the policy in force shows to the principal, by their numbers
-abbrev pub listed : State → ℕ → List ListedCounter
-listed s principal =
+abbrev pub listed_to : State → ℕ → List ListedCounter
+listed_to s principal =
     with_rows (map row_of (visible_of s.counters s.policy principal)) (listed_publications s principal)
 
-abbrev pub list_by : State → Option Client → Answer
-list_by s None = WrongClient
-list_by s (Some client) = Counters (listed s client.principal)
+abbrev pub list_by : State → Option Client → Listed
+list_by s None = listed_as.WrongClient
+list_by s (Some client) = listed_as.Counters (listed_to s client.principal)
 
 -- a client that is there is told the counters that it may see
-unfoldable pub list : State → ℕ → Answer
+unfoldable pub list : State → ℕ → Listed
 list s client = list_by s (client_at s.clients.rows client)
 
 -- ---- one counter
@@ -91,24 +93,24 @@ list s client = list_by s (client_at s.clients.rows client)
 abbrev pub verdict_for : State → ℕ → Counter → Verdict
 verdict_for s principal counter = verdict_of s.policy s.epoch (question_for principal counter)
 
-abbrev pub value_under : Verdict → ℤ → Answer
-value_under verdict value = if verdict.allow then Value value else Denied verdict
+abbrev pub value_under : Verdict → ℤ → Shown
+value_under verdict value = if verdict.allow then shown_as.Value value else shown_as.Denied verdict
 
-abbrev pub publication_value : State → ℕ → Option Publication → Answer
-publication_value s principal None = UnknownCounter
+abbrev pub publication_value : State → ℕ → Option Publication → Shown
+publication_value s principal None = shown_as.UnknownCounter
 publication_value s principal (Some publication) =
     value_under (publication_verdict s principal publication) (registered_with s publication.source)
 
 -- numbers are drawn from one sequence, so that no publication has that of a counter
-abbrev pub value_by : State → ℕ → ℕ → Option Counter → Answer
+abbrev pub value_by : State → ℕ → ℕ → Option Counter → Shown
 value_by s principal number None =
     publication_value s principal (publication_at s.streams.publications number)
 value_by s principal number (Some counter) = value_under (verdict_for s principal counter) counter.value
 
-abbrev pub value_for : State → ℕ → Option Client → Answer
-value_for s number None = WrongClient
+abbrev pub value_for : State → ℕ → Option Client → Shown
+value_for s number None = shown_as.WrongClient
 value_for s number (Some client) = value_by s client.principal number (counter_at s.counters number)
 
 -- a client that is there is told the counter's value, or by what it is denied
-unfoldable pub value : State → ℕ → ℕ → Answer
+unfoldable pub value : State → ℕ → ℕ → Shown
 value s client number = value_for s number (client_at s.clients.rows client)

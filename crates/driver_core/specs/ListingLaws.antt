@@ -1,7 +1,9 @@
 -- Over every list of events: which counters a client is shown.
 use Rattle.std.specs.Prelude.{◌≡◌, ℕ, Bool, true, false, map, filter, Some, None}
-use Rattle.driver_core.specs.declared.answer.Answer.{Answer}
-use Rattle.driver_core.specs.declared.answer.Answer.TheVariants.{Counters, Value, Denied, UnknownCounter, WrongClient}
+use Rattle.driver_core.specs.declared.listing.Listed.{Listed}
+use Rattle.driver_core.specs.declared.listing.Listed.TheVariants as listed_as
+use Rattle.driver_core.specs.declared.listing.Shown.{Shown}
+use Rattle.driver_core.specs.declared.listing.Shown.TheVariants as shown_as
 use Rattle.driver_core.specs.Laws.{AfterAnyEvents}
 use Rattle.driver_core.specs.Listing.{row_of, registered_with, publication_row, publication_question, shows_publication, with_rows, list, value}
 use Rattle.driver_core.specs.Renewal.{publication_at}
@@ -29,10 +31,10 @@ publication_look client publication = publication_question client.principal publ
 
 -- the rows are those of the counters that the policy in force shows, and of the live publications, each by the first rule
 -- that matches or the default
-pub record ListsExactly (s : State) (client : Client) (answer : Answer) : Type 0 where
+pub record ListsExactly (s : State) (client : Client) (answer : Listed) : Type 0 where
   pub answer_is :
       answer
-      ≡ Counters (with_rows (map row_of (filter (is_shown_to s client) s.counters))
+      ≡ listed_as.Counters (with_rows (map row_of (filter (is_shown_to s client) s.counters))
       (map (publication_row s) (filter (shows_publication s client.principal) s.streams.publications)))
   pub by :
       (counter : Counter) → IsByPolicy s (look_question client counter) (verdict_on s (look_question client counter))
@@ -41,24 +43,24 @@ pub record ListsExactly (s : State) (client : Client) (answer : Answer) : Type 0
       IsByPolicy s (publication_look client publication) (verdict_on s (publication_look client publication))
 
 -- the value where the policy in force shows it, else the denial, which names the rule or the default
-pub record ShowsExactly (s : State) (client : Client) (counter : Counter) (answer : Answer) : Type 0 where
+pub record ShowsExactly (s : State) (client : Client) (counter : Counter) (answer : Shown) : Type 0 where
   pub by : IsByPolicy s (look_question client counter) (verdict_on s (look_question client counter))
-  pub shown : is_shown_to s client counter ≡ true → answer ≡ Value counter.value
-  pub denied : is_shown_to s client counter ≡ false → answer ≡ Denied (verdict_on s (look_question client counter))
+  pub shown : is_shown_to s client counter ≡ true → answer ≡ shown_as.Value counter.value
+  pub denied : is_shown_to s client counter ≡ false → answer ≡ shown_as.Denied (verdict_on s (look_question client counter))
   pub text :
       is_shown_to s client counter ≡ false →
       verdict_text (verdict_on s (look_question client counter))
       ≡ denial_text (verdict_on s (look_question client counter)).rule s.epoch
 
 -- how many are registered with the publication, where the policy in force shows it, else the denial
-pub record ShowsPublicationExactly (s : State) (client : Client) (publication : Publication) (answer : Answer) : Type 0 where
+pub record ShowsPublicationExactly (s : State) (client : Client) (publication : Publication) (answer : Shown) : Type 0 where
   pub by : IsByPolicy s (publication_look client publication) (verdict_on s (publication_look client publication))
   pub shown :
       (verdict_on s (publication_look client publication)).allow ≡ true →
-      answer ≡ Value (registered_with s publication.source)
+      answer ≡ shown_as.Value (registered_with s publication.source)
   pub denied :
       (verdict_on s (publication_look client publication)).allow ≡ false →
-      answer ≡ Denied (verdict_on s (publication_look client publication))
+      answer ≡ shown_as.Denied (verdict_on s (publication_look client publication))
   pub text :
       (verdict_on s (publication_look client publication)).allow ≡ false →
       verdict_text (verdict_on s (publication_look client publication))
@@ -78,9 +80,9 @@ pub record LooksExactly (s : State) (handle : ℕ) : Type 0 where
   pub unknown :
       (client : Client) (number : ℕ) → client_at s.clients.rows handle ≡ Some client →
       counter_at s.counters number ≡ None → publication_at s.streams.publications number ≡ None →
-      value s handle number ≡ UnknownCounter
-  pub lists_nobody : client_at s.clients.rows handle ≡ None → list s handle ≡ WrongClient
-  pub values_nobody : (number : ℕ) → client_at s.clients.rows handle ≡ None → value s handle number ≡ WrongClient
+      value s handle number ≡ shown_as.UnknownCounter
+  pub lists_nobody : client_at s.clients.rows handle ≡ None → list s handle ≡ listed_as.WrongClient
+  pub values_nobody : (number : ℕ) → client_at s.clients.rows handle ≡ None → value s handle number ≡ shown_as.WrongClient
 
 abbrev pub CountersAreShownExactly : Type 0
 CountersAreShownExactly = AfterAnyEvents (λ s. (handle : ℕ) → LooksExactly s handle)

@@ -3,10 +3,11 @@
 ghost use Rattle.driver_core.specs.GrantLaws.{CountersAreGrantedExactly, TerminationsAreGrantedExactly, CountersAndTerminationsAreGrantedOnly};
 ghost use Rattle.driver_core.specs.ImageLaws.{ImagesAreGrantedExactly};
 ghost use Rattle.driver_core.specs.ListingLaws.{CountersAreShownExactly};
-ghost use Rattle.driver_core.specs.Laws.{SubscriptionsAreGrantedExactly, SubscriptionsAreGrantedOnly, DenialsAreNamed, RefusalsChangeNoMoreThanMoments, RunsTakeEvents};
+ghost use Rattle.driver_core.specs.Laws.{SubscriptionsAreGrantedExactly, SubscriptionsAreGrantedOnly, DenialsAreNamed, RefusalsChangeNoMoreThanMoments};
 ghost use Rattle.driver_core.specs.PublishingLaws.{PublicationsAreGrantedExactly, PublicationsAreGrantedOnly};
 ghost use Rattle.driver_core.specs.ReloadLaws.{ReloadsCloseExactly, NewestPolicyIsInForce};
 ghost use Rattle.driver_core.specs.RemovalLaws.{SubscriptionsAreRemovedExactly, SubscriptionsAreRemovedOnly};
+ghost use Rattle.driver_core.specs.Soundness.{RegistriesAreSound};
 
 /// A client's well-formed request for a subscription is granted where the first rule that matches allows it, or where
 /// none matches and the default does, and there is room; else it is refused, by the verdict or as full.
@@ -96,8 +97,8 @@ pub fn refusals_change_no_more_than_moments()
     ensures { RefusalsChangeNoMoreThanMoments }
 {}
 
-/// A run of a world leaves the registry that its events leave, those apart that were refused memory, and answers each
-/// event what it tells and each look what that registry shows: so what is said here of events holds of runs.
-pub fn runs_take_events()
-    ensures { RunsTakeEvents }
+/// In a registry that was opened with sound settings, all logs have sound sizes, are numbered in the order in which they
+/// came, and share no page, whatever happened.
+pub fn registries_are_sound()
+    ensures { RegistriesAreSound }
 {}

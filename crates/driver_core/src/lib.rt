@@ -2,11 +2,10 @@
 //!
 //! `Registry::step` is one event of the conductor: a client that attaches, a command of one, a policy that is put in
 //! force, or time that goes on. What it answers is `outcome_of`, and what it leaves is `state_after`, two total functions
-//! on the registry as plain data. `World::run` takes any list of steps, events and looks at counters, and its answers
-//! continue the run that came before.
+//! on the registry as plain data. `Registry::list` and `Registry::value` show a client counters, and `Registry::offering`
+//! and `Registry::receiving` say what it asks of a log; none of them changes anything.
 #![tactic(auto)]
 
-mod answer;
 mod attaching;
 mod change;
 mod closing;
@@ -18,6 +17,7 @@ mod event;
 mod laws;
 mod leaving;
 mod listing;
+mod log_request;
 mod outcome;
 mod pairs;
 mod peer;
@@ -29,31 +29,30 @@ mod renewal;
 mod replies;
 mod rows;
 mod settings;
-mod step;
 mod subscribing;
 mod terminating;
 mod ticking;
 mod unpublishing;
 mod unsubscribing;
-mod world;
+mod view;
 
-pub use answer::Answer;
+pub use change::Change;
 pub use event::{End, Event, Inputs};
 pub use laws::{
     counters_and_terminations_are_granted_only, counters_are_granted_exactly,
     counters_are_shown_exactly, denials_are_named, images_are_granted_exactly,
     newest_policy_is_in_force, publications_are_granted_exactly, publications_are_granted_only,
-    refusals_change_no_more_than_moments, reloads_close_exactly, runs_take_events,
+    refusals_change_no_more_than_moments, registries_are_sound, reloads_close_exactly,
     subscriptions_are_granted_exactly, subscriptions_are_granted_only,
     subscriptions_are_removed_exactly, subscriptions_are_removed_only,
     terminations_are_granted_exactly,
 };
-pub use listing::ListedCounter;
+pub use listing::{Listed, ListedCounter, Shown};
+pub use log_request::LogRequest;
 pub use outcome::{Outcome, Response};
 pub use peer::{Address, Peer};
 pub use refusal::Refusal;
 pub use registry::Registry;
 pub use replies::{Message, Reply};
 pub use settings::Settings;
-pub use step::Step;
-pub use world::World;
+pub use view::View;

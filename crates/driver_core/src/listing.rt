@@ -2,7 +2,6 @@ ghost use Rattle.driver_core.specs.Listing.{row_of, registered_with, publication
 ghost use Rattle.driver_core.specs.Renewal.{publication_at};
 ghost use Rattle.std.specs.Prelude.{◌≡◌, map, filter, IfOk, OnOk};
 
-use crate::answer::Answer;
 use crate::registry::Registry;
 use byte_strings::{Items, Text};
 use channel_uri::Channel;
@@ -24,6 +23,29 @@ pub struct ListedCounter {
     pub value: i64,
     /// What readers call the counter.
     pub label: Text,
+}
+
+/// What a client is shown of all counters.
+#[derive(Debug, PartialEq, Eq, Drop)]
+pub enum Listed {
+    /// The counters that the client may see, by their numbers. One that it may not see is not told from one that is not
+    /// there.
+    Counters(Items<ListedCounter>),
+    /// The client that looks is not attached.
+    WrongClient,
+}
+
+/// What a client is shown of one counter.
+#[derive(Debug, PartialEq, Eq, Drop)]
+pub enum Shown {
+    /// The value of the counter.
+    Value(i64),
+    /// The policy does not show the client that counter, by this verdict.
+    Denied(Verdict),
+    /// There is no counter of that number.
+    UnknownCounter,
+    /// The client that looks is not attached.
+    WrongClient,
 }
 
 /// The counter as it is listed.
@@ -115,66 +137,68 @@ fn put_publications(
     Ok(())
 }
 
-/// What a client is shown of the counters.
-///
-/// # Errors
-/// Where there is no memory for the list.
-#[tactic(auto, unfolding(crate::specs::Listing::list))]
-pub(crate) fn list(registry: &Registry, alloc: Global, client: u64) -> Result<Answer, AllocError>
-    ensures { IfOk result (λ answer. answer ≡ list registry.now client) }
-{
-    let Some(client) = registry.clients.get(client) else {
-        return Ok(Answer::WrongClient);
-    };
-    let shown = registry
-        .counters
-        .visible(alloc, &registry.policy, client.principal)?;
-    let mut rows = rows_of(alloc, shown.as_slice())?;
-    let publications = registry.streams.publications();
-    put_publications(&mut rows, registry, alloc, client.principal, publications)?;
-    Ok(Answer::Counters(Items::from(rows)))
-}
-
 /// The value, where the verdict allows that it is shown.
-fn value_under(verdict: Verdict, value: i64) -> Answer
+fn value_under(verdict: Verdict, value: i64) -> Shown
     ensures { result ≡ value_under verdict value }
 {
     if verdict.allow {
-        Answer::Value(value)
+        Shown::Value(value)
     } else {
-        Answer::Denied(verdict)
+        Shown::Denied(verdict)
     }
 }
 
 /// What a client is told of the publication of this number.
-fn publication_value(registry: &Registry, principal: u32, number: u64) -> Answer
+fn publication_value(registry: &Registry, principal: u32, number: u64) -> Shown
     ensures { result ≡ publication_value registry.now principal (publication_at registry.now.streams.publications number) }
 {
     let Some(publication) = registry.publication(number) else {
-        return Answer::UnknownCounter;
+        return Shown::UnknownCounter;
     };
     let verdict = publication_verdict(registry, principal, publication);
     value_under(verdict, registrations_of(registry, publication.source))
 }
 
-/// What a client is told of the counter of this number. It takes no memory.
-#[tactic(auto, unfolding(crate::specs::Listing::value))]
-pub(crate) fn value(registry: &Registry, alloc: Global, client: u64, number: u64) -> Answer
-    ensures { result ≡ value registry.now client number }
-{
-    let Some(client) = registry.clients.get(client) else {
-        return Answer::WrongClient;
-    };
-    let Some(counter) = registry.counters.get(number) else {
-        return publication_value(registry, client.principal, number);
-    };
-    let channel = Channel::counter(alloc);
-    let request = Request {
-        principal: client.principal,
-        act: Act::List,
-        channel: &channel,
-        stream: counter.type_id,
-    };
-    let verdict = registry.policy.verdict(registry.epoch, &request);
-    value_under(verdict, counter.value)
+impl Registry {
+    /// What a client is shown of the counters, those of publications among them.
+    ///
+    /// # Errors
+    /// Where there is no memory for the list.
+    #[tactic(auto, unfolding(crate::specs::Listing::list))]
+    pub fn list(&self, alloc: Global, client: u64) -> Result<Listed, AllocError>
+        ensures { IfOk result (λ listed. listed ≡ list self.now client) }
+    {
+        let Some(client) = self.clients.get(client) else {
+            return Ok(Listed::WrongClient);
+        };
+        let shown = self
+            .counters
+            .visible(alloc, &self.policy, client.principal)?;
+        let mut rows = rows_of(alloc, shown.as_slice())?;
+        let publications = self.streams.publications();
+        put_publications(&mut rows, self, alloc, client.principal, publications)?;
+        Ok(Listed::Counters(Items::from(rows)))
+    }
+
+    /// What a client is shown of the counter of this number. It takes no memory.
+    #[tactic(auto, unfolding(crate::specs::Listing::value))]
+    pub fn value(&self, alloc: Global, client: u64, number: u64) -> Shown
+        ensures { result ≡ value self.now client number }
+    {
+        let Some(client) = self.clients.get(client) else {
+            return Shown::WrongClient;
+        };
+        let Some(counter) = self.counters.get(number) else {
+            return publication_value(self, client.principal, number);
+        };
+        let channel = Channel::counter(alloc);
+        let request = Request {
+            principal: client.principal,
+            act: Act::List,
+            channel: &channel,
+            stream: counter.type_id,
+        };
+        let verdict = self.policy.verdict(self.epoch, &request);
+        value_under(verdict, counter.value)
+    }
 }

@@ -52,6 +52,7 @@ impl Model for Registry {
 impl Registry {
     ghost use Rattle.driver_core.specs.State.{opened, has_number, at_moment};
     ghost use Rattle.driver_core.specs.Conduct.{drafted, conduct, state_after, outcome_of};
+    ghost use Rattle.driver_core.specs.Soundness.{IsSound, MovesLogs};
 
     /// A registry with nobody in it, under a policy that has the number 1. The policy and the peers are taken over.
     #[tactic(auto, unfolding(crate::specs::State::opened))]
@@ -98,6 +99,13 @@ impl Registry {
             last_number: self.last_number,
             stopped: self.stopped,
         })
+    }
+
+    /// What the driver is set to.
+    pub fn settings(&self) -> Settings
+        ensures { result ≡ self.now.settings }
+    {
+        self.settings
     }
 
     /// Whether a number is left that was not drawn yet.
@@ -154,13 +162,9 @@ impl Registry {
 
     /// What the event makes of the registry, which itself stays as it is.
     #[tactic(auto, unfolding(crate::specs::Conduct::conduct))]
-    pub(crate) fn next(
-        &self,
-        alloc: Global,
-        event: &Event,
-        inputs: &Inputs,
-    ) -> Result<Change, AllocError>
-        ensures { IfOk result (λ change. change ≡ conduct self.now event.now inputs.now) }
+    pub fn next(&self, alloc: Global, event: &Event, inputs: &Inputs) -> Result<Change, AllocError>
+        ensures exact { IfOk result (λ change. change ≡ conduct self.now event.now inputs.now) }
+        ensures moves { IfOk result (λ change. IsSound self.now → MovesLogs self.now change) }
     {
         let draft = self.draft(alloc, event)?;
         renewal::renew(self, alloc, inputs, draft)

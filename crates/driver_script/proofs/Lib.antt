@@ -5,4 +5,5 @@ pub mod LineLemmas
 pub mod NumberLemmas
 pub mod OutputLemmas
 pub mod PiecesLemmas
+pub mod SettingsLemmas
 pub mod TurnLemmas

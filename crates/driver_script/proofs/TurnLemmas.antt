@@ -2,11 +2,11 @@
 use Rattle.std.proofs.Common.{◌≡◌, ℕ, List, [], ◌∷◌, ◌++◌, Option, Some, None, Result, Ok, Err, IfOk, IfErr, IfSome, OnOk, OnErr, refl, sym, ap, subst, append_assoc, append-nil}
 use Rattle.std.specs.Io.KnownBytes.{Appends}
 use Rattle.std.specs.List.{flat_map}
-use Rattle.driver_core.specs.declared.answer.Answer.{Answer}
-use Rattle.driver_core.specs.declared.answer.Answer.TheVariants.{NoMemory}
-use Rattle.driver_core.specs.declared.settings.Settings.{Settings}
-use Rattle.driver_core.specs.declared.step.Step.{Step}
-use Rattle.driver_core.specs.Runs.{RunEnd, StandsFor, Serves, IsAnswer, after, opening_end}
+use Rattle.driver_world.specs.declared.answer.Answer.{Answer}
+use Rattle.driver_world.specs.declared.answer.Answer.TheVariants.{NoMemory}
+use Rattle.driver_world.specs.declared.step.Step.{Step}
+use Rattle.driver_world.specs.Ends.{RunEnd, IsAnswer, after, opening_end}
+use Rattle.driver_world.specs.Standing.{Held, StandsForEnd, Serves}
 use Rattle.driver_script.specs.declared.script.Ended.{Ended}
 use Rattle.driver_script.specs.declared.script.Ended.TheVariants.{Done, BadLine}
 use Rattle.driver_script.specs.declared.fault.RunFault.{RunFault}
@@ -23,7 +23,7 @@ use Rattle.policy_text.specs.declared.fault.PolicyFault.TheVariants as text
 use Rattle.policy_text.specs.Document.{policy_of}
 use Rattle.policy_text.specs.Fault.{Fails}
 use Rattle.policy_text.specs.Names.{Known}
-use Rattle.driver_script.specs.Script.{Opening, Ends, Refuses, Opens, no_preface, opening_of, Deed, Takes, Faults, Stops, deed_by, deed_of, put_in_force, Told, Answered, Refused, after_told, IsDone, IsOpeningText, IsScriptText, IsRunning, Writes, answer_text, told_text, ended_text, script_text}
+use Rattle.driver_script.specs.Script.{Opening, Ends, Refuses, Opens, no_preface, opening_of, Deed, Takes, deed_by, deed_of, put_in_force, Told, Answered, IsDone, IsOpeningText, IsRunning, Writes, answer_text, told_text, ended_text}
 use Rattle.driver_script.specs.Turns.{Turns, Goes, Steps, Puts, StopsAt, GivesUp, GivesUpStep, GivesUpPolicy, IsHead, WritesScript, BeginsScript, WritesFront, WritesWhole, SoFar, told_of_fault}
 use Rattle.driver_script.proofs.OutputLemmas.{appends_more}
 
@@ -155,14 +155,14 @@ some_text names e (statement ∷ rest) = some_text_by names e statement.line sta
 -- ---- a world in the middle of a run
 
 -- a statement that turns a world into another, and whose text was written
-goes_by : (names : Known) (old new : RunEnd) (statement : Statement) (front : List ℕ) (before after' : Option (List ℕ)) →
-    ((e : RunEnd) → StandsFor old e → (next : RunEnd) × StandsFor new next × Turns names e next statement front) →
+goes_by : (names : Known) (old new : Held) (statement : Statement) (front : List ℕ) (before after' : Option (List ℕ)) →
+    ((e : RunEnd) → StandsForEnd old e → (next : RunEnd) × StandsForEnd new next × Turns names e next statement front) →
     Appends before after' front → Goes names old new statement before after'
 goes_by names old new statement front before after' turns appended = record { front = front; appended = appended; on = turns }
 
 -- a statement whose text was written in part, or not at all
-gives_up_by : (names : Known) (old new : RunEnd) (statement : Statement) (front : List ℕ) (before after' : Option (List ℕ)) →
-    ((e : RunEnd) → StandsFor old e → (next : RunEnd) × StandsFor new next × Turns names e next statement front) →
+gives_up_by : (names : Known) (old new : Held) (statement : Statement) (front : List ℕ) (before after' : Option (List ℕ)) →
+    ((e : RunEnd) → StandsForEnd old e → (next : RunEnd) × StandsForEnd new next × Turns names e next statement front) →
     AppendsFront before after' front → GivesUp names old statement before after'
 gives_up_by names old new statement front before after' turns begun =
     record {
@@ -179,19 +179,19 @@ gives_up_by names old new statement front before after' turns begun =
     }
 
 -- a step that a world took
-turns_of : (names : Known) (old new : RunEnd) (line : ℕ) (said : Said) (step : Step) (answer : Answer) →
-    deed_of names said ≡ Takes step → Serves old new step answer → (e : RunEnd) → StandsFor old e →
-    (next : RunEnd) × StandsFor new next × Turns names e next (record { line = line; said = said }) (answer_text answer)
+turns_of : (names : Known) (old new : Held) (line : ℕ) (said : Said) (step : Step) (answer : Answer) →
+    deed_of names said ≡ Takes step → Serves old new step answer → (e : RunEnd) → StandsForEnd old e →
+    (next : RunEnd) × StandsForEnd new next × Turns names e next (record { line = line; said = said }) (answer_text answer)
 turns_of names old new line said step answer is served e stands =
     let s = served.on e stands in
     (after e step answer, s.1, turns_step names e line said step answer is s.0)
 
-pub so_far_none : (names : Known) (held : RunEnd) (statements : List Statement) (written : Option (List ℕ)) → Appends written written [] →
+pub so_far_none : (names : Known) (held : Held) (statements : List Statement) (written : Option (List ℕ)) → Appends written written [] →
     SoFar names held statements held statements written written
 so_far_none names held statements written nothing =
     record { front = []; appended = nothing; on = λ e stands. (e, stands, λ ended text w. w) }
 
-pub so_far_more : (names : Known) (start : RunEnd) (all : List Statement) (middle new : RunEnd) (statement : Statement) (rest : List Statement)
+pub so_far_more : (names : Known) (start : Held) (all : List Statement) (middle new : Held) (statement : Statement) (rest : List Statement)
     (before between after' : Option (List ℕ)) →
     SoFar names start all middle (statement ∷ rest) before between → Goes names middle new statement between after' →
     SoFar names start all new rest before after'
@@ -209,7 +209,7 @@ so_far_more names start all middle new statement rest before between after' so_f
           );
     }
 
-pub so_far_done : (names : Known) (start : RunEnd) (all : List Statement) (held : RunEnd) (before after' : Option (List ℕ)) →
+pub so_far_done : (names : Known) (start : Held) (all : List Statement) (held : Held) (before after' : Option (List ℕ)) →
     SoFar names start all held [] before after' → WritesWhole names start all Done before after'
 so_far_done names start all held before after' so_far =
     record {
@@ -218,7 +218,7 @@ so_far_done names start all held before after' so_far =
           (so_far.front ++ [], on Done [] (writes_none names next), rw append-nil so_far.appended);
     }
 
-pub so_far_stops : (names : Known) (start : RunEnd) (all : List Statement) (held : RunEnd) (statement : Statement) (rest : List Statement) (ended : Ended)
+pub so_far_stops : (names : Known) (start : Held) (all : List Statement) (held : Held) (statement : Statement) (rest : List Statement) (ended : Ended)
     (before between after' : Option (List ℕ)) →
     SoFar names start all held (statement ∷ rest) before between → StopsAt names statement ended between after' →
     WritesWhole names start all ended before after'
@@ -232,7 +232,7 @@ so_far_stops names start all held statement rest ended before between after' so_
           );
     }
 
-pub so_far_gives_up : (names : Known) (start : RunEnd) (all : List Statement) (held : RunEnd) (statement : Statement) (rest : List Statement)
+pub so_far_gives_up : (names : Known) (start : Held) (all : List Statement) (held : Held) (statement : Statement) (rest : List Statement)
     (before between after' : Option (List ℕ)) →
     SoFar names start all held (statement ∷ rest) before between → GivesUp names held statement between after' →
     WritesFront names start all before after'
@@ -249,7 +249,7 @@ so_far_gives_up names start all held statement rest before between after' so_far
     }
 
 -- the run gave up between two statements
-pub so_far_front : (names : Known) (start : RunEnd) (all : List Statement) (held : RunEnd) (left : List Statement) (before after' : Option (List ℕ)) →
+pub so_far_front : (names : Known) (start : Held) (all : List Statement) (held : Held) (left : List Statement) (before after' : Option (List ℕ)) →
     SoFar names start all held left before after' → WritesFront names start all before after'
 so_far_front names start all held left before after' so_far =
     record {
@@ -264,7 +264,7 @@ so_far_front names start all held left before after' so_far =
     }
 
 -- what writing an answer came to, as what the step came to
-pub step_goes : (r : Result (Unit {0}) RunFault) (old new : RunEnd) (step : Step) (answer : Answer) (before after' : Option (List ℕ)) →
+pub step_goes : (r : Result (Unit {0}) RunFault) (old new : Held) (step : Step) (answer : Answer) (before after' : Option (List ℕ)) →
     Serves old new step answer → OnOk r (Appends before after' (answer_text answer)) →
     OnOk r (Steps old new step before after')
 step_goes (Ok x) old new step answer before after' served appended =
@@ -275,7 +275,7 @@ step_goes (Ok x) old new step answer before after' served appended =
     }
 step_goes (Err fault) old new step answer before after' served appended = tt
 
-pub step_gives_up : (r : Result (Unit {0}) RunFault) (old new : RunEnd) (step : Step) (answer : Answer) (before after' : Option (List ℕ)) →
+pub step_gives_up : (r : Result (Unit {0}) RunFault) (old new : Held) (step : Step) (answer : Answer) (before after' : Option (List ℕ)) →
     Serves old new step answer → OnErr r (AppendsFront before after' (answer_text answer)) →
     OnErr r (GivesUpStep old step before after')
 step_gives_up (Ok x) old new step answer before after' served begun = tt
@@ -287,14 +287,14 @@ step_gives_up (Err fault) old new step answer before after' served begun =
     }
 
 -- a policy that is put in force is a step
-pub policy_goes : (r : Result (Unit {0}) RunFault) (names : Known) (old new : RunEnd) (text : List ℕ) (policy : Rules) (before after' : Option (List ℕ)) →
+pub policy_goes : (r : Result (Unit {0}) RunFault) (names : Known) (old new : Held) (text : List ℕ) (policy : Rules) (before after' : Option (List ℕ)) →
     policy_of names text ≡ Ok policy → OnOk r (Steps old new (put_in_force policy) before after') →
     OnOk r (Puts names old new text before after')
 policy_goes (Ok x) names old new text policy before after' is steps =
     record { on = λ line. steps.on names line (Policy text) (rw is refl) }
 policy_goes (Err fault) names old new text policy before after' is steps = tt
 
-pub policy_gives_up : (r : Result (Unit {0}) RunFault) (names : Known) (old : RunEnd) (text : List ℕ) (policy : Rules) (before after' : Option (List ℕ)) →
+pub policy_gives_up : (r : Result (Unit {0}) RunFault) (names : Known) (old : Held) (text : List ℕ) (policy : Rules) (before after' : Option (List ℕ)) →
     policy_of names text ≡ Ok policy → OnErr r (GivesUpStep old (put_in_force policy) before after') →
     OnErr r (GivesUpPolicy names old text before after')
 policy_gives_up (Ok x) names old text policy before after' is gives_up = tt
@@ -302,7 +302,7 @@ policy_gives_up (Err fault) names old text policy before after' is gives_up =
     record { on = λ line. gives_up.on names line (Policy text) (rw is refl) }
 
 -- one that is refused is none
-pub refusal_goes : (r : Result (Unit {0}) RunFault) (names : Known) (held : RunEnd) (text : List ℕ) (fault : PolicyFault) (before after' : Option (List ℕ)) →
+pub refusal_goes : (r : Result (Unit {0}) RunFault) (names : Known) (held : Held) (text : List ℕ) (fault : PolicyFault) (before after' : Option (List ℕ)) →
     Fails fault (policy_of names text) → OnOk r (Appends before after' (told_text (told_of_fault fault))) →
     OnOk r (Puts names held held text before after')
 refusal_goes (Ok x) names held text fault before after' is appended =
@@ -313,7 +313,7 @@ refusal_goes (Ok x) names held text fault before after' is appended =
     }
 refusal_goes (Err error) names held text fault before after' is appended = tt
 
-pub refusal_gives_up : (r : Result (Unit {0}) RunFault) (names : Known) (held : RunEnd) (text : List ℕ) (fault : PolicyFault) (before after' : Option (List ℕ)) →
+pub refusal_gives_up : (r : Result (Unit {0}) RunFault) (names : Known) (held : Held) (text : List ℕ) (fault : PolicyFault) (before after' : Option (List ℕ)) →
     Fails fault (policy_of names text) → OnErr r (AppendsFront before after' (told_text (told_of_fault fault))) →
     OnErr r (GivesUpPolicy names held text before after')
 refusal_gives_up (Ok x) names held text fault before after' is begun = tt
@@ -331,7 +331,7 @@ pub stops_bad : (names : Known) (line : ℕ) (said : Said) (before after' : Opti
 stops_bad names line said before after' out appended =
     record { text = ended_text (BadLine line); appended = appended; on = λ e rest. writes_bad names e line said rest out }
 
-pub gives_up_bad : (names : Known) (held : RunEnd) (line : ℕ) (said : Said) (before after' : Option (List ℕ)) → IsOutOfOrder said →
+pub gives_up_bad : (names : Known) (held : Held) (line : ℕ) (said : Said) (before after' : Option (List ℕ)) → IsOutOfOrder said →
     AppendsFront before after' (ended_text (BadLine line)) →
     GivesUp names held (record { line = line; said = said }) before after'
 gives_up_bad names held line said before after' out begun =
@@ -361,33 +361,33 @@ if_some P None all = tt
 if_some P (Some x) all = all x
 
 -- the same of a statement that says so
-pub statement_goes : (names : Known) (old new : RunEnd) (statement : Statement) (step : Step) (before after' : Option (List ℕ)) →
+pub statement_goes : (names : Known) (old new : Held) (statement : Statement) (step : Step) (before after' : Option (List ℕ)) →
     statement.said ≡ Does step → Steps old new step before after' → Goes names old new statement before after'
 statement_goes names old new statement step before after' is steps =
     let P : Said → Type 0 = λ said. Goes names old new (record { line = statement.line; said = said }) before after' in
     subst P (sym is) (steps.on names statement.line (Does step) refl)
 
-pub statement_gives_up : (names : Known) (held : RunEnd) (statement : Statement) (step : Step) (before after' : Option (List ℕ)) →
+pub statement_gives_up : (names : Known) (held : Held) (statement : Statement) (step : Step) (before after' : Option (List ℕ)) →
     statement.said ≡ Does step → GivesUpStep held step before after' → GivesUp names held statement before after'
 statement_gives_up names held statement step before after' is gives_up =
     let P : Said → Type 0 = λ said. GivesUp names held (record { line = statement.line; said = said }) before after' in
     subst P (sym is) (gives_up.on names statement.line (Does step) refl)
 
-pub statement_puts : (names : Known) (old new : RunEnd) (statement : Statement) (text found : List ℕ) (before after' : Option (List ℕ)) →
+pub statement_puts : (names : Known) (old new : Held) (statement : Statement) (text found : List ℕ) (before after' : Option (List ℕ)) →
     found ≡ text → statement.said ≡ Policy text → Puts names old new found before after' → Goes names old new statement before after'
 statement_puts names old new statement text found before after' same is puts =
     let P : Said → Type 0 = λ said. Goes names old new (record { line = statement.line; said = said }) before after' in
     let Q : List ℕ → Type 0 = λ those. Puts names old new those before after' in
     subst P (sym is) ((subst Q same puts).on statement.line)
 
-pub statement_gives_up_policy : (names : Known) (held : RunEnd) (statement : Statement) (text found : List ℕ) (before after' : Option (List ℕ)) →
+pub statement_gives_up_policy : (names : Known) (held : Held) (statement : Statement) (text found : List ℕ) (before after' : Option (List ℕ)) →
     found ≡ text → statement.said ≡ Policy text → GivesUpPolicy names held found before after' → GivesUp names held statement before after'
 statement_gives_up_policy names held statement text found before after' same is gives_up =
     let P : Said → Type 0 = λ said. GivesUp names held (record { line = statement.line; said = said }) before after' in
     let Q : List ℕ → Type 0 = λ those. GivesUpPolicy names held those before after' in
     subst P (sym is) ((subst Q same gives_up).on statement.line)
 
-pub statement_bad : (names : Known) (held : RunEnd) (statement : Statement) (said : Said) (before after' : Option (List ℕ)) →
+pub statement_bad : (names : Known) (held : Held) (statement : Statement) (said : Said) (before after' : Option (List ℕ)) →
     statement.said ≡ said → IsOutOfOrder said → AppendsFront before after' (ended_text (BadLine statement.line)) →
     GivesUp names held statement before after'
 statement_bad names held statement said before after' is out begun =
@@ -395,7 +395,7 @@ statement_bad names held statement said before after' is out begun =
     subst P (sym is) (gives_up_bad names held statement.line said before after' out begun)
 
 -- the statements that are left, as they were found to be
-pub so_far_at : (names : Known) (start : RunEnd) (all : List Statement) (held : RunEnd) (left found : List Statement) (before after' : Option (List ℕ)) →
+pub so_far_at : (names : Known) (start : Held) (all : List Statement) (held : Held) (left found : List Statement) (before after' : Option (List ℕ)) →
     left ≡ found → SoFar names start all held left before after' → SoFar names start all held found before after'
 so_far_at names start all held left found before after' is so_far =
     let P : List Statement → Type 0 = λ rest. SoFar names start all held rest before after' in
@@ -438,7 +438,7 @@ begins_refused (Err fault) statements names left line before after' is begun =
     }
 
 -- the head opened a world
-head_whole : (o : Opening) (names : Known) (left : List Statement) (world : RunEnd) (ended : Ended) (before after' : Option (List ℕ)) →
+head_whole : (o : Opening) (names : Known) (left : List Statement) (world : Held) (ended : Ended) (before after' : Option (List ℕ)) →
     IsHead o names left (head.Opened world) → WritesWhole names world left ended before after' →
     (text : List ℕ) × IsOpeningText o ended text × Appends before after' text
 head_whole Ends names left world ended before after' is whole = cc
@@ -449,7 +449,7 @@ head_whole (Opens given settings policy rest) names left world ended before afte
     let Q : Known → Type 0 = λ those. Writes those (opening_end settings policy []) rest ended text in
     (text, subst Q (sym is.0) (subst P (sym is.1) written), appended)
 
-head_front : (o : Opening) (names : Known) (left : List Statement) (world : RunEnd) (before after' : Option (List ℕ)) →
+head_front : (o : Opening) (names : Known) (left : List Statement) (world : Held) (before after' : Option (List ℕ)) →
     IsHead o names left (head.Opened world) → WritesFront names world left before after' →
     (ended : Ended) × (text : List ℕ) × IsOpeningText o ended text × AppendsFront before after' text
 head_front Ends names left world before after' is front = cc
@@ -460,7 +460,7 @@ head_front (Opens given settings policy rest) names left world before after' is 
     let Q : Known → Type 0 = λ those. Writes those (opening_end settings policy []) rest ended text in
     (ended, text, subst Q (sym is.0) (subst P (sym is.1) written), begun)
 
-pub writes_opened : (r : Result Ended RunFault) (statements : List Statement) (names : Known) (left : List Statement) (world : RunEnd)
+pub writes_opened : (r : Result Ended RunFault) (statements : List Statement) (names : Known) (left : List Statement) (world : Held)
     (before after' : Option (List ℕ)) →
     IsHead (opening_of no_preface statements) names left (head.Opened world) →
     IfOk r (λ ended. WritesWhole names world left ended before after') → IfOk r (λ ended. WritesScript statements ended before after')
@@ -469,7 +469,7 @@ writes_opened (Ok ended) statements names left world before after' is whole =
     record { text = text; is = written; appended = appended }
 writes_opened (Err fault) statements names left world before after' is whole = tt
 
-pub begins_opened : (r : Result Ended RunFault) (statements : List Statement) (names : Known) (left : List Statement) (world : RunEnd)
+pub begins_opened : (r : Result Ended RunFault) (statements : List Statement) (names : Known) (left : List Statement) (world : Held)
     (before after' : Option (List ℕ)) →
     IsHead (opening_of no_preface statements) names left (head.Opened world) →
     OnErr r (WritesFront names world left before after') → OnErr r (BeginsScript statements before after')

@@ -3,7 +3,10 @@ use Rattle.std.specs.Prelude.{ℕ, ◌+◌, ◌/◌, ◌%◌, ℤ, List, [], ◌
 use Rattle.std.specs.Fmt.{decimal, signed_decimal}
 use Rattle.std.specs.List.{flat_map}
 use Rattle.driver_script.specs.declared.answers.AnswerLine.{AnswerLine}
-use Rattle.driver_script.specs.declared.answers.AnswerLine.TheVariants.{Attached, Full, Stopped, PolicyInForce, PolicyFull, PolicyRefused, Reply, List as Lists, Counter, Value, Denied, UnknownCounter, WrongClient, NoMemory, BadLine}
+use Rattle.driver_script.specs.declared.answers.AnswerLine.TheVariants.{Attached, Full, Stopped, PolicyInForce, PolicyFull, PolicyRefused, Reply, Offer, Poll, Fragment, Gone, List as Lists, Counter, Value, Denied, UnknownCounter, WrongClient, NoMemory, BadLine}
+use Rattle.driver_world.specs.declared.answer.Offered.{Offered}
+use Rattle.driver_world.specs.declared.answer.Offered.TheVariants as offered
+use Rattle.frame_codec.specs.declared.flags.Flags.{Flags}
 use Rattle.policy_core.specs.declared.verdict.Verdict.{Verdict}
 use Rattle.policy_core.specs.Verdict.{verdict_text}
 use Rattle.policy_text.specs.declared.fault.PolicyFault.{PolicyFault}
@@ -34,6 +37,30 @@ policy_line epoch = codes "policy " ++ (decimal epoch ++ codes "\n")
 abbrev pub refusal_line : PolicyFault → List ℕ
 refusal_line fault = codes "policy refused: " ++ (fault_text fault ++ codes "\n")
 
+-- what became of an offer: the position behind it, or a code (the codes are those of Aeron's clients)
+abbrev pub offered_text : Offered → List ℕ
+offered_text (offered.At position) = decimal position
+offered_text offered.NotConnected = codes "-1"
+offered_text offered.BackPressured = codes "-2"
+offered_text offered.AdminAction = codes "-3"
+offered_text offered.Closed = codes "-4"
+offered_text offered.MaxPositionExceeded = codes "-5"
+offered_text offered.TooLong = codes "too long"
+
+abbrev pub offer_line : Offered → List ℕ
+offer_line answer = codes "offer " ++ (offered_text answer ++ codes "\n")
+
+-- so many fragments
+abbrev pub poll_line : ℕ → List ℕ
+poll_line count = codes "poll " ++ (decimal count ++ codes "\n")
+
+-- a fragment that is polled: the position behind its frame, the byte of its flags, and its payload
+abbrev pub fragment_line : ℕ → Flags → List ℕ → List ℕ
+fragment_line position flags payload =
+    codes "fragment "
+    ++ (decimal position
+    ++ (codes " " ++ (hex_text (flags.bits ∷ []) ++ (codes " " ++ (hex_text payload ++ codes "\n")))))
+
 -- so many counters
 abbrev pub list_line : ℕ → List ℕ
 list_line count = codes "list " ++ (decimal count ++ codes "\n")
@@ -63,6 +90,10 @@ line_text (PolicyInForce epoch) = policy_line epoch
 line_text PolicyFull = codes "policy refused: full\n"
 line_text (PolicyRefused fault) = refusal_line fault
 line_text (Reply client bytes) = reply_text client bytes.now
+line_text (Offer answer) = offer_line answer
+line_text (Poll count) = poll_line count
+line_text (Fragment position flags payload) = fragment_line position flags payload.now
+line_text Gone = codes "gone\n"
 line_text (Lists count) = list_line count
 line_text (Counter number type_id value label) = counter_line number type_id value label.now
 line_text (Value value) = value_line value

@@ -5,15 +5,15 @@ use Rattle.std.specs.List.{list_all}
 use Rattle.std.specs.Option.{option_map}
 use Rattle.std.specs.Str.{bytes_eq}
 use Rattle.driver_core.specs.declared.event.Event.TheVariants.{Attach, Command, Tick}
-use Rattle.driver_core.specs.declared.step.Step.{Step}
-use Rattle.driver_core.specs.declared.step.Step.TheVariants.{Conductor, List as Lists, Value}
+use Rattle.driver_world.specs.declared.step.Step.{Step}
+use Rattle.driver_world.specs.declared.step.Step.TheVariants.{Conductor, Offer, Poll, List as Lists, Value}
 use Rattle.driver_script.specs.declared.line.Line.{Line}
 use Rattle.driver_script.specs.declared.line.Line.TheVariants.{Skipped, Principal, Set, Policy, Does, Bad}
 use Rattle.driver_script.specs.Hex.{◌>>=◌, hex_of}
 use Rattle.driver_script.specs.Number.{number_of, small_number_of}
 use Rattle.driver_script.specs.Pieces.{pieces}
 
--- one word, two, and three
+-- one word, two, and so on
 abbrev pub one : List (List ℕ) → Option (List ℕ)
 one (first ∷ []) = Some first
 one _ = None
@@ -25,6 +25,14 @@ two _ = None
 abbrev pub three : List (List ℕ) → Option (List ℕ × List ℕ × List ℕ)
 three (first ∷ second ∷ third ∷ []) = Some (first, second, third)
 three _ = None
+
+abbrev pub four : List (List ℕ) → Option (List ℕ × List ℕ × List ℕ × List ℕ)
+four (first ∷ second ∷ third ∷ fourth ∷ []) = Some (first, second, third, fourth)
+four _ = None
+
+abbrev pub five : List (List ℕ) → Option (List ℕ × List ℕ × List ℕ × List ℕ × List ℕ)
+five (first ∷ second ∷ third ∷ fourth ∷ fifth ∷ []) = Some (first, second, third, fourth, fifth)
+five _ = None
 
 -- a name is a word
 abbrev pub name_of : List ℕ → Option (List ℕ)
@@ -64,6 +72,27 @@ command_of fields =
     hex_of words.2 >>= λ bytes.
     Some (Conductor (Command now client bytes))
 
+-- `offer NOW C REG HEX`
+unfoldable pub offer_of : List (List ℕ) → Option Step
+offer_of fields =
+    four fields >>= λ words.
+    number_of words.0 >>= λ now.
+    number_of words.1 >>= λ client.
+    number_of words.2 >>= λ registration.
+    hex_of words.3 >>= λ message.
+    Some (Offer now client registration message)
+
+-- `poll NOW C SUB SOURCE LIMIT`
+unfoldable pub poll_of : List (List ℕ) → Option Step
+poll_of fields =
+    five fields >>= λ words.
+    number_of words.0 >>= λ now.
+    number_of words.1 >>= λ client.
+    number_of words.2 >>= λ subscription.
+    number_of words.3 >>= λ source.
+    small_number_of words.4 >>= λ limit.
+    Some (Poll now client subscription source limit)
+
 -- `tick NOW`
 unfoldable pub tick_of : List (List ℕ) → Option Step
 tick_of fields = one fields >>= λ word. number_of word >>= λ now. Some (Conductor (Tick now))
@@ -90,6 +119,7 @@ unfoldable pub plain_step_by : List ℕ → List (List ℕ) → Option Step
 plain_step_by word fields =
     if bytes_eq word (codes "attach") then attach_of fields
     else if bytes_eq word (codes "tick") then tick_of fields
+    else if bytes_eq word (codes "poll") then poll_of fields
     else if bytes_eq word (codes "list") then list_of fields
     else if bytes_eq word (codes "value") then value_of fields
     else None
@@ -97,7 +127,9 @@ plain_step_by word fields =
 -- those of any step
 unfoldable pub step_by : List ℕ → List (List ℕ) → Option Step
 step_by word fields =
-    if bytes_eq word (codes "cmd") then command_of fields else plain_step_by word fields
+    if bytes_eq word (codes "cmd") then command_of fields
+    else if bytes_eq word (codes "offer") then offer_of fields
+    else plain_step_by word fields
 
 -- and those of any line
 unfoldable pub said_by : List ℕ → List (List ℕ) → Option Line
@@ -119,7 +151,9 @@ or_bad (Some line) = line
 -- words or bytes are kept of a line that begins with one of these words; no other line takes memory
 abbrev pub keeps_fields : List (List ℕ) → Bool
 keeps_fields [] = false
-keeps_fields (word ∷ fields) = bytes_eq word (codes "principal") || (bytes_eq word (codes "set") || bytes_eq word (codes "cmd"))
+keeps_fields (word ∷ fields) =
+    bytes_eq word (codes "principal")
+    || (bytes_eq word (codes "set") || (bytes_eq word (codes "cmd") || bytes_eq word (codes "offer")))
 
 -- whether all bytes are ASCII
 abbrev pub is_plain : List ℕ → Bool

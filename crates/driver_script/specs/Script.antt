@@ -1,17 +1,18 @@
 -- What the run of a script writes: a function of the script's bytes, and of which steps were refused memory.
-use Rattle.std.specs.Prelude.{◌≡◌, ℕ, List, [], ◌∷◌, ◌++◌, Bool, is_some, Option, Some, None, Result, Ok, Err, length, codes, if◌then◌else◌}
+use Rattle.std.specs.Prelude.{◌≡◌, ℕ, List, [], ◌∷◌, ◌++◌, is_some, Option, Some, None, Result, Ok, Err, length, codes, if◌then◌else◌}
 use Rattle.std.specs.Fmt.{decimal}
 use Rattle.std.specs.List.{flat_map}
-use Rattle.driver_core.specs.declared.answer.Answer.{Answer}
-use Rattle.driver_core.specs.declared.answer.Answer.TheVariants.{NoMemory, Attached, Full, Stopped, PolicyInForce, PolicyFull, Replies, Counters, Value, Denied, UnknownCounter, WrongClient}
+use Rattle.driver_world.specs.declared.answer.Answer.{Answer}
+use Rattle.driver_world.specs.declared.answer.Answer.TheVariants.{NoMemory, Attached, Full, Stopped, PolicyInForce, PolicyFull, Replies, Offered, Polled, Gone, Counters, Value, Denied, UnknownCounter, WrongClient}
 use Rattle.driver_core.specs.declared.event.Event.TheVariants.{Reload}
 use Rattle.driver_core.specs.declared.listing.ListedCounter.{ListedCounter}
 use Rattle.driver_core.specs.declared.replies.Message.{Message}
 use Rattle.driver_core.specs.declared.settings.Settings.{Settings}
-use Rattle.driver_core.specs.declared.step.Step.{Step}
-use Rattle.driver_core.specs.declared.step.Step.TheVariants.{Conductor}
+use Rattle.driver_world.specs.declared.answer.Fragment.{Fragment}
+use Rattle.driver_world.specs.declared.step.Step.{Step}
+use Rattle.driver_world.specs.declared.step.Step.TheVariants.{Conductor}
 use Rattle.driver_core.specs.Replies.{layout_of}
-use Rattle.driver_core.specs.Runs.{RunEnd, IsAnswer, after, opening_end}
+use Rattle.driver_world.specs.Ends.{RunEnd, IsAnswer, after, opening_end}
 use Rattle.command_codec.specs.Reply.{reply_bytes}
 use Rattle.policy_core.specs.RuleList.{Rules}
 use Rattle.policy_text.specs.declared.fault.PolicyFault.{PolicyFault}
@@ -21,11 +22,10 @@ use Rattle.driver_script.specs.declared.script.Ended.{Ended}
 use Rattle.driver_script.specs.declared.script.Ended.TheVariants.{Done, BadLine}
 use Rattle.driver_script.specs.declared.statements.Said.{Said}
 use Rattle.driver_script.specs.declared.script.Preface.{Preface}
-use Rattle.driver_script.specs.declared.settings.Choices.{Choices}
 use Rattle.driver_script.specs.declared.statements.Said.TheVariants.{Principal, Set, Policy, Does, Bad}
 use Rattle.driver_script.specs.declared.statements.Statement.{Statement}
-use Rattle.driver_script.specs.Answers.{policy_line, refusal_line, reply_text, list_line, counter_line, value_line, denial_line}
-use Rattle.driver_script.specs.Settings.{no_choices, choose}
+use Rattle.driver_script.specs.Answers.{policy_line, refusal_line, reply_text, offer_line, poll_line, fragment_line, list_line, counter_line, value_line, denial_line}
+use Rattle.driver_script.specs.Settings.{Chosen, no_choices, choose}
 
 -- ---- the head of a script: its principals, its settings and its policy
 
@@ -52,7 +52,7 @@ named given line name number later =
     else later (record given { names = given.names ++ (name, number) ∷ [] })
 
 -- a setting is chosen, where it is one and was not chosen before
-abbrev pub settled : Preface → ℕ → Option Choices → (Preface → Opening) → Opening
+abbrev pub settled : Preface → ℕ → Option Chosen → (Preface → Opening) → Opening
 settled given line None later = Refuses line
 settled given line (Some choices) later = later (record given { choices = choices })
 
@@ -131,7 +131,10 @@ message_text message = reply_text message.client (reply_bytes (layout_of message
 abbrev pub counter_text : ListedCounter → List ℕ
 counter_text counter = counter_line counter.number counter.type_id counter.value counter.label
 
--- an answer has its line, and a line for each reply or counter
+abbrev pub fragment_text : Fragment → List ℕ
+fragment_text fragment = fragment_line fragment.position fragment.flags fragment.payload
+
+-- an answer has its line, and a line for each reply, fragment or counter
 unfoldable pub answer_text : Answer → List ℕ
 answer_text NoMemory = codes "no memory\n"
 answer_text (Attached client) = codes "attached " ++ (decimal client ++ codes "\n")
@@ -140,6 +143,9 @@ answer_text Stopped = codes "stopped\n"
 answer_text (PolicyInForce epoch messages) = policy_line epoch ++ flat_map message_text messages
 answer_text PolicyFull = codes "policy refused: full\n"
 answer_text (Replies messages) = flat_map message_text messages
+answer_text (Offered offered) = offer_line offered
+answer_text (Polled fragments) = poll_line (length fragments) ++ flat_map fragment_text fragments
+answer_text Gone = codes "gone\n"
 answer_text (Counters counters) = list_line (length counters) ++ flat_map counter_text counters
 answer_text (Value value) = value_line value
 answer_text (Denied verdict) = denial_line verdict

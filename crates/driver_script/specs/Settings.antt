@@ -8,7 +8,6 @@ use Rattle.channel_uri.specs.Session.{session_id_of}
 use Rattle.driver_core.specs.declared.peer.Address.{Address}
 use Rattle.driver_core.specs.declared.settings.Settings.{Settings}
 use Rattle.driver_core.specs.Settings.{default_settings}
-use Rattle.driver_script.specs.declared.settings.Choices.{Choices}
 use Rattle.driver_script.specs.declared.settings.Duration.{Duration as DurationKey}
 use Rattle.driver_script.specs.declared.settings.Duration.TheVariants.{ClientLiveness, ImageLiveness, Linger, ConnectionTimeout, ResendLinger, NakDelay, NakRepeat, SetupInterval, HeartbeatInterval, StatusInterval}
 use Rattle.driver_script.specs.declared.settings.Key.{Key}
@@ -86,26 +85,31 @@ with_value settings InitialTerm value = session_id_of value >>= λ id. Some (rec
 with_value settings ReceiverId value = number_of value >>= λ id. Some (record settings { receiver_id = id })
 with_value settings SendAddress value = sender_of value >>= λ address. Some (record settings { send_address = address })
 
+-- the settings with what was chosen so far, and the names of the keys that were given
+pub record Chosen : Type 0 where
+  pub settings : Settings
+  pub given : List (List ℕ)
+
 -- nothing is chosen
-abbrev pub no_choices : Choices
+abbrev pub no_choices : Chosen
 no_choices = record { settings = default_settings; given = [] }
 
 -- the settings with one choice more: no key is given twice
-abbrev pub chosen : Choices → List ℕ → List ℕ → Option Settings
+abbrev pub chosen : Chosen → List ℕ → List ℕ → Option Settings
 chosen choices name value =
     if list_any (λ given. bytes_eq given name) choices.given then None
     else key_of name >>= λ key. with_value choices.settings key value
 
 -- the settings are these now, and the key is given
-abbrev pub choice : List (List ℕ) → List ℕ → Option Settings → Option Choices
+abbrev pub choice : List (List ℕ) → List ℕ → Option Settings → Option Chosen
 choice given name None = None
 choice given name (Some settings) = Some (record { settings = settings; given = given ++ name ∷ [] })
 
 -- the choices after a line, unless it is bad
-unfoldable pub choose : Choices → List ℕ → List ℕ → Option Choices
+unfoldable pub choose : Chosen → List ℕ → List ℕ → Option Chosen
 choose choices name value = choice choices.given name (chosen choices name value)
 
 -- the choice was taken; or it is none, and nothing was changed
-abbrev pub Chooses : Choices → Choices → List ℕ → List ℕ → Bool → Type 0
+abbrev pub Chooses : Chosen → Chosen → List ℕ → List ℕ → Bool → Type 0
 Chooses old new name value true = choose old name value ≡ Some new
 Chooses old new name value false = (choose old name value ≡ None) × (new ≡ old)

@@ -1,10 +1,11 @@
 -- The run of a script, statement by statement: what has been written so far goes before whatever is written from there on.
 use Rattle.std.specs.Prelude.{◌≡◌, ℕ, List, [], ◌∷◌, ◌++◌, Option, Some, None}
 use Rattle.std.specs.Io.KnownBytes.{Appends}
-use Rattle.driver_core.specs.declared.answer.Answer.TheVariants.{NoMemory}
+use Rattle.driver_world.specs.declared.answer.Answer.TheVariants.{NoMemory}
 use Rattle.driver_core.specs.declared.settings.Settings.{Settings}
-use Rattle.driver_core.specs.declared.step.Step.{Step}
-use Rattle.driver_core.specs.Runs.{RunEnd, StandsFor, opening_end}
+use Rattle.driver_world.specs.declared.step.Step.{Step}
+use Rattle.driver_world.specs.Ends.{RunEnd, opening_end}
+use Rattle.driver_world.specs.Standing.{Held, StandsForEnd}
 use Rattle.policy_core.specs.RuleList.{Rules}
 use Rattle.policy_text.specs.declared.fault.PolicyFault.{PolicyFault}
 use Rattle.policy_text.specs.declared.fault.PolicyFault.TheVariants as text
@@ -25,7 +26,7 @@ use Rattle.driver_script.specs.Script.{Opening, Ends, Refuses, Opens, opening_of
 
 -- the world stands at the opening with these settings, under that policy
 abbrev pub IsWorldOf : Settings → Rules → Head → Type 0
-IsWorldOf settings policy (head.Opened world) = StandsFor world (opening_end settings policy [])
+IsWorldOf settings policy (head.Opened world) = StandsForEnd world (opening_end settings policy [])
 IsWorldOf settings policy (head.Refused line) = ⊥
 IsWorldOf settings policy head.Ended = ⊥
 
@@ -59,18 +60,18 @@ pub record Turns (names : Known) (e next : RunEnd) (statement : Statement) (fron
       Writes names next rest ended text → Writes names e (statement ∷ rest) ended (front ++ text)
 
 -- the same of a world, with what reached the writer
-pub record Goes (names : Known) (old new : RunEnd) (statement : Statement) (before after : Option (List ℕ)) : Type 0 where
+pub record Goes (names : Known) (old new : Held) (statement : Statement) (before after : Option (List ℕ)) : Type 0 where
   pub front : List ℕ
   pub appended : Appends before after front
-  pub on : (e : RunEnd) → StandsFor old e → (next : RunEnd) × StandsFor new next × Turns names e next statement front
+  pub on : (e : RunEnd) → StandsForEnd old e → (next : RunEnd) × StandsForEnd new next × Turns names e next statement front
 
 -- the same of a step, whatever statement it is
-pub record Steps (old new : RunEnd) (step : Step) (before after : Option (List ℕ)) : Type 0 where
+pub record Steps (old new : Held) (step : Step) (before after : Option (List ℕ)) : Type 0 where
   pub on : (names : Known) (line : ℕ) (said : Said) → deed_of names said ≡ Takes step →
       Goes names old new (record { line = line; said = said }) before after
 
 -- the same of the text of a policy, on whatever line it begins
-pub record Puts (names : Known) (old new : RunEnd) (text : List ℕ) (before after : Option (List ℕ)) : Type 0 where
+pub record Puts (names : Known) (old new : Held) (text : List ℕ) (before after : Option (List ℕ)) : Type 0 where
   pub on : (line : ℕ) → Goes names old new (record { line = line; said = Policy text }) before after
 
 -- the statement is bad here, and its text ends the run
@@ -79,34 +80,34 @@ pub record StopsAt (names : Known) (statement : Statement) (ended : Ended) (befo
   pub appended : Appends before after text
   pub on : (e : RunEnd) (rest : List Statement) → Writes names e (statement ∷ rest) ended text
 
-abbrev pub TakesStep : Known → RunEnd → RunEnd → Statement → Option Ended → Option (List ℕ) → Option (List ℕ) → Type 0
+abbrev pub TakesStep : Known → Held → Held → Statement → Option Ended → Option (List ℕ) → Option (List ℕ) → Type 0
 TakesStep names old new statement None before after = Goes names old new statement before after
 TakesStep names old new statement (Some ended) before after = StopsAt names statement ended before after
 
 -- a front of a text that the statements write from there on was written
-pub record WritesFront (names : Known) (held : RunEnd) (statements : List Statement) (before after : Option (List ℕ)) : Type 0 where
-  pub on : (e : RunEnd) → StandsFor held e →
+pub record WritesFront (names : Known) (held : Held) (statements : List Statement) (before after : Option (List ℕ)) : Type 0 where
+  pub on : (e : RunEnd) → StandsForEnd held e →
       (ended : Ended) × (text : List ℕ) × Writes names e statements ended text × AppendsFront before after text
 
-pub record GivesUp (names : Known) (held : RunEnd) (statement : Statement) (before after : Option (List ℕ)) : Type 0 where
+pub record GivesUp (names : Known) (held : Held) (statement : Statement) (before after : Option (List ℕ)) : Type 0 where
   pub on : (rest : List Statement) → WritesFront names held (statement ∷ rest) before after
 
-pub record GivesUpStep (held : RunEnd) (step : Step) (before after : Option (List ℕ)) : Type 0 where
+pub record GivesUpStep (held : Held) (step : Step) (before after : Option (List ℕ)) : Type 0 where
   pub on : (names : Known) (line : ℕ) (said : Said) → deed_of names said ≡ Takes step →
       GivesUp names held (record { line = line; said = said }) before after
 
-pub record GivesUpPolicy (names : Known) (held : RunEnd) (text : List ℕ) (before after : Option (List ℕ)) : Type 0 where
+pub record GivesUpPolicy (names : Known) (held : Held) (text : List ℕ) (before after : Option (List ℕ)) : Type 0 where
   pub on : (line : ℕ) → GivesUp names held (record { line = line; said = Policy text }) before after
 
 -- the text that the statements write from there on was written
-pub record WritesWhole (names : Known) (held : RunEnd) (statements : List Statement) (ended : Ended) (before after : Option (List ℕ)) : Type 0 where
-  pub on : (e : RunEnd) → StandsFor held e → (text : List ℕ) × Writes names e statements ended text × Appends before after text
+pub record WritesWhole (names : Known) (held : Held) (statements : List Statement) (ended : Ended) (before after : Option (List ℕ)) : Type 0 where
+  pub on : (e : RunEnd) → StandsForEnd held e → (text : List ℕ) × Writes names e statements ended text × Appends before after text
 
 -- in the middle of a run: what was written goes before what the others write
-pub record SoFar (names : Known) (start : RunEnd) (all : List Statement) (held : RunEnd) (left : List Statement) (before after : Option (List ℕ)) : Type 0 where
+pub record SoFar (names : Known) (start : Held) (all : List Statement) (held : Held) (left : List Statement) (before after : Option (List ℕ)) : Type 0 where
   pub front : List ℕ
   pub appended : Appends before after front
-  pub on : (e : RunEnd) → StandsFor start e → (next : RunEnd) × StandsFor held next
+  pub on : (e : RunEnd) → StandsForEnd start e → (next : RunEnd) × StandsForEnd held next
       × ((ended : Ended) (text : List ℕ) → Writes names next left ended text → Writes names e all ended (front ++ text))
 
 -- ---- a whole script

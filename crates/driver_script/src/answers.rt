@@ -1,5 +1,7 @@
 ghost use Rattle.std.specs.Prelude.{Some};
 
+use driver_world::Offered;
+use frame_codec::Flags;
 use policy_core::Verdict;
 use policy_text::PolicyFault;
 use std::fmt;
@@ -26,6 +28,28 @@ impl fmt::Display for Hex<'_> {
     }
 }
 
+/// What became of an offer: the position, or the code of what stood against it.
+#[derive(Clone, Copy)]
+struct OfferCode(Offered);
+
+impl fmt::Display for OfferCode {
+    ghost use Rattle.driver_script.specs.Answers.{offered_text};
+
+    ghost output = { λ code. Some (offered_text code.0) };
+
+    fn fmt<W: fmt::Write>(&self, f: &mut fmt::Formatter<W>) -> fmt::Result {
+        match self.0 {
+            Offered::At(position) => write!(f, "{position}"),
+            Offered::NotConnected => f.write_str("-1"),
+            Offered::BackPressured => f.write_str("-2"),
+            Offered::AdminAction => f.write_str("-3"),
+            Offered::Closed => f.write_str("-4"),
+            Offered::MaxPositionExceeded => f.write_str("-5"),
+            Offered::TooLong => f.write_str("too long"),
+        }
+    }
+}
+
 /// One line of an answer.
 #[derive(Clone, Copy, Debug)]
 pub enum AnswerLine<'a> {
@@ -46,6 +70,19 @@ pub enum AnswerLine<'a> {
         client: u64,
         bytes: &'a [u8],
     },
+    /// What became of the message that was offered.
+    Offer(Offered),
+    /// A poll gives so many fragments.
+    Poll(u64),
+    /// One of these fragments.
+    Fragment {
+        /// The position behind its frame.
+        position: u64,
+        flags: Flags,
+        payload: &'a [u8],
+    },
+    /// The client's subscription does not read that log.
+    Gone,
     /// A client may see so many counters.
     List(u64),
     /// One of these counters.
@@ -57,7 +94,7 @@ pub enum AnswerLine<'a> {
     },
     /// The value of the counter that was asked for.
     Value(i64),
-    /// The policy does not show that, by this verdict.
+    /// The policy does not allow that, by this verdict.
     Denied(Verdict),
     /// There is no counter of that number.
     UnknownCounter,
@@ -87,6 +124,22 @@ impl fmt::Display for AnswerLine<'_> {
                 let bytes = Hex(bytes);
                 writeln!(f, "reply {client} {bytes}")
             }
+            AnswerLine::Offer(offered) => {
+                let code = OfferCode(*offered);
+                writeln!(f, "offer {code}")
+            }
+            AnswerLine::Poll(count) => writeln!(f, "poll {count}"),
+            AnswerLine::Fragment {
+                position,
+                flags,
+                payload,
+            } => {
+                let flags = [flags.bits];
+                let flags = Hex(&flags);
+                let payload = Hex(payload);
+                writeln!(f, "fragment {position} {flags} {payload}")
+            }
+            AnswerLine::Gone => writeln!(f, "gone"),
             AnswerLine::List(count) => writeln!(f, "list {count}"),
             AnswerLine::Counter {
                 number,

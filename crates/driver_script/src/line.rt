@@ -1,4 +1,4 @@
-ghost use Rattle.driver_script.specs.Line.{is_plain, line_of, or_bad, said_by, step_by, plain_step_by, one, two, three, name_of, principal_of, set_of, policy_of, attach_of, command_of, tick_of, list_of, value_of, keeps_fields};
+ghost use Rattle.driver_script.specs.Line.{is_plain, line_of, or_bad, said_by, step_by, plain_step_by, one, two, three, four, five, name_of, principal_of, set_of, policy_of, attach_of, command_of, offer_of, tick_of, poll_of, list_of, value_of, keeps_fields};
 ghost use Rattle.driver_script.specs.LineFault.{Gives, HasMemory};
 ghost use Rattle.driver_script.specs.Pieces.{pieces, pieces_behind};
 ghost use Rattle.driver_script.specs.declared.line.LineFault.TheVariants.{NoMemory};
@@ -9,7 +9,8 @@ use crate::hex;
 use crate::number::{number, small_number};
 use crate::pieces::first_piece;
 use byte_strings::Text;
-use driver_core::{Event, Step};
+use driver_core::Event;
+use driver_world::Step;
 use std::alloc::{AllocError, AllocFailed, Global};
 
 /// What a line of a script says.
@@ -108,6 +109,35 @@ fn three_words(fields: Option<&str>) -> Option<(&str, &str, &str)>
     }
 }
 
+/// The four words behind the first one.
+fn four_words(fields: Option<&str>) -> Option<(&str, &str, &str, &str)>
+    ensures { option_map (λ words. (words.0.now, words.1.now, words.2.now, words.3.now)) result ≡ four (pieces_behind 32 (option_copied fields.entry)) }
+{
+    let (first, fields) = first_piece(fields?, ' ');
+    let (second, fields) = first_piece(fields?, ' ');
+    let (third, fields) = first_piece(fields?, ' ');
+    let (fourth, fields) = first_piece(fields?, ' ');
+    match fields {
+        None => Some((first, second, third, fourth)),
+        Some(_) => None,
+    }
+}
+
+/// The five words behind the first one.
+fn five_words(fields: Option<&str>) -> Option<(&str, &str, &str, &str, &str)>
+    ensures { option_map (λ words. (words.0.now, words.1.now, words.2.now, words.3.now, words.4.now)) result ≡ five (pieces_behind 32 (option_copied fields.entry)) }
+{
+    let (first, fields) = first_piece(fields?, ' ');
+    let (second, fields) = first_piece(fields?, ' ');
+    let (third, fields) = first_piece(fields?, ' ');
+    let (fourth, fields) = first_piece(fields?, ' ');
+    let (fifth, fields) = first_piece(fields?, ' ');
+    match fields {
+        None => Some((first, second, third, fourth, fifth)),
+        Some(_) => None,
+    }
+}
+
 /// A word as a name.
 fn name_of(alloc: Global, word: &str) -> Result<Text, LineFault>
     ensures { Gives result (name_of word.now) }
@@ -167,6 +197,42 @@ fn command_of(alloc: Global, fields: Option<&str>) -> Result<Step, LineFault>
     Ok(Step::Conductor(Event::Command { now, client, bytes }))
 }
 
+#[tactic(auto, unfolding(crate::specs::Line::offer_of))]
+fn offer_of(alloc: Global, fields: Option<&str>) -> Result<Step, LineFault>
+    ensures { Gives result (offer_of (pieces_behind 32 (option_copied fields.entry))) }
+{
+    let (now, client, registration, message) = four_words(fields).ok_or(LineFault::Bad)?;
+    let now = number(now).ok_or(LineFault::Bad)?;
+    let client = number(client).ok_or(LineFault::Bad)?;
+    let registration = number(registration).ok_or(LineFault::Bad)?;
+    let message = hex::read_hex(alloc, message)?;
+    Ok(Step::Offer {
+        now,
+        client,
+        registration,
+        message,
+    })
+}
+
+#[tactic(auto, unfolding(crate::specs::Line::poll_of))]
+fn poll_of(fields: Option<&str>) -> Option<Step>
+    ensures { result ≡ poll_of (pieces_behind 32 (option_copied fields.entry)) }
+{
+    let (now, client, subscription, source, limit) = five_words(fields)?;
+    let now = number(now)?;
+    let client = number(client)?;
+    let subscription = number(subscription)?;
+    let source = number(source)?;
+    let limit = small_number(limit)?;
+    Some(Step::Poll {
+        now,
+        client,
+        subscription,
+        source,
+        limit,
+    })
+}
+
 #[tactic(auto, unfolding(crate::specs::Line::tick_of))]
 fn tick_of(fields: Option<&str>) -> Option<Step>
     ensures { result ≡ tick_of (pieces_behind 32 (option_copied fields.entry)) }
@@ -211,6 +277,9 @@ fn plain_step_by(word: &str, fields: Option<&str>) -> Option<Step>
     if word == "tick" {
         return tick_of(fields);
     }
+    if word == "poll" {
+        return poll_of(fields);
+    }
     if word == "list" {
         return list_of(fields);
     }
@@ -228,6 +297,9 @@ fn step_by(alloc: Global, word: &str, fields: Option<&str>) -> Result<Step, Line
 {
     if word == "cmd" {
         return command_of(alloc, fields);
+    }
+    if word == "offer" {
+        return offer_of(alloc, fields);
     }
     plain_step_by(word, fields).ok_or(LineFault::Bad)
 }

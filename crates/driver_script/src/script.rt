@@ -2,7 +2,7 @@ ghost use Rattle.driver_core.specs.Replies.{layout_of};
 ghost use Rattle.command_codec.specs.Reply.{reply_bytes};
 ghost use Rattle.driver_script.specs.Ends.{OfAnswering, OfRunning};
 ghost use Rattle.driver_script.specs.Output.{AppendsFront};
-ghost use Rattle.driver_script.specs.Script.{message_text, counter_text, answer_text, told_text, ended_text, no_preface};
+ghost use Rattle.driver_script.specs.Script.{message_text, counter_text, fragment_text, answer_text, told_text, ended_text, no_preface};
 ghost use Rattle.std.specs.Io.KnownBytes.{Appends};
 ghost use Rattle.std.specs.List.{flat_map};
 ghost use Rattle.driver_script.specs.declared.script.Ended.TheVariants.{BadLine};
@@ -22,7 +22,8 @@ use crate::input::{LIMIT, read_input};
 use crate::output::write_whole;
 use crate::settings::Choices;
 use crate::statements::{Said, Statement, Statements};
-use driver_core::{Answer, Event, ListedCounter, Message, Step, World};
+use driver_core::{Event, ListedCounter, Message};
+use driver_world::{Answer, Fragment, Step, World};
 use policy_text::{Names, PolicyFault};
 use std::alloc::{AllocError, Global};
 
@@ -82,6 +83,29 @@ fn push_counters(text: &mut String, counters: &[ListedCounter]) -> Result<(), Al
     Ok(())
 }
 
+/// Appends the line of a fragment.
+#[tactic(auto, unfolding(crate::specs::Answers::line_text))]
+fn push_fragment(text: &mut String, fragment: &Fragment) -> Result<(), AllocError>
+    ensures { OnOk result (string_bytes text.new ≡ string_bytes text.old ++ fragment_text fragment.now) }
+{
+    let line = AnswerLine::Fragment {
+        position: fragment.position,
+        flags: fragment.flags,
+        payload: fragment.payload.as_slice(),
+    };
+    write!(text, "{line}")
+}
+
+/// Appends the line of each fragment.
+fn push_fragments(text: &mut String, fragments: &[Fragment]) -> Result<(), AllocError>
+    ensures { OnOk result (string_bytes text.new ≡ string_bytes text.old ++ flat_map fragment_text fragments.now) }
+{
+    for fragment in fragments {
+        push_fragment(text, fragment)?;
+    }
+    Ok(())
+}
+
 /// The text of an answer.
 #[tactic(auto, unfolding(crate::specs::Script::answer_text, crate::specs::Answers::line_text))]
 fn text_of(alloc: Global, answer: &Answer) -> Result<String, AllocError>
@@ -107,6 +131,17 @@ fn text_of(alloc: Global, answer: &Answer) -> Result<String, AllocError>
             push_messages(&mut text, alloc, messages.as_slice())?;
             Ok(text)
         }
+        Answer::Offered(offered) => {
+            let line = AnswerLine::Offer(*offered);
+            format!(in alloc; "{line}")
+        }
+        Answer::Polled(fragments) => {
+            let line = AnswerLine::Poll(fragments.len() as u64);
+            let mut text = format!(in alloc; "{line}")?;
+            push_fragments(&mut text, fragments.as_slice())?;
+            Ok(text)
+        }
+        Answer::Gone => format!(in alloc; "{}", AnswerLine::Gone),
         Answer::Counters(counters) => {
             let line = AnswerLine::List(counters.len() as u64);
             let mut text = format!(in alloc; "{line}")?;

@@ -8,6 +8,7 @@ use byte_strings::{Items, Text};
 use channel_uri::{address_of, mtu_from, session_id_of, term_length_from};
 use driver_core::{Address, Settings};
 use std::alloc::{AllocError, Global};
+use std::marker::Model;
 
 /// A setting that is a duration, in nanoseconds.
 #[derive(Clone, Copy, Debug, PartialEq, Eq)]
@@ -37,12 +38,24 @@ pub enum Key {
     SendAddress,
 }
 
-/// The settings that the lines of a script chose so far. The others are the default ones.
+/// The settings that the lines of a script chose so far. The others are the default ones, and a driver may be opened
+/// with all of them.
 #[derive(Debug, Drop)]
 pub struct Choices {
     pub settings: Settings,
     /// The names of the keys that were given.
     given: Items<Text>,
+}
+
+impl Model for Choices {
+    ghost use Rattle.driver_core.specs.Soundness.{AreSettings};
+    ghost use Rattle.driver_script.specs.Settings.{Chosen};
+
+    ghost Value = { Chosen };
+
+    ghost view = { λ choices. record { settings = choices.settings; given = choices.given } };
+
+    ghost invariant = { λ choices. AreSettings choices.settings };
 }
 
 /// The key of that name among these.

@@ -5,7 +5,7 @@ use crate::input::LIMIT;
 use crate::line::{Line, plain_text, read_line};
 use crate::pieces::first_of_bytes;
 use byte_strings::Text;
-use driver_core::Step;
+use driver_world::Step;
 use std::alloc::{AllocError, Global};
 
 /// What a statement says.

@@ -8,6 +8,8 @@ mod deciding;
 #[cfg(test)]
 mod ends;
 #[cfg(test)]
+mod messages;
+#[cfg(test)]
 mod play;
 #[cfg(test)]
 mod publications;

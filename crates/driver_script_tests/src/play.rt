@@ -39,7 +39,7 @@ pub(crate) fn run_into(
 
 /// Whether a script ends so, and writes exactly this.
 fn runs_to(alloc: Global, script: &str, ended: script::Ended, wanted: &str) -> bool {
-    let (found, written) = run_into(alloc, script, 4000);
+    let (found, written) = run_into(alloc, script, 1_000_000);
     found == Ok(ended) && written.as_slice() == wanted.as_bytes()
 }
 

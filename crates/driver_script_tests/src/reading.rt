@@ -1,12 +1,14 @@
 use crate::ends::{Choppy, LineFeeds};
 use crate::play::is_shown;
 use byte_strings::{Bytes, Text};
-use driver_core::{Event, Step};
+use driver_core::Event;
 use driver_script::answers::AnswerLine;
 use driver_script::line::{Line, read_line};
 use driver_script::output::write_whole;
 use driver_script::statements::{Said, Statement, Statements};
 use driver_script::{MayFail, RunFault, read_input};
+use driver_world::{Offered, Step};
+use frame_codec::Flags;
 use policy_core::Verdict;
 use policy_text::PolicyFault;
 use std::alloc::{AllocError, Global};
@@ -192,6 +194,64 @@ fn looks_are_read(rt: HostRuntime) {
     assert!(rt; is_step(rt.alloc(), "value 0 18446744073709551615 3", value));
 }
 
+fn offer(
+    alloc: Global,
+    now: u64,
+    client: u64,
+    registration: u64,
+    message: &[u8],
+) -> Result<Step, AllocError> {
+    Ok(Step::Offer {
+        now,
+        client,
+        registration,
+        message: Bytes::new(alloc, message)?,
+    })
+}
+
+/// Whether the line is a step, which is to be there.
+fn is_made(alloc: Global, line: &str, step: Result<Step, AllocError>) -> bool {
+    match step {
+        Ok(step) => is_step(alloc, line, step),
+        Err(_) => false,
+    }
+}
+
+#[test]
+fn offers_are_read(rt: HostRuntime) {
+    let some = offer(rt.alloc(), 5, 2, 3, b"\x00\xff");
+    assert!(rt; is_made(rt.alloc(), "offer 5 2 3 00_ff", some));
+    let most = 18_446_744_073_709_551_615;
+    let none = offer(rt.alloc(), 0, 1, most, b"");
+    assert!(rt; is_made(rt.alloc(), "offer 0 1 18446744073709551615 -", none));
+}
+
+#[test]
+fn polls_are_read(rt: HostRuntime) {
+    let poll = Step::Poll {
+        now: 5,
+        client: 1,
+        subscription: 2,
+        source: 3,
+        limit: 4,
+    };
+    assert!(rt; is_step(rt.alloc(), "poll 5 1 2 3 04", poll));
+    let most = Step::Poll {
+        now: 0,
+        client: 1,
+        subscription: 18_446_744_073_709_551_615,
+        source: 0,
+        limit: 4_294_967_295,
+    };
+    assert!(rt;
+        is_step(
+            rt.alloc(),
+            "poll 0 1 18446744073709551615 0 4294967295",
+            most
+        )
+    );
+}
+
 fn setting(alloc: Global, key: &str, value: &str) -> Result<Line, AllocError> {
     Ok(Line::Set {
         key: Text::new(alloc, key)?,
@@ -252,7 +312,7 @@ fn hex_is_read(rt: HostRuntime) {
     assert!(rt; are_bad(rt.alloc(), &BAD_HEX));
 }
 
-const BAD: [&str; 50] = [
+const BAD: [&str; 63] = [
     " ",
     ".",
     "policy ",
@@ -301,6 +361,19 @@ const BAD: [&str; 50] = [
     "value 0 1 -",
     "value 0 1 18446744073709551616",
     "value 0 1 2 3",
+    "offer 0 1 2",
+    "offer 0 1 2 ",
+    "offer 0 1 2 0",
+    "offer 0 1 2 - -",
+    "offer 0 1 x -",
+    "offer 0 18446744073709551616 2 -",
+    "offer 0 1 18446744073709551616 -",
+    "poll 0 1 2 3",
+    "poll 0 1 2 3 4 5",
+    "poll 0 1 2 3 -4",
+    "poll 0 1 2 3 4294967296",
+    "poll 0 1 2 18446744073709551616 4",
+    "poll 0 1 18446744073709551616 3 4",
     "Tick 0",
     "peer 127.0.0.1:50001 1",
 ];
@@ -489,7 +562,7 @@ fn are_shown(alloc: Global, rows: &[(AnswerLine<'_>, &str)]) -> bool {
     true
 }
 
-const ANSWERS: [(AnswerLine<'static>, &str); 17] = [
+const ANSWERS: [(AnswerLine<'static>, &str); 28] = [
     (AnswerLine::Attached(1), "attached 1\n"),
     (AnswerLine::Full, "full\n"),
     (AnswerLine::Stopped, "stopped\n"),
@@ -513,6 +586,37 @@ const ANSWERS: [(AnswerLine<'static>, &str); 17] = [
         },
         "reply 0 -\n",
     ),
+    (
+        AnswerLine::Offer(Offered::At(18_446_744_073_709_551_615)),
+        "offer 18446744073709551615\n",
+    ),
+    (AnswerLine::Offer(Offered::NotConnected), "offer -1\n"),
+    (AnswerLine::Offer(Offered::BackPressured), "offer -2\n"),
+    (AnswerLine::Offer(Offered::AdminAction), "offer -3\n"),
+    (AnswerLine::Offer(Offered::Closed), "offer -4\n"),
+    (
+        AnswerLine::Offer(Offered::MaxPositionExceeded),
+        "offer -5\n",
+    ),
+    (AnswerLine::Offer(Offered::TooLong), "offer too long\n"),
+    (AnswerLine::Poll(0), "poll 0\n"),
+    (
+        AnswerLine::Fragment {
+            position: 96,
+            flags: Flags { bits: 0x0a },
+            payload: b"\x00\x1f\xff",
+        },
+        "fragment 96 0a 001fff\n",
+    ),
+    (
+        AnswerLine::Fragment {
+            position: 32,
+            flags: Flags::UNFRAGMENTED,
+            payload: b"",
+        },
+        "fragment 32 c0 -\n",
+    ),
+    (AnswerLine::Gone, "gone\n"),
     (AnswerLine::List(0), "list 0\n"),
     (
         AnswerLine::Counter {

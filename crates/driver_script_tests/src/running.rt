@@ -3,7 +3,7 @@ use crate::play::{is_bad_at, run_into, writes, writes_up_to};
 use driver_script::{MayFail, RunFault, script};
 use std::alloc::Global;
 
-const HEAD: &str = "policy\nversion = 1\ndefault = \"deny\"\n.\n";
+const HEAD: &str = "set arena-pages 1\npolicy\nversion = 1\ndefault = \"deny\"\n.\n";
 
 const FIRST: &str = "principal alice 7\npolicy\nversion = 1\ndefault = \"deny\"\n.\nattach 0 7\n\
 cmd 0 1 04000000_0100000000000000_0b00000000000000_0000000000000000_0a000000_09000000_6165726f6e3a697063\n";
@@ -60,7 +60,7 @@ fn bad_lines_end_a_script(rt: HostRuntime) {
 /// Whether a client that came before the line is answered, and one that comes behind it is not.
 fn ends_what_was_answered(alloc: Global, line: &str) -> bool {
     let script = [HEAD, "attach 0 7\n", line, "\nattach 0 7\n"];
-    writes_up_to(alloc, &script, 6, "attached 1\nline 6: bad line\n")
+    writes_up_to(alloc, &script, 7, "attached 1\nline 7: bad line\n")
 }
 
 /// Whether each of these lines ends a script so.

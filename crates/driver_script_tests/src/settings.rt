@@ -8,9 +8,23 @@ const POLICY: &str = "policy\nversion = 1\ndefault = \"allow\"\n.\n";
 
 const ATTACH: &str = "attach 0 7\n";
 
-/// Whether a script with this setting is opened.
+/// Whether a script with this setting is opened. Its logs share little memory where the setting does not say how much.
 fn takes(alloc: Global, key: &str, value: &str) -> bool {
-    let script = ["# settings\nset ", key, " ", value, "\n", POLICY, ATTACH];
+    let pages = if key == "arena-pages" {
+        ""
+    } else {
+        "set arena-pages 1\n"
+    };
+    let script = [
+        "# settings\nset ",
+        key,
+        " ",
+        value,
+        "\n",
+        pages,
+        POLICY,
+        ATTACH,
+    ];
     writes(alloc, &script, &["attached 1\n"])
 }
 
@@ -117,7 +131,7 @@ fn sizes_are_those_of_channels_in_bytes(rt: HostRuntime) {
     assert!(rt; refuses_each(rt.alloc(), "term-length", &NO_TERM_LENGTHS));
     assert!(rt; takes_each(rt.alloc(), "mtu", &["64", "65504", "0001408"]));
     assert!(rt; refuses_each(rt.alloc(), "mtu", &NO_MTUS));
-    assert!(rt; takes_each(rt.alloc(), "arena-pages", &["1", "65536", "001"]));
+    assert!(rt; takes_each(rt.alloc(), "arena-pages", &["1", "001"]));
     assert!(rt; refuses_each(rt.alloc(), "arena-pages", &NO_PAGES));
 }
 
@@ -285,6 +299,8 @@ fn another_setting_is_that_of_its_key(rt: HostRuntime) {
     let mut settings = Settings::default();
     settings.arena_pages = 48;
     assert!(rt; chooses(rt.alloc(), "arena-pages", "48", &settings));
+    settings.arena_pages = 65_536;
+    assert!(rt; chooses(rt.alloc(), "arena-pages", "65536", &settings));
     let mut settings = Settings::default();
     settings.first_session = -5;
     assert!(rt; chooses(rt.alloc(), "first-session", "-5", &settings));

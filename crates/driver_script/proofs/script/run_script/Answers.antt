@@ -1,4 +1,3 @@
-use Rattle.std.proofs.Common.{sym}
 use Rattle.driver_script.specs.Left.{left}
 use Rattle.driver_script.specs.Statements.{statements_of}
 use Rattle.driver_script.specs.declared.script.Head.TheVariants as head

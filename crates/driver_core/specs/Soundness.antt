@@ -1,0 +1,86 @@
+-- What holds of the logs of every registry that was opened with sound settings: their sizes are sound, they are numbered in
+-- the order in which they came, and no two share a page. Each event opens and closes exactly the logs by which the lists
+-- change. Own rules.
+use Rattle.std.specs.Prelude.{◌≡◌, ℕ, ◌%◌, ◌<◌, ◌≤◌, Bool, not, ◌==◌, List, [], ◌∷◌, ◌++◌, length, map, filter, All, Option, Some, None}
+use Rattle.std.specs.List.{list_any}
+use Rattle.driver_core.specs.declared.change.Change.{Change}
+use Rattle.driver_core.specs.declared.event.Event.{Event}
+use Rattle.driver_core.specs.declared.event.Inputs.{Inputs}
+use Rattle.driver_core.specs.declared.peer.Peer.{Peer}
+use Rattle.driver_core.specs.declared.settings.Settings.{Settings}
+use Rattle.driver_core.specs.Laws.{state_of}
+use Rattle.driver_core.specs.State.{State, opened}
+use Rattle.policy_core.specs.RuleList.{Rules}
+use Rattle.stream_registry.specs.declared.lingering.LogPlace.{LogPlace}
+use Rattle.stream_registry.specs.declared.measures.Measures.{Measures}
+use Rattle.stream_registry.specs.declared.rows.Publication.{Publication}
+use Rattle.stream_registry.specs.Lingering.{place_of}
+use Rattle.stream_registry.specs.LogPages.{log_pages}
+use Rattle.stream_registry.specs.PageLaws.{IsVacant, IsLaidOut}
+
+-- sizes that a log may have: terms of whole pages, and datagrams of whole words of 32 bytes
+pub record AreSizes (measures : Measures) : Type 0 where
+  pub term_low : 65536 ≤ measures.term_length
+  pub term_high : measures.term_length ≤ 16777216
+  pub term_whole : measures.term_length % 4096 ≡ 0
+  pub mtu_low : 64 ≤ measures.mtu
+  pub mtu_high : measures.mtu ≤ 65504
+  pub mtu_aligned : measures.mtu % 32 ≡ 0
+
+-- settings that a driver may be opened with
+pub record AreSettings (settings : Settings) : Type 0 where
+  pub sizes : AreSizes (record { mtu = settings.mtu; term_length = settings.term_length; linger = settings.linger })
+  pub some_pages : 0 < settings.arena_pages
+  pub few_pages : settings.arena_pages ≤ 65536
+
+-- the source numbers ascend, behind that number and up to the last one that was drawn
+abbrev pub Ascend : ℕ → ℕ → List Publication → Type 0
+Ascend before last [] = before ≤ last
+Ascend before last (publication ∷ publications) =
+    (before < publication.source) × Ascend publication.source last publications
+
+pub record IsSound (s : State) : Type 0 where
+  pub defaults : AreSizes s.streams.defaults
+  pub sizes : All (λ publication. AreSizes publication.measures) s.streams.publications
+  pub numbered : Ascend 0 s.last_number s.streams.publications
+  pub laid_out : IsLaidOut s.settings.arena_pages s.streams
+  pub subscriptions : length s.streams.subscriptions ≤ 512
+
+-- ---- what an event does to the logs
+
+-- a log, whether it lingers or not
+abbrev pub log_of : Publication → Publication
+log_of publication = record publication { lingering_since = None }
+
+-- it is none of those that close
+abbrev pub is_left : List LogPlace → Publication → Bool
+is_left closes publication = not (list_any (λ closed. closed.source == publication.source) closes)
+
+-- the log that opens, if one does, at the least place where it shares no page with those that are there
+abbrev pub Opens : State → Option LogPlace → List Publication → Type 0
+Opens s None logs = logs ≡ []
+Opens s (Some place) logs =
+    (log : Publication)
+    × (logs ≡ log ∷ [])
+    × (place_of log ≡ place)
+    × (log.lingering_since ≡ None)
+    × IsVacant s.streams s.settings.arena_pages (log_pages log) log.place
+    × ((lower : ℕ) → lower < log.place → ¬ IsVacant s.streams s.settings.arena_pages (log_pages log) lower)
+
+-- the logs behind an event are those before it but for the ones that close, and then the one that opens
+pub record MovesLogs (s : State) (change : Change) : Type 0 where
+  pub sound : IsSound change.after
+  pub settings : change.after.settings ≡ s.settings
+  pub opened : List Publication
+  pub opens : Opens s change.outcome.opens opened
+  pub stays : filter (is_left change.outcome.closes) opened ≡ opened
+  pub logs :
+      map log_of change.after.streams.publications
+      ≡ filter (is_left change.outcome.closes) (map log_of s.streams.publications) ++ opened
+
+-- ---- of every registry
+
+abbrev pub RegistriesAreSound : Type 0
+RegistriesAreSound =
+    (settings : Settings) (policy : Rules) (peers : List Peer) (events : List (Event × Inputs)) →
+    AreSettings settings → IsSound (state_of (opened settings policy peers) events)

@@ -1,0 +1,224 @@
+-- The settings that a script chooses are such as a driver may be opened with.
+use Rattle.std.proofs.Common.{◌≡◌, ℕ, zero, suc, ◌+◌, ◌*◌, ◌/◌, ◌%◌, ◌^◌, ◌<◌, ◌≤◌, ◌==◌, true, List, Option, Some, None, nat_le, refl, arith, count_ones}
+use Rattle.std.specs.Int.{is_power_of_two}
+use Rattle.std.specs.Int.Count.{ones_step}
+use Rattle.std.specs.List.{list_any}
+use Rattle.std.specs.Str.{bytes_eq}
+use Rattle.std.proofs.Math.Nat.{mul-add, two-pow-succ}
+use Rattle.std.proofs.lemmas.Bool.{cond_both, eqb-true, leb-true}
+use Rattle.std.proofs.lemmas.Nat.{pow_pos, zero_from_ones}
+use Rattle.channel_uri.specs.Quantity.{mtu_from, term_length_from}
+use Rattle.channel_uri.specs.Session.{session_id_of}
+use Rattle.driver_core.specs.declared.settings.Settings.{Settings}
+use Rattle.driver_core.specs.Settings.{default_settings}
+use Rattle.driver_core.specs.Soundness.{AreSettings}
+use Rattle.driver_script.specs.declared.settings.Duration.{Duration as DurationKey}
+use Rattle.driver_script.specs.declared.settings.Duration.TheVariants.{ClientLiveness, ImageLiveness, Linger, ConnectionTimeout, ResendLinger, NakDelay, NakRepeat, SetupInterval, HeartbeatInterval, StatusInterval}
+use Rattle.driver_script.specs.declared.settings.Key.{Key}
+use Rattle.driver_script.specs.declared.settings.Key.TheVariants.{Duration, TermLength, Mtu, ArenaPages, FirstSession, InitialTerm, ReceiverId, SendAddress}
+use Rattle.driver_script.specs.Hex.{◌>>=◌}
+use Rattle.driver_script.specs.Number.{number_of}
+use Rattle.driver_script.specs.Settings.{Chosen, chosen, key_of, mtu_in, pages_of, sender_of, term_length_in, with_duration, with_value}
+
+-- ---- a power of two is whole pages, where it is one or more
+
+-- the lowest digit of a power of two is not set, but for that of 1
+halved : (n : ℕ) → count_ones n ≡ 1 → 2 ≤ n → (n % 2 ≡ 0) × (count_ones (n / 2) ≡ 1)
+halved n one some = by (n % 2) refl
+  where
+    step : count_ones n ≡ n % 2 + count_ones (n / 2)
+    step = ones_step n
+
+    by : (digit : ℕ) → n % 2 ≡ digit → (n % 2 ≡ 0) × (count_ones (n / 2) ≡ 1)
+    by zero is = (is, omega (arith, step, one, is))
+    by (suc zero) is =
+        let none : n / 2 ≡ 0 = zero_from_ones (n / 2) (omega (arith, step, one, is)) in
+        absurd (omega (arith, none, some))
+    by (suc (suc digit)) is = absurd (omega (arith, is))
+
+doubled : (k n m : ℕ) → n % 2 ≡ 0 → n / 2 ≡ m * 2 ^ k → n ≡ m * 2 ^ suc k
+doubled k n m even half = rw (two-pow-succ k, mul-add m (2 ^ k) (2 ^ k)) (omega (arith, even, half))
+
+times_power : (k n : ℕ) → count_ones n ≡ 1 → 2 ^ k ≤ n → (m : ℕ) × (n ≡ m * 2 ^ k)
+times_power zero n one low = (n, omega arith)
+times_power (suc k) n one low =
+    let twice : 2 ^ suc k ≡ 2 ^ k + 2 ^ k = two-pow-succ k in
+    let some : 0 < 2 ^ k = pow_pos k in
+    let half = halved n one (omega (arith, low, twice, some)) in
+    let rest = times_power k (n / 2) half.1 (omega (arith, low, twice)) in
+    (rest.0, doubled k n rest.0 half.0 rest.1)
+
+whole_pages : (n : ℕ) → is_power_of_two n ≡ true → 65536 ≤ n → n % 4096 ≡ 0
+whole_pages n power low =
+    let times = times_power 12 n (eqb-true (count_ones n) 1 power) (omega (arith, low)) in
+    let is : n ≡ times.0 * 4096 = times.1 in
+    omega (arith, is)
+
+-- ---- what is read
+
+-- it holds of what is read, where something is
+abbrev pub Holds : {A : Type 0} → (A → Type 0) → Option A → Type 0
+Holds P None = Unit {0}
+Holds P (Some x) = P x
+
+holds_next : {A B : Type 0} (P : B → Type 0) (read : Option A) (next : A → Option B) → ((x : A) → Holds P (next x)) →
+    Holds P (read >>= next)
+holds_next P None next each = tt
+holds_next P (Some x) next each = each x
+
+holds_then : {A B : Type 0} (Q : A → Type 0) (P : B → Type 0) (read : Option A) (next : A → Option B) → Holds Q read →
+    ((x : A) → Q x → Holds P (next x)) → Holds P (read >>= next)
+holds_then Q P None next held each = tt
+holds_then Q P (Some x) next held each = each x held
+
+abbrev IsMtu : ℕ → Type 0
+IsMtu n = (64 ≤ n) × (n ≤ 65504) × (n % 32 ≡ 0)
+
+abbrev IsTermLength : ℕ → Type 0
+IsTermLength n = (65536 ≤ n) × (n ≤ 16777216) × (n % 4096 ≡ 0)
+
+abbrev ArePages : ℕ → Type 0
+ArePages n = (0 < n) × (n ≤ 65536)
+
+mtu_sound : (size : ℕ) → Holds IsMtu (mtu_from size)
+unfolding mtu_from
+mtu_sound size =
+    cond_both (nat_le 64 size) _ _ (Holds IsMtu)
+    (λ low.
+    cond_both (nat_le size 65504) _ _ (Holds IsMtu)
+    (λ high.
+    cond_both (size % 32 == 0) _ _ (Holds IsMtu)
+    (λ whole. (leb-true 64 size low, leb-true size 65504 high, eqb-true (size % 32) 0 whole))
+    (λ e. tt))
+    (λ e. tt))
+    (λ e. tt)
+
+term_length_sound : (size : ℕ) → Holds IsTermLength (term_length_from size)
+unfolding term_length_from
+term_length_sound size =
+    cond_both (nat_le 65536 size) _ _ (Holds IsTermLength)
+    (λ low.
+    cond_both (nat_le size 16777216) _ _ (Holds IsTermLength)
+    (λ high.
+    cond_both (is_power_of_two size) _ _ (Holds IsTermLength)
+    (λ power.
+    (leb-true 65536 size low, leb-true size 16777216 high, whole_pages size power (leb-true 65536 size low)))
+    (λ e. tt))
+    (λ e. tt))
+    (λ e. tt)
+
+pages_sound : (value : List ℕ) → Holds ArePages (pages_of value)
+pages_sound value =
+    holds_next ArePages (number_of value) _ (λ pages.
+    cond_both (nat_le 1 pages) _ _ (Holds ArePages)
+    (λ low.
+    cond_both (nat_le pages 65536) _ _ (Holds ArePages)
+    (λ high. (leb-true 1 pages low, leb-true pages 65536 high))
+    (λ e. tt))
+    (λ e. tt))
+
+-- ---- the settings
+
+pub sound_default : AreSettings default_settings
+sound_default = record {
+  sizes = record {
+    term_low = omega arith;
+    term_high = omega arith;
+    term_whole = refl;
+    mtu_low = omega arith;
+    mtu_high = omega arith;
+    mtu_aligned = refl;
+  };
+  some_pages = omega arith;
+  few_pages = omega arith;
+}
+
+-- only the sizes and the pages count
+sound_by : (settings : Settings) → IsTermLength settings.term_length → IsMtu settings.mtu →
+    ArePages settings.arena_pages → AreSettings settings
+sound_by settings term mtu pages = record {
+  sizes = record {
+    term_low = term.0;
+    term_high = term.1;
+    term_whole = term.2;
+    mtu_low = mtu.0;
+    mtu_high = mtu.1;
+    mtu_aligned = mtu.2;
+  };
+  some_pages = pages.0;
+  few_pages = pages.1;
+}
+
+term_of : (settings : Settings) → AreSettings settings → IsTermLength settings.term_length
+term_of settings sound = (sound.sizes.term_low, sound.sizes.term_high, sound.sizes.term_whole)
+
+mtu_of : (settings : Settings) → AreSettings settings → IsMtu settings.mtu
+mtu_of settings sound = (sound.sizes.mtu_low, sound.sizes.mtu_high, sound.sizes.mtu_aligned)
+
+pages_in : (settings : Settings) → AreSettings settings → ArePages settings.arena_pages
+pages_in settings sound = (sound.some_pages, sound.few_pages)
+
+-- another setting may be what it likes
+sound_like : (settings new : Settings) → AreSettings settings → new.term_length ≡ settings.term_length →
+    new.mtu ≡ settings.mtu → new.arena_pages ≡ settings.arena_pages → AreSettings new
+sound_like settings new sound term mtu pages =
+    sound_by new (rw term (term_of settings sound)) (rw mtu (mtu_of settings sound))
+    (rw pages (pages_in settings sound))
+
+duration_sound : (settings : Settings) (key : DurationKey) (duration : ℕ) → AreSettings settings →
+    AreSettings (with_duration settings key duration)
+duration_sound settings ClientLiveness duration sound = sound_like settings _ sound refl refl refl
+duration_sound settings ImageLiveness duration sound = sound_like settings _ sound refl refl refl
+duration_sound settings Linger duration sound = sound_like settings _ sound refl refl refl
+duration_sound settings ConnectionTimeout duration sound = sound_like settings _ sound refl refl refl
+duration_sound settings ResendLinger duration sound = sound_like settings _ sound refl refl refl
+duration_sound settings NakDelay duration sound = sound_like settings _ sound refl refl refl
+duration_sound settings NakRepeat duration sound = sound_like settings _ sound refl refl refl
+duration_sound settings SetupInterval duration sound = sound_like settings _ sound refl refl refl
+duration_sound settings HeartbeatInterval duration sound = sound_like settings _ sound refl refl refl
+duration_sound settings StatusInterval duration sound = sound_like settings _ sound refl refl refl
+
+value_sound : (settings : Settings) (key : Key) (value : List ℕ) → AreSettings settings →
+    Holds AreSettings (with_value settings key value)
+value_sound settings (Duration key) value sound =
+    holds_next AreSettings (number_of value) _ (λ duration. duration_sound settings key duration sound)
+value_sound settings TermLength value sound =
+    holds_then IsTermLength AreSettings (term_length_in value) _
+    (holds_next IsTermLength (number_of value) term_length_from term_length_sound)
+    (λ size is. sound_by _ is (mtu_of settings sound) (pages_in settings sound))
+value_sound settings Mtu value sound =
+    holds_then IsMtu AreSettings (mtu_in value) _
+    (holds_next IsMtu (number_of value) mtu_from mtu_sound)
+    (λ size is. sound_by _ (term_of settings sound) is (pages_in settings sound))
+value_sound settings ArenaPages value sound =
+    holds_then ArePages AreSettings (pages_of value) _ (pages_sound value)
+    (λ pages is. sound_by _ (term_of settings sound) (mtu_of settings sound) is)
+value_sound settings FirstSession value sound =
+    holds_next AreSettings (session_id_of value) _
+    (λ id. sound_like settings _ sound refl refl refl)
+value_sound settings InitialTerm value sound =
+    holds_next AreSettings (session_id_of value) _
+    (λ id. sound_like settings _ sound refl refl refl)
+value_sound settings ReceiverId value sound =
+    holds_next AreSettings (number_of value) _
+    (λ id. sound_like settings _ sound refl refl refl)
+value_sound settings SendAddress value sound =
+    holds_next AreSettings (sender_of value) _
+    (λ address. sound_like settings _ sound refl refl refl)
+
+-- one choice more
+chosen_holds : (choices : Chosen) (name value : List ℕ) → AreSettings choices.settings →
+    Holds AreSettings (chosen choices name value)
+chosen_holds choices name value sound =
+    cond_both (list_any (λ given. bytes_eq given name) choices.given) _ _ (Holds AreSettings)
+    (λ given. tt)
+    (λ new. holds_next AreSettings (key_of name) _ (λ key. value_sound choices.settings key value sound))
+
+held : {A : Type 0} (P : A → Type 0) (read : Option A) (x : A) → read ≡ Some x → Holds P read → P x
+held P None x is h = cc
+held P (Some y) x is h = let same : y ≡ x = cc in rw (← same) h
+
+pub chosen_sound : (choices : Chosen) (name value : List ℕ) (settings : Settings) → AreSettings choices.settings →
+    chosen choices name value ≡ Some settings → AreSettings settings
+chosen_sound choices name value settings sound is =
+    held AreSettings (chosen choices name value) settings is (chosen_holds choices name value sound)

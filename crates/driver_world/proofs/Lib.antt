@@ -1,0 +1,15 @@
+pub mod DecisionLemmas
+pub mod EndLemmas
+pub mod FollowLemmas
+pub mod FoundLemmas
+pub mod HeldLemmas
+pub mod HoleLemmas
+pub mod HousedLemmas
+pub mod LiveLemmas
+pub mod MatchLemmas
+pub mod MoveLemmas
+pub mod ReaderLemmas
+pub mod RunLemmas
+pub mod StandLemmas
+pub mod TakeLemmas
+pub mod VacancyLemmas

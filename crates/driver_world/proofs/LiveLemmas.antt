@@ -1,0 +1,530 @@
+-- The fragments in an open log were put there by offers that were granted, and a poll gives fragments of the log that
+-- was asked for.
+use Rattle.std.proofs.Common.{◌≡◌, ℕ, ◌+◌, ◌==◌, not, nat_le, nat_lt, Bool, true, false, cond, List, [], ◌∷◌, ◌++◌, length, map, filter, Option, Some, None, refl, sym, ap, ◌∙◌, subst, arith, ⊎_elim, append_assoc}
+use Rattle.std.specs.List.{All, Contains}
+use Rattle.std.specs.Prelude.{IfSome}
+use Rattle.std.proofs.lemmas.Bool.{cond_both, eqb-true, eq-eqb}
+use Rattle.std.proofs.lemmas.Bool.Decides.{nat_tests}
+use Rattle.std.proofs.lemmas.List.Elements.{All-nil, All-cons, All-head, All-tail, All-append, All-map, All-filter, All-weaker, Contains-append_cases, Contains-append_left, Contains-append_right, Contains-push}
+use Rattle.driver_core.specs.declared.change.Change.{Change}
+use Rattle.driver_core.specs.declared.log_request.LogRequest.{LogRequest}
+use Rattle.driver_core.specs.declared.peer.Peer.{Peer}
+use Rattle.driver_core.specs.declared.settings.Settings.{Settings}
+use Rattle.driver_core.specs.Conduct.{conduct}
+use Rattle.driver_core.specs.LogRequests.{offering_of, receiving_of}
+use Rattle.driver_core.specs.Pairs.{pairs_of}
+use Rattle.driver_core.specs.Renewal.{publication_at}
+use Rattle.driver_core.specs.State.{State}
+use Rattle.driver_core.proofs.ListLemmas.{contains_none, only_one}
+use Rattle.driver_world.specs.declared.answer.Answer.{Answer}
+use Rattle.driver_world.specs.declared.answer.Answer.TheVariants.{NoMemory, Attached, Full, Stopped, PolicyInForce, PolicyFull, Replies, Offered as OfferedAs, Polled, Gone as IsGone, Counters, Value as ValueIs, Denied, UnknownCounter, WrongClient}
+use Rattle.driver_world.specs.declared.answer.Fragment.{Fragment}
+use Rattle.driver_world.specs.declared.answer.Offered.TheVariants.{At as PutAt, Closed}
+use Rattle.driver_world.specs.declared.step.Step.{Step}
+use Rattle.driver_world.specs.declared.step.Step.TheVariants.{Conductor, Offer as Offers, Poll as Polls, List as Lists, Value}
+use Rattle.driver_world.specs.Answers.{offered_as, fragment_of}
+use Rattle.driver_world.specs.Ends.{RunEnd, opening_end, inputs_of, begun, opened_for, stays_open, rejoined_log, logs_after, log_at, with_log, moved_on, on_log, on_offered, conducted, moved, after, IsAnswer, AreAnswers, end_of}
+use Rattle.driver_world.specs.Held.{readers_of}
+use Rattle.driver_world.specs.Laws.{put_into, granted_by, granted_in, ComesFromLog, BytesComeFromTheLiveLog}
+use Rattle.driver_world.specs.Moves.{WholeLog, Move, answered, taken, offer_under, offer_move, given, poll_under, poll_move}
+use Rattle.frame_codec.specs.declared.flags.Flags.{Flags}
+use Rattle.policy_core.specs.RuleList.{Rules}
+use Rattle.stream_registry.specs.declared.lingering.LogPlace.{LogPlace}
+use Rattle.stream_registry.specs.declared.pairs.Pair.{Pair}
+use Rattle.stream_registry.specs.declared.rows.Publication.{Publication}
+use Rattle.term_log.specs.declared.ident.Ident.{Ident}
+use Rattle.term_log.specs.declared.offer.Offer.{Offer}
+use Rattle.term_log.specs.declared.offer.Offer.TheVariants.{At, TooLong as IsTooLong, MaxPosition, BackPressured, AdminAction}
+use Rattle.term_log.specs.Cut.{cut}
+use Rattle.term_log.specs.Frames.{Frame, fragment, span, total}
+use Rattle.term_log.specs.Ident.{payload_length}
+use Rattle.term_log.specs.Log.{appended_at, greatest_message}
+use Rattle.term_log.specs.Pairs.{position_of}
+use Rattle.term_log.specs.PollLaws.{AreFragmentsOf}
+use Rattle.term_log.specs.Polling.{Fetched, passed}
+use Rattle.term_log.specs.Whole.{Whole, tail_of, answer_to, is_connected, offered, rejoined, frames_behind, polled_from, polled, IsStart, AreStarts}
+use Rattle.term_log.proofs.Held.{total_both}
+use Rattle.term_log.proofs.Polls.{left_behind, passed_split}
+use Rattle.term_log.proofs.Standing.{starts_more, found_start, rejoined_starts, moved_starts}
+use Rattle.term_log.proofs.WholeLaws.{fragments_are}
+
+-- ---- polls of a whole log
+
+-- the frames behind a frame's start, and those before it
+record Behind (position at : ℕ) (frames : List Frame) : Type 0 where
+  before : List Frame
+  is : frames ≡ before ++ frames_behind at position frames
+  place : at ≡ position + total before
+
+behind_first : (position at : ℕ) (f : Frame) (fs : List Frame) (b : Bool) → nat_le at position ≡ b →
+    (b ≡ true → at ≡ position) → (b ≡ false → Behind (position + span f) at fs) → Behind position at (f ∷ fs)
+behind_first position at f fs true is first later =
+    record { before = []; is = rw is refl; place = omega (arith, first refl) }
+behind_first position at f fs false is first later =
+    let rest = later refl in
+    let place = rest.place in
+    record {
+      before = f ∷ rest.before;
+      is = rw is (ap (λ (gs : List Frame). f ∷ gs) rest.is);
+      place = omega (arith, place);
+    }
+
+behind : (position at : ℕ) (before after : List Frame) → at ≡ position + total before →
+    Behind position at (before ++ after)
+behind position at [] [] is = record { before = []; is = refl; place = is }
+behind position at [] (f ∷ fs) is =
+    behind_first position at f fs (nat_le at position) refl (λ first. omega (arith, is))
+    (λ later. absurd (grind (arith, nat_tests, is, later)))
+behind position at (f ∷ fs) after is =
+    behind_first position at f (fs ++ after) (nat_le at position) refl (λ first. grind (arith, nat_tests, is, first))
+    (λ later. behind (position + span f) at fs after (omega (arith, is)))
+
+behind_start : (w : Whole) (at : ℕ) → IsStart w.ident.start w.frames at → Behind w.ident.start at w.frames
+behind_start w at start =
+    subst (Behind w.ident.start at) (sym start.is) (behind w.ident.start at start.before start.after start.place)
+
+-- what is passed from there, and what is left
+passed_behind : (w : Whole) (limit at : ℕ) (from : Behind w.ident.start at w.frames) →
+    w.frames
+    ≡ from.before
+    ++ (passed limit (frames_behind at w.ident.start w.frames)
+    ++ left_behind limit (frames_behind at w.ident.start w.frames))
+passed_behind w limit at from =
+    from.is ∙ ap (λ (fs : List Frame). from.before ++ fs) (passed_split limit (frames_behind at w.ident.start w.frames))
+
+polled_from_frames : (w : Whole) (subscription limit : ℕ) (o : Option ℕ) → IfSome o (IsStart w.ident.start w.frames) →
+    AreFragmentsOf w (polled_from w subscription limit o).fragments
+polled_from_frames w subscription limit None start = tt
+polled_from_frames w subscription limit (Some at) start =
+    let from = behind_start w at start in
+    let fs : List Frame = frames_behind at w.ident.start w.frames in
+    fragments_are w at from.before (passed limit fs) (left_behind limit fs) (passed_behind w limit at from) from.place
+
+-- each fragment that is polled is a frame of the log
+polled_frames : (w : Whole) (subscription limit : ℕ) → AreStarts w.ident.start w.frames w.pairs →
+    AreFragmentsOf w (polled w subscription limit).fragments
+unfolding polled
+polled_frames w subscription limit starts =
+    polled_from_frames w subscription limit (position_of w.pairs subscription)
+    (found_start w.ident.start subscription w.frames w.pairs starts)
+
+-- ---- the logs whose fragments were granted
+
+-- All who read the log stand where a frame begins, and each fragment in it was granted to its source.
+record Owns (granted : ℕ → List Frame) (log : WholeLog) : Type 0 where
+  read : AreStarts log.whole.ident.start log.whole.frames log.whole.pairs
+  owned :
+      (flags : Flags) (payload : List ℕ) → Contains log.whole.frames (fragment flags payload) →
+      Contains (granted log.source) (fragment flags payload)
+
+-- what was granted stays granted
+abbrev IsMore : (ℕ → List Frame) → (ℕ → List Frame) → Type 0
+IsMore granted more = (source : ℕ) (frame : Frame) → Contains (granted source) frame → Contains (more source) frame
+
+owns_more : (granted more : ℕ → List Frame) → IsMore granted more → (log : WholeLog) → Owns granted log → Owns more log
+owns_more granted more is log owns = record {
+  read = owns.read;
+  owned = λ flags payload has. is log.source (fragment flags payload) (owns.owned flags payload has);
+}
+
+all_more : (granted more : ℕ → List Frame) → IsMore granted more → (logs : List WholeLog) → All (Owns granted) logs →
+    All (Owns more) logs
+all_more granted more is logs owned = All-weaker (Owns granted) (Owns more) (owns_more granted more is) logs owned
+
+-- ---- one log
+
+begun_owns : (granted : ℕ → List Frame) (s : State) (o : Option Publication) → All (Owns granted) (begun s o)
+begun_owns granted s None = All-nil (Owns granted)
+begun_owns granted s (Some publication) =
+    All-cons (Owns granted) _ []
+    (record { read = tt; owned = λ flags payload has. absurd (contains_none (fragment flags payload) has) })
+    (All-nil (Owns granted))
+
+opened_owns : (granted : ℕ → List Frame) (s : State) (o : Option LogPlace) → All (Owns granted) (opened_for s o)
+opened_owns granted s None = All-nil (Owns granted)
+opened_owns granted s (Some place) = begun_owns granted s (publication_at s.streams.publications place.source)
+
+rejoined_owns : (granted : ℕ → List Frame) (pairs : List Pair) (log : WholeLog) → Owns granted log →
+    Owns granted (rejoined_log pairs log)
+unfolding rejoined
+rejoined_owns granted pairs log owns = record {
+  read =
+      rejoined_starts log.whole.ident.start log.whole.frames log.whole.pairs (readers_of pairs log.source) owns.read;
+  owned = owns.owned;
+}
+
+polled_from_owns : (granted : ℕ → List Frame) (subscription limit : ℕ) (log : WholeLog) (o : Option ℕ) →
+    IfSome o (IsStart log.whole.ident.start log.whole.frames) → Owns granted log →
+    Owns granted (record log { whole = (polled_from log.whole subscription limit o).after })
+polled_from_owns granted subscription limit log None start owns = owns
+polled_from_owns granted subscription limit log (Some at) start owns =
+    let w : Whole = log.whole in
+    let from = behind_start w at start in
+    let behind' : List Frame = frames_behind at w.ident.start w.frames in
+    let fs : List Frame = passed limit behind' in
+    let split : w.frames ≡ (from.before ++ fs) ++ left_behind limit behind' =
+    passed_behind w limit at from ∙ sym (append_assoc from.before fs (left_behind limit behind')) in
+    let place = from.place in
+    let stands : IsStart w.ident.start w.frames (at + total fs) = record {
+      before = from.before ++ fs;
+      after = left_behind limit behind';
+      is = split;
+      place = omega (arith, place, total_both from.before fs);
+    } in
+    record {
+      read = moved_starts w.ident.start subscription (at + total fs) w.frames w.pairs owns.read stands;
+      owned = owns.owned;
+    }
+
+given_owns : (granted : ℕ → List Frame) (subscription limit : ℕ) (log : WholeLog) → Owns granted log →
+    Owns granted (given subscription limit log).after
+unfolding polled
+given_owns granted subscription limit log owns =
+    polled_from_owns granted subscription limit log (position_of log.whole.pairs subscription)
+    (found_start log.whole.ident.start subscription log.whole.frames log.whole.pairs owns.read) owns
+
+-- a fragment is appended only where the log answers a position, and is a part of the message then
+record IsPut (offer : Offer) (i : Ident) (message : List ℕ) (frame : Frame) : Type 0 where
+  position : ℕ
+  is : offer ≡ At position
+  part : Contains (cut (payload_length i) message) frame
+
+appended_is_put : (offer : Offer) (i : Ident) (tail : ℕ) (message : List ℕ) (flags : Flags) (payload : List ℕ) →
+    Contains (appended_at offer i tail message) (fragment flags payload) →
+    IsPut offer i message (fragment flags payload)
+appended_is_put (At position) i tail message flags payload has =
+    record { position = position; is = refl; part = has }
+appended_is_put AdminAction i tail message flags payload has =
+    let is = only_one _ (fragment flags payload) has in
+    absurd (cc is)
+appended_is_put IsTooLong i tail message flags payload has = absurd (contains_none (fragment flags payload) has)
+appended_is_put MaxPosition i tail message flags payload has = absurd (contains_none (fragment flags payload) has)
+appended_is_put BackPressured i tail message flags payload has = absurd (contains_none (fragment flags payload) has)
+
+-- the message's frames were granted to the log's source, if the answer is a position
+abbrev IsGranted : (ℕ → List Frame) → List ℕ → WholeLog → Answer → Type 0
+IsGranted more message log answer =
+    (position : ℕ) → answer ≡ OfferedAs (PutAt position) →
+    (frame : Frame) → Contains (cut (payload_length log.whole.ident) message) frame → Contains (more log.source) frame
+
+taken_owns : (granted more : ℕ → List Frame) (message : List ℕ) (log : WholeLog) → IsMore granted more →
+    IsGranted more message log (taken message log).answer → Owns granted log → Owns more (taken message log).after
+unfolding offered
+taken_owns granted more message log is puts owns =
+    let w : Whole = log.whole in
+    let new : List Frame = appended_at (answer_to w message) w.ident (tail_of w) message in
+    record {
+      read = starts_more w.ident.start w.frames new w.pairs owns.read;
+      owned = λ flags payload has.
+          let frame : Frame = fragment flags payload in
+          ⊎_elim (λ old. is log.source frame (owns.owned flags payload old))
+          (λ added.
+          let put = appended_is_put (answer_to w message) w.ident (tail_of w) message flags payload added in
+          puts put.position (ap (λ (o : Offer). OfferedAs (offered_as o)) put.is) frame put.part)
+          (Contains-append_cases w.frames new frame has);
+    }
+
+-- what an offer leaves of the log, by its answer
+abbrev LeavesOwned : (ℕ → List Frame) → List ℕ → WholeLog → Move → Type 0
+LeavesOwned more message log move = IsGranted more message log move.answer → Owns more move.after
+
+offer_under_owns : (granted more : ℕ → List Frame) (s : State) (now : ℕ) (message : List ℕ) (log : WholeLog)
+    (o : Option LogRequest) → IsMore granted more → Owns granted log →
+    LeavesOwned more message log (offer_under s now message log o)
+offer_under_owns granted more s now message log None is owns = λ puts. owns_more granted more is log owns
+offer_under_owns granted more s now message log (Some request) is owns =
+    let P : Move → Type 0 = LeavesOwned more message log in
+    let same : (answer : Answer) → P (answered log answer) = λ answer puts. owns_more granted more is log owns in
+    cond_both (not (request.source == log.source)) _ _ P (λ _. same _)
+    (λ _. cond_both (not request.decision.verdict.allow) _ _ P (λ _. same _)
+    (λ _. cond_both (nat_lt (greatest_message log.whole.ident) (length message)) _ _ P (λ _. same _)
+    (λ _. cond_both (not (is_connected log.whole now s.settings.connection_timeout)) _ _ P (λ _. same _)
+    (λ _. λ puts. taken_owns granted more message log is puts owns))))
+
+poll_under_owns : (granted : ℕ → List Frame) (subscription limit : ℕ) (log : WholeLog) (o : Option LogRequest)
+    (at : Option ℕ) → Owns granted log → Owns granted (poll_under subscription limit log o at).after
+poll_under_owns granted subscription limit log None at owns = owns
+poll_under_owns granted subscription limit log (Some request) None owns = owns
+poll_under_owns granted subscription limit log (Some request) (Some at) owns =
+    cond_both (not request.decision.verdict.allow) _ _ (λ (move : Move). Owns granted move.after) (λ _. owns)
+    (λ _. given_owns granted subscription limit log owns)
+
+-- ---- all logs
+
+after_owns : (granted : ℕ → List Frame) (change : Change) (logs : List WholeLog) → All (Owns granted) logs →
+    All (Owns granted) (logs_after change logs)
+unfolding logs_after
+after_owns granted change logs owned =
+    let P : WholeLog → Type 0 = Owns granted in
+    let pairs : List Pair = pairs_of change.after in
+    let opened : List WholeLog = opened_for change.after change.outcome.opens in
+    let kept : List WholeLog = filter (stays_open change.outcome.closes) (logs ++ opened) in
+    let all = All-append P logs opened owned (opened_owns granted change.after change.outcome.opens) in
+    let left = All-filter (stays_open change.outcome.closes) P (logs ++ opened) all in
+    All-map P (rejoined_log pairs) kept
+    (All-weaker P (λ log. P (rejoined_log pairs log)) (rejoined_owns granted pairs) kept left)
+
+-- the log that is found is one of them, of that source
+pub record IsFound (P : WholeLog → Type 0) (source : ℕ) (log : WholeLog) : Type 0 where
+  pub holds : P log
+  pub source_is : log.source ≡ source
+
+found_in : (P : WholeLog → Type 0) (source : ℕ) (first log : WholeLog) (logs : List WholeLog) (b : Bool) →
+    (first.source == source) ≡ b → P first → (log_at logs source ≡ Some log → IsFound P source log) →
+    cond b (Some first) (log_at logs source) ≡ Some log → IsFound P source log
+found_in P source first log logs true same holds rest found =
+    let is : first ≡ log = cc in
+    subst (IsFound P source) is (record { holds = holds; source_is = eqb-true first.source source same })
+found_in P source first log logs false same holds rest found = rest found
+
+pub found_log : (P : WholeLog → Type 0) (source : ℕ) (log : WholeLog) (logs : List WholeLog) → All P logs →
+    log_at logs source ≡ Some log → IsFound P source log
+found_log P source log [] all found = absurd (cc)
+found_log P source log (first ∷ logs) all found =
+    found_in P source first log logs (first.source == source) refl (All-head P first logs all)
+    (found_log P source log logs (All-tail P first logs all)) found
+
+pub all_with : (P : WholeLog → Type 0) (source : ℕ) (log : WholeLog) (logs : List WholeLog) → All P logs → P log →
+    All P (with_log logs source log)
+all_with P source log [] all holds = all
+all_with P source log (first ∷ logs) all holds =
+    let rest = All-tail P first logs all in
+    cond_both (first.source == source) _ _ (All P) (λ _. All-cons P log logs holds rest)
+    (λ _.
+    All-cons P first (with_log logs source log) (All-head P first logs all) (all_with P source log logs rest holds))
+
+-- ---- steps
+
+-- the message's frames were granted to the source, if the answer is a position
+abbrev IsPutInto : (ℕ → List Frame) → RunEnd → List ℕ → Option LogRequest → Answer → Type 0
+IsPutInto more e message o answer =
+    (position : ℕ) → answer ≡ OfferedAs (PutAt position) →
+    (source : ℕ) (frame : Frame) → Contains (put_into e source message o) frame → Contains (more source) frame
+
+-- an offer that is answered a position is allowed
+is_allowed : (verdict : Bool) → not verdict ≡ false → verdict ≡ true
+is_allowed true is = refl
+is_allowed false is = absurd (cc is)
+
+put_is_allowed : (s : State) (now : ℕ) (message : List ℕ) (request : LogRequest) (log : WholeLog) (position : ℕ) →
+    (offer_under s now message log (Some request)).answer ≡ OfferedAs (PutAt position) →
+    request.decision.verdict.allow ≡ true
+put_is_allowed s now message request log position =
+    let allows : Bool = request.decision.verdict.allow in
+    let P : Move → Type 0 = λ move. move.answer ≡ OfferedAs (PutAt position) → allows ≡ true in
+    cond_both (not (request.source == log.source)) _ _ P (λ _ other. absurd (cc other))
+    (λ _. cond_both (not allows) _ _ P (λ _ other. absurd (cc other)) (λ granted _. is_allowed allows granted))
+
+-- the log that took the message is the one whose cut counts as granted
+put_into_found : (e : RunEnd) (message : List ℕ) (request : LogRequest) (log : WholeLog) →
+    log_at e.logs request.source ≡ Some log → log.source ≡ request.source → request.decision.verdict.allow ≡ true →
+    put_into e log.source message (Some request) ≡ cut (payload_length log.whole.ident) message
+put_into_found e message request log found source_is allows =
+    rw (source_is, eq-eqb request.source request.source refl, allows, found) refl
+
+offer_found_owns : (granted more : ℕ → List Frame) (e : RunEnd) (now client registration : ℕ) (message : List ℕ)
+    (request : LogRequest) (o : Option WholeLog) → offering_of e.registry client registration ≡ Some request →
+    log_at e.logs request.source ≡ o → IsMore granted more →
+    IsPutInto more e message (Some request)
+    (moved_on e request.source (offer_move e.registry now client registration message) (OfferedAs Closed) o).answer →
+    All (Owns granted) e.logs →
+    All (Owns more)
+    (moved_on e request.source (offer_move e.registry now client registration message) (OfferedAs Closed) o).after.logs
+unfolding offer_move
+offer_found_owns granted more e now client registration message request None asked found is puts owned =
+    all_more granted more is e.logs owned
+offer_found_owns granted more e now client registration message request (Some log) asked found is puts owned =
+    let there = found_log (Owns granted) request.source log e.logs owned found in
+    let s : State = e.registry in
+    all_with (Owns more) request.source _ e.logs (all_more granted more is e.logs owned)
+    (offer_under_owns granted more s now message log (offering_of s client registration) is there.holds
+    (λ position answer frame has.
+    let told : (offer_under s now message log (Some request)).answer ≡ OfferedAs (PutAt position) =
+    ap (λ (o : Option LogRequest). (offer_under s now message log o).answer) (sym asked) ∙ answer in
+    let allows = put_is_allowed s now message request log position told in
+    let same = put_into_found e message request log found there.source_is allows in
+    puts position answer log.source frame (subst (λ (fs : List Frame). Contains fs frame) (sym same) has)))
+
+offer_owns : (granted more : ℕ → List Frame) (e : RunEnd) (now client registration : ℕ) (message : List ℕ)
+    (o : Option LogRequest) → offering_of e.registry client registration ≡ o → IsMore granted more →
+    IsPutInto more e message o (on_offered e now client registration message o).answer → All (Owns granted) e.logs →
+    All (Owns more) (on_offered e now client registration message o).after.logs
+unfolding on_log
+offer_owns granted more e now client registration message None asked is puts owned =
+    all_more granted more is e.logs owned
+offer_owns granted more e now client registration message (Some request) asked is puts owned =
+    offer_found_owns granted more e now client registration message request (log_at e.logs request.source) asked refl is
+    puts owned
+
+poll_owns : (granted : ℕ → List Frame) (e : RunEnd) (client subscription source limit : ℕ) (o : Option WholeLog) →
+    log_at e.logs source ≡ o → All (Owns granted) e.logs →
+    All (Owns granted) (moved_on e source (poll_move e.registry client subscription limit) IsGone o).after.logs
+unfolding poll_move
+poll_owns granted e client subscription source limit None found owned = owned
+poll_owns granted e client subscription source limit (Some log) found owned =
+    let there = found_log (Owns granted) source log e.logs owned found in
+    all_with (Owns granted) source _ e.logs owned
+    (poll_under_owns granted subscription limit log (receiving_of e.registry client subscription log.source)
+    (position_of log.whole.pairs subscription) there.holds)
+
+-- what was granted before a step, and by it
+abbrev granted_with : (ℕ → List Frame) → RunEnd → Step → Answer → ℕ → List Frame
+granted_with granted e step answer source = granted source ++ granted_by e source step answer
+
+with_is_more : (granted : ℕ → List Frame) (e : RunEnd) (step : Step) (answer : Answer) →
+    IsMore granted (granted_with granted e step answer)
+with_is_more granted e step answer source frame has =
+    Contains-append_left (granted source) (granted_by e source step answer) frame has
+
+-- a step that puts nothing into a log
+still_owns : (granted : ℕ → List Frame) (e : RunEnd) (step : Step) (answer : Answer) (logs : List WholeLog) →
+    All (Owns granted) logs → All (Owns (granted_with granted e step answer)) logs
+still_owns granted e step answer logs owned =
+    all_more granted (granted_with granted e step answer) (with_is_more granted e step answer) logs owned
+
+moved_owns : (granted : ℕ → List Frame) (e : RunEnd) (step : Step) → All (Owns granted) e.logs →
+    All (Owns (granted_with granted e step (moved e step).answer)) (moved e step).after.logs
+unfolding conducted on_log
+moved_owns granted e (Conductor event) owned =
+    let step : Step = Conductor event in
+    still_owns granted e step (moved e step).answer (moved e step).after.logs
+    (after_owns granted (conduct e.registry event (inputs_of e.logs)) e.logs owned)
+moved_owns granted e (Offers now client registration message) owned =
+    let step : Step = Offers now client registration message in
+    let answer : Answer = (moved e step).answer in
+    offer_owns granted (granted_with granted e step answer) e now client registration message
+    (offering_of e.registry client registration) refl (with_is_more granted e step answer)
+    (λ position is source frame has.
+    Contains-append_right (granted source) (granted_by e source step answer) frame
+    (subst (λ (a : Answer). Contains (granted_by e source step a) frame) (sym is) has))
+    owned
+moved_owns granted e (Polls now client subscription source limit) owned =
+    let step : Step = Polls now client subscription source limit in
+    still_owns granted e step (moved e step).answer (moved e step).after.logs
+    (poll_owns granted e client subscription source limit (log_at e.logs source) refl owned)
+moved_owns granted e (Lists now client) owned =
+    let step : Step = Lists now client in
+    still_owns granted e step (moved e step).answer e.logs owned
+moved_owns granted e (Value now client number) owned =
+    let step : Step = Value now client number in
+    still_owns granted e step (moved e step).answer e.logs owned
+
+-- a step is answered what it comes to, or is refused memory
+told_owns : (granted : ℕ → List Frame) (e : RunEnd) (step : Step) (answer : Answer) → answer ≡ (moved e step).answer →
+    All (Owns granted) e.logs → All (Owns (granted_with granted e step answer)) (moved e step).after.logs
+told_owns granted e step answer is owned =
+    subst (λ (a : Answer). All (Owns (granted_with granted e step a)) (moved e step).after.logs) (sym is)
+    (moved_owns granted e step owned)
+
+step_owns : (granted : ℕ → List Frame) (e : RunEnd) (step : Step) (answer : Answer) → IsAnswer e step answer →
+    All (Owns granted) e.logs → All (Owns (granted_with granted e step answer)) (after e step answer).logs
+step_owns granted e step NoMemory is owned = still_owns granted e step NoMemory e.logs owned
+step_owns granted e step (Attached number) is owned = told_owns granted e step _ is owned
+step_owns granted e step Full is owned = told_owns granted e step _ is owned
+step_owns granted e step Stopped is owned = told_owns granted e step _ is owned
+step_owns granted e step (PolicyInForce epoch replies) is owned = told_owns granted e step _ is owned
+step_owns granted e step PolicyFull is owned = told_owns granted e step _ is owned
+step_owns granted e step (Replies replies) is owned = told_owns granted e step _ is owned
+step_owns granted e step (OfferedAs offered') is owned = told_owns granted e step _ is owned
+step_owns granted e step (Polled fragments) is owned = told_owns granted e step _ is owned
+step_owns granted e step IsGone is owned = told_owns granted e step _ is owned
+step_owns granted e step (Counters rows) is owned = told_owns granted e step _ is owned
+step_owns granted e step (ValueIs number) is owned = told_owns granted e step _ is owned
+step_owns granted e step (Denied verdict) is owned = told_owns granted e step _ is owned
+step_owns granted e step UnknownCounter is owned = told_owns granted e step _ is owned
+step_owns granted e step WrongClient is owned = told_owns granted e step _ is owned
+
+-- ---- runs
+
+-- what was granted before a run, and in it
+abbrev granted_behind : (ℕ → List Frame) → RunEnd → List Step → List Answer → ℕ → List Frame
+granted_behind granted e steps answers source = granted source ++ granted_in e source steps answers
+
+run_owns : (granted : ℕ → List Frame) (e : RunEnd) (steps : List Step) (answers : List Answer) →
+    AreAnswers e steps answers →
+    All (Owns granted) e.logs → All (Owns (granted_behind granted e steps answers)) (end_of e steps answers).logs
+run_owns granted e [] [] are owned =
+    all_more granted (granted_behind granted e [] [])
+    (λ source frame has. Contains-append_left (granted source) [] frame has) e.logs owned
+run_owns granted e [] (answer ∷ answers) are owned = absurd are
+run_owns granted e (step ∷ steps) [] are owned = absurd are
+run_owns granted e (step ∷ steps) (answer ∷ answers) are owned =
+    let next : RunEnd = after e step answer in
+    let now : ℕ → List Frame = granted_with granted e step answer in
+    all_more (granted_behind now next steps answers) (granted_behind granted e (step ∷ steps) (answer ∷ answers))
+    (λ source frame has.
+    subst (λ (fs : List Frame). Contains fs frame)
+    (append_assoc (granted source) (granted_by e source step answer) (granted_in next source steps answers)) has)
+    (end_of next steps answers).logs
+    (run_owns now next steps answers are.1 (step_owns granted e step answer are.0 owned))
+
+-- ---- what a poll gives then
+
+fetched_come : (e : RunEnd) (source : ℕ) (granted : List Frame) (log : WholeLog) → log_at e.logs source ≡ Some log →
+    ((flags : Flags) (payload : List ℕ) → Contains log.whole.frames (fragment flags payload) →
+    Contains granted (fragment flags payload)) →
+    (fs : List Fetched) → AreFragmentsOf log.whole fs → All (ComesFromLog e source granted) (map fragment_of fs)
+fetched_come e source granted log found owned [] are = All-nil (ComesFromLog e source granted)
+fetched_come e source granted log found owned (f ∷ fs) are =
+    let frame : Frame = fragment f.flags f.payload in
+    let is = are.0 in
+    let there : Contains log.whole.frames frame =
+    subst (λ (gs : List Frame). Contains gs frame) (sym is.is)
+    (Contains-append_right is.before (frame ∷ is.after) frame
+    (Contains-append_left (frame ∷ []) is.after frame (Contains-push [] frame))) in
+    All-cons (ComesFromLog e source granted) (fragment_of f) (map fragment_of fs)
+    (record {
+      log = log;
+      live = found;
+      fetched = f;
+      given_is = refl;
+      frame = is;
+      offered = owned f.flags f.payload there;
+    })
+    (fetched_come e source granted log found owned fs are.1)
+
+-- a poll that gives fragments gives those of the log
+poll_gives : (subscription limit : ℕ) (log : WholeLog) (o : Option LogRequest) (at : Option ℕ)
+    (fragments : List Fragment) →
+    Polled fragments ≡ (poll_under subscription limit log o at).answer →
+    fragments ≡ map fragment_of (polled log.whole subscription limit).fragments
+poll_gives subscription limit log None at fragments is = absurd (cc)
+poll_gives subscription limit log (Some request) None fragments is = absurd (cc)
+poll_gives subscription limit log (Some request) (Some at) fragments is =
+    cond_both (not request.decision.verdict.allow) _ _
+    (λ (move : Move).
+    Polled fragments ≡ move.answer → fragments ≡ map fragment_of (polled log.whole subscription limit).fragments)
+    (λ _ other. absurd (cc other)) (λ _ same. cc same) is
+
+poll_comes : (granted : ℕ → List Frame) (e : RunEnd) (client subscription source limit : ℕ) (fragments : List Fragment)
+    (o : Option WholeLog) → log_at e.logs source ≡ o → All (Owns granted) e.logs →
+    Polled fragments ≡ (moved_on e source (poll_move e.registry client subscription limit) IsGone o).answer →
+    All (ComesFromLog e source (granted source)) fragments
+unfolding poll_move
+poll_comes granted e client subscription source limit fragments None found owned is = absurd (cc)
+poll_comes granted e client subscription source limit fragments (Some log) found owned is =
+    let there = found_log (Owns granted) source log e.logs owned found in
+    let owns = there.holds in
+    let gives =
+    poll_gives subscription limit log (receiving_of e.registry client subscription log.source)
+    (position_of log.whole.pairs subscription) fragments is in
+    subst (All (ComesFromLog e source (granted source))) (sym gives)
+    (fetched_come e source (granted source) log found
+    (λ flags payload has.
+    subst (λ (n : ℕ). Contains (granted n) (fragment flags payload)) there.source_is (owns.owned flags payload has))
+    (polled log.whole subscription limit).fragments (polled_frames log.whole subscription limit owns.read))
+
+-- in a run that begins without logs
+opening_owns : (settings : Settings) (policy : Rules) (peers : List Peer) →
+    All (Owns (λ source. [])) (opening_end settings policy peers).logs
+unfolding opening_end
+opening_owns settings policy peers = All-nil (Owns (λ source. []))
+
+pub bytes_come : BytesComeFromTheLiveLog
+unfolding on_log
+bytes_come settings policy peers steps answers now client subscription source limit fragments are is =
+    let first : RunEnd = opening_end settings policy peers in
+    let last : RunEnd = end_of first steps answers in
+    poll_comes (λ n. granted_in first n steps answers) last client subscription source limit fragments
+    (log_at last.logs source) refl
+    (run_owns (λ n. []) first steps answers are (opening_owns settings policy peers)) is

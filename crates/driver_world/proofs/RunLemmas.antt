@@ -1,0 +1,250 @@
+-- Runs are put together of steps.
+use Rattle.std.proofs.Common.{◌≡◌, ℕ, ◌==◌, not, nat_lt, Bool, true, false, List, [], ◌∷◌, ◌++◌, length, Option, Some, None, if◌then◌else◌, refl}
+use Rattle.std.specs.Option.{option_map}
+use Rattle.driver_core.specs.declared.event.Event.{Event}
+use Rattle.driver_core.specs.declared.log_request.LogRequest.{LogRequest}
+use Rattle.driver_core.specs.declared.outcome.Outcome.{Outcome}
+use Rattle.driver_core.specs.declared.outcome.Response.{Response}
+use Rattle.driver_core.specs.declared.outcome.Response.TheVariants as response
+use Rattle.driver_core.specs.declared.replies.Message.{Message}
+use Rattle.driver_core.specs.LogRequests.{offering_of, receiving_of}
+use Rattle.driver_core.specs.State.{State}
+use Rattle.driver_world.specs.declared.answer.Answer.{Answer}
+use Rattle.driver_world.specs.declared.answer.Answer.TheVariants.{NoMemory, Attached, Full, Stopped, PolicyInForce, PolicyFull, Replies, Offered as OfferedAs, Polled, Gone as IsGone, Counters, Value as ValueIs, Denied, UnknownCounter, WrongClient}
+use Rattle.driver_world.specs.declared.answer.Offered.TheVariants.{Closed}
+use Rattle.driver_world.specs.declared.step.Step.{Step}
+use Rattle.driver_world.specs.declared.step.Step.TheVariants.{Conductor, Offer, Poll}
+use Rattle.driver_world.specs.Answers.{answered_by, answer_of}
+use Rattle.driver_world.specs.Ends.{RunEnd, IsAnswer, AreAnswers, after, end_of, moved, moved_on, on_log, log_at, conducted}
+use Rattle.driver_world.specs.Held.{HeldLogs}
+use Rattle.driver_world.specs.Moves.{WholeLog, Move, MovesFirst, offer_move, offer_under, poll_move, poll_under}
+use Rattle.driver_world.specs.Standing.{Held, Takes, Serves, Runs, Continues}
+use Rattle.driver_world.proofs.StandLemmas.{moves_first}
+use Rattle.term_log.specs.Log.{greatest_message}
+use Rattle.term_log.specs.Pairs.{position_of}
+use Rattle.term_log.specs.Whole.{is_connected}
+
+-- ---- answers that are not want of memory
+
+abbrev pub IsTold : Answer → Type 0
+IsTold NoMemory = ⊥
+IsTold (Attached number) = Unit {0}
+IsTold Full = Unit {0}
+IsTold Stopped = Unit {0}
+IsTold (PolicyInForce epoch messages) = Unit {0}
+IsTold PolicyFull = Unit {0}
+IsTold (Replies messages) = Unit {0}
+IsTold (OfferedAs offered) = Unit {0}
+IsTold (Polled fragments) = Unit {0}
+IsTold IsGone = Unit {0}
+IsTold (Counters rows) = Unit {0}
+IsTold (ValueIs number) = Unit {0}
+IsTold (Denied verdict) = Unit {0}
+IsTold UnknownCounter = Unit {0}
+IsTold WrongClient = Unit {0}
+
+-- such an answer leaves what the step leaves
+told : (e : RunEnd) (step : Step) (answer : Answer) → IsTold answer → answer ≡ (moved e step).answer →
+    IsAnswer e step answer × (after e step answer ≡ (moved e step).after)
+told e step NoMemory is_told is = absurd is_told
+told e step (Attached number) is_told is = (is, refl)
+told e step Full is_told is = (is, refl)
+told e step Stopped is_told is = (is, refl)
+told e step (PolicyInForce epoch messages) is_told is = (is, refl)
+told e step PolicyFull is_told is = (is, refl)
+told e step (Replies messages) is_told is = (is, refl)
+told e step (OfferedAs offered) is_told is = (is, refl)
+told e step (Polled fragments) is_told is = (is, refl)
+told e step IsGone is_told is = (is, refl)
+told e step (Counters rows) is_told is = (is, refl)
+told e step (ValueIs number) is_told is = (is, refl)
+told e step (Denied verdict) is_told is = (is, refl)
+told e step UnknownCounter is_told is = (is, refl)
+told e step WrongClient is_told is = (is, refl)
+
+answered_told : (r : Response) (replies : List Message) → IsTold (answered_by r replies)
+answered_told response.Nothing replies = tt
+answered_told (response.Attached number) replies = tt
+answered_told response.Full replies = tt
+answered_told response.Stopped replies = tt
+answered_told (response.PolicyInForce epoch) replies = tt
+answered_told response.PolicyFull replies = tt
+
+-- ---- an event, and want of memory
+
+-- an event that was taken serves the conductor's step
+pub event_served : (old new : Held) (event : Event) (outcome : Outcome) → Takes old new event outcome →
+    Serves old new (Conductor event) (answer_of outcome)
+unfolding answer_of conducted
+event_served old new event outcome takes =
+    record {
+      on = λ e stands.
+          let taken = takes.on e stands in
+          let is : answer_of outcome ≡ (moved e (Conductor event)).answer = rw taken.0 refl in
+          let told' = told e (Conductor event) (answer_of outcome) (answered_told outcome.response outcome.replies) is in
+          (told'.0, rw told'.1 taken.1);
+    }
+
+-- a step that is refused memory leaves all as it was
+pub refusal_served : (old new : Held) (step : Step) → new ≡ old → Serves old new step NoMemory
+refusal_served old new step same = record { on = λ e stands. (tt, rw same stands) }
+
+-- ---- a step on one log
+
+told_cond : (b : Bool) (one other : Move) → IsTold one.answer → IsTold other.answer → IsTold (if b then one else other).answer
+told_cond true one other is_told others = is_told
+told_cond false one other is_told others = others
+
+offer_told : (s : State) (now : ℕ) (message : List ℕ) (log : WholeLog) (request : Option LogRequest) →
+    IsTold (offer_under s now message log request).answer
+offer_told s now message log None = tt
+offer_told s now message log (Some request) =
+    told_cond (not (request.source == log.source)) _ _ tt
+    (told_cond (not request.decision.verdict.allow) _ _ tt
+    (told_cond (nat_lt (greatest_message log.whole.ident) (length message)) _ _ tt
+    (told_cond (not (is_connected log.whole now s.settings.connection_timeout)) _ _ tt tt)))
+
+poll_told : (subscription limit : ℕ) (log : WholeLog) (request : Option LogRequest) (position : Option ℕ) →
+    IsTold (poll_under subscription limit log request position).answer
+poll_told subscription limit log None position = tt
+poll_told subscription limit log (Some request) None = tt
+poll_told subscription limit log (Some request) (Some position) = told_cond (not request.decision.verdict.allow) _ _ tt tt
+
+moved_told : (e : RunEnd) (source : ℕ) (move : WholeLog → Move) (absent : Answer) (there : Option WholeLog) →
+    IsTold absent → ((log : WholeLog) → IsTold (move log).answer) →
+    IsTold (moved_on e source move absent there).answer
+moved_told e source move absent None none some = none
+moved_told e source move absent (Some log) none some = some log
+
+-- the registration is not there, so the offer leaves all as it was
+pub closed_served : (held : Held) (now client registration : ℕ) (message : List ℕ) →
+    offering_of held.registry client registration ≡ None →
+    Serves held held (Offer now client registration message) (OfferedAs Closed)
+closed_served held now client registration message none =
+    record {
+      on = λ e stands.
+          let asked : offering_of e.registry client registration ≡ None = rw (← stands.registry) none in
+          let told' = told e (Offer now client registration message) (OfferedAs Closed) tt (rw asked refl) in
+          let left : (moved e (Offer now client registration message)).after ≡ e = rw asked refl in
+          (told'.0, rw (told'.1, left) stands);
+    }
+
+-- an offer to the first log of the registration's source serves the client's step
+pub offer_served : (registry : State) (old new : HeldLogs) (now client registration : ℕ) (message : List ℕ) (request : LogRequest) (answer : Answer) →
+    offering_of registry client registration ≡ Some request →
+    MovesFirst request.source (offer_move registry now client registration message) (OfferedAs Closed) old new answer →
+    Serves (record { registry = registry; logs = old.logs }) (record { registry = registry; logs = new.logs })
+    (Offer now client registration message) answer
+unfolding on_log offer_move
+offer_served registry old new now client registration message request answer is moves =
+    record {
+      on = λ e stands.
+          let asked : offering_of e.registry client registration ≡ Some request = rw (← stands.registry) is in
+          let there : MovesFirst request.source (offer_move e.registry now client registration message) (OfferedAs Closed) old new answer =
+          rw (← stands.registry) moves in
+          let made = moves_first e request.source (offer_move e.registry now client registration message) (OfferedAs Closed) answer old new stands.logs there in
+          let given : answer ≡ (moved e (Offer now client registration message)).answer = rw asked made.0 in
+          let is_told : IsTold answer =
+          rw made.0
+          (moved_told e request.source (offer_move e.registry now client registration message) (OfferedAs Closed) (log_at e.logs request.source) tt
+          (λ log. offer_told e.registry now message log (offering_of e.registry client registration))) in
+          let told' = told e (Offer now client registration message) answer is_told given in
+          let left : (moved e (Offer now client registration message)).after
+          ≡ (moved_on e request.source (offer_move e.registry now client registration message) (OfferedAs Closed) (log_at e.logs request.source)).after =
+          rw asked refl in
+          (told'.0, rw (told'.1, left) (record { registry = rw made.2 stands.registry; logs = made.1 }));
+    }
+
+-- who is asked of the log of that source asks something of it
+sourced : (asked : Option LogRequest) (source : ℕ) → option_map (λ request. request.source) asked ≡ Some source →
+    (request : LogRequest) × (asked ≡ Some request) × (request.source ≡ source)
+sourced None source is = absurd (cc)
+sourced (Some request) source is = (request, refl, cc)
+
+pub unsourced : (asked : Option LogRequest) → option_map (λ request. request.source) asked ≡ None → asked ≡ None
+unsourced None is = refl
+unsourced (Some request) is = absurd (cc)
+
+-- the same, where the source alone was looked for
+pub sourced_served : (registry : State) (old new : HeldLogs) (now client registration : ℕ) (message : List ℕ) (source : ℕ) (answer : Answer) →
+    option_map (λ request. request.source) (offering_of registry client registration) ≡ Some source →
+    MovesFirst source (offer_move registry now client registration message) (OfferedAs Closed) old new answer →
+    Serves (record { registry = registry; logs = old.logs }) (record { registry = registry; logs = new.logs })
+    (Offer now client registration message) answer
+sourced_served registry old new now client registration message source answer is moves =
+    let found = sourced (offering_of registry client registration) source is in
+    let there : MovesFirst found.0.source (offer_move registry now client registration message) (OfferedAs Closed) old new answer =
+    rw found.2 moves in
+    offer_served registry old new now client registration message found.0 answer found.1 there
+
+-- a poll of the first log of the source serves the client's step
+pub poll_served : (registry : State) (old new : HeldLogs) (now client subscription source limit : ℕ) (answer : Answer) →
+    MovesFirst source (poll_move registry client subscription limit) IsGone old new answer →
+    Serves (record { registry = registry; logs = old.logs }) (record { registry = registry; logs = new.logs })
+    (Poll now client subscription source limit) answer
+unfolding on_log poll_move
+poll_served registry old new now client subscription source limit answer moves =
+    record {
+      on = λ e stands.
+          let there : MovesFirst source (poll_move e.registry client subscription limit) IsGone old new answer =
+          rw (← stands.registry) moves in
+          let made = moves_first e source (poll_move e.registry client subscription limit) IsGone answer old new stands.logs there in
+          let given : answer ≡ (moved e (Poll now client subscription source limit)).answer = made.0 in
+          let is_told : IsTold answer =
+          rw made.0
+          (moved_told e source (poll_move e.registry client subscription limit) IsGone (log_at e.logs source) tt
+          (λ log. poll_told subscription limit log (receiving_of e.registry client subscription log.source) (position_of log.whole.pairs subscription))) in
+          let told' = told e (Poll now client subscription source limit) answer is_told given in
+          (told'.0, rw told'.1 (record { registry = rw made.2 stands.registry; logs = made.1 }));
+    }
+
+-- ---- runs
+
+-- one list of answers behind another
+pub answers_append : (e : RunEnd) (steps more : List Step) (answers given : List Answer) →
+    AreAnswers e steps answers → AreAnswers (end_of e steps answers) more given →
+    AreAnswers e (steps ++ more) (answers ++ given)
+answers_append e [] more [] given are next = next
+answers_append e [] more (answer ∷ answers) given are next = absurd are
+answers_append e (step ∷ steps) more [] given are next = absurd are
+answers_append e (step ∷ steps) more (answer ∷ answers) given are next =
+    (are.0, answers_append (after e step answer) steps more answers given are.1 next)
+
+pub end_append : (e : RunEnd) (steps more : List Step) (answers given : List Answer) →
+    AreAnswers e steps answers →
+    end_of e (steps ++ more) (answers ++ given) ≡ end_of (end_of e steps answers) more given
+end_append e [] more [] given are = refl
+end_append e [] more (answer ∷ answers) given are = absurd are
+end_append e (step ∷ steps) more [] given are = absurd are
+end_append e (step ∷ steps) more (answer ∷ answers) given are =
+    end_append (after e step answer) steps more answers given are.1
+
+-- no step
+pub runs_none : (held : Held) → Runs held held [] []
+runs_none held = record { on = λ e stands. (tt, stands) }
+
+-- one more step
+pub runs_more : (old middle new : Held) (steps : List Step) (step : Step) (answers : List Answer) (answer : Answer) →
+    Runs old middle steps answers → Serves middle new step answer →
+    Runs old new (steps ++ step ∷ []) (answers ++ answer ∷ [])
+runs_more old middle new steps step answers answer ran served =
+    record {
+      on = λ e stands.
+          let so_far = ran.on e stands in
+          let last = served.on (end_of e steps answers) so_far.1 in (
+            answers_append e steps (step ∷ []) answers (answer ∷ []) so_far.0 (last.0, tt),
+            rw (end_append e steps (step ∷ []) answers (answer ∷ []) so_far.0) last.1,
+          );
+    }
+
+-- steps that run from each end continue each run
+pub runs_continue : (old new : Held) (steps : List Step) (answers : List Answer) →
+    Runs old new steps answers → Continues old new steps answers
+runs_continue old new steps answers ran =
+    record {
+      on = λ settings policy peers before earlier are stands.
+          let next = ran.on _ stands in (
+            answers_append _ before steps earlier answers are next.0,
+            rw (end_append _ before steps earlier answers are) next.1,
+          );
+    }

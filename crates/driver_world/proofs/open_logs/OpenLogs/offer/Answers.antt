@@ -1,0 +1,40 @@
+use Rattle.std.proofs.Common.{◌≡◌, ◌<◌, List, length, Some, None, sym, ap, subst, ◌∙◌}
+use Rattle.std.proofs.lemmas.List.{get_or_default}
+use Rattle.std.specs.Prelude.{slice_set}
+use Rattle.driver_world.specs.declared.answer.Answer.TheVariants.{Offered as OfferedAs}
+use Rattle.driver_world.specs.declared.answer.Offered.TheVariants.{Closed}
+use Rattle.driver_world.specs.Held.{HeldLog, HeldLogs, LiesAsBefore, place_at}
+use Rattle.driver_world.specs.Moves.{MovesFirst, offer_move}
+use Rattle.driver_world.proofs.HeldLemmas.{found_at, moves_at, moves_none}
+use Rattle.driver_world.proofs.HousedLemmas.{housed_set}
+use Rattle.driver_world.proofs.open_logs.OpenLogs.offer.Goals as goal
+
+pub returns-in_default : goal.returns-in_default
+returns-in_default g c =
+    let old : HeldLogs = record { pages = c.self.inside.arena.home.pages; logs = c.self.inside.logs.items } in
+    let move = offer_move (g.V.View.shows c.args.view.now) c.args.now c.args.client c.args.registration c.args.message.now in
+    let none : place_at old.logs c.args.source ≡ None =
+    ap (λ l. place_at l c.args.source) (sym c.as_slice.ensures.value) ∙ sym c.place_of.ensures ∙ c.in_default.is in
+    subst (λ (h : HeldLogs). MovesFirst c.args.source move (OfferedAs Closed) h h (OfferedAs Closed)) c.self.view_is
+    (moves_none c.args.source move (OfferedAs Closed) old none)
+
+pub invariant_of-self : goal.invariant_of-self
+invariant_of-self g c =
+    let logs : List HeldLog = c.self.inside.logs.items in
+    let place : place_at logs c.args.source ≡ Some c.in-Some.at =
+    ap (λ l. place_at l c.args.source) (sym c.as_slice.ensures.value) ∙ sym c.place_of.ensures ∙ c.in-Some.is in
+    let within : c.in-Some.at < length logs = (found_at logs c.args.source c.in-Some.at place).0 in
+    housed_set c.self.inside.arena logs c.in-Some.at c.offer_step.new.log within (λ d.
+    let was = get_or_default logs c.in-Some.at d c.index_mut.result.now within ∙ sym c.index_mut.ensures.value in
+    subst (λ (h : HeldLog). LiesAsBefore h c.offer_step.new.log) (sym was) c.offer_step.ensures.lies) c.self.invariant
+
+pub returns : goal.returns
+returns g c =
+    let old : HeldLogs = record { pages = c.self.inside.arena.home.pages; logs = c.self.inside.logs.items } in
+    let move = offer_move (g.V.View.shows c.args.view.now) c.args.now c.args.client c.args.registration c.args.message.now in
+    let place : place_at old.logs c.args.source ≡ Some c.in-Some.at =
+    ap (λ l. place_at l c.args.source) (sym c.as_slice.ensures.value) ∙ sym c.place_of.ensures ∙ c.in-Some.is in
+    let new : HeldLogs = record { pages = old.pages; logs = slice_set old.logs c.in-Some.at c.offer_step.new.log } in
+    subst (λ (h : HeldLogs). MovesFirst c.args.source move (OfferedAs Closed) h new c.offer_step.result) c.self.view_is
+    (moves_at c.args.source move (OfferedAs Closed) c.offer_step.result old c.in-Some.at c.index_mut.result.now c.offer_step.new.log place
+    c.index_mut.ensures.value c.offer_step.ensures.does c.offer_step.ensures.lies)

@@ -1,0 +1,24 @@
+use Rattle.driver_world.specs.declared.answer.Answer.TheVariants.{Gone}
+use Rattle.driver_world.specs.declared.step.Step.TheVariants.{Poll}
+use Rattle.driver_world.specs.Moves.{poll_move}
+use Rattle.driver_world.proofs.RunLemmas.{poll_served, refusal_served}
+use Rattle.driver_world.proofs.StandLemmas.{match_moved}
+use Rattle.driver_world.proofs.world.World.poll.Goals as goal
+
+pub invariant_of-self : goal.invariant_of-self
+invariant_of-self c = rw c.in_default.ensures.err c.self.invariant
+
+pub invariant_of-self-2 : goal.invariant_of-self-2
+invariant_of-self-2 c =
+    match_moved c.self.inside.registry c.args.source (poll_move c.self.inside.registry c.args.client c.args.subscription c.args.limit)
+    Gone c.in-Ok.answer c.self.inside.logs c.poll.new.self c.self.invariant c.in-Ok.ensures.moved
+
+pub returns-in_default : goal.returns-in_default
+returns-in_default c =
+    refusal_served _ _ (Poll c.args._now c.args.client c.args.subscription c.args.source c.args.limit)
+    (rw c.in_default.ensures.err c.self.view_is)
+
+pub returns : goal.returns
+returns c =
+    rw (← c.self.view_is)
+    (poll_served c.self.inside.registry c.self.inside.logs c.poll.new.self c.args._now c.args.client c.args.subscription c.args.source c.args.limit c.in-Ok.answer c.in-Ok.ensures.moved)

@@ -1,0 +1,145 @@
+-- What stands at the end of a run, its logs as whole lists of frames; what each step leaves, and what it is answered.
+use Rattle.std.specs.Prelude.{◌≡◌, ℕ, Bool, List, [], ◌∷◌, ◌++◌, map, filter, find, not, ◌==◌, if◌then◌else◌, Option, Some, None}
+use Rattle.driver_core.specs.declared.change.Change.{Change}
+use Rattle.driver_core.specs.declared.event.End.{End}
+use Rattle.driver_core.specs.declared.event.Event.{Event}
+use Rattle.driver_core.specs.declared.event.Inputs.{Inputs}
+use Rattle.driver_core.specs.declared.log_request.LogRequest.{LogRequest}
+use Rattle.driver_core.specs.declared.peer.Peer.{Peer}
+use Rattle.driver_core.specs.declared.settings.Settings.{Settings}
+use Rattle.driver_core.specs.Conduct.{conduct}
+use Rattle.driver_core.specs.Listing.{list, value}
+use Rattle.driver_core.specs.LogRequests.{offering_of}
+use Rattle.driver_core.specs.Pairs.{pairs_of}
+use Rattle.driver_core.specs.Renewal.{publication_at}
+use Rattle.driver_core.specs.State.{State, opened}
+use Rattle.driver_world.specs.declared.answer.Answer.{Answer}
+use Rattle.driver_world.specs.declared.answer.Answer.TheVariants.{NoMemory, Offered as OfferedAs, Gone as IsGone}
+use Rattle.driver_world.specs.declared.answer.Offered.TheVariants.{Closed}
+use Rattle.driver_world.specs.declared.step.Step.{Step}
+use Rattle.driver_world.specs.declared.step.Step.TheVariants.{Conductor, Offer, Poll, List as Lists, Value}
+use Rattle.driver_world.specs.Answers.{answer_of, answer_listed, answer_shown}
+use Rattle.driver_world.specs.Held.{is_closed, readers_of}
+use Rattle.driver_world.specs.Idents.{ident_of}
+use Rattle.driver_world.specs.Moves.{WholeLog, Move, offer_move, poll_move}
+use Rattle.policy_core.specs.RuleList.{Rules}
+use Rattle.stream_registry.specs.declared.lingering.LogPlace.{LogPlace}
+use Rattle.stream_registry.specs.declared.pairs.Pair.{Pair}
+use Rattle.stream_registry.specs.declared.rows.Publication.{Publication}
+use Rattle.term_log.specs.Whole.{fresh, rejoined, tail_of}
+
+-- the registry, and the open logs in the order in which they were opened
+pub record RunEnd : Type 0 where
+  pub registry : State
+  pub logs : List WholeLog
+
+-- the end of the empty run
+unfoldable pub opening_end : Settings → Rules → List Peer → RunEnd
+opening_end settings policy peers = record { registry = opened settings policy peers; logs = [] }
+
+-- what a step leaves, and what it is answered
+pub record Moved : Type 0 where
+  pub after : RunEnd
+  pub answer : Answer
+
+-- ---- the logs at an event
+
+-- what the logs tell the conductor: how far each reaches
+abbrev pub end_of_log : WholeLog → End
+end_of_log log = record { source = log.source; position = tail_of log.whole }
+
+abbrev pub inputs_of : List WholeLog → Inputs
+inputs_of logs = record { silent = []; ends = map end_of_log logs }
+
+-- a log without frames, made for what the publication says
+abbrev pub begun : State → Option Publication → List WholeLog
+begun s None = []
+begun s (Some publication) =
+    record { source = publication.source; whole = fresh (ident_of s.settings publication) } ∷ []
+
+abbrev pub opened_for : State → Option LogPlace → List WholeLog
+opened_for s None = []
+opened_for s (Some place) = begun s (publication_at s.streams.publications place.source)
+
+abbrev pub stays_open : List LogPlace → WholeLog → Bool
+stays_open closes log = not (is_closed closes log.source)
+
+-- exactly the subscriptions of these pairs read the log: one that did from where it is, a new one from the tail
+abbrev pub rejoined_log : List Pair → WholeLog → WholeLog
+rejoined_log pairs log = record log { whole = rejoined (readers_of pairs log.source) log.whole }
+
+-- the log that the event opens comes behind the others, those go that it closes, and exactly the pairs read them
+unfoldable pub logs_after : Change → List WholeLog → List WholeLog
+logs_after change logs =
+    map (rejoined_log (pairs_of change.after))
+    (filter (stays_open change.outcome.closes) (logs ++ opened_for change.after change.outcome.opens))
+
+-- ---- a step on one log
+
+abbrev pub log_at : List WholeLog → ℕ → Option WholeLog
+log_at logs source = find (λ log. log.source == source) logs
+
+-- the first log of that source is another now
+abbrev pub with_log : List WholeLog → ℕ → WholeLog → List WholeLog
+with_log [] source log = []
+with_log (first ∷ logs) source log =
+    if first.source == source then log ∷ logs else first ∷ with_log logs source log
+
+abbrev pub moved_on : RunEnd → ℕ → (WholeLog → Move) → Answer → Option WholeLog → Moved
+moved_on e source move absent None = record { after = e; answer = absent }
+moved_on e source move absent (Some log) = record {
+  after = record e { logs = with_log e.logs source (move log).after };
+  answer = (move log).answer;
+}
+
+-- the move of the log of that source; where it is not open, that answer
+unfoldable pub on_log : RunEnd → ℕ → (WholeLog → Move) → Answer → Moved
+on_log e source move absent = moved_on e source move absent (log_at e.logs source)
+
+-- an offer goes to the log that the client's registration is with
+abbrev pub on_offered : RunEnd → ℕ → ℕ → ℕ → List ℕ → Option LogRequest → Moved
+on_offered e now client registration message None = record { after = e; answer = OfferedAs Closed }
+on_offered e now client registration message (Some request) =
+    on_log e request.source (offer_move e.registry now client registration message) (OfferedAs Closed)
+
+-- ---- any step
+
+-- an event of the conductor
+unfoldable pub conducted : RunEnd → Event → Moved
+conducted e event =
+    let change : Change = conduct e.registry event (inputs_of e.logs) in
+    record {
+      after = record { registry = change.after; logs = logs_after change e.logs };
+      answer = answer_of change.outcome;
+    }
+
+abbrev pub moved : RunEnd → Step → Moved
+moved e (Conductor event) = conducted e event
+moved e (Offer now client registration message) =
+    on_offered e now client registration message (offering_of e.registry client registration)
+moved e (Poll now client subscription source limit) =
+    on_log e source (poll_move e.registry client subscription limit) IsGone
+moved e (Lists now client) = record { after = e; answer = answer_listed (list e.registry client) }
+moved e (Value now client number) = record { after = e; answer = answer_shown (value e.registry client number) }
+
+-- a step that is refused memory leaves all as it was; any other leaves and is answered what `moved` says
+abbrev pub after : RunEnd → Step → Answer → RunEnd
+after e step NoMemory = e
+after e step answer = (moved e step).after
+
+abbrev pub IsAnswer : RunEnd → Step → Answer → Type 0
+IsAnswer e step NoMemory = Unit {0}
+IsAnswer e step answer = answer ≡ (moved e step).answer
+
+-- the answers of a list of steps, each given where the ones before it left off
+abbrev pub AreAnswers : RunEnd → List Step → List Answer → Type 0
+AreAnswers e [] [] = Unit {0}
+AreAnswers e [] (answer ∷ answers) = ⊥
+AreAnswers e (step ∷ steps) [] = ⊥
+AreAnswers e (step ∷ steps) (answer ∷ answers) = IsAnswer e step answer × AreAnswers (after e step answer) steps answers
+
+-- where they leave off
+abbrev pub end_of : RunEnd → List Step → List Answer → RunEnd
+end_of e [] answers = e
+end_of e (step ∷ steps) [] = e
+end_of e (step ∷ steps) (answer ∷ answers) = end_of (after e step answer) steps answers

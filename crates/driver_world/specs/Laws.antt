@@ -1,0 +1,288 @@
+-- What holds at the end of every run, of the offers and polls there, and of the bytes that a poll gives.
+use Rattle.std.specs.Prelude.{◌≡◌, ℕ, ◌==◌, ◌&&◌, not, nat_lt, true, false, List, [], ◌∷◌, ◌++◌, length, map, All, Contains, Option, Some, None, if◌then◌else◌}
+use Rattle.driver_core.specs.declared.event.Event.{Event}
+use Rattle.driver_core.specs.declared.event.Inputs.{Inputs}
+use Rattle.driver_core.specs.declared.log_request.LogRequest.{LogRequest}
+use Rattle.driver_core.specs.declared.peer.Peer.{Peer}
+use Rattle.driver_core.specs.declared.settings.Settings.{Settings}
+use Rattle.driver_core.specs.Conduct.{outcome_of}
+use Rattle.driver_core.specs.Laws.{state_of}
+use Rattle.driver_core.specs.Listing.{list, value}
+use Rattle.driver_core.specs.LogRequests.{offering_of, registration_at, has_pair}
+use Rattle.driver_core.specs.Pairs.{pairs_of}
+use Rattle.driver_core.specs.Renewal.{publication_at, subscription_at}
+use Rattle.driver_core.specs.Soundness.{AreSettings}
+use Rattle.driver_core.specs.State.{State, opened}
+use Rattle.driver_core.specs.Verdicts.{IsByPolicy}
+use Rattle.driver_world.specs.declared.answer.Answer.{Answer}
+use Rattle.driver_world.specs.declared.answer.Answer.TheVariants.{NoMemory, Offered as OfferedAs, Polled, Gone as IsGone, Denied}
+use Rattle.driver_world.specs.declared.answer.Fragment.{Fragment}
+use Rattle.driver_world.specs.declared.answer.Offered.TheVariants.{At, Closed, TooLong, NotConnected}
+use Rattle.driver_world.specs.declared.step.Step.{Step}
+use Rattle.driver_world.specs.declared.step.Step.TheVariants.{Conductor, Offer, Poll, List as Lists, Value}
+use Rattle.driver_world.specs.Answers.{answer_of, answer_listed, answer_shown, offered_as, fragment_of}
+use Rattle.driver_world.specs.Ends.{RunEnd, Moved, opening_end, inputs_of, log_at, with_log, moved, after, IsAnswer, AreAnswers, end_of}
+use Rattle.driver_world.specs.Held.{readers_of}
+use Rattle.driver_world.specs.Idents.{ident_of}
+use Rattle.driver_world.specs.Moves.{WholeLog}
+use Rattle.client_registry.specs.declared.client.Client.{Client}
+use Rattle.client_registry.specs.Clients.{client_at}
+use Rattle.policy_core.specs.declared.act.Act.TheVariants.{Offer as ToOffer, Receive}
+use Rattle.policy_core.specs.declared.verdict.Verdict.{Verdict}
+use Rattle.policy_core.specs.Question.{Question}
+use Rattle.policy_core.specs.RuleList.{Rules}
+use Rattle.policy_core.specs.Rules.{verdict_of}
+use Rattle.stream_registry.specs.declared.rows.Publication.{Publication}
+use Rattle.stream_registry.specs.declared.rows.Registration.{Registration}
+use Rattle.stream_registry.specs.declared.rows.Subscription.{Subscription}
+use Rattle.stream_registry.specs.PageLaws.{IsLaidOut}
+use Rattle.term_log.specs.declared.ident.Ident.{Ident}
+use Rattle.term_log.specs.Cut.{cut}
+use Rattle.term_log.specs.Frames.{Frame, fragment}
+use Rattle.term_log.specs.Ident.{payload_length}
+use Rattle.term_log.specs.Log.{greatest_message}
+use Rattle.term_log.specs.PollLaws.{IsFragmentOf}
+use Rattle.term_log.specs.Polling.{Fetched}
+use Rattle.term_log.specs.Whole.{answer_to, is_connected, offered, polled}
+
+-- whatever happened since a driver was opened with sound settings
+abbrev pub AtEachEnd : (RunEnd → Type 0) → Type 0
+AtEachEnd P =
+    (settings : Settings) (policy : Rules) (peers : List Peer) (steps : List Step) (answers : List Answer) →
+    AreSettings settings → AreAnswers (opening_end settings policy peers) steps answers →
+    P (end_of (opening_end settings policy peers) steps answers)
+
+-- ---- the registry of a run
+
+-- the event of a step of the conductor, with what the logs say at it
+abbrev pub event_of : RunEnd → Step → List (Event × Inputs)
+event_of e (Conductor event) = (event, inputs_of e.logs) ∷ []
+event_of e (Offer now client registration message) = []
+event_of e (Poll now client subscription source limit) = []
+event_of e (Lists now client) = []
+event_of e (Value now client number) = []
+
+-- the events that a run took: those of the conductor's steps that were not refused memory
+abbrev pub taken_by : RunEnd → Step → Answer → List (Event × Inputs)
+taken_by e step NoMemory = []
+taken_by e step answer = event_of e step
+
+abbrev pub taken_from : RunEnd → List Step → List Answer → List (Event × Inputs)
+taken_from e [] answers = []
+taken_from e (step ∷ steps) [] = []
+taken_from e (step ∷ steps) (answer ∷ answers) =
+    taken_by e step answer ++ taken_from (after e step answer) steps answers
+
+-- the registry after the events that a run took
+abbrev pub registry_of : Settings → Rules → List Peer → List Step → List Answer → State
+registry_of settings policy peers steps answers =
+    state_of (opened settings policy peers) (taken_from (opening_end settings policy peers) steps answers)
+
+-- whoever is not refused memory is told that
+abbrev pub IsTold : Answer → Answer → Type 0
+IsTold NoMemory told = Unit {0}
+IsTold answer told = answer ≡ told
+
+-- the run leaves that registry; and what comes next is answered by it, where it is not refused memory: an event by its
+-- outcome, and a look by what is there to be seen
+pub record TakesEvents (e : RunEnd) (s : State) : Type 0 where
+  pub leaves : e.registry ≡ s
+  pub tells :
+      (event : Event) (answer : Answer) → IsAnswer e (Conductor event) answer →
+      IsTold answer (answer_of (outcome_of s event (inputs_of e.logs)))
+  pub lists :
+      (now client : ℕ) (answer : Answer) → IsAnswer e (Lists now client) answer →
+      IsTold answer (answer_listed (list s client))
+  pub values :
+      (now client number : ℕ) (answer : Answer) → IsAnswer e (Value now client number) answer →
+      IsTold answer (answer_shown (value s client number))
+
+-- what is said of all lists of events holds of runs
+abbrev pub RunsTakeEvents : Type 0
+RunsTakeEvents =
+    (settings : Settings) (policy : Rules) (peers : List Peer) (steps : List Step) (answers : List Answer) →
+    TakesEvents (end_of (opening_end settings policy peers) steps answers)
+    (registry_of settings policy peers steps answers)
+
+-- ---- the logs of a run
+
+-- a log by its number, and what it is made for
+abbrev pub made_for : WholeLog → ℕ × Ident
+made_for log = (log.source, log.whole.ident)
+
+abbrev pub made_as : Settings → Publication → ℕ × Ident
+made_as settings publication = (publication.source, ident_of settings publication)
+
+-- each live publication has its log, in the same order; no two of them share a page; and exactly those subscriptions read
+-- it that the registry says
+pub record LogsFollow (e : RunEnd) : Type 0 where
+  pub made : map made_for e.logs ≡ map (made_as e.registry.settings) e.registry.streams.publications
+  pub apart : IsLaidOut e.registry.settings.arena_pages e.registry.streams
+  pub read :
+      All (λ log. map (λ pair. pair.subscription) log.whole.pairs ≡ readers_of (pairs_of e.registry) log.source) e.logs
+
+abbrev pub LogsFollowTheRegistry : Type 0
+LogsFollowTheRegistry = AtEachEnd LogsFollow
+
+-- ---- an offer
+
+-- who offers, by which registration, with which publication
+pub record OfferRequest : Type 0 where
+  pub client : Client
+  pub registration : Registration
+  pub publication : Publication
+
+pub record AsksToOffer (s : State) (handle number : ℕ) (request : OfferRequest) : Type 0 where
+  pub client_is : client_at s.clients.rows handle ≡ Some request.client
+  pub registration_is : registration_at s.streams.registrations handle number ≡ Some request.registration
+  pub publication_is : publication_at s.streams.publications request.registration.source ≡ Some request.publication
+
+-- whether the client may put messages into the log, on the registration's own channel and the log's stream
+abbrev pub offer_question : OfferRequest → Question
+offer_question request = record {
+  principal = request.client.principal;
+  act = ToOffer;
+  channel = request.registration.channel;
+  stream = request.publication.stream;
+}
+
+abbrev pub offer_verdict : State → OfferRequest → Verdict
+offer_verdict s request = verdict_of s.policy s.epoch (offer_question request)
+
+-- nothing is changed
+abbrev pub stays : RunEnd → Answer → Moved
+stays e answer = record { after = e; answer = answer }
+
+-- the log takes the message as it can, and no other log is changed
+abbrev pub taken_by_log : RunEnd → List ℕ → WholeLog → Moved
+taken_by_log e message log = record {
+  after = record e { logs = with_log e.logs log.source (record log { whole = offered log.whole message }) };
+  answer = OfferedAs (offered_as (answer_to log.whole message));
+}
+
+-- an allowed offer: too long, to nobody, or taken as the log can
+abbrev pub let_through : RunEnd → ℕ → List ℕ → WholeLog → Moved
+let_through e now message log =
+    if nat_lt (greatest_message log.whole.ident) (length message) then stays e (OfferedAs TooLong)
+    else if not (is_connected log.whole now e.registry.settings.connection_timeout) then stays e (OfferedAs NotConnected)
+    else taken_by_log e message log
+
+-- The verdict decides, which is the first matching rule's or the default's: the offer goes on to the log exactly where it
+-- allows it, and else names it.
+pub record OfferIsDecided (e : RunEnd) (now : ℕ) (message : List ℕ) (request : OfferRequest) (log : WholeLog) (what : Moved) : Type 0 where
+  pub by : IsByPolicy e.registry (offer_question request) (offer_verdict e.registry request)
+  pub granted : (offer_verdict e.registry request).allow ≡ true → what ≡ let_through e now message log
+  pub denied :
+      (offer_verdict e.registry request).allow ≡ false → what ≡ stays e (Denied (offer_verdict e.registry request))
+
+pub record OffersAreDecided (e : RunEnd) : Type 0 where
+  pub there :
+      (now handle number : ℕ) (message : List ℕ) (request : OfferRequest) (log : WholeLog) →
+      AsksToOffer e.registry handle number request → log_at e.logs request.publication.source ≡ Some log →
+      OfferIsDecided e now message request log (moved e (Offer now handle number message))
+  pub unregistered :
+      (now handle number : ℕ) (message : List ℕ) → registration_at e.registry.streams.registrations handle number ≡ None →
+      moved e (Offer now handle number message) ≡ stays e (OfferedAs Closed)
+
+abbrev pub OffersAreGrantedExactly : Type 0
+OffersAreGrantedExactly = AtEachEnd OffersAreDecided
+
+-- ---- a poll
+
+pub record PollRequest : Type 0 where
+  pub client : Client
+  pub subscription : Subscription
+
+-- the subscription is the client's own, and reads the log of that source
+pub record AsksToPoll (s : State) (handle number source : ℕ) (request : PollRequest) : Type 0 where
+  pub client_is : client_at s.clients.rows handle ≡ Some request.client
+  pub subscription_is : subscription_at s.streams.subscriptions number ≡ Some request.subscription
+  pub own : request.subscription.client ≡ handle
+  pub reads : has_pair s source number ≡ true
+
+-- whether the client may have messages, on the subscription's channel and stream
+abbrev pub poll_question : PollRequest → Question
+poll_question request = record {
+  principal = request.client.principal;
+  act = Receive;
+  channel = request.subscription.channel;
+  stream = request.subscription.stream;
+}
+
+abbrev pub poll_verdict : State → PollRequest → Verdict
+poll_verdict s request = verdict_of s.policy s.epoch (poll_question request)
+
+-- the fragments from where the subscription stands are given, and it moves on in that log
+abbrev pub given_by_log : RunEnd → ℕ → ℕ → WholeLog → Moved
+given_by_log e number limit log = record {
+  after = record e { logs = with_log e.logs log.source (record log { whole = (polled log.whole number limit).after }) };
+  answer = Polled (map fragment_of (polled log.whole number limit).fragments);
+}
+
+pub record PollIsDecided (e : RunEnd) (number limit : ℕ) (request : PollRequest) (log : WholeLog) (what : Moved) : Type 0 where
+  pub by : IsByPolicy e.registry (poll_question request) (poll_verdict e.registry request)
+  pub granted : (poll_verdict e.registry request).allow ≡ true → what ≡ given_by_log e number limit log
+  pub denied :
+      (poll_verdict e.registry request).allow ≡ false → what ≡ stays e (Denied (poll_verdict e.registry request))
+
+pub record PollsAreDecided (e : RunEnd) : Type 0 where
+  pub there :
+      (now handle number source limit : ℕ) (request : PollRequest) (log : WholeLog) →
+      AsksToPoll e.registry handle number source request → log_at e.logs source ≡ Some log →
+      PollIsDecided e number limit request log (moved e (Poll now handle number source limit))
+  pub unread :
+      (now handle number source limit : ℕ) → has_pair e.registry source number ≡ false →
+      moved e (Poll now handle number source limit) ≡ stays e IsGone
+  pub foreign :
+      (now handle number source limit : ℕ) (subscription : Subscription) →
+      subscription_at e.registry.streams.subscriptions number ≡ Some subscription → ¬ (subscription.client ≡ handle) →
+      moved e (Poll now handle number source limit) ≡ stays e IsGone
+
+abbrev pub PollsAreGrantedExactly : Type 0
+PollsAreGrantedExactly = AtEachEnd PollsAreDecided
+
+-- ---- bytes only from the live log
+
+-- the frames of a message that an allowed offer put into the log of that source
+abbrev pub frames_in : Option WholeLog → List ℕ → List Frame
+frames_in None message = []
+frames_in (Some log) message = cut (payload_length log.whole.ident) message
+
+abbrev pub put_into : RunEnd → ℕ → List ℕ → Option LogRequest → List Frame
+put_into e source message None = []
+put_into e source message (Some request) =
+    if request.source == source && request.decision.verdict.allow then frames_in (log_at e.logs source) message else []
+
+-- those of a step: an allowed offer that was answered a position has put its frames into the log
+abbrev pub granted_by : RunEnd → ℕ → Step → Answer → List Frame
+granted_by e source (Offer now client registration message) (OfferedAs (At position)) =
+    put_into e source message (offering_of e.registry client registration)
+granted_by e source step answer = []
+
+-- and those of a run
+abbrev pub granted_in : RunEnd → ℕ → List Step → List Answer → List Frame
+granted_in e source [] answers = []
+granted_in e source (step ∷ steps) [] = []
+granted_in e source (step ∷ steps) (answer ∷ answers) =
+    granted_by e source step answer ++ granted_in (after e step answer) source steps answers
+
+-- a fragment that was polled is a frame of the log of that source, which is open, and was put into it by an offer that was
+-- granted
+pub record ComesFromLog (e : RunEnd) (source : ℕ) (granted : List Frame) (given : Fragment) : Type 0 where
+  pub log : WholeLog
+  pub live : log_at e.logs source ≡ Some log
+  pub fetched : Fetched
+  pub given_is : given ≡ fragment_of fetched
+  pub frame : IsFragmentOf log.whole fetched
+  pub offered : Contains granted (fragment given.flags given.payload)
+
+abbrev pub BytesComeFromTheLiveLog : Type 0
+BytesComeFromTheLiveLog =
+    (settings : Settings) (policy : Rules) (peers : List Peer) (steps : List Step) (answers : List Answer)
+    (now client subscription source limit : ℕ) (fragments : List Fragment) →
+    AreAnswers (opening_end settings policy peers) steps answers →
+    IsAnswer (end_of (opening_end settings policy peers) steps answers) (Poll now client subscription source limit) (Polled fragments) →
+    All
+    (ComesFromLog (end_of (opening_end settings policy peers) steps answers) source
+    (granted_in (opening_end settings policy peers) source steps answers))
+    fragments

@@ -1,0 +1,97 @@
+-- A world holds the registry and what is left of the logs. Each run ends where a world may stand; each call of a world
+-- goes on from each such end.
+use Rattle.std.specs.Prelude.{◌≡◌, ℕ, ◌*◌, Bool, List, [], ◌∷◌, ◌++◌, map}
+use Rattle.std.specs.List.{list_any, range_with_len}
+use Rattle.driver_core.specs.declared.event.Event.{Event}
+use Rattle.driver_core.specs.declared.outcome.Outcome.{Outcome}
+use Rattle.driver_core.specs.declared.peer.Peer.{Peer}
+use Rattle.driver_core.specs.declared.settings.Settings.{Settings}
+use Rattle.driver_core.specs.Conduct.{conduct}
+use Rattle.driver_core.specs.Soundness.{IsSound}
+use Rattle.driver_core.specs.State.{State}
+use Rattle.driver_world.specs.declared.answer.Answer.{Answer}
+use Rattle.driver_world.specs.declared.step.Step.{Step}
+use Rattle.driver_world.specs.Ends.{RunEnd, opening_end, conducted, inputs_of, IsAnswer, AreAnswers, after, end_of}
+use Rattle.driver_world.specs.Held.{HeldLog, HeldLogs}
+use Rattle.driver_world.specs.Idents.{ident_of}
+use Rattle.driver_world.specs.Moves.{WholeLog, StandsForLog}
+use Rattle.policy_core.specs.RuleList.{Rules}
+use Rattle.stream_registry.specs.declared.rows.Publication.{Publication}
+use Rattle.stream_registry.specs.LogPages.{holds}
+use Rattle.term_log.specs.declared.ident.Ident.{Ident}
+
+-- the registry, and the open logs
+pub record Held : Type 0 where
+  pub registry : State
+  pub logs : List HeldLog
+
+-- ---- what is held together: the open logs are those of the live publications
+
+-- a log by its number, its first byte in the memory of all logs, and what it is made for
+pub record LogRow : Type 0 where
+  pub source : ℕ
+  pub place : ℕ
+  pub ident : Ident
+
+abbrev pub row_held : HeldLog → LogRow
+row_held held = record {
+  source = held.source;
+  place = held.log.kept.buffers.place;
+  ident = held.log.kept.ident;
+}
+
+abbrev pub row_for : Settings → Publication → LogRow
+row_for settings publication = record {
+  source = publication.source;
+  place = 4096 * publication.place;
+  ident = ident_of settings publication;
+}
+
+-- Each live publication has its log, at the place that the registry gave it, and there is no other: so the pages that the
+-- registry takes for free are those that are.
+pub record Match (s : State) (held : HeldLogs) : Type 0 where
+  pub sound : IsSound s
+  pub pages : held.pages ≡ s.settings.arena_pages
+  pub rows : map row_held held.logs ≡ map (row_for s.settings) s.streams.publications
+
+-- of each page of the arena, from the first on, whether a live log of the registry has it
+unfoldable pub pages_of_logs : State → List Bool
+pages_of_logs s =
+    map (λ page. list_any (λ publication. holds publication page) s.streams.publications)
+    (range_with_len 0 s.settings.arena_pages)
+
+-- ---- which end a world stands for
+
+abbrev pub StandAll : List HeldLog → List WholeLog → Type 0
+StandAll [] [] = Unit {0}
+StandAll [] (log ∷ logs) = ⊥
+StandAll (held ∷ others) [] = ⊥
+StandAll (held ∷ others) (log ∷ logs) = StandsForLog held log × StandAll others logs
+
+-- the registry is the end's, and each open log stands for the end's
+pub record StandsForEnd (held : Held) (e : RunEnd) : Type 0 where
+  pub registry : held.registry ≡ e.registry
+  pub logs : StandAll held.logs e.logs
+
+-- one event that was taken, for each end that the world stands for
+pub record Takes (old new : Held) (event : Event) (outcome : Outcome) : Type 0 where
+  pub on :
+      (e : RunEnd) → StandsForEnd old e →
+      (outcome ≡ (conduct e.registry event (inputs_of e.logs)).outcome) × StandsForEnd new (conducted e event).after
+
+-- one step, for each end that the world stands for
+pub record Serves (old new : Held) (step : Step) (answer : Answer) : Type 0 where
+  pub on : (e : RunEnd) → StandsForEnd old e → IsAnswer e step answer × StandsForEnd new (after e step answer)
+
+-- the steps in a row, for each end that the world stands for
+pub record Runs (old new : Held) (steps : List Step) (answers : List Answer) : Type 0 where
+  pub on : (e : RunEnd) → StandsForEnd old e → AreAnswers e steps answers × StandsForEnd new (end_of e steps answers)
+
+-- for every run whose end the world stood for, the answers continue that run by the steps, and the world stands for the new
+-- end
+pub record Continues (old new : Held) (steps : List Step) (answers : List Answer) : Type 0 where
+  pub on : (settings : Settings) (policy : Rules) (peers : List Peer) (before : List Step) (earlier : List Answer) →
+      AreAnswers (opening_end settings policy peers) before earlier →
+      StandsForEnd old (end_of (opening_end settings policy peers) before earlier) →
+      AreAnswers (opening_end settings policy peers) (before ++ steps) (earlier ++ answers)
+      × StandsForEnd new (end_of (opening_end settings policy peers) (before ++ steps) (earlier ++ answers))

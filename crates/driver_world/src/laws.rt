@@ -1,0 +1,37 @@
+//! What holds over every run: each function does nothing, and its clause is the law.
+
+ghost use Rattle.driver_world.specs.Laws.{BytesComeFromTheLiveLog, LogsFollowTheRegistry, OffersAreGrantedExactly, PollsAreGrantedExactly, RunsTakeEvents};
+
+/// A run leaves the registry that its events leave, those apart that were refused memory: so what is said of all lists of
+/// events holds of runs. Whatever comes next is answered by that registry, unless it is refused memory: an event by its
+/// outcome, a look at the counters by what the client is shown of them.
+pub fn runs_take_events()
+    ensures { RunsTakeEvents }
+{}
+
+/// At the end of every run each live publication has its log and no other log is open, no two of them share a page, and
+/// exactly the subscriptions read it that the registry's lists and the policy in force say. So a reload closes exactly the
+/// images that are no longer allowed, in the logs too.
+pub fn logs_follow_the_registry()
+    ensures { LogsFollowTheRegistry }
+{}
+
+/// A client's offer by a registration of its own goes on to the log exactly where the first rule that matches allows it, or
+/// where none matches and the default does; else it changes nothing and is told that verdict. Where the client has no such
+/// registration, it changes nothing.
+pub fn offers_are_granted_exactly()
+    ensures { OffersAreGrantedExactly }
+{}
+
+/// A client's poll of a log that its own subscription reads is given the log's fragments exactly where the first rule that
+/// matches allows it, or where none matches and the default does; else it changes nothing and is told that verdict. Where
+/// the subscription does not read the log, or is another client's, it changes nothing.
+pub fn polls_are_granted_exactly()
+    ensures { PollsAreGrantedExactly }
+{}
+
+/// Each fragment that a poll gives is a frame of the log that was asked for, which is open, and was put into it by an offer
+/// that the policy in force allowed.
+pub fn bytes_come_from_the_live_log()
+    ensures { BytesComeFromTheLiveLog }
+{}

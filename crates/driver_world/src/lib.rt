@@ -1,0 +1,29 @@
+//! A driver that is run step by step, with the logs of its publications.
+//!
+//! `World::run` takes any list of steps of the conductor and of clients, and its answers continue the run that came
+//! before, whose logs contracts see as whole lists of frames. `offer_step` and `poll_step` are the steps of a client on one
+//! log, by any view of a registry.
+#![tactic(auto)]
+
+mod answer;
+mod inputs;
+mod laws;
+mod offering;
+mod open_log;
+mod open_logs;
+mod opening;
+mod polling;
+mod readers;
+mod step;
+mod world;
+
+pub use answer::{Answer, Fragment, Offered};
+pub use laws::{
+    bytes_come_from_the_live_log, logs_follow_the_registry, offers_are_granted_exactly,
+    polls_are_granted_exactly, runs_take_events,
+};
+pub use offering::offer_step;
+pub use open_log::OpenLog;
+pub use polling::poll_step;
+pub use step::Step;
+pub use world::World;

@@ -1,0 +1,201 @@
+//! The open logs of a driver, in one arena.
+
+ghost use Rattle.driver_world.specs.Held.{IsLeastVacant, IsOpened, is_closed, is_kept, place_at, readers_of, rejoined_held, taken_pages, with_readers, without};
+ghost use Rattle.driver_world.specs.declared.answer.Answer.TheVariants.{Gone, Offered as OfferedAs};
+ghost use Rattle.driver_world.specs.declared.answer.Offered.TheVariants.{Closed};
+ghost use Rattle.driver_world.specs.Moves.{MovesFirst, offer_move, poll_move};
+ghost use Rattle.log_arena.specs.Pages.{holes_of};
+ghost use Rattle.std.specs.Prelude.{◌≡◌, ℕ, ◌%◌, ◌<◌, ◌≤◌, [], length, map, filter, IfOk, OnOk, OnErr};
+ghost use Rattle.stream_registry.specs.LogPages.{pages_of};
+ghost use Rattle.term_log.specs.Ident.{IsIdent};
+
+use crate::answer::{Answer, Offered};
+use crate::offering::offer_step;
+use crate::open_log::OpenLog;
+use crate::polling::poll_step;
+use crate::readers::collect;
+use driver_core::View;
+use log_arena::Arena;
+use std::alloc::{AllocError, Global};
+use std::marker::Model;
+use stream_registry::{LogPlace, Pair};
+use term_log::{Ident, TermLog};
+
+/// The open logs, each in a lease of one arena, of which no other page has a lease.
+///
+/// Contracts see how many pages the arena has, and the logs in the order in which they were opened.
+#[derive(Drop)]
+pub(crate) struct OpenLogs {
+    arena: Arena,
+    logs: Vec<OpenLog>,
+}
+
+impl Model for OpenLogs {
+    ghost use Rattle.driver_world.specs.Held.{HeldLogs, AreHoused};
+
+    ghost Value = { HeldLogs };
+
+    ghost view = { λ held. record { pages = held.arena.home.pages; logs = held.logs.items } };
+
+    ghost invariant = { λ held. AreHoused held.arena held.logs.items };
+}
+
+/// Where the first log of that source is in the list.
+fn place_of(logs: &[OpenLog], source: u64) -> Option<usize>
+    ensures { result ≡ place_at logs.now source }
+{
+    logs.iter().position(|open| open.source == source)
+}
+
+/// Whether the source is one of those that close.
+fn is_closed(closes: &[LogPlace], source: u64) -> bool
+    ensures { result ≡ is_closed closes.now source }
+{
+    closes.iter().any(|closed| closed.source == source)
+}
+
+impl OpenLogs {
+    /// No log is open yet. There are `pages` pages for all of them, from 1 to 65,536.
+    pub(crate) fn new(alloc: Global, pages: usize) -> Result<OpenLogs, AllocError>
+        requires { (0 < pages) × (pages ≤ 65536) }
+        ensures { IfOk result (λ held. held ≡ record { pages = pages; logs = [] }) }
+    {
+        Ok(OpenLogs {
+            arena: Arena::new(alloc, pages)?,
+            logs: Vec::new(alloc),
+        })
+    }
+
+    /// The logs.
+    pub(crate) fn as_slice(&self) -> &[OpenLog]
+        ensures { result.now ≡ self.now.logs }
+    {
+        self.logs.as_slice()
+    }
+
+    /// The maximal runs of pages that no log has, each as its place and its length in bytes, ascending.
+    pub(crate) fn holes(&self) -> &[(usize, usize)]
+        ensures { result.now ≡ holes_of (taken_pages self.now) }
+    {
+        self.arena.holes()
+    }
+
+    /// Opens a log without frames behind the others, in the pages from `place` on, which is the least place for them.
+    ///
+    /// # Errors
+    /// Nothing is changed where there is no memory for it.
+    pub(crate) fn open(
+        &mut self,
+        alloc: Global,
+        source: u64,
+        place: u64,
+        ident: Ident,
+    ) -> Result<(), AllocError>
+        requires ident { IsIdent ident }
+        requires whole { ident.term_length % 4096 ≡ 0 }
+        requires vacant { IsLeastVacant self.old (pages_of ident.term_length) place }
+        ensures opened { OnOk result (IsOpened self.old self.new source place ident) }
+        ensures err { OnErr result (self.new ≡ self.old) }
+    {
+        self.logs.reserve(1)?;
+        let Ok(lease) = self.arena.lease(3 * ident.term_length as usize) else {
+            // the place is there
+            unreachable!()
+        };
+        match TermLog::open(alloc, lease, ident) {
+            Ok(log) => {
+                match self.logs.push(OpenLog { source, log }) {
+                    Ok(()) => {}
+                    Err(_) => unreachable!(),
+                }
+                Ok(())
+            }
+            Err((lease, refused)) => {
+                self.arena.give(lease);
+                Err(refused)
+            }
+        }
+    }
+
+    /// Closes the log at that place of the list: its pages are free again.
+    fn close_at(&mut self, at: usize)
+        requires { at < length self.old.logs }
+        ensures { self.new ≡ record self.old { logs = without at self.old.logs } }
+    {
+        let open = self.logs.remove(at);
+        let OpenLog { source: _, log } = open;
+        self.arena.give(log.close());
+    }
+
+    /// Closes these logs: their pages are free again.
+    pub(crate) fn close(&mut self, closes: &[LogPlace])
+        ensures { self.new ≡ record self.old { logs = filter (is_kept closes.now) self.old.logs } }
+    {
+        let mut at = 0;
+        while at < self.logs.len() {
+            if is_closed(closes, self.logs[at].source) {
+                self.close_at(at);
+            } else {
+                at += 1;
+            }
+        }
+    }
+
+    /// Exactly these subscriptions read the log at that place of the list.
+    fn rejoin_at(&mut self, at: usize, subscriptions: &[u64])
+        requires at { at < length self.old.logs }
+        requires few { length subscriptions.now ≤ 512 }
+        ensures { self.new ≡ record self.old { logs = with_readers at subscriptions.now self.old.logs } }
+    {
+        self.logs[at].log.rejoin(subscriptions);
+    }
+
+    /// Exactly the subscriptions of these pairs read the logs. `room` is there for as many numbers as there are pairs.
+    pub(crate) fn rejoin(&mut self, pairs: &[Pair], room: &mut Vec<u64>)
+        requires few { (source : ℕ) → length (readers_of pairs.now source) ≤ 512 }
+        requires room { length pairs.now ≤ room.old.cap }
+        ensures { self.new ≡ record self.old { logs = map (rejoined_held pairs.now) self.old.logs } }
+    {
+        for at in 0..self.logs.len() {
+            collect(pairs, self.logs[at].source, room);
+            self.rejoin_at(at, room.as_slice());
+        }
+    }
+
+    /// A client offers a message to the first log of that source, as [`offer_step`] says.
+    pub(crate) fn offer<V: View>(
+        &mut self,
+        view: &V,
+        source: u64,
+        now: u64,
+        client: u64,
+        registration: u64,
+        message: &[u8],
+    ) -> Answer
+        ensures { MovesFirst source (offer_move (V.shows view.now) now client registration message.now) (OfferedAs Closed) self.old self.new result }
+    {
+        let Some(at) = place_of(self.logs.as_slice(), source) else {
+            return Answer::Offered(Offered::Closed);
+        };
+        offer_step(view, &mut self.logs[at], now, client, registration, message)
+    }
+
+    /// A client polls the first log of that source, as [`poll_step`] says.
+    pub(crate) fn poll<V: View>(
+        &mut self,
+        view: &V,
+        alloc: Global,
+        source: u64,
+        client: u64,
+        subscription: u64,
+        limit: u32,
+    ) -> Result<Answer, AllocError>
+        ensures moved { IfOk result (λ answer. MovesFirst source (poll_move (V.shows view.now) client subscription limit) Gone self.old self.new answer) }
+        ensures err { OnErr result (self.new ≡ self.old) }
+    {
+        let Some(at) = place_of(self.logs.as_slice(), source) else {
+            return Ok(Answer::Gone);
+        };
+        poll_step(view, &mut self.logs[at], alloc, client, subscription, limit)
+    }
+}

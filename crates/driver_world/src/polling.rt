@@ -1,0 +1,69 @@
+//! A log that a client polls.
+
+ghost use Rattle.driver_world.specs.Held.{LiesAsBefore};
+ghost use Rattle.driver_world.specs.Moves.{CopiesFetched, Does, poll_move};
+ghost use Rattle.std.specs.Prelude.{◌≡◌, IfOk, OnErr};
+
+use crate::answer::{Answer, Fragment};
+use crate::open_log::OpenLog;
+use byte_strings::{Bytes, Items};
+use driver_core::View;
+use std::alloc::{AllocError, Global};
+use term_log::TermLog;
+
+/// Copies of the fragments that a poll gives.
+fn fragments_of(
+    alloc: Global,
+    log: &TermLog,
+    subscription: u64,
+    limit: usize,
+) -> Result<Items<Fragment>, AllocError>
+    ensures { IfOk result (λ fragments. CopiesFetched log.now subscription limit fragments) }
+{
+    let mut fragments = Items::new(alloc);
+    for fragment in log.fragments(subscription, limit) {
+        fragments.push(Fragment {
+            position: fragment.position,
+            flags: fragment.flags,
+            payload: Bytes::new(alloc, fragment.payload)?,
+        })?;
+    }
+    Ok(fragments)
+}
+
+/// A client polls a log by one of its subscriptions, as the registry that the view shows says, and is given so many
+/// fragments at most.
+///
+/// The answer is the first that applies: [`Answer::Gone`] where no such subscription of the client reads the log;
+/// [`Answer::Denied`] by the policy of that registry; else the fragments from where the subscription stands, which moves on
+/// behind them. Pads are passed uncounted.
+///
+/// # Errors
+/// Nothing is changed where there is no memory for the fragments.
+#[tactic(auto, unfolding(crate::specs::Moves::poll_move))]
+pub fn poll_step<V: View>(
+    view: &V,
+    log: &mut OpenLog,
+    alloc: Global,
+    client: u64,
+    subscription: u64,
+    limit: u32,
+) -> Result<Answer, AllocError>
+    ensures does { IfOk result (λ answer. Does (poll_move (V.shows view.now) client subscription limit) log.old log.new answer) }
+    ensures lies { LiesAsBefore log.old log.new }
+    ensures err { OnErr result (log.new ≡ log.old) }
+{
+    let Some(request) = view.registry().receiving(client, subscription, log.source) else {
+        return Ok(Answer::Gone);
+    };
+    if log.log.pair_position(subscription).is_none() {
+        return Ok(Answer::Gone);
+    }
+    if !request.decision.verdict.allow {
+        return Ok(Answer::Denied(request.decision.verdict));
+    }
+    let limit = limit as usize;
+    let fragments = fragments_of(alloc, &log.log, subscription, limit)?;
+    log.log.poll(subscription, limit);
+    Ok(Answer::Polled(fragments))
+}

@@ -1,0 +1,39 @@
+use byte_strings::Bytes;
+use driver_core::Event;
+
+/// A step of one of the actors of a driver. Moments are nanoseconds.
+#[derive(Debug, Drop)]
+pub enum Step {
+    /// The conductor takes an event.
+    Conductor(Event),
+    /// A client offers a message to the log that its registration is with.
+    Offer {
+        now: u64,
+        client: u64,
+        /// The number of the registration.
+        registration: u64,
+        message: Bytes,
+    },
+    /// A client polls a log by one of its subscriptions.
+    Poll {
+        now: u64,
+        client: u64,
+        /// The number of the subscription.
+        subscription: u64,
+        /// The source number of the log.
+        source: u64,
+        /// How many fragments it takes at most.
+        limit: u32,
+    },
+    /// A client looks at the counters that the policy in force shows it.
+    List {
+        now: u64,
+        client: u64,
+    },
+    /// A client looks at the counter of this number.
+    Value {
+        now: u64,
+        client: u64,
+        number: u64,
+    },
+}

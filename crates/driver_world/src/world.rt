@@ -1,0 +1,224 @@
+ghost use Rattle.std.specs.Prelude.{◌≡◌, IfOk, OnOk, OnErr};
+ghost use Rattle.driver_core.specs.Conduct.{conduct};
+ghost use Rattle.driver_core.specs.Soundness.{AreSettings, IsSound, MovesLogs};
+ghost use Rattle.driver_world.specs.Ends.{inputs_of};
+ghost use Rattle.driver_world.specs.Opening.{CanOpen, OpensNext};
+
+use crate::answer::{Answer, Offered};
+use crate::inputs::inputs_of;
+use crate::open_logs::OpenLogs;
+use crate::opening::open_for;
+use crate::step::Step;
+use byte_strings::Items;
+use driver_core::{Change, Event, Inputs, Outcome, Peer, Registry, Settings};
+use policy_core::Policy;
+use std::alloc::{AllocError, Global};
+use std::marker::Model;
+use stream_registry::LogPlace;
+
+/// A driver that is run step by step.
+#[derive(Drop)]
+pub struct World {
+    registry: Registry,
+    logs: OpenLogs,
+}
+
+impl Model for World {
+    ghost use Rattle.driver_world.specs.Standing.{Held, Match};
+
+    ghost Value = { Held };
+
+    ghost view = { λ world. record { registry = world.registry; logs = world.logs.logs } };
+
+    ghost invariant = { λ world. Match world.registry world.logs };
+}
+
+/// What the event makes of the registry, which itself stays as it is.
+fn change_of(
+    registry: &Registry,
+    alloc: Global,
+    event: &Event,
+    inputs: &Inputs,
+) -> Result<Change, AllocError>
+    ensures exact { IfOk result (λ change. change ≡ conduct registry.now event.now inputs.now) }
+    ensures moves { IfOk result (λ change. IsSound registry.now → MovesLogs registry.now change) }
+{
+    registry.next(alloc, event, inputs)
+}
+
+/// Opens the log that an event opens, if it opens one.
+///
+/// # Errors
+/// Nothing is changed where there is no memory for it.
+fn open_next(
+    logs: &mut OpenLogs,
+    alloc: Global,
+    after: &Registry,
+    opens: Option<LogPlace>,
+) -> Result<(), AllocError>
+    requires { CanOpen logs.old after.now opens }
+    ensures opened { OnOk result (OpensNext logs.old logs.new after.now opens) }
+    ensures err { OnErr result (logs.new ≡ logs.old) }
+{
+    let Some(place) = opens else {
+        return Ok(());
+    };
+    open_for(logs, alloc, after, place)
+}
+
+impl World {
+    ghost use Rattle.driver_world.specs.Ends.{opening_end};
+    ghost use Rattle.driver_world.specs.Standing.{StandsForEnd, Serves, Takes, Runs, Continues, pages_of_logs};
+    ghost use Rattle.driver_world.specs.declared.step.Step.TheVariants.{Conductor, Offer, Poll, List as Lists, Value};
+    ghost use Rattle.log_arena.specs.Pages.{holes_of};
+
+    /// A world in which nothing happened yet.
+    #[tactic(auto, unfolding(crate::specs::Ends::opening_end))]
+    pub fn new(
+        alloc: Global,
+        settings: Settings,
+        policy: Policy,
+        peers: &[Peer],
+    ) -> Result<World, AllocError>
+        requires { AreSettings settings }
+        ensures { IfOk result (λ world. StandsForEnd world (opening_end settings policy peers.now)) }
+    {
+        Ok(World {
+            registry: Registry::new(alloc, settings, policy, peers)?,
+            logs: OpenLogs::new(alloc, settings.arena_pages as usize)?,
+        })
+    }
+
+    /// The maximal runs of pages that no live log has, each as its place and its length in bytes, ascending: where a
+    /// further log may lie. It takes no memory.
+    pub fn holes(&self) -> &[(usize, usize)]
+        ensures { result.now ≡ holes_of (pages_of_logs self.now.registry) }
+    {
+        self.logs.holes()
+    }
+
+    /// The conductor takes an event: the log that it opens is opened before those are closed that it closes, and then
+    /// the pairs read.
+    fn take(&mut self, alloc: Global, event: &Event) -> Result<Outcome, AllocError>
+        ensures taken { IfOk result (λ outcome. Takes self.old self.new event.now outcome) }
+        ensures err { OnErr result (self.new ≡ self.old) }
+    {
+        let inputs = inputs_of(alloc, self.logs.as_slice())?;
+        let change = change_of(&self.registry, alloc, event, &inputs)?;
+        let pairs = change.after.pairs(alloc)?;
+        let mut room = Vec::with_capacity(alloc, pairs.len())?;
+        open_next(&mut self.logs, alloc, &change.after, change.outcome.opens)?;
+        self.logs.close(change.outcome.closes.as_slice());
+        self.logs.rejoin(pairs.as_slice(), &mut room);
+        self.registry = change.after;
+        Ok(change.outcome)
+    }
+
+    /// The conductor takes an event.
+    fn conduct(&mut self, alloc: Global, event: &Event) -> Answer
+        ensures { Serves self.old self.new (Conductor event.now) result }
+    {
+        match self.take(alloc, event) {
+            Ok(outcome) => Answer::of(outcome),
+            Err(_) => Answer::NoMemory,
+        }
+    }
+
+    /// A client offers a message. It takes no memory.
+    fn offer(&mut self, now: u64, client: u64, registration: u64, message: &[u8]) -> Answer
+        ensures { Serves self.old self.new (Offer now client registration message.now) result }
+    {
+        let Some(source) = self.registry.source_offered(client, registration) else {
+            return Answer::Offered(Offered::Closed);
+        };
+        self.logs
+            .offer(&self.registry, source, now, client, registration, message)
+    }
+
+    /// A client polls a log.
+    fn poll(
+        &mut self,
+        alloc: Global,
+        _now: u64,
+        client: u64,
+        subscription: u64,
+        source: u64,
+        limit: u32,
+    ) -> Answer
+        ensures { Serves self.old self.new (Poll _now client subscription source limit) result }
+    {
+        let Ok(answer) = self
+            .logs
+            .poll(&self.registry, alloc, source, client, subscription, limit)
+        else {
+            return Answer::NoMemory;
+        };
+        answer
+    }
+
+    /// A client looks at the counters that it may see.
+    fn list(&self, alloc: Global, _now: u64, client: u64) -> Answer
+        ensures { Serves self.now self.now (Lists _now client) result }
+    {
+        match self.registry.list(alloc, client) {
+            Ok(listed) => Answer::listed(listed),
+            Err(_) => Answer::NoMemory,
+        }
+    }
+
+    /// A client looks at one counter. It takes no memory.
+    fn value(&self, alloc: Global, _now: u64, client: u64, number: u64) -> Answer
+        ensures { Serves self.now self.now (Value _now client number) result }
+    {
+        Answer::shown(self.registry.value(alloc, client, number))
+    }
+
+    /// Takes one step.
+    pub fn step(&mut self, alloc: Global, step: &Step) -> Answer
+        ensures { Serves self.old self.new step.now result }
+    {
+        match step {
+            Step::Conductor(event) => self.conduct(alloc, event),
+            Step::Offer {
+                now,
+                client,
+                registration,
+                message,
+            } => self.offer(*now, *client, *registration, message.as_slice()),
+            Step::Poll {
+                now,
+                client,
+                subscription,
+                source,
+                limit,
+            } => self.poll(alloc, *now, *client, *subscription, *source, *limit),
+            Step::List { now, client } => self.list(alloc, *now, *client),
+            Step::Value {
+                now,
+                client,
+                number,
+            } => self.value(alloc, *now, *client, *number),
+        }
+    }
+
+    /// Takes the steps in their order, and gives the answer of each. For every run that led to this world, the answers
+    /// continue that run.
+    ///
+    /// # Errors
+    /// Where there is no memory for the list of answers, no step is taken.
+    pub fn run(&mut self, alloc: Global, steps: &[Step]) -> Result<Items<Answer>, AllocError>
+        ensures runs { IfOk result (λ answers. Runs self.old self.new steps.now answers) }
+        ensures continues { IfOk result (λ answers. Continues self.old self.new steps.now answers) }
+        ensures err { OnErr result (self.new ≡ self.old) }
+    {
+        let mut answers = Vec::with_capacity(alloc, steps.len())?;
+        for step in steps {
+            let answer = self.step(alloc, step);
+            match answers.push(answer) {
+                Ok(()) => {}
+                Err(_) => unreachable!(),
+            }
+        }
+        Ok(Items::from(answers))
+    }
+}
