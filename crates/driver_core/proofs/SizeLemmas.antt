@@ -50,10 +50,10 @@ whole_pages n power low =
 
 -- ---- what is stated
 
--- it holds of the number that is read, where one is
-abbrev Holds : (ℕ → Type 0) → Option ℕ → Type 0
+-- it holds of what is read, where something is
+abbrev pub Holds : {A : Type 0} → (A → Type 0) → Option A → Type 0
 Holds P None = Unit {0}
-Holds P (Some n) = P n
+Holds P (Some x) = P x
 
 holds_of_next : {A : Type 0} (P : ℕ → Type 0) (read : Option A) (next : A → Option ℕ) → ((x : A) → Holds P (next x)) →
     Holds P (read >>? next)
@@ -65,13 +65,13 @@ holds_or_default : (P : ℕ → Type 0) (read : Option ℕ) (default : ℕ) → 
 holds_or_default P None default stated other = other
 holds_or_default P (Some n) default stated other = stated
 
-abbrev IsMtu : ℕ → Type 0
+abbrev pub IsMtu : ℕ → Type 0
 IsMtu n = (64 ≤ n) × (n ≤ 65504) × (n % 32 ≡ 0)
 
-abbrev IsTermLength : ℕ → Type 0
+abbrev pub IsTermLength : ℕ → Type 0
 IsTermLength n = (65536 ≤ n) × (n ≤ 16777216) × (n % 4096 ≡ 0)
 
-mtu_sound : (size : ℕ) → Holds IsMtu (mtu_from size)
+pub mtu_sound : (size : ℕ) → Holds IsMtu (mtu_from size)
 unfolding mtu_from
 mtu_sound size =
     cond_both (nat_le 64 size) _ _ (Holds IsMtu)
@@ -84,7 +84,7 @@ mtu_sound size =
     (λ e. tt))
     (λ e. tt)
 
-term_length_sound : (size : ℕ) → Holds IsTermLength (term_length_from size)
+pub term_length_sound : (size : ℕ) → Holds IsTermLength (term_length_from size)
 unfolding term_length_from
 term_length_sound size =
     cond_both (nat_le 65536 size) _ _ (Holds IsTermLength)

@@ -1,17 +1,14 @@
 -- The settings that a script chooses are such as a driver may be opened with.
-use Rattle.std.proofs.Common.{◌≡◌, ℕ, zero, suc, ◌+◌, ◌*◌, ◌/◌, ◌%◌, ◌^◌, ◌<◌, ◌≤◌, ◌==◌, true, List, Option, Some, None, nat_le, refl, arith, count_ones}
-use Rattle.std.specs.Int.{is_power_of_two}
-use Rattle.std.specs.Int.Count.{ones_step}
+use Rattle.std.proofs.Common.{◌≡◌, ℕ, ◌<◌, ◌≤◌, List, Option, Some, None, nat_le, refl, arith}
 use Rattle.std.specs.List.{list_any}
 use Rattle.std.specs.Str.{bytes_eq}
-use Rattle.std.proofs.Math.Nat.{mul-add, two-pow-succ}
-use Rattle.std.proofs.lemmas.Bool.{cond_both, eqb-true, leb-true}
-use Rattle.std.proofs.lemmas.Nat.{pow_pos, zero_from_ones}
+use Rattle.std.proofs.lemmas.Bool.{cond_both, leb-true}
 use Rattle.channel_uri.specs.Quantity.{mtu_from, term_length_from}
 use Rattle.channel_uri.specs.Session.{session_id_of}
 use Rattle.driver_core.specs.declared.settings.Settings.{Settings}
 use Rattle.driver_core.specs.Settings.{default_settings}
 use Rattle.driver_core.specs.Soundness.{AreSettings}
+use Rattle.driver_core.proofs.SizeLemmas.{Holds, IsMtu, IsTermLength, mtu_sound, term_length_sound}
 use Rattle.driver_script.specs.declared.settings.Duration.{Duration as DurationKey}
 use Rattle.driver_script.specs.declared.settings.Duration.TheVariants.{ClientLiveness, ImageLiveness, Linger, ConnectionTimeout, ResendLinger, NakDelay, NakRepeat, SetupInterval, HeartbeatInterval, StatusInterval}
 use Rattle.driver_script.specs.declared.settings.Key.{Key}
@@ -20,46 +17,7 @@ use Rattle.driver_script.specs.Hex.{◌>>=◌}
 use Rattle.driver_script.specs.Number.{number_of}
 use Rattle.driver_script.specs.Settings.{Chosen, chosen, key_of, mtu_in, pages_of, sender_of, term_length_in, with_duration, with_value}
 
--- ---- a power of two is whole pages, where it is one or more
-
--- the lowest digit of a power of two is not set, but for that of 1
-halved : (n : ℕ) → count_ones n ≡ 1 → 2 ≤ n → (n % 2 ≡ 0) × (count_ones (n / 2) ≡ 1)
-halved n one some = by (n % 2) refl
-  where
-    step : count_ones n ≡ n % 2 + count_ones (n / 2)
-    step = ones_step n
-
-    by : (digit : ℕ) → n % 2 ≡ digit → (n % 2 ≡ 0) × (count_ones (n / 2) ≡ 1)
-    by zero is = (is, omega (arith, step, one, is))
-    by (suc zero) is =
-        let none : n / 2 ≡ 0 = zero_from_ones (n / 2) (omega (arith, step, one, is)) in
-        absurd (omega (arith, none, some))
-    by (suc (suc digit)) is = absurd (omega (arith, is))
-
-doubled : (k n m : ℕ) → n % 2 ≡ 0 → n / 2 ≡ m * 2 ^ k → n ≡ m * 2 ^ suc k
-doubled k n m even half = rw (two-pow-succ k, mul-add m (2 ^ k) (2 ^ k)) (omega (arith, even, half))
-
-times_power : (k n : ℕ) → count_ones n ≡ 1 → 2 ^ k ≤ n → (m : ℕ) × (n ≡ m * 2 ^ k)
-times_power zero n one low = (n, omega arith)
-times_power (suc k) n one low =
-    let twice : 2 ^ suc k ≡ 2 ^ k + 2 ^ k = two-pow-succ k in
-    let some : 0 < 2 ^ k = pow_pos k in
-    let half = halved n one (omega (arith, low, twice, some)) in
-    let rest = times_power k (n / 2) half.1 (omega (arith, low, twice)) in
-    (rest.0, doubled k n rest.0 half.0 rest.1)
-
-whole_pages : (n : ℕ) → is_power_of_two n ≡ true → 65536 ≤ n → n % 4096 ≡ 0
-whole_pages n power low =
-    let times = times_power 12 n (eqb-true (count_ones n) 1 power) (omega (arith, low)) in
-    let is : n ≡ times.0 * 4096 = times.1 in
-    omega (arith, is)
-
 -- ---- what is read
-
--- it holds of what is read, where something is
-abbrev pub Holds : {A : Type 0} → (A → Type 0) → Option A → Type 0
-Holds P None = Unit {0}
-Holds P (Some x) = P x
 
 holds_next : {A B : Type 0} (P : B → Type 0) (read : Option A) (next : A → Option B) → ((x : A) → Holds P (next x)) →
     Holds P (read >>= next)
@@ -71,41 +29,8 @@ holds_then : {A B : Type 0} (Q : A → Type 0) (P : B → Type 0) (read : Option
 holds_then Q P None next held each = tt
 holds_then Q P (Some x) next held each = each x held
 
-abbrev IsMtu : ℕ → Type 0
-IsMtu n = (64 ≤ n) × (n ≤ 65504) × (n % 32 ≡ 0)
-
-abbrev IsTermLength : ℕ → Type 0
-IsTermLength n = (65536 ≤ n) × (n ≤ 16777216) × (n % 4096 ≡ 0)
-
 abbrev ArePages : ℕ → Type 0
 ArePages n = (0 < n) × (n ≤ 65536)
-
-mtu_sound : (size : ℕ) → Holds IsMtu (mtu_from size)
-unfolding mtu_from
-mtu_sound size =
-    cond_both (nat_le 64 size) _ _ (Holds IsMtu)
-    (λ low.
-    cond_both (nat_le size 65504) _ _ (Holds IsMtu)
-    (λ high.
-    cond_both (size % 32 == 0) _ _ (Holds IsMtu)
-    (λ whole. (leb-true 64 size low, leb-true size 65504 high, eqb-true (size % 32) 0 whole))
-    (λ e. tt))
-    (λ e. tt))
-    (λ e. tt)
-
-term_length_sound : (size : ℕ) → Holds IsTermLength (term_length_from size)
-unfolding term_length_from
-term_length_sound size =
-    cond_both (nat_le 65536 size) _ _ (Holds IsTermLength)
-    (λ low.
-    cond_both (nat_le size 16777216) _ _ (Holds IsTermLength)
-    (λ high.
-    cond_both (is_power_of_two size) _ _ (Holds IsTermLength)
-    (λ power.
-    (leb-true 65536 size low, leb-true size 16777216 high, whole_pages size power (leb-true 65536 size low)))
-    (λ e. tt))
-    (λ e. tt))
-    (λ e. tt)
 
 pages_sound : (value : List ℕ) → Holds ArePages (pages_of value)
 pages_sound value =
