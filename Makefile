@@ -2,9 +2,8 @@
 .POSIX:
 .PHONY: help first build install test
 
-# Where `make install` puts the program, and how many crates `make build` proves at a time.
+# Where `make install` puts the program.
 PREFIX = /usr/local
-JOBS = 2
 
 help:
 	@echo 'make first     runs the program on its first script, before any proof: within a minute'
@@ -12,17 +11,15 @@ help:
 	@echo 'make install   puts that program to PREFIX/bin, where PREFIX is /usr/local if not given'
 	@echo 'make test      the merge gate, which proves everything from nothing, and then all cases and examples'
 	@echo 'make help      says this'
-	@echo
-	@echo 'make build JOBS=N proves N crates at a time, 2 if not given: one takes up to 4 GB of memory.'
 
 first:
 	@sh tools/first
 
 build:
-	@JOBS=$(JOBS) sh tools/build
+	@sh tools/build
 
 build/aeron_policyd:
-	@JOBS=$(JOBS) sh tools/build
+	@sh tools/build
 
 install: build/aeron_policyd
 	mkdir -p '$(DESTDIR)$(PREFIX)/bin'
