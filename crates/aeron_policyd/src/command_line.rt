@@ -5,6 +5,9 @@ use std::alloc::{AllocError, Global};
 const ABOUT: &str =
     "The shared part of an Aeron media driver (conductor, sender, receiver) under a written channel policy";
 
+/// The version of the program.
+const VERSION: &str = "0.1.0";
+
 /// How the program is used, and what it ends with.
 const USES: &str = "\
 Example: may p1 subscribe to `aeron:ipc`, stream 10, under the policy in `policy.toml`?
@@ -34,9 +37,9 @@ Example: may p1 subscribe to `aeron:ipc`, stream 10, under the policy in `policy
   $ aeron_policyd decide policy.toml p1 subscribe aeron:ipc 9
   allowed by rule 2 in policy 1
 
-`aeron_policyd script --help` shows a script with its answers.
+`aeron_policyd script --help` shows scripts with their answers.
 
-Status: 0 for an answer; 1 after `aeron_policyd: FAULT` on standard error, and after a bad line of a script; 2 for a \
+Status: 0 for an answer; 1 after `aeron_policyd: FAULT` on standard error, and after a bad line of a script; 2 for a
 command line that is at fault.";
 
 /// What `check` says.
@@ -48,11 +51,11 @@ Example: a policy of two rules, and one whose first rule ends its range of strea
   $ aeron_policyd check swapped.toml
   aeron_policyd: rule 1: bad range
 
-A policy is TOML: `version = 1`, `default = \"allow\"` or `\"deny\"`, and any `[[rule]]` with `name`, `principal`, `act`, \
+A policy is TOML: `version = 1`, `default = \"allow\"` or `\"deny\"`, and any `[[rule]]` with `name`, `principal`, `act`,
 `channel`, `allow` and perhaps `stream = [LOW, HIGH]`. Principals are `nobody` and `p1` to `p63`, or `*` for everybody.
 
-Status: 0; 1 after `aeron_policyd: FAULT` on standard error: cannot read file, read failed, too long, the first fault of \
-the policy, write failed, or no memory.";
+Status: 0; 1 after `aeron_policyd: FAULT` on standard error: cannot read file, read failed, too long, the first fault of
+the policy, write failed, or no memory; 2 for a command line that is at fault.";
 
 /// What `decide` says.
 const DECIDE: &str = "\
@@ -67,15 +70,17 @@ Example: rule 1 of the policy denies everybody streams 10 to 20; rule 2 allows p
   $ aeron_policyd decide policy.toml p64 subscribe aeron:ipc 9
   aeron_policyd: unknown principal
 
-The first rule that matches decides, whatever the others say; where none does, the default stands.
+The first rule that matches decides, whatever the others say; where none does, the default stands. Acts are publish,
+publish-exclusive, subscribe, spy, destination, counter, terminate, offer, image, receive, send, retransmit and list.
 
-Status: 0; 1 after `aeron_policyd: FAULT` on standard error, the first of: cannot read file, read failed, too long, a fault \
-of the policy, unknown principal, unknown act, invalid channel; or write failed, or no memory.";
+Status: 0; 1 after `aeron_policyd: FAULT` on standard error, the first of: cannot read file, read failed, too long, a
+fault of the policy, unknown principal, unknown act, invalid channel; or write failed, or no memory; 2 for a command
+line that is at fault.";
 
-/// A script with its answers.
+/// Two scripts with their answers.
 const SCRIPT: &str = "\
-Example: a client of alice, attached at moment 0, asks to subscribe to `aeron:ipc`, stream 10, by a command with \
-correlation id 11. The policy denies it, so the reply is an ON_ERROR (0x0f01) with code 1001 and the text \
+Example: a client of alice, attached at moment 0, asks to subscribe to `aeron:ipc`, stream 10, by a command with
+correlation id 11. The policy denies it, so the reply is an ON_ERROR (0x0f01) with code 1001 and the text
 `denied by default in policy 1`. Then a policy that allows is put in force, as policy 2.
 
   $ cat second.txt
@@ -95,21 +100,51 @@ correlation id 11. The policy denies it, so the reply is an ON_ERROR (0x0f01) wi
   reply 1 010f00000b00000000000000e90300001d00000064656e6965642062792064656661756c7420696e20706f6c6963792031
   policy 2
 
+Example: client 1 subscribes there, by registration 1, and publishes there, by registration 2, which makes log 2. It
+offers a message of 5 bytes by registration 2, and polls log 2 by its subscription 1 for 10 fragments at most. The offer
+answers the position behind the message; the poll gives that one fragment, with the same position, whole (c0).
+
+  $ cat offered.txt
+  principal alice 7
+  policy
+  version = 1
+  default = \"allow\"
+  .
+  attach 0 7
+  cmd 0 1 04000000_0100000000000000_0b00000000000000_0000000000000000_0a000000_09000000_6165726f6e3a697063
+  cmd 0 1 01000000_0100000000000000_0c00000000000000_0a000000_09000000_6165726f6e3a697063
+  offer 0 1 2 68656c6c6f
+  poll 0 1 1 2 10
+  $ aeron_policyd script offered.txt
+  attached 1
+  reply 1 070f00000b000000000000000100000000000000
+  reply 1 030f00000c000000000000000200000000000000010000000a000000
+  reply 1 020f000002000000000000000100000000000000010000000a0000000000000000000000090000006165726f6e3a697063
+  offer 64
+  poll 1
+  fragment 64 c0 68656c6c6f
+
 Lines of a script:
   principal NAME NUMBER   before the first policy: rules may name this principal
   set KEY VALUE           before the first policy: the driver has this setting; durations are in nanoseconds, sizes in
                           bytes, as in `set client-liveness 5000000000` or `set term-length 131072`
-  policy                  the lines up to one that is `.` are a policy, in TOML; the first one opens the driver, and each
-                          later one is put in force in its turn
+  policy                  the lines up to one that is `.` are a policy, in TOML; the first one opens the driver, and
+                          each later one is put in force in its turn
   attach NOW P            a client comes for principal P; NOW is in nanoseconds
   cmd NOW C HEX           client C gives a command: two lower-case digits for a byte, `_` between bytes, `-` for none
+  offer NOW C REG HEX     client C offers a message by its registration REG; the answer is the position behind it, or
+                          -1 nobody reads the log, -2 a reader is too far behind, -3 offer it again, -4 no such
+                          registration, -5 past the greatest position; or the policy's denial
+  poll NOW C SUB SOURCE LIMIT
+                          client C takes up to LIMIT fragments of log SOURCE by its subscription SUB; or is denied, or
+                          told `gone`
   tick NOW                time goes on: clients of which nothing was heard for too long are gone
   list NOW C              client C looks at the counters that the policy shows it
   value NOW C REG         client C looks at the value of counter REG
   # ...                   a comment; empty lines are skipped too
 Any other line answers `line N: bad line`, and ends the script.
 
-Status: 0 when the script ended; 1 after a bad line, and after `aeron_policyd: FAULT` on standard error (cannot read \
+Status: 0 when the script ended; 1 after a bad line, and after `aeron_policyd: FAULT` on standard error (cannot read
 file, read failed, too long, write failed, no memory); 2 for a command line that is at fault.";
 
 /// What the command line asks for.
@@ -147,29 +182,40 @@ fn check<'a>(alloc: Global) -> Result<Command<'a>, AllocError> {
         .arg(policy_file(alloc))
 }
 
-fn decide<'a>(alloc: Global) -> Result<Command<'a>, AllocError> {
-    let principal = Arg::new(alloc, "PRINCIPAL")
+fn principal<'a>(alloc: Global) -> Arg<'a> {
+    Arg::new(alloc, "PRINCIPAL")
         .required(true)
-        .help("Who asks: nobody, or p1 to p63");
-    let act = Arg::new(alloc, "ACT").required(true).help(
-        "What is asked: publish, publish-exclusive, subscribe, spy, destination, counter, terminate, offer, image, \
-         receive, send, retransmit or list",
-    );
-    let channel = Arg::new(alloc, "CHANNEL").required(true).help(
+        .help("Who asks: nobody, or p1 to p63")
+}
+
+fn act<'a>(alloc: Global) -> Arg<'a> {
+    Arg::new(alloc, "ACT")
+        .required(true)
+        .help("What is asked, one of the acts below")
+}
+
+fn channel<'a>(alloc: Global) -> Arg<'a> {
+    Arg::new(alloc, "CHANNEL").required(true).help(
         "On which channel, such as aeron:ipc; aeron:counter where a counter is meant",
-    );
-    let stream = Arg::new(alloc, "STREAM")
+    )
+}
+
+fn stream<'a>(alloc: Global) -> Arg<'a> {
+    Arg::new(alloc, "STREAM")
         .required(true)
         .value_parser(value_parser!(i32).range(0..))
-        .help("On which stream, 0 to 2147483647; for a counter its type id");
+        .help("On which stream, 0 to 2147483647; for a counter its type id")
+}
+
+fn decide<'a>(alloc: Global) -> Result<Command<'a>, AllocError> {
     Command::new(alloc, "decide")
         .about("Says what a policy decides of a question, and by which rule")
         .after_help(DECIDE)
         .arg(policy_file(alloc))?
-        .arg(principal)?
-        .arg(act)?
-        .arg(channel)?
-        .arg(stream)
+        .arg(principal(alloc))?
+        .arg(act(alloc))?
+        .arg(channel(alloc))?
+        .arg(stream(alloc))
 }
 
 fn script<'a>(alloc: Global) -> Result<Command<'a>, AllocError> {
@@ -185,6 +231,7 @@ fn script<'a>(alloc: Global) -> Result<Command<'a>, AllocError> {
 /// The words that the program takes.
 pub(crate) fn command<'a>(alloc: Global) -> Result<Command<'a>, AllocError> {
     Command::new(alloc, "aeron_policyd")
+        .version(VERSION)
         .about(ABOUT)
         .after_help(USES)
         .subcommand_required(true)

@@ -9,10 +9,11 @@ mod fault;
 
 use crate::command_line::{Task, command, task_in};
 use crate::fault::Fault;
+use clap::ArgMatches;
 use clap::error::ErrorKind;
-use driver_script::deciding::decide;
+use driver_script::deciding::{check, decide};
 use driver_script::script::Ended;
-use driver_script::{MayFail, deciding, read_input, script};
+use driver_script::{MayFail, read_input, script};
 use std::process::ExitCode;
 use std::rt::{Env, Files};
 use std::{env, fs, io};
@@ -59,11 +60,32 @@ fn policy_in<R: Files + AllocGlobal>(rt: &R, path: &str) -> Result<Vec<u8>, Faul
     Ok(read_input(rt.alloc(), &mut file)?)
 }
 
-/// Prints how many rules the policy in a file has.
-fn check_policy<R: Files + Print + AllocGlobal>(rt: &R, path: &str) -> Result<ExitCode, Fault> {
+/// The line that says how many rules the policy in a file has.
+fn checked_in<R: Files + AllocGlobal>(rt: &R, path: &str) -> Result<String, Fault> {
     let policy = policy_in(rt, path)?;
-    let checked = deciding::check(rt.alloc(), policy.as_slice())?;
-    print_line(rt, format!(in rt.alloc(); "{checked}")?.as_str())
+    let checked = check(rt.alloc(), policy.as_slice())?;
+    Ok(checked.to_string(rt.alloc())?)
+}
+
+/// The line that says what the policy in a file decides of a question.
+fn verdict_in<R: Files + AllocGlobal>(
+    rt: &R,
+    path: &str,
+    principal: &str,
+    act: &str,
+    channel: &str,
+    stream: i32,
+) -> Result<String, Fault> {
+    let policy = policy_in(rt, path)?;
+    let verdict = decide(
+        rt.alloc(),
+        policy.as_slice(),
+        principal,
+        act,
+        channel,
+        stream,
+    )?;
+    Ok(verdict.to_string(rt.alloc())?)
 }
 
 /// Prints a line that answers the command line.
@@ -87,20 +109,40 @@ fn run_script<R: Files + Print + AllocGlobal>(rt: &R, path: &str) -> Result<Exit
 /// Does a task.
 fn perform<R: Files + Print + AllocGlobal>(rt: &R, task: Task<'_>) -> Result<ExitCode, Fault> {
     match task {
-        Task::Check { policy } => check_policy(rt, policy),
+        Task::Check { policy } => print_line(rt, checked_in(rt, policy)?.as_str()),
         Task::Decide {
             policy,
             principal,
             act,
             channel,
             stream,
-        } => {
-            let policy = policy_in(rt, policy)?;
-            let policy = policy.as_slice();
-            let verdict = decide(rt.alloc(), policy, principal, act, channel, stream)?;
-            print_line(rt, format!(in rt.alloc(); "{verdict}")?.as_str())
-        }
+        } => print_line(
+            rt,
+            verdict_in(rt, policy, principal, act, channel, stream)?.as_str(),
+        ),
         Task::Script { file } => run_script(rt, file),
+    }
+}
+
+/// Does what the words of the command line were found to say.
+fn obey<R: Files + Print + AllocGlobal>(
+    rt: &R,
+    matches: &ArgMatches<'_>,
+) -> Result<ExitCode, Fault> {
+    match task_in(matches) {
+        Some(task) => perform(rt, task),
+        None => Ok(ExitCode::from(USAGE)),
+    }
+}
+
+/// Does what the words of the command line say.
+fn answer<R: Files + Print + Eprint + AllocGlobal>(
+    rt: &R,
+    words: &[String],
+) -> Result<ExitCode, Fault> {
+    match command(rt.alloc())?.try_get_matches_from(words) {
+        Ok(matches) => obey(rt, &matches),
+        Err(error) => explain(rt, &error),
     }
 }
 
@@ -110,14 +152,7 @@ fn serve<R: Env + Files + Print + Eprint + AllocGlobal>(rt: &R) -> Result<ExitCo
         let _ = rt.eprintln("error: invalid UTF-8 was detected in one or more arguments");
         return Ok(ExitCode::from(USAGE));
     };
-    let matches = match command(rt.alloc())?.try_get_matches_from(words.as_slice()) {
-        Ok(matches) => matches,
-        Err(error) => return explain(rt, &error),
-    };
-    match task_in(&matches) {
-        Some(task) => perform(rt, task),
-        None => Ok(ExitCode::from(USAGE)),
-    }
+    answer(rt, words.as_slice())
 }
 
 fn main(rt: HostRuntime) -> ExitCode {
@@ -129,6 +164,3 @@ fn main(rt: HostRuntime) -> ExitCode {
         }
     }
 }
-
-#[cfg(test)]
-mod tests;

@@ -1,4 +1,4 @@
-//! Tests of `policy_text`.
+//! Tests of `policy_text` that no script can say: what is read is kept as the text says.
 #![tactic(auto)]
 
 #[cfg(test)]
