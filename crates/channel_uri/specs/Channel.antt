@@ -33,10 +33,12 @@ denotes text =
     keys_of (halves rest).1 >>= λ keys.
     checked (first_fault keys) (record { spy = (unspied text).0; media = media; keys = keys })
 
--- the text has a scheme and a medium that are served, and then pairs to keep; no other text takes memory
+-- the text is no longer than a text may be, and has a scheme and a medium that are served, and then pairs to keep; no other
+-- text takes memory
 abbrev pub takes_memory : List ℕ → Bool
 takes_memory text =
-    is_ok (behind_scheme (unspied text).1 >>= λ rest.
+    not (nat_lt 1024 (length text))
+    && is_ok (behind_scheme (unspied text).1 >>= λ rest.
     media_of (unspied text).0 (halves rest).0 >>= λ media.
     if is_some (halves rest).1 then Ok media else Err BadMedia)
 
