@@ -6,8 +6,10 @@ mod shuffling;
 mod table;
 
 pub use reading::{fill, join, read_portion, read_to, reads, take_all};
-pub use shuffling::{agree, hand_in, hand_in_cell, open};
+pub use shuffling::{agree, go_on, hand_in, hand_in_cell, open};
 pub use table::{Cell, Table};
 
+#[cfg(test)]
+mod differing;
 #[cfg(test)]
 mod tests;

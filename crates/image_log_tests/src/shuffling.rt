@@ -1,14 +1,13 @@
 // Frames that come in an order that looks random, some of them twice, overlapping, forged, late or not at all, beside a
 // plain table of the positions of their stream.
 ghost use Rattle.std.specs.Prelude.{◌≡◌, ◌%◌, ◌<◌, ◌≤◌, [], IfOk};
-ghost use Rattle.log_arena.specs.Lease.{lease_len};
 
 use crate::reading::{join, read_portion};
 use crate::table::{Cell, Table};
 use frame_codec::{Flags, TermPlace, term_of, write_data, write_pad};
 use image_log::{Ident, ImageLog, Insert};
-use log_arena::{Arena, Lease, NoRoom};
-use std::alloc::{AllocError, Global};
+use log_arena::{Arena, NoRoom};
+use std::alloc::Global;
 
 /// Hands in a data frame of 64 bytes, whose payload is one byte over and over. None where the log's stream has no such
 /// frame.
@@ -41,16 +40,28 @@ fn place_of(ident: &Ident, position: u64) -> Option<TermPlace> {
     })
 }
 
-/// A log in a lease of three terms of 64 KiB.
-pub fn open(alloc: Global, lease: Lease, ident: Ident, join: u64) -> Result<ImageLog, AllocError>
+// A log in a lease of this arena.
+fn open_in(alloc: Global, arena: &mut Arena, ident: Ident, join: u64) -> Result<ImageLog, NoRoom>
     requires terms { ident.term_length ≡ 65536 }
-    requires lease { lease_len lease ≡ 196608 }
     requires join { (join % 32 ≡ 0) × (join < 65536) }
     ensures pairs { IfOk result (λ log. log.pairs ≡ []) }
 {
+    let lease = arena.lease(196_608)?;
     match ImageLog::open(alloc, lease, ident, join) {
         Ok(log) => Ok(log),
-        Err((_lease, refused)) => Err(refused),
+        Err(_) => Err(NoRoom),
+    }
+}
+
+/// A log of three terms of 64 KiB, in an arena of its own, which its lease outlives. `NoRoom` where there is no memory.
+pub fn open(alloc: Global, ident: Ident, join: u64) -> Result<ImageLog, NoRoom>
+    requires terms { ident.term_length ≡ 65536 }
+    requires join { (join % 32 ≡ 0) × (join < 65536) }
+    ensures pairs { IfOk result (λ log. log.pairs ≡ []) }
+{
+    match Arena::new(alloc, 48) {
+        Ok(mut arena) => open_in(alloc, &mut arena, ident, join),
+        Err(_) => Err(NoRoom),
     }
 }
 
@@ -92,26 +103,29 @@ fn lay_out(out: &mut [u8; 64], place: &TermPlace, cell: Cell) -> usize
     }
 }
 
-/// Hands in `steps` frames, and says whether each answer, and what the log tells behind it, were those of the table. A
-/// subscription reads the log all the while. False where there is no room.
-pub fn agree(alloc: Global, ident: Ident, steps: u32) -> Result<bool, AllocError>
+/// Hands in `steps` frames, and says whether each answer, and what the log tells behind it, were those of the table,
+/// and each answer was given a good many times. A subscription reads the log all the while.
+pub fn agree(alloc: Global, ident: Ident, steps: u32) -> Result<bool, NoRoom>
     requires { ident.term_length ≡ 65536 }
 {
-    let mut arena = Arena::new(alloc, 48)?;
-    let lease = match arena.lease(196_608) {
-        Ok(lease) => lease,
-        Err(NoRoom) => return Ok(false),
-    };
-    let mut log = open(alloc, lease, ident, 0)?;
+    let mut log = open(alloc, ident, 0)?;
     join(&mut log, 1);
-    let mut table = Table::new(alloc, 16_384)?;
+    match Table::new(alloc, 16_384) {
+        Ok(mut table) => Ok(go_on(&mut log, &mut table, steps) && table.has_seen_all()),
+        Err(_) => Err(NoRoom),
+    }
+}
+
+/// Hands in `steps` frames, and says whether each answer, and what the log tells behind it, were those of the table.
+/// Subscription 1 reads the log all the while.
+pub fn go_on(log: &mut ImageLog, table: &mut Table, steps: u32) -> bool {
     let mut word: u64 = 1;
     let mut same = true;
     for _ in 0..steps {
         word = next(word);
-        same &= step(&mut log, &mut table, word >> 33);
+        same &= step(log, table, word >> 33);
     }
-    Ok(same && table.has_seen_all())
+    same
 }
 
 // The next word of a linear congruence, as the C standard's example has it, but for 64 bits (Knuth's MMIX).

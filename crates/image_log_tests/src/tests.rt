@@ -1,206 +1,282 @@
+ghost use Rattle.std.specs.Prelude.{◌≡◌, []};
+
 use super::*;
-use image_log::{Ident, Insert};
-use log_arena::Arena;
+use image_log::{Ident, ImageLog, Insert};
 use std::test::Fail;
 
 // Session 9, stream 10: terms of 64 KiB from term 5 on.
-const STREAM: Ident = Ident {
+pub(crate) const STREAM: Ident = Ident {
     session_id: 9,
     stream_id: 10,
     initial_term_id: 5,
     term_length: 65_536,
 };
 
+// Whether frames of 64 bytes are answered so, each with its position and the byte that fills its payload.
+fn inserts(log: &mut ImageLog, rows: &[(u64, u8, Insert)]) -> bool {
+    let mut same = true;
+    for (position, fill, wanted) in rows {
+        same &= hand_in(log, *position, *fill) == Some(*wanted);
+    }
+    same
+}
+
+fn is_at(log: &ImageLog, base: u64, contiguous: u64, gap: Option<(u64, u32)>) -> bool {
+    log.base() == base && log.contiguous() == contiguous && log.gap() == gap
+}
+
+fn fills_a_gap(log: &mut ImageLog) -> bool
+    requires { log.old.pairs ≡ [] }
+{
+    let joined = join(log, 1) == 0 && is_at(log, 0, 0, None);
+    let apart = inserts(log, &[(0, 1, Insert::Taken), (128, 3, Insert::Taken)]);
+    let missing = is_at(log, 0, 64, Some((64, 64)));
+    let between = inserts(log, &[(64, 2, Insert::Taken)]);
+    joined && apart && missing && between && is_at(log, 0, 192, None)
+}
+
+const INSERTS: [(u64, u8, Insert); 4] = [
+    (64, 2, Insert::Repeat),
+    (64, 9, Insert::Overlap),
+    (32_768, 4, Insert::Beyond),
+    (32_704, 5, Insert::Taken),
+];
+
+fn goes_on_to_the_next_term(log: &mut ImageLog) -> bool {
+    let filled = fill(log, 1, 65_536, 1024) && is_at(log, 65_536, 65_536, None);
+    filled && inserts(log, &[(0, 1, Insert::Below)])
+}
+
 #[test]
 fn image_log_inserts(rt: HostRuntime) -> Result<(), Fail> {
-    let mut arena = Arena::new(rt.alloc(), 48)?;
-    let lease = arena.lease(196_608)?;
-    let mut log = open(rt.alloc(), lease, STREAM, 0)?;
-    assert_eq!(rt; join(&mut log, 1), 0);
-    assert_eq!(rt; log.base(), 0);
-    assert_eq!(rt; log.gap(), None);
-    assert_eq!(rt; hand_in(&mut log, 0, 1), Some(Insert::Taken));
-    assert_eq!(rt; hand_in(&mut log, 128, 3), Some(Insert::Taken));
-    assert_eq!(rt; log.contiguous(), 64);
-    assert_eq!(rt; log.gap(), Some((64, 64)));
-    assert_eq!(rt; hand_in(&mut log, 64, 2), Some(Insert::Taken));
-    assert_eq!(rt; log.contiguous(), 192);
-    assert_eq!(rt; log.gap(), None);
-    assert_eq!(rt; hand_in(&mut log, 64, 2), Some(Insert::Repeat));
-    assert_eq!(rt; hand_in(&mut log, 64, 9), Some(Insert::Overlap));
-    assert_eq!(rt; hand_in(&mut log, 32_768, 4), Some(Insert::Beyond));
-    assert_eq!(rt; hand_in(&mut log, 32_704, 5), Some(Insert::Taken));
-    assert!(rt; fill(&mut log, 1, 65_536, 1024));
-    assert_eq!(rt; (log.base(), log.contiguous()), (65_536, 65_536));
-    assert_eq!(rt; hand_in(&mut log, 0, 1), Some(Insert::Below));
+    let mut log = open(rt.alloc(), STREAM, 0)?;
+    assert!(rt; fills_a_gap(&mut log) && inserts(&mut log, &INSERTS));
+    assert!(rt; goes_on_to_the_next_term(&mut log));
     Ok(())
+}
+
+fn stands_at(log: &ImageLog, subscription: u64, position: u64) -> bool {
+    log.pair_position(subscription) == Some(position)
+}
+
+fn two_read(log: &mut ImageLog) -> bool
+    requires { log.old.pairs ≡ [] }
+{
+    let first = join(log, 4) == 0 && hand_in(log, 0, 1) == Some(Insert::Taken);
+    let second = join(log, 9) == 64 && hand_in(log, 64, 2) == Some(Insert::Taken);
+    let places = stands_at(log, 4, 0) && stands_at(log, 9, 64);
+    first && second && places && log.pair_position(5) == None && log.base() == 0
+}
+
+fn slowest_moves_the_base(log: &mut ImageLog) -> bool {
+    let fast = read_to(log, 9, 128) && log.base() == 0;
+    let slow = read_to(log, 4, 64) && log.base() == 64;
+    log.leave_pair(4);
+    let alone = log.base() == 128;
+    log.leave_pair(9);
+    fast && slow && alone && log.pair_position(9) == None && log.base() == 128
 }
 
 // The base is the least position of a pair, and stays where none is left.
 #[test]
 fn slowest_pair_is_the_base(rt: HostRuntime) -> Result<(), Fail> {
-    let mut arena = Arena::new(rt.alloc(), 48)?;
-    let lease = arena.lease(196_608)?;
-    let mut log = open(rt.alloc(), lease, STREAM, 0)?;
-    assert_eq!(rt; join(&mut log, 4), 0);
-    assert_eq!(rt; hand_in(&mut log, 0, 1), Some(Insert::Taken));
-    assert_eq!(rt; join(&mut log, 9), 64);
-    assert_eq!(rt; hand_in(&mut log, 64, 2), Some(Insert::Taken));
-    assert_eq!(rt; log.pair_position(4), Some(0));
-    assert_eq!(rt; log.pair_position(9), Some(64));
-    assert_eq!(rt; log.pair_position(5), None);
-    assert_eq!(rt; log.base(), 0);
-    assert!(rt; read_to(&mut log, 9, 128));
-    assert_eq!(rt; log.base(), 0);
-    assert!(rt; read_to(&mut log, 4, 64));
-    assert_eq!(rt; log.base(), 64);
-    log.leave_pair(4);
-    assert_eq!(rt; log.base(), 128);
-    log.leave_pair(9);
-    assert_eq!(rt; (log.pair_position(9), log.base()), (None, 128));
+    let mut log = open(rt.alloc(), STREAM, 0)?;
+    assert!(rt; two_read(&mut log) && slowest_moves_the_base(&mut log));
     Ok(())
+}
+
+// Whether bytes are zeros but for the 64 from a place on, of which 32 are 7.
+fn is_one_frame(bytes: &[u8], at: usize) -> bool {
+    let filled = bytes.iter().filter(|b| **b == 7).count();
+    let before = bytes.iter().take(at).all(|b| *b == 0);
+    let behind = bytes.iter().skip(at.saturating_add(64)).all(|b| *b == 0);
+    filled == 32 && before && behind
+}
+
+// Whether the log's lease comes back with one frame, and zeros.
+fn gives_back(log: ImageLog, at: usize) -> bool {
+    let lease = log.close();
+    is_one_frame(lease.bytes(), at)
+}
+
+fn four_terms_are_read(log: &mut ImageLog) -> bool
+    requires { log.old.pairs ≡ [] }
+{
+    let joined = join(log, 1) == 0;
+    let filled = fill(log, 1, 262_144, 4096);
+    let rows = [(262_080, 7, Insert::Below), (262_144, 7, Insert::Taken)];
+    joined && filled && inserts(log, &rows)
 }
 
 // Frames of terms that all have read go, and their bytes are zeros again; the room serves later terms.
 #[test]
 fn terms_that_are_read_go(rt: HostRuntime) -> Result<(), Fail> {
-    let mut arena = Arena::new(rt.alloc(), 48)?;
-    let lease = arena.lease(196_608)?;
-    let mut log = open(rt.alloc(), lease, STREAM, 0)?;
-    assert_eq!(rt; join(&mut log, 1), 0);
-    assert!(rt; fill(&mut log, 1, 262_144, 4096));
-    assert_eq!(rt; hand_in(&mut log, 262_080, 7), Some(Insert::Below));
-    assert_eq!(rt; hand_in(&mut log, 262_144, 7), Some(Insert::Taken));
-    let lease = log.close();
-    let filled = lease.bytes().iter().filter(|b| **b == 7).count();
-    assert_eq!(rt; filled, 32);
-    let mut rest = lease.bytes().iter().skip(65_600);
-    assert!(rt; rest.all(|b| *b == 0));
-    assert!(rt; lease.bytes().iter().take(65_536).all(|b| *b == 0));
-    Ok(())
-}
-
-// A log is silent where nothing was heard for longer than the limit. Moments may come out of order.
-#[test]
-fn sender_falls_silent(rt: HostRuntime) -> Result<(), Fail> {
-    let mut arena = Arena::new(rt.alloc(), 48)?;
-    let lease = arena.lease(196_608)?;
-    let mut log = open(rt.alloc(), lease, STREAM, 0)?;
-    log.heard(500);
-    log.heard(300);
-    assert!(rt; !log.silent(600, 100));
-    assert!(rt; log.silent(601, 100));
-    assert!(rt; !log.silent(0, 0));
-    assert!(rt; !log.silent(u64::MAX, u64::MAX));
-    Ok(())
-}
-
-// The gap without a frame behind it goes to the greatest position heard of, but within the window.
-#[test]
-fn gap_to_the_greatest_position(rt: HostRuntime) -> Result<(), Fail> {
-    let mut arena = Arena::new(rt.alloc(), 48)?;
-    let lease = arena.lease(196_608)?;
-    let mut log = open(rt.alloc(), lease, STREAM, 64)?;
-    assert_eq!(rt; hand_in(&mut log, 0, 1), Some(Insert::Below));
-    assert_eq!(rt; log.gap(), None);
-    log.beat(256);
-    assert_eq!(rt; log.gap(), Some((64, 192)));
-    log.beat(128);
-    assert_eq!(rt; log.gap(), Some((64, 192)));
-    assert_eq!(rt; hand_in(&mut log, 65_472, 2), Some(Insert::Beyond));
-    assert_eq!(rt; log.gap(), Some((64, 32_768)));
-    Ok(())
-}
-
-// Bytes that are no frame of the stream, or not at their header's position, are told.
-#[test]
-fn frames_of_others_are_told(rt: HostRuntime) -> Result<(), Fail> {
-    let mut frame = [0; 35];
-    frame[0] = 35;
-    frame[6] = 1;
-    frame[12] = 9;
-    frame[16] = 10;
-    frame[20] = 5;
-    assert!(rt; STREAM.admits(0, &frame));
-    assert!(rt; !STREAM.admits(64, &frame));
-    let other = Ident {
-        session_id: 8,
-        ..STREAM
-    };
-    assert!(rt; !other.admits(0, &frame));
-    assert!(rt; !STREAM.admits(0, b""));
+    let mut log = open(rt.alloc(), STREAM, 0)?;
+    assert!(rt; four_terms_are_read(&mut log) && gives_back(log, 65_536));
     Ok(())
 }
 
 // A lease comes back with the frames and zeros.
 #[test]
 fn lease_comes_back(rt: HostRuntime) -> Result<(), Fail> {
-    let mut arena = Arena::new(rt.alloc(), 48)?;
-    let lease = arena.lease(196_608)?;
-    let mut log = open(rt.alloc(), lease, STREAM, 0)?;
-    assert_eq!(rt; hand_in(&mut log, 64, 7), Some(Insert::Taken));
-    let lease = log.close();
-    let filled = lease.bytes().iter().filter(|b| **b == 7).count();
-    assert_eq!(rt; filled, 32);
-    assert!(rt; lease.bytes().iter().take(64).all(|b| *b == 0));
+    let mut log = open(rt.alloc(), STREAM, 0)?;
+    assert!(rt; inserts(&mut log, &[(64, 7, Insert::Taken)]) && gives_back(log, 64));
     Ok(())
+}
+
+fn falls_silent(log: &mut ImageLog) -> bool {
+    log.heard(500);
+    log.heard(300);
+    let limit = !log.silent(600, 100) && log.silent(601, 100);
+    limit && !log.silent(0, 0) && !log.silent(u64::MAX, u64::MAX)
+}
+
+// A log is silent where nothing was heard for longer than the limit. Moments may come out of order.
+#[test]
+fn sender_falls_silent(rt: HostRuntime) -> Result<(), Fail> {
+    let mut log = open(rt.alloc(), STREAM, 0)?;
+    assert!(rt; falls_silent(&mut log));
+    Ok(())
+}
+
+fn gap_grows(log: &mut ImageLog) -> bool {
+    let below = inserts(log, &[(0, 1, Insert::Below)]) && log.gap() == None;
+    log.beat(256);
+    let beat = log.gap() == Some((64, 192));
+    log.beat(128);
+    let less = log.gap() == Some((64, 192));
+    let beyond = inserts(log, &[(65_472, 2, Insert::Beyond)]);
+    below && beat && less && beyond && log.gap() == Some((64, 32_768))
+}
+
+// The gap without a frame behind it goes to the greatest position heard of, but within the window.
+#[test]
+fn gap_to_the_greatest_position(rt: HostRuntime) -> Result<(), Fail> {
+    let mut log = open(rt.alloc(), STREAM, 64)?;
+    assert!(rt; gap_grows(&mut log));
+    Ok(())
+}
+
+// Bytes that are no frame of the stream, or not at their header's position, are told.
+#[test]
+fn frames_of_others_are_told(rt: HostRuntime) {
+    let mut frame = [0; 35];
+    frame[0] = 35;
+    frame[6] = 1;
+    frame[12] = 9;
+    frame[16] = 10;
+    frame[20] = 5;
+    let other = Ident {
+        session_id: 8,
+        ..STREAM
+    };
+    assert!(rt; STREAM.admits(0, &frame) && !STREAM.admits(64, &frame));
+    assert!(rt; !other.admits(0, &frame) && !STREAM.admits(0, b""));
+}
+
+const FRAMES: [(u64, Cell); 5] = [
+    (0, Cell::Long(1)),
+    (64, Cell::Long(1)),
+    (128, Cell::Pad),
+    (192, Cell::Long(1)),
+    (320, Cell::Long(1)),
+];
+
+/// From a position on, within so many bytes, so many frames are read, up to an end.
+const READS: [(u64, usize, u64, u64); 7] = [
+    (0, 63, 0, 0),
+    (0, 127, 1, 64),
+    (0, 159, 2, 128),
+    (0, 160, 3, 192),
+    (0, 1024, 3, 192),
+    (192, 1024, 1, 256),
+    (256, 1024, 0, 256),
+];
+
+fn reads_each(log: &ImageLog, rows: &[(u64, usize, u64, u64)]) -> bool {
+    let mut same = true;
+    for (position, bytes, count, end) in rows {
+        same &= reads(log, *position, *bytes, *count, *end);
+    }
+    same
 }
 
 // What is whole is read frame by frame: up to the contiguous position or the end of a term, within so many bytes, and
 // nothing behind a pad, which takes 32 of them.
 #[test]
 fn whole_frames_are_read(rt: HostRuntime) -> Result<(), Fail> {
-    let mut arena = Arena::new(rt.alloc(), 48)?;
-    let lease = arena.lease(196_608)?;
-    let mut log = open(rt.alloc(), lease, STREAM, 0)?;
-    let long = Cell::Long(1);
+    let mut log = open(rt.alloc(), STREAM, 0)?;
+    assert!(rt; take_all(&mut log, &FRAMES) && reads_each(&log, &READS));
+    assert!(rt; !take_all(&mut log, &[(384, Cell::Short), (320, Cell::Short)]));
+    assert!(rt; !reads_each(&log, &[READS[0], (0, 160, 2, 192)]));
     assert!(rt;
-        take_all(
-            &mut log,
-            &[
-                (0, long),
-                (64, long),
-                (128, Cell::Pad),
-                (192, long),
-                (320, long)
-            ]
-        )
+        !reads_each(&log, &[(0, 160, 3, 160), READS[1]]) && !reads(&log, 288, 1024, 0, 288)
     );
-    assert!(rt; reads(&log, 0, 63, 0, 0));
-    assert!(rt; reads(&log, 0, 127, 1, 64));
-    assert!(rt; reads(&log, 0, 159, 2, 128));
-    assert!(rt; reads(&log, 0, 160, 3, 192));
-    assert!(rt; reads(&log, 0, 1024, 3, 192));
-    assert!(rt; reads(&log, 192, 1024, 1, 256));
-    assert!(rt; reads(&log, 256, 1024, 0, 256));
     Ok(())
+}
+
+fn status_is_due_in_time(log: &mut ImageLog) -> bool
+    requires { log.old.pairs ≡ [] }
+{
+    let joined = join(log, 1) == 0;
+    let first = log.window() == 32_768 && log.status_due(0, 200);
+    log.status_sent(1000);
+    let later = !log.status_due(1200, 200) && log.status_due(1201, 200);
+    joined && first && later && !log.status_due(0, 0)
+}
+
+fn status_is_due_by_the_base(log: &mut ImageLog) -> bool {
+    let less = fill(log, 1, 8128, 127) && !log.status_due(1000, 200);
+    let quarter = fill(log, 1, 8192, 1) && log.status_due(1000, 200);
+    log.status_sent(1000);
+    less && quarter && !log.status_due(1000, 200)
 }
 
 // A status message is due where none was sent yet, past the interval, and where the base moved by a quarter of the
 // window, which is a fourth of 32 KiB here.
 #[test]
 fn status_messages_are_due(rt: HostRuntime) -> Result<(), Fail> {
-    let mut arena = Arena::new(rt.alloc(), 48)?;
-    let lease = arena.lease(196_608)?;
-    let mut log = open(rt.alloc(), lease, STREAM, 0)?;
-    assert!(rt; log.window() == 32_768);
-    assert!(rt; log.status_due(0, 200));
-    log.status_sent(1000);
-    assert!(rt; !log.status_due(1200, 200));
-    assert!(rt; log.status_due(1201, 200));
-    assert!(rt; !log.status_due(0, 0));
-    assert!(rt; join(&mut log, 1) == 0);
-    assert!(rt; fill(&mut log, 1, 8128, 127));
-    assert!(rt; !log.status_due(1000, 200));
-    assert!(rt; fill(&mut log, 1, 8192, 1));
-    assert!(rt; log.status_due(1000, 200));
-    log.status_sent(1000);
-    assert!(rt; !log.status_due(1000, 200));
+    let mut log = open(rt.alloc(), STREAM, 0)?;
+    assert!(rt; status_is_due_in_time(&mut log) && status_is_due_by_the_base(&mut log));
     Ok(())
 }
 
 #[test]
 fn shuffled_frames(rt: HostRuntime) -> Result<(), Fail> {
     assert!(rt; agree(rt.alloc(), STREAM, 5000)?);
+    Ok(())
+}
+
+fn tells_other_answers(log: &mut ImageLog) -> bool {
+    let other = inserts(log, &[(0, 1, Insert::Taken), (0, 1, Insert::Overlap)]);
+    let place = is_at(log, 32, 64, None) || is_at(log, 0, 32, None);
+    let gap = is_at(log, 0, 64, Some((64, 32)));
+    !other && !place && !gap && is_at(log, 0, 64, None)
+}
+
+fn tells_other_bytes() -> bool {
+    let mut bytes = [0; 256];
+    bytes[64..96].copy_from_slice(&[7; 32]);
+    let sound = is_one_frame(&bytes, 64) && !is_one_frame(&bytes, 128);
+    bytes[128] = 1;
+    let behind = is_one_frame(&bytes, 64);
+    bytes[128] = 0;
+    bytes[64] = 0;
+    sound && !behind && !is_one_frame(&bytes, 64)
+}
+
+// What is filled is one frame too few, and then has another reader.
+fn tells_other_fillings(log: &mut ImageLog) -> bool {
+    let few = fill(log, 1, 256, 2);
+    let reader = fill(log, 2, 256, 1);
+    !few && !reader && !read_to(log, 2, 256) && !read_to(log, 1, 257)
+}
+
+#[test]
+fn other_answers_are_told(rt: HostRuntime) -> Result<(), Fail> {
+    let mut log = open(rt.alloc(), STREAM, 0)?;
+    join(&mut log, 1);
+    assert!(rt; tells_other_answers(&mut log) && tells_other_bytes());
+    assert!(rt; tells_other_fillings(&mut log));
     Ok(())
 }
