@@ -18,7 +18,7 @@ use Rattle.command_codec.specs.declared.command.Command.{Command}
 use Rattle.command_codec.specs.declared.command.Body.{Body}
 use Rattle.command_codec.specs.declared.command.Body.TheVariants.{AddPublication, AddExclusivePublication, RemovePublication, AddSubscription, RemoveSubscription, ClientKeepalive, AddCounter, RemoveCounter, ClientClose, TerminateDriver, SetCounter}
 use Rattle.command_codec.specs.declared.fault.CommandFault.{CommandFault}
-use Rattle.command_codec.specs.declared.fault.CommandFault.TheVariants.{Unknown, Malformed, NoMemory}
+use Rattle.command_codec.specs.declared.fault.CommandFault.TheVariants.{Unknown}
 use Rattle.command_codec.specs.Command.{command_of, correlation_of}
 
 -- the client of this id was heard of now
@@ -56,8 +56,7 @@ asked s handle command =
 -- the refusal of bytes that are no command
 abbrev pub refusal_for : CommandFault → Refusal
 refusal_for Unknown = UnknownCommandType
-refusal_for Malformed = MalformedCommand
-refusal_for NoMemory = MalformedCommand
+refusal_for other = MalformedCommand
 
 abbrev pub command_from : State → ℕ → List ℕ → Result Command CommandFault → Draft
 command_from s handle bytes (Ok command) = asked s handle command

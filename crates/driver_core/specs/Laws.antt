@@ -12,7 +12,7 @@ use Rattle.driver_core.specs.declared.peer.Peer.{Peer}
 use Rattle.driver_core.specs.declared.refusal.Refusal.{Refusal}
 use Rattle.driver_core.specs.declared.refusal.Refusal.TheVariants.{Denied, Full}
 use Rattle.driver_core.specs.declared.replies.Reply.{Reply}
-use Rattle.driver_core.specs.declared.replies.Reply.TheVariants.{Error, OperationSuccess, PublicationReady, ExclusivePublicationReady, SubscriptionReady, AvailableImage, UnavailableImage, CounterReady, UnavailableCounter, ClientTimeout}
+use Rattle.driver_core.specs.declared.replies.Reply.TheVariants.{Error, SubscriptionReady}
 use Rattle.driver_core.specs.declared.settings.Settings.{Settings}
 use Rattle.driver_core.specs.Commands.{heard}
 use Rattle.driver_core.specs.Conduct.{conduct, outcome_of, state_after}
@@ -136,15 +136,7 @@ IsGrantTold s event after client (SubscriptionReady correlation registration) =
     × (made.number ≡ registration)
     × Contains after.streams.subscriptions made
     × IsMadeBy s event correlation made
-IsGrantTold s event after client (Error correlation refusal) = Unit {0}
-IsGrantTold s event after client (OperationSuccess correlation) = Unit {0}
-IsGrantTold s event after client (PublicationReady correlation registration session stream) = Unit {0}
-IsGrantTold s event after client (ExclusivePublicationReady correlation registration session stream) = Unit {0}
-IsGrantTold s event after client (AvailableImage source subscription session stream position) = Unit {0}
-IsGrantTold s event after client (UnavailableImage source subscription stream) = Unit {0}
-IsGrantTold s event after client (CounterReady correlation registration) = Unit {0}
-IsGrantTold s event after client (UnavailableCounter registration) = Unit {0}
-IsGrantTold s event after client (ClientTimeout number) = Unit {0}
+IsGrantTold s event after client reply = Unit {0}
 
 pub record GrantsOnly (s : State) (event : Event) (change : Change) : Type 0 where
   pub told :
@@ -178,15 +170,7 @@ IsNamedRefusal s event client correlation refusal = Unit {0}
 
 abbrev pub IsDenialNamed : State → Event → ℕ → Reply → Type 0
 IsDenialNamed s event client (Error correlation refusal) = IsNamedRefusal s event client correlation refusal
-IsDenialNamed s event client (OperationSuccess correlation) = Unit {0}
-IsDenialNamed s event client (SubscriptionReady correlation registration) = Unit {0}
-IsDenialNamed s event client (PublicationReady correlation registration session stream) = Unit {0}
-IsDenialNamed s event client (ExclusivePublicationReady correlation registration session stream) = Unit {0}
-IsDenialNamed s event client (AvailableImage source subscription session stream position) = Unit {0}
-IsDenialNamed s event client (UnavailableImage source subscription stream) = Unit {0}
-IsDenialNamed s event client (CounterReady correlation registration) = Unit {0}
-IsDenialNamed s event client (UnavailableCounter registration) = Unit {0}
-IsDenialNamed s event client (ClientTimeout number) = Unit {0}
+IsDenialNamed s event client reply = Unit {0}
 
 abbrev pub DenialsAreNamed : Type 0
 DenialsAreNamed =
@@ -198,23 +182,12 @@ DenialsAreNamed =
 -- each of the replies refuses
 abbrev pub IsRefusal : Reply → Type 0
 IsRefusal (Error correlation refusal) = Unit {0}
-IsRefusal (OperationSuccess correlation) = ⊥
-IsRefusal (SubscriptionReady correlation registration) = ⊥
-IsRefusal (PublicationReady correlation registration session stream) = ⊥
-IsRefusal (ExclusivePublicationReady correlation registration session stream) = ⊥
-IsRefusal (AvailableImage source subscription session stream position) = ⊥
-IsRefusal (UnavailableImage source subscription stream) = ⊥
-IsRefusal (CounterReady correlation registration) = ⊥
-IsRefusal (UnavailableCounter registration) = ⊥
-IsRefusal (ClientTimeout number) = ⊥
+IsRefusal reply = ⊥
 
 abbrev pub IsNoGrant : Response → Type 0
-IsNoGrant response.Nothing = Unit {0}
 IsNoGrant (response.Attached number) = ⊥
-IsNoGrant response.Full = Unit {0}
-IsNoGrant response.Stopped = Unit {0}
 IsNoGrant (response.PolicyInForce epoch) = ⊥
-IsNoGrant response.PolicyFull = Unit {0}
+IsNoGrant answer = Unit {0}
 
 -- no reply grants anything, and no log closes
 pub record GrantsNothing (outcome : Outcome) : Type 0 where

@@ -7,7 +7,7 @@ use Rattle.driver_core.specs.declared.event.Event.TheVariants.{Command}
 use Rattle.driver_core.specs.declared.event.Inputs.{Inputs}
 use Rattle.driver_core.specs.declared.refusal.Refusal.TheVariants.{Denied, Full, NoRoom}
 use Rattle.driver_core.specs.declared.replies.Reply.{Reply}
-use Rattle.driver_core.specs.declared.replies.Reply.TheVariants.{Error, OperationSuccess, PublicationReady, ExclusivePublicationReady, SubscriptionReady, AvailableImage, UnavailableImage, CounterReady, UnavailableCounter, ClientTimeout}
+use Rattle.driver_core.specs.declared.replies.Reply.TheVariants.{PublicationReady, ExclusivePublicationReady}
 use Rattle.driver_core.specs.Commands.{heard}
 use Rattle.driver_core.specs.Conduct.{conduct}
 use Rattle.driver_core.specs.GrantLaws.{IsRefusedOn, decided_on}
@@ -137,14 +137,7 @@ IsPublicationTold s event after client (PublicationReady correlation number sess
     IsReadyBy s event after client correlation number session stream false
 IsPublicationTold s event after client (ExclusivePublicationReady correlation number session stream) =
     IsReadyBy s event after client correlation number session stream true
-IsPublicationTold s event after client (Error correlation refusal) = Unit {0}
-IsPublicationTold s event after client (OperationSuccess correlation) = Unit {0}
-IsPublicationTold s event after client (SubscriptionReady correlation registration) = Unit {0}
-IsPublicationTold s event after client (AvailableImage source subscription session stream position) = Unit {0}
-IsPublicationTold s event after client (UnavailableImage source subscription stream) = Unit {0}
-IsPublicationTold s event after client (CounterReady correlation registration) = Unit {0}
-IsPublicationTold s event after client (UnavailableCounter registration) = Unit {0}
-IsPublicationTold s event after client (ClientTimeout number) = Unit {0}
+IsPublicationTold s event after client reply = Unit {0}
 
 -- registrations and logs come, and are told of, only by such a request
 pub record PublishesOnly (s : State) (event : Event) (change : Change) : Type 0 where

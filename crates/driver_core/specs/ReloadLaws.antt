@@ -2,7 +2,7 @@
 use Rattle.std.specs.Prelude.{◌≡◌, ℕ, ◌+◌, max, true, false, [], None, if◌then◌else◌}
 use Rattle.driver_core.specs.declared.change.Change.{Change}
 use Rattle.driver_core.specs.declared.event.Event.{Event}
-use Rattle.driver_core.specs.declared.event.Event.TheVariants.{Attach, Command, Reload, Tick}
+use Rattle.driver_core.specs.declared.event.Event.TheVariants.{Reload}
 use Rattle.driver_core.specs.declared.event.Inputs.{Inputs}
 use Rattle.driver_core.specs.declared.outcome.Response.TheVariants.{PolicyInForce, PolicyFull}
 use Rattle.driver_core.specs.Conduct.{conduct, state_after}
@@ -62,11 +62,9 @@ in_force_at s = record { policy = s.policy; epoch = s.epoch }
 
 -- a reload that is not refused brings the next policy, and nothing else does
 abbrev pub newest_after : State → Event → Numbered
-newest_after s (Attach now principal) = in_force_at s
-newest_after s (Command now handle bytes) = in_force_at s
-newest_after s (Tick now) = in_force_at s
 newest_after s (Reload now policy) =
     if has_room_for_policy s policy then record { policy = policy; epoch = s.epoch + 1 } else in_force_at s
+newest_after s event = in_force_at s
 
 abbrev pub NewestPolicyIsInForce : Type 0
 NewestPolicyIsInForce =

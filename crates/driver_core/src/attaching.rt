@@ -16,9 +16,10 @@ pub(crate) fn attach(registry: Registry, alloc: Global, principal: u32) -> Resul
         return Ok(Draft::answered(alloc, registry, Response::Stopped));
     }
     let mut registry = registry;
-    match registry.clients.admit(principal, registry.moment) {
-        Ok(number) => Ok(Draft::answered(alloc, registry, Response::Attached(number))),
-        Err(AdmitError::Full) => Ok(Draft::answered(alloc, registry, Response::Full)),
-        Err(AdmitError::NoMemory) => Err(AllocError),
-    }
+    let response = match registry.clients.admit(principal, registry.moment) {
+        Ok(number) => Response::Attached(number),
+        Err(AdmitError::Full) => Response::Full,
+        Err(AdmitError::NoMemory) => return Err(AllocError),
+    };
+    Ok(Draft::answered(alloc, registry, response))
 }

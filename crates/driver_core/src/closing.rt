@@ -36,5 +36,5 @@ pub(crate) fn close(
     let mut registry = registry;
     leaving::leave(&mut registry, client.number);
     let reply = Reply::OperationSuccess { correlation };
-    Draft::replied(alloc, registry, Items::new(alloc), client.number, reply)
+    Draft::replied(alloc, registry, client.number, reply)
 }

@@ -5,7 +5,6 @@ use crate::draft::Draft;
 use crate::refusal::Refusal;
 use crate::registry::Registry;
 use crate::{closing, counting, publishing, subscribing, terminating, unpublishing, unsubscribing};
-use byte_strings::Items;
 use client_registry::Client;
 use command_codec::{Body, Command, CommandFault};
 use std::alloc::{AllocError, Global};
@@ -66,7 +65,6 @@ fn asked(
         return Draft::refused(
             alloc,
             registry,
-            Items::new(alloc),
             handle,
             command.correlation,
             Refusal::WrongClient,
@@ -76,7 +74,6 @@ fn asked(
         return Draft::refused(
             alloc,
             registry,
-            Items::new(alloc),
             handle,
             command.correlation,
             Refusal::WrongClient,
@@ -107,14 +104,7 @@ pub(crate) fn command(
                 CommandFault::NoMemory => return Err(AllocError),
             };
             let correlation = Command::correlation_of(bytes);
-            Draft::refused(
-                alloc,
-                registry,
-                Items::new(alloc),
-                handle,
-                correlation,
-                refusal,
-            )
+            Draft::refused(alloc, registry, handle, correlation, refusal)
         }
     }
 }

@@ -1,16 +1,15 @@
-ghost use Rattle.driver_core.specs.Counting.{has_room_for_counter, with_counter, add_counter, set_counter, remove_counter};
+ghost use Rattle.driver_core.specs.Counting.{counter_decision, has_room_for_counter, with_counter, add_counter, set_counter, remove_counter};
 ghost use Rattle.std.specs.Prelude.{◌≡◌, ◌+◌, true, IfOk, OnOk};
 
 use crate::deciding;
 use crate::draft::Draft;
 use crate::refusal::Refusal;
 use crate::registry::Registry;
-use crate::replies::{Message, Reply};
-use byte_strings::Items;
+use crate::replies::Reply;
 use channel_uri::Channel;
 use client_registry::Client;
 use command_codec::{AddCounter, Removal, SetCounter};
-use policy_core::Act;
+use policy_core::{Act, Decision};
 use std::alloc::{AllocError, Global};
 
 /// Whether there is room for one more counter, and a number for it.
@@ -47,6 +46,19 @@ fn put_counter(
     }
 }
 
+/// What the policy in force decides: a counter's stream is its type id.
+fn counter_decision(
+    registry: &Registry,
+    alloc: Global,
+    client: Client,
+    fields: &AddCounter,
+) -> Decision
+    ensures { result ≡ counter_decision registry.now client fields.now }
+{
+    let channel = Channel::counter(alloc);
+    deciding::decide(registry, client, Act::Counter, &channel, fields.type_id)
+}
+
 /// The command ADD_COUNTER of a client that is there.
 #[tactic(auto, unfolding(crate::specs::Counting::add_counter, crate::specs::Counting::counted))]
 pub(crate) fn add_counter(
@@ -58,15 +70,13 @@ pub(crate) fn add_counter(
 ) -> Result<Draft, AllocError>
     ensures { IfOk result (λ draft. draft ≡ add_counter registry client correlation fields.now) }
 {
-    let channel = Channel::counter(alloc);
-    let decision = deciding::decide(&registry, client, Act::Counter, &channel, fields.type_id);
-    let decisions = deciding::only(alloc, decision)?;
+    let decision = counter_decision(&registry, alloc, client, fields);
     if !decision.verdict.allow {
         let refusal = Refusal::Denied(decision.verdict);
-        return Draft::refused(
+        return Draft::refused_on(
             alloc,
             registry,
-            decisions,
+            decision,
             client.number,
             correlation,
             refusal,
@@ -74,10 +84,10 @@ pub(crate) fn add_counter(
     }
     if !has_room(&registry) {
         let refusal = Refusal::Full;
-        return Draft::refused(
+        return Draft::refused_on(
             alloc,
             registry,
-            decisions,
+            decision,
             client.number,
             correlation,
             refusal,
@@ -89,7 +99,7 @@ pub(crate) fn add_counter(
         correlation,
         registration: number,
     };
-    Draft::replied(alloc, registry, decisions, client.number, reply)
+    Draft::replied_on(alloc, registry, decision, client.number, reply)
 }
 
 /// The command SET_COUNTER of a client that is there.
@@ -104,19 +114,17 @@ pub(crate) fn set_counter(
     ensures { IfOk result (λ draft. draft ≡ set_counter registry client correlation fields) }
 {
     let mut registry = registry;
-    let decisions = Items::new(alloc);
     match registry
         .counters
         .set(client.number, fields.registration, fields.value)
     {
         Ok(()) => {
             let reply = Reply::OperationSuccess { correlation };
-            Draft::replied(alloc, registry, decisions, client.number, reply)
+            Draft::replied(alloc, registry, client.number, reply)
         }
         Err(_) => Draft::refused(
             alloc,
             registry,
-            decisions,
             client.number,
             correlation,
             Refusal::UnknownCounter,
@@ -136,27 +144,18 @@ pub(crate) fn remove_counter(
     ensures { IfOk result (λ draft. draft ≡ remove_counter registry client correlation fields) }
 {
     let mut registry = registry;
-    let decisions = Items::new(alloc);
     let number = fields.registration;
     match registry.counters.remove(client.number, number) {
         Ok(()) => {
-            let done = Message {
-                client: client.number,
-                reply: Reply::OperationSuccess { correlation },
+            let done = Reply::OperationSuccess { correlation };
+            let gone = Reply::UnavailableCounter {
+                registration: number,
             };
-            let gone = Message {
-                client: client.number,
-                reply: Reply::UnavailableCounter {
-                    registration: number,
-                },
-            };
-            let (replies, later) = (done.alone(alloc)?, gone.alone(alloc)?);
-            Ok(Draft::told(alloc, registry, decisions, replies, later))
+            Draft::replied_twice(alloc, registry, client.number, done, gone)
         }
         Err(_) => Draft::refused(
             alloc,
             registry,
-            decisions,
             client.number,
             correlation,
             Refusal::UnknownCounter,

@@ -1,12 +1,10 @@
 ghost use Rattle.driver_core.specs.Deciding.{decision_by};
-ghost use Rattle.std.specs.Prelude.{◌≡◌, ◌∷◌, [], IfOk};
+ghost use Rattle.std.specs.Prelude.{◌≡◌};
 
 use crate::registry::Registry;
-use byte_strings::Items;
 use channel_uri::Channel;
 use client_registry::Client;
 use policy_core::{Act, Decision, Request};
-use std::alloc::{AllocError, Global};
 
 /// What the policy in force decides on the command of a client.
 #[tactic(auto, unfolding(crate::specs::Deciding::decision_by))]
@@ -32,13 +30,4 @@ pub(crate) fn decide(
         stream,
         verdict: registry.policy.verdict(registry.epoch, &request),
     }
-}
-
-/// A list of one decision.
-pub(crate) fn only(alloc: Global, decision: Decision) -> Result<Items<Decision>, AllocError>
-    ensures { IfOk result (λ decisions. decisions ≡ decision ∷ []) }
-{
-    let mut decisions = Items::new(alloc);
-    decisions.push(decision)?;
-    Ok(decisions)
 }

@@ -1,4 +1,4 @@
-ghost use Rattle.std.specs.Prelude.{◌≡◌, IfOk};
+ghost use Rattle.std.specs.Prelude.{◌≡◌, ◌∷◌, [], IfOk};
 
 use crate::outcome::Response;
 use crate::refusal::Refusal;
@@ -64,54 +64,106 @@ impl Draft {
         }
     }
 
-    /// A draft that gives one reply, after these decisions.
+    /// A draft that gives one reply.
     #[tactic(auto, unfolding(crate::specs::Draft::replied))]
     pub(crate) fn replied(
         alloc: Global,
         after: Registry,
-        decisions: Items<Decision>,
         client: u64,
         reply: Reply,
     ) -> Result<Draft, AllocError>
-        ensures { IfOk result (λ draft. draft ≡ replied after decisions client reply) }
+        ensures { IfOk result (λ draft. draft ≡ replied after [] client reply) }
     {
         let replies = Message { client, reply }.alone(alloc)?;
-        Ok(Draft::told(alloc, after, decisions, replies, Items::new(alloc)))
+        Ok(Draft::told(alloc, after, Items::new(alloc), replies, Items::new(alloc)))
     }
 
-    /// A draft that gives one reply, after these decisions, and opens this log, if there is one.
+    /// A draft that gives one reply, after this decision.
+    #[tactic(auto, unfolding(crate::specs::Draft::replied, crate::specs::Draft::told))]
+    pub(crate) fn replied_on(
+        alloc: Global,
+        after: Registry,
+        decision: Decision,
+        client: u64,
+        reply: Reply,
+    ) -> Result<Draft, AllocError>
+        ensures { IfOk result (λ draft. draft ≡ replied after (decision ∷ []) client reply) }
+    {
+        let mut draft = Draft::replied(alloc, after, client, reply)?;
+        draft.decisions.push(decision)?;
+        Ok(draft)
+    }
+
+    /// A draft that gives one reply, and another one behind those of images.
+    #[tactic(auto, unfolding(crate::specs::Draft::replied, crate::specs::Draft::told))]
+    pub(crate) fn replied_twice(
+        alloc: Global,
+        after: Registry,
+        client: u64,
+        first: Reply,
+        last: Reply,
+    ) -> Result<Draft, AllocError>
+        ensures { IfOk result (λ draft. draft ≡ told after [] (record { client = client; reply = first } ∷ []) (record { client = client; reply = last } ∷ [])) }
+    {
+        let mut draft = Draft::replied(alloc, after, client, first)?;
+        draft.later.push(Message {
+            client,
+            reply: last,
+        })?;
+        Ok(draft)
+    }
+
+    /// A draft that gives one reply, after this decision, and opens this log, if there is one.
     #[tactic(auto, unfolding(crate::specs::Draft::replied_opening))]
     pub(crate) fn replied_opening(
         alloc: Global,
         after: Registry,
-        decisions: Items<Decision>,
+        decision: Decision,
         client: u64,
         reply: Reply,
         opens: Option<LogPlace>,
     ) -> Result<Draft, AllocError>
-        ensures { IfOk result (λ draft. draft ≡ replied_opening after decisions client reply opens) }
+        ensures { IfOk result (λ draft. draft ≡ replied_opening after (decision ∷ []) client reply opens) }
     {
-        let mut draft = Draft::replied(alloc, after, decisions, client, reply)?;
+        let mut draft = Draft::replied_on(alloc, after, decision, client, reply)?;
         draft.opens = opens;
         Ok(draft)
     }
 
-    /// A command is refused, after these decisions.
+    /// A command is refused.
     #[tactic(auto, unfolding(crate::specs::Draft::refused))]
     pub(crate) fn refused(
         alloc: Global,
         after: Registry,
-        decisions: Items<Decision>,
         client: u64,
         correlation: u64,
         refusal: Refusal,
     ) -> Result<Draft, AllocError>
-        ensures { IfOk result (λ draft. draft ≡ refused after decisions client correlation refusal) }
+        ensures { IfOk result (λ draft. draft ≡ refused after [] client correlation refusal) }
     {
         let reply = Reply::Error {
             correlation,
             refusal,
         };
-        Draft::replied(alloc, after, decisions, client, reply)
+        Draft::replied(alloc, after, client, reply)
+    }
+
+    /// A command is refused, after this decision.
+    #[tactic(auto, unfolding(crate::specs::Draft::refused))]
+    pub(crate) fn refused_on(
+        alloc: Global,
+        after: Registry,
+        decision: Decision,
+        client: u64,
+        correlation: u64,
+        refusal: Refusal,
+    ) -> Result<Draft, AllocError>
+        ensures { IfOk result (λ draft. draft ≡ refused after (decision ∷ []) client correlation refusal) }
+    {
+        let reply = Reply::Error {
+            correlation,
+            refusal,
+        };
+        Draft::replied_on(alloc, after, decision, client, reply)
     }
 }

@@ -1,5 +1,6 @@
-ghost use Rattle.driver_core.specs.Publishing.{add_publication, has_place, is_publishable, opening_of, publication_decision, publish, publish_under, publishing_act, ready_for, refused_by_streams, session_of, with_publication};
-ghost use Rattle.std.specs.Prelude.{◌≡◌, ◌∷◌, [], true, Ok, IfOk};
+ghost use Rattle.driver_core.specs.Publishing.{add_publication, has_place, has_room_for_publication, is_publishable, opening_of, publication_decision, publish, publish_under, publishing_act, ready_for, refused_by_streams, session_of, with_publication};
+ghost use Rattle.driver_core.specs.declared.refusal.Refusal.TheVariants.{Full as IsFull, NoRoom as HasNoRoom};
+ghost use Rattle.std.specs.Prelude.{◌≡◌, true, not, Ok, Err, if◌then◌else◌, IfOk};
 ghost use Rattle.driver_core.specs.State.{has_number};
 ghost use Rattle.stream_registry.specs.Adding.{adding_of};
 
@@ -8,7 +9,6 @@ use crate::draft::Draft;
 use crate::refusal::Refusal;
 use crate::registry::Registry;
 use crate::replies::Reply;
-use byte_strings::Items;
 use channel_uri::{Channel, UriError};
 use client_registry::Client;
 use command_codec::AddPublication;
@@ -144,6 +144,32 @@ impl Registry {
         after.last_number = number;
         Ok(after)
     }
+
+    /// The copy with the registration, or why there is none: there are too many pairs, or no place for the log.
+    fn made(
+        &self,
+        alloc: Global,
+        client: u64,
+        wanted: Wanted,
+        adding: Adding,
+    ) -> Result<Result<Registry, Refusal>, AllocError>
+        requires number { has_number self.now ≡ true }
+        requires taken { adding_of self.now.streams wanted ≡ Ok adding }
+        ensures { IfOk result (λ made. made ≡ (if not (has_room_for_publication self.now client wanted adding) then Err IsFull else (if has_place self.now wanted adding then Ok (with_publication self.now client wanted adding) else Err HasNoRoom))) }
+    {
+        let has_place = self.has_place(&wanted, adding);
+        let after = self.with_publication(alloc, client, wanted, adding)?;
+        match after.if_within_pairs(alloc)? {
+            Some(after) => {
+                if has_place {
+                    Ok(Ok(after))
+                } else {
+                    Ok(Err(Refusal::NoRoom))
+                }
+            }
+            None => Ok(Err(Refusal::Full)),
+        }
+    }
 }
 
 /// A publication that the lists take.
@@ -155,48 +181,26 @@ fn publish_under(
     correlation: u64,
     wanted: Wanted,
     adding: Adding,
-    decisions: Items<Decision>,
+    decision: Decision,
 ) -> Result<Draft, AllocError>
     requires taken { adding_of registry.streams wanted ≡ Ok adding }
-    requires decided { decisions ≡ publication_decision registry client wanted ∷ [] }
+    requires decided { decision ≡ publication_decision registry client wanted }
     ensures { IfOk result (λ draft. draft ≡ publish_under registry client correlation wanted adding) }
 {
+    let handle = client.number;
     if !registry.has_number() {
-        return Draft::refused(
-            alloc,
-            registry,
-            decisions,
-            client.number,
-            correlation,
-            Refusal::Full,
-        );
+        let full = Refusal::Full;
+        return Draft::refused_on(alloc, registry, decision, handle, correlation, full);
     }
     let number = registry.next_number();
     let reply = ready_for(&wanted, correlation, number, session_of(adding));
     let opens = registry.opening(&wanted, adding);
-    let has_place = registry.has_place(&wanted, adding);
-    let after = registry.with_publication(alloc, client.number, wanted, adding)?;
-    if !after.is_within_pairs(alloc)? {
-        return Draft::refused(
-            alloc,
-            registry,
-            decisions,
-            client.number,
-            correlation,
-            Refusal::Full,
-        );
+    match registry.made(alloc, handle, wanted, adding)? {
+        Ok(after) => Draft::replied_opening(alloc, after, decision, handle, reply, opens),
+        Err(refusal) => {
+            Draft::refused_on(alloc, registry, decision, handle, correlation, refusal)
+        }
     }
-    if !has_place {
-        return Draft::refused(
-            alloc,
-            registry,
-            decisions,
-            client.number,
-            correlation,
-            Refusal::NoRoom,
-        );
-    }
-    Draft::replied_opening(alloc, after, decisions, client.number, reply, opens)
 }
 
 /// A publication on a channel that such a command takes.
@@ -212,15 +216,15 @@ fn publish(
 {
     let act = publishing_act(wanted.exclusive);
     let decision = deciding::decide(&registry, client, act, &wanted.channel, wanted.stream);
-    let decisions = deciding::only(alloc, decision)?;
     if !decision.verdict.allow {
-        return Draft::refused(
+        let refusal = Refusal::Denied(decision.verdict);
+        return Draft::refused_on(
             alloc,
             registry,
-            decisions,
+            decision,
             client.number,
             correlation,
-            Refusal::Denied(decision.verdict),
+            refusal,
         );
     }
     match registry.adding(&wanted) {
@@ -232,17 +236,20 @@ fn publish(
                 correlation,
                 wanted,
                 adding,
-                decisions,
+                decision,
             )
         }
-        Err(fault) => Draft::refused(
-            alloc,
-            registry,
-            decisions,
-            client.number,
-            correlation,
-            refused_by_streams(fault),
-        ),
+        Err(fault) => {
+            let refusal = refused_by_streams(fault);
+            Draft::refused_on(
+                alloc,
+                registry,
+                decision,
+                client.number,
+                correlation,
+                refusal,
+            )
+        }
     }
 }
 
@@ -275,7 +282,6 @@ pub(crate) fn add_publication(
     Draft::refused(
         alloc,
         registry,
-        Items::new(alloc),
         client.number,
         correlation,
         Refusal::InvalidChannel,

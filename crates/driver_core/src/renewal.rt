@@ -1,4 +1,4 @@
-ghost use Rattle.driver_core.specs.Renewal.{available_for, decided_on, images_decided, images_told, position_at, renewed, unavailable_for};
+ghost use Rattle.driver_core.specs.Renewal.{available_for, come_to, decided_on, gone_from, images_decided, images_told, position_at, renewed, unavailable_for};
 ghost use Rattle.std.specs.List.{flat_map};
 ghost use Rattle.std.specs.Prelude.{◌≡◌, ◌++◌, IfOk, OnOk};
 
@@ -190,7 +190,54 @@ fn append(messages: &mut Items<Message>, more: &[Message]) -> Result<(), AllocEr
     Ok(())
 }
 
-/// Compares the pairs after an event's own rule with those before it, and tells what that opens and closes.
+/// The pairs that an event takes away, and those that it brings.
+#[derive(Drop)]
+struct Turnover {
+    gone: Items<Pair>,
+    come: Items<Pair>,
+}
+
+/// Compares the pairs after an event's own rule with those before it.
+fn turnover_of(before: &Registry, after: &Registry, alloc: Global) -> Result<Turnover, AllocError>
+    ensures gone { IfOk result (λ turnover. turnover.gone ≡ gone_from before.now after.now) }
+    ensures come { IfOk result (λ turnover. turnover.come ≡ come_to before.now after.now) }
+{
+    let old = before.pairs(alloc)?;
+    let new = after.pairs(alloc)?;
+    let gone = lacking(alloc, old.as_slice(), new.as_slice())?;
+    let come = lacking(alloc, new.as_slice(), old.as_slice())?;
+    Ok(Turnover { gone, come })
+}
+
+/// Tells of the images that went and came, puts the later replies behind, and says what is decided on these images.
+fn tell_turnover(draft: &mut Draft, inputs: &Inputs, turnover: &Turnover) -> Result<(), AllocError>
+    ensures { OnOk result (draft.new ≡ record draft.old { replies = draft.old.replies ++ (images_told draft.old.after inputs.now turnover.now.gone turnover.now.come ++ draft.old.later); decisions = draft.old.decisions ++ images_decided draft.old.after turnover.now.gone turnover.now.come }) }
+{
+    let (gone, come) = (turnover.gone.as_slice(), turnover.come.as_slice());
+    tell_images(&mut draft.replies, &draft.after, inputs, gone, come)?;
+    append(&mut draft.replies, draft.later.as_slice())?;
+    decide_images(&mut draft.decisions, &draft.after, gone, come)
+}
+
+/// The change that the draft and its turnover make, where the later replies are among the others already.
+fn changed(draft: Draft, turnover: Turnover) -> Change
+    ensures { result ≡ record { after = draft.after; outcome = record { response = draft.response; replies = draft.replies; decisions = draft.decisions; opens = draft.opens; closes = draft.closes; gone = turnover.gone; come = turnover.come } } }
+{
+    Change {
+        after: draft.after,
+        outcome: Outcome {
+            response: draft.response,
+            replies: draft.replies,
+            decisions: draft.decisions,
+            opens: draft.opens,
+            closes: draft.closes,
+            gone: turnover.gone,
+            come: turnover.come,
+        },
+    }
+}
+
+/// Tells what an event's own rule opens and closes of the pairs.
 #[tactic(auto, unfolding(crate::specs::Renewal::renewed))]
 pub(crate) fn renew(
     before: &Registry,
@@ -200,38 +247,8 @@ pub(crate) fn renew(
 ) -> Result<Change, AllocError>
     ensures { IfOk result (λ change. change ≡ renewed before.now inputs.now draft) }
 {
-    let Draft {
-        after,
-        response,
-        mut replies,
-        later,
-        mut decisions,
-        opens,
-        closes,
-    } = draft;
-    let old = before.pairs(alloc)?;
-    let new = after.pairs(alloc)?;
-    let gone = lacking(alloc, old.as_slice(), new.as_slice())?;
-    let come = lacking(alloc, new.as_slice(), old.as_slice())?;
-    tell_images(
-        &mut replies,
-        &after,
-        inputs,
-        gone.as_slice(),
-        come.as_slice(),
-    )?;
-    append(&mut replies, later.as_slice())?;
-    decide_images(&mut decisions, &after, gone.as_slice(), come.as_slice())?;
-    Ok(Change {
-        after,
-        outcome: Outcome {
-            response,
-            replies,
-            decisions,
-            opens,
-            closes,
-            gone,
-            come,
-        },
-    })
+    let mut draft = draft;
+    let turnover = turnover_of(before, &draft.after, alloc)?;
+    tell_turnover(&mut draft, inputs, &turnover)?;
+    Ok(changed(draft, turnover))
 }

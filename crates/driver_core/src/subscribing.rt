@@ -1,5 +1,5 @@
-ghost use Rattle.driver_core.specs.Subscribing.{is_subscribable, act_of, subscribe, add_subscription, with_subscription};
-ghost use Rattle.std.specs.Prelude.{◌≡◌, true, false, IfOk, IfErr};
+ghost use Rattle.driver_core.specs.Subscribing.{is_subscribable, act_of, decision_of, subscribe, add_subscription, has_room_for_subscription, with_subscription};
+ghost use Rattle.std.specs.Prelude.{◌≡◌, true, false, Some, None, if◌then◌else◌, IfOk, IfErr};
 ghost use Rattle.driver_core.specs.State.{has_number};
 ghost use Rattle.stream_registry.specs.Adding.{has_room_for_subscription as has_room_in};
 ghost use Rattle.stream_registry.specs.declared.fault.StreamFault.TheVariants.{Full as IsFull};
@@ -9,11 +9,10 @@ use crate::draft::Draft;
 use crate::refusal::Refusal;
 use crate::registry::Registry;
 use crate::replies::Reply;
-use byte_strings::Items;
 use channel_uri::{Channel, Media, UriError};
 use client_registry::Client;
 use command_codec::AddSubscription;
-use policy_core::Act;
+use policy_core::{Act, Decision};
 use std::alloc::{AllocError, Global};
 use stream_registry::StreamFault;
 
@@ -65,8 +64,60 @@ fn with_subscription(
     Ok(after)
 }
 
+/// The copy with the subscription, if there is a number for it, and room for it and its pairs.
+#[tactic(auto, unfolding(crate::specs::Subscribing::has_room_for_subscription))]
+fn with_subscription_if_room(
+    registry: &Registry,
+    alloc: Global,
+    client: u64,
+    channel: Channel,
+    stream: i32,
+) -> Result<Option<Registry>, AllocError>
+    ensures { IfOk result (λ made. made ≡ (if has_room_for_subscription registry.now client channel stream then Some (with_subscription registry.now client channel stream) else None)) }
+{
+    if !registry.has_number() {
+        return Ok(None);
+    }
+    match with_subscription(registry, alloc, client, channel, stream) {
+        Ok(after) => after.if_within_pairs(alloc),
+        Err(StreamFault::Full) => Ok(None),
+        Err(_) => Err(AllocError),
+    }
+}
+
+/// A subscription that the policy allows.
+#[tactic(auto, unfolding(crate::specs::Subscribing::subscribe, crate::specs::Subscribing::subscribed))]
+fn subscribe_allowed(
+    registry: Registry,
+    alloc: Global,
+    client: Client,
+    correlation: u64,
+    channel: Channel,
+    stream: i32,
+    decision: Decision,
+) -> Result<Draft, AllocError>
+    requires decided { decision ≡ decision_of registry client channel stream }
+    requires allowed { decision.verdict.allow ≡ true }
+    ensures { IfOk result (λ draft. draft ≡ subscribe registry client correlation channel stream) }
+{
+    let handle = client.number;
+    match with_subscription_if_room(&registry, alloc, handle, channel, stream)? {
+        Some(after) => {
+            let reply = Reply::SubscriptionReady {
+                correlation,
+                registration: after.last_number,
+            };
+            Draft::replied_on(alloc, after, decision, handle, reply)
+        }
+        None => {
+            let full = Refusal::Full;
+            Draft::refused_on(alloc, registry, decision, handle, correlation, full)
+        }
+    }
+}
+
 /// A subscription on a channel that such a command takes.
-#[tactic(auto, unfolding(crate::specs::Subscribing::subscribe, crate::specs::Subscribing::subscribed, crate::specs::Subscribing::has_room_for_subscription))]
+#[tactic(auto, unfolding(crate::specs::Subscribing::subscribe))]
 fn subscribe(
     registry: Registry,
     alloc: Global,
@@ -77,58 +128,26 @@ fn subscribe(
 ) -> Result<Draft, AllocError>
     ensures { IfOk result (λ draft. draft ≡ subscribe registry client correlation channel stream) }
 {
-    let act = act_of(&channel);
-    let decision = deciding::decide(&registry, client, act, &channel, stream);
-    let decisions = deciding::only(alloc, decision)?;
+    let decision = deciding::decide(&registry, client, act_of(&channel), &channel, stream);
     if !decision.verdict.allow {
-        return Draft::refused(
+        return Draft::refused_on(
             alloc,
             registry,
-            decisions,
+            decision,
             client.number,
             correlation,
             Refusal::Denied(decision.verdict),
         );
     }
-    if !registry.has_number() {
-        return Draft::refused(
-            alloc,
-            registry,
-            decisions,
-            client.number,
-            correlation,
-            Refusal::Full,
-        );
-    }
-    let after = match with_subscription(&registry, alloc, client.number, channel, stream) {
-        Ok(after) => after,
-        Err(StreamFault::Full) => {
-            return Draft::refused(
-                alloc,
-                registry,
-                decisions,
-                client.number,
-                correlation,
-                Refusal::Full,
-            );
-        }
-        Err(_) => return Err(AllocError),
-    };
-    if !after.is_within_pairs(alloc)? {
-        return Draft::refused(
-            alloc,
-            registry,
-            decisions,
-            client.number,
-            correlation,
-            Refusal::Full,
-        );
-    }
-    let reply = Reply::SubscriptionReady {
+    subscribe_allowed(
+        registry,
+        alloc,
+        client,
         correlation,
-        registration: after.last_number,
-    };
-    Draft::replied(alloc, after, decisions, client.number, reply)
+        channel,
+        stream,
+        decision,
+    )
 }
 
 /// The command ADD_SUBSCRIPTION of a client that is there.
@@ -149,7 +168,6 @@ pub(crate) fn add_subscription(
             return Draft::refused(
                 alloc,
                 registry,
-                Items::new(alloc),
                 client.number,
                 correlation,
                 Refusal::InvalidChannel,
@@ -160,7 +178,6 @@ pub(crate) fn add_subscription(
         return Draft::refused(
             alloc,
             registry,
-            Items::new(alloc),
             client.number,
             correlation,
             Refusal::InvalidChannel,

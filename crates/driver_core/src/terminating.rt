@@ -1,18 +1,17 @@
-ghost use Rattle.driver_core.specs.Terminating.{stopped_for_good, terminate};
+ghost use Rattle.driver_core.specs.Terminating.{stopped_for_good, terminate, termination_decision};
 ghost use Rattle.std.specs.Prelude.{◌≡◌, map, IfOk};
 ghost use Rattle.stream_registry.specs.Lingering.{place_of};
 
 use crate::deciding;
 use crate::draft::Draft;
-use crate::outcome::Response;
 use crate::refusal::Refusal;
 use crate::registry::Registry;
-use crate::replies::{Message, Reply};
+use crate::replies::Reply;
 use byte_strings::Items;
 use channel_uri::Channel;
 use client_registry::Client;
 use counters::Counters;
-use policy_core::Act;
+use policy_core::{Act, Decision};
 use std::alloc::{AllocError, Global};
 use stream_registry::{LogPlace, Publication};
 
@@ -41,8 +40,16 @@ fn stop(registry: &mut Registry, alloc: Global)
     registry.stopped = true;
 }
 
+/// What the policy in force decides: the driver goes by shared memory and stream 0.
+fn termination_decision(registry: &Registry, alloc: Global, client: Client) -> Decision
+    ensures { result ≡ termination_decision registry.now client }
+{
+    let channel = Channel::ipc(alloc);
+    deciding::decide(registry, client, Act::Terminate, &channel, 0)
+}
+
 /// The command TERMINATE_DRIVER of a client that is there.
-#[tactic(auto, unfolding(crate::specs::Terminating::terminate, crate::specs::Terminating::terminated))]
+#[tactic(auto, unfolding(crate::specs::Terminating::terminate, crate::specs::Terminating::terminated, crate::specs::Draft::replied, crate::specs::Draft::told))]
 pub(crate) fn terminate(
     registry: Registry,
     alloc: Global,
@@ -51,35 +58,23 @@ pub(crate) fn terminate(
 ) -> Result<Draft, AllocError>
     ensures { IfOk result (λ draft. draft ≡ terminate registry client correlation) }
 {
-    let channel = Channel::ipc(alloc);
-    let decision = deciding::decide(&registry, client, Act::Terminate, &channel, 0);
-    let decisions = deciding::only(alloc, decision)?;
+    let decision = termination_decision(&registry, alloc, client);
     if !decision.verdict.allow {
         let refusal = Refusal::Denied(decision.verdict);
-        return Draft::refused(
+        return Draft::refused_on(
             alloc,
             registry,
-            decisions,
+            decision,
             client.number,
             correlation,
             refusal,
         );
     }
-    let message = Message {
-        client: client.number,
-        reply: Reply::OperationSuccess { correlation },
-    };
-    let replies = message.alone(alloc)?;
     let closes = places_of(alloc, registry.streams.publications())?;
     let mut registry = registry;
     stop(&mut registry, alloc);
-    Ok(Draft {
-        after: registry,
-        response: Response::Nothing,
-        replies,
-        later: Items::new(alloc),
-        decisions,
-        opens: None,
-        closes,
-    })
+    let reply = Reply::OperationSuccess { correlation };
+    let mut draft = Draft::replied_on(alloc, registry, decision, client.number, reply)?;
+    draft.closes = closes;
+    Ok(draft)
 }

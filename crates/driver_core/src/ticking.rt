@@ -1,5 +1,6 @@
-ghost use Rattle.driver_core.specs.Ticking.{timeout_of, tick};
-ghost use Rattle.std.specs.Prelude.{◌≡◌, map, IfOk};
+ghost use Rattle.driver_core.specs.Ticking.{late, timeout_of, tick};
+ghost use Rattle.driver_core.specs.Leaving.{all_left};
+ghost use Rattle.std.specs.Prelude.{◌≡◌, map, IfOk, OnOk};
 
 use crate::draft::Draft;
 use crate::leaving;
@@ -23,16 +24,25 @@ fn timeouts(alloc: Global, clients: &[u64]) -> Result<Items<Message>, AllocError
     Ok(replies)
 }
 
+/// The clients go of which nothing was heard for too long; what they are told is given back.
+fn leave_late(registry: &mut Registry, alloc: Global) -> Result<Items<Message>, AllocError>
+    ensures told { IfOk result (λ later. later ≡ map timeout_of (late registry.old)) }
+    ensures gone { OnOk result (registry.new ≡ all_left registry.old (late registry.old)) }
+{
+    let late = registry.clients.expired(alloc, registry.moment)?;
+    let later = timeouts(alloc, late.as_slice())?;
+    leaving::leave_all(registry, late.as_slice());
+    Ok(later)
+}
+
 /// Time went on: the clients go of which nothing was heard for too long, and then the logs close that linger for too
 /// long.
 #[tactic(auto, unfolding(crate::specs::Ticking::tick, crate::specs::Ticking::ticked))]
 pub(crate) fn tick(registry: Registry, alloc: Global) -> Result<Draft, AllocError>
     ensures { IfOk result (λ draft. draft ≡ tick registry) }
 {
-    let late = registry.clients.expired(alloc, registry.moment)?;
-    let later = timeouts(alloc, late.as_slice())?;
     let mut registry = registry;
-    leaving::leave_all(&mut registry, late.as_slice());
+    let later = leave_late(&mut registry, alloc)?;
     let now = registry.moment;
     let closes = registry.streams.close_lingering(alloc, now)?;
     Ok(Draft {

@@ -5,7 +5,6 @@ use crate::draft::Draft;
 use crate::refusal::Refusal;
 use crate::registry::Registry;
 use crate::replies::Reply;
-use byte_strings::Items;
 use client_registry::Client;
 use command_codec::Removal;
 use std::alloc::{AllocError, Global};
@@ -28,12 +27,11 @@ pub(crate) fn remove_subscription(
     {
         Ok(()) => {
             let reply = Reply::OperationSuccess { correlation };
-            Draft::replied(alloc, registry, Items::new(alloc), client.number, reply)
+            Draft::replied(alloc, registry, client.number, reply)
         }
         Err(_) => Draft::refused(
             alloc,
             registry,
-            Items::new(alloc),
             client.number,
             correlation,
             Refusal::UnknownSubscription,
