@@ -407,8 +407,8 @@ fn run_script<W: Target>(alloc: Global, script: &[u8], writer: &mut W) -> Result
 /// which the script's bytes determine, but for the steps that are refused memory: these are answered `no memory`.
 ///
 /// # Errors
-/// Where it gives up, what it wrote is a front of such a text; nothing at all, where the reader failed or gave more
-/// than [`LIMIT`] bytes.
+/// Where it gives up, what it wrote is a front of such a text; nothing at all, where the reader failed or has more than
+/// [`LIMIT`] bytes.
 pub fn run<R: Source, W: Target>(
     alloc: Global,
     reader: &mut R,
@@ -417,6 +417,7 @@ pub fn run<R: Source, W: Target>(
     ensures whole { IfOk result (λ ended. IfSome (R.remaining reader.old) (λ script. WritesScript (statements_of script) ended (W.contents writer.old) (W.contents writer.new))) }
     ensures front { IfErr result (λ fault. IsBegun fault → IfSome (R.remaining reader.old) (λ script. BeginsScript (statements_of script) (W.contents writer.old) (W.contents writer.new))) }
     ensures nothing { IfErr result (λ fault. IsUnread fault → W.contents writer.new ≡ W.contents writer.old) }
+    ensures long { OnErr result (IfSome (R.remaining reader.old) (λ script. LIMIT < length script → W.contents writer.new ≡ W.contents writer.old)) }
     ensures bound { IfOk result (λ _. IfSome (R.remaining reader.old) (λ script. length script ≤ LIMIT)) }
     ensures too_long { result ≡ Err TooLong → IfSome (R.remaining reader.old) (λ script. LIMIT < length script) }
     ensures faults { IfErr result (OfRunning R.may_fail W.may_fail) }
