@@ -10,7 +10,6 @@ use crate::removal::Removal;
 use crate::set_counter::SetCounter;
 use crate::terminate_driver::TerminateDriver;
 use byte_strings::Bytes;
-use byteorder::{ByteOrder, LittleEndian};
 use std::alloc::{AllocError, Global};
 
 /// A command of a client.
@@ -210,14 +209,14 @@ impl Command {
 
     /// The correlation id that an error about these bytes tells of, also where they are no command: what stands in
     /// its place, or 0 where the bytes end before it does.
-    #[tactic(auto, unfolding(crate::specs::Command::correlation_of, crate::specs::Fields::number_in))]
+    #[tactic(auto, unfolding(crate::specs::Command::correlation_of))]
     pub fn correlation_of(bytes: &[u8]) -> u64
         ensures { result ≡ correlation_of bytes.now }
     {
         if bytes.len() < 20 {
             0
         } else {
-            LittleEndian::read_u64(&bytes[12..])
+            fields::u64_in(&bytes[12..])
         }
     }
 

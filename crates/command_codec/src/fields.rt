@@ -1,12 +1,12 @@
 //! The fields that commands and replies are made of.
 
-ghost use Rattle.std.specs.Prelude.{◌≡◌, ◌++◌, OnOk, if◌then◌else◌, Option, Some, None};
+ghost use Rattle.std.specs.Prelude.{◌≡◌, ◌≤◌, ◌++◌, length, OnOk, if◌then◌else◌, Option, Some, None};
 ghost use Rattle.std.specs.Char.{is_ascii};
 ghost use Rattle.std.specs.Int.{w32, w64};
 ghost use Rattle.std.specs.List.{list_all};
 ghost use Rattle.std.specs.Option.{option_copied};
 ghost use Rattle.command_codec.specs.Gives.{Equals};
-ghost use Rattle.command_codec.specs.Fields.{bytes_at, ended, number_at, number_bytes, one_number, signed_at, signed_bytes, text_at, two_numbers, with_length};
+ghost use Rattle.command_codec.specs.Fields.{bytes_at, ended, number_at, number_bytes, number_in, one_number, signed_at, signed_bytes, text_at, two_numbers, with_length};
 
 use crate::fault::CommandFault;
 use byte_strings::Text;
@@ -29,8 +29,16 @@ pub fn u32_at(bytes: &[u8]) -> Result<(u32, &[u8]), CommandFault>
     Ok((LittleEndian::read_u32(bytes), rest))
 }
 
-/// An unsigned number of 64 bits, and the bytes after it.
+/// The unsigned number of 64 bits that the first eight bytes are.
 #[tactic(auto, unfolding(crate::specs::Fields::number_in))]
+pub fn u64_in(bytes: &[u8]) -> u64
+    requires { 8 ≤ length bytes.now }
+    ensures { result ≡ number_in 8 bytes.now }
+{
+    LittleEndian::read_u64(bytes)
+}
+
+/// An unsigned number of 64 bits, and the bytes after it.
 pub fn u64_at(bytes: &[u8]) -> Result<(u64, &[u8]), CommandFault>
     ensures { Equals (λ x. (x.0, x.1.now)) result (number_at 8 bytes.now) }
 {
@@ -38,7 +46,7 @@ pub fn u64_at(bytes: &[u8]) -> Result<(u64, &[u8]), CommandFault>
         return Err(CommandFault::Malformed);
     }
     let (_, rest) = bytes.split_at(8);
-    Ok((LittleEndian::read_u64(bytes), rest))
+    Ok((u64_in(bytes), rest))
 }
 
 /// A signed number of 32 bits, and the bytes after it.

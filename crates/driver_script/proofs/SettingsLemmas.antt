@@ -15,7 +15,7 @@ use Rattle.driver_script.specs.declared.settings.Key.{Key}
 use Rattle.driver_script.specs.declared.settings.Key.TheVariants.{Duration, TermLength, Mtu, ArenaPages, FirstSession, InitialTerm, ReceiverId, SendAddress}
 use Rattle.driver_script.specs.Hex.{◌>>=◌}
 use Rattle.driver_script.specs.Number.{number_of}
-use Rattle.driver_script.specs.Settings.{Chosen, chosen, key_of, mtu_in, pages_of, sender_of, term_length_in, with_duration, with_value}
+use Rattle.driver_script.specs.Settings.{Chosen, chosen, duration_in, key_of, mtu_in, pages_of, sender_of, term_length_in, with_duration, with_value}
 
 -- ---- what is read
 
@@ -106,7 +106,7 @@ duration_sound settings StatusInterval duration sound = sound_like settings _ so
 value_sound : (settings : Settings) (key : Key) (value : List ℕ) → AreSettings settings →
     Holds AreSettings (with_value settings key value)
 value_sound settings (Duration key) value sound =
-    holds_next AreSettings (number_of value) _ (λ duration. duration_sound settings key duration sound)
+    holds_next AreSettings (duration_in value) _ (λ duration. duration_sound settings key duration sound)
 value_sound settings TermLength value sound =
     holds_then IsTermLength AreSettings (term_length_in value) _
     (holds_next IsTermLength (number_of value) term_length_from term_length_sound)

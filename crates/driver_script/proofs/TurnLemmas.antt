@@ -24,7 +24,7 @@ use Rattle.policy_text.specs.Document.{policy_of}
 use Rattle.policy_text.specs.Fault.{Fails}
 use Rattle.policy_text.specs.Names.{Known}
 use Rattle.driver_script.specs.Script.{Opening, Ends, Refuses, Opens, no_preface, opening_of, Deed, Takes, deed_by, deed_of, put_in_force, Told, Answered, IsDone, IsOpeningText, IsRunning, Writes, answer_text, told_text, ended_text}
-use Rattle.driver_script.specs.Turns.{Turns, Goes, Steps, Puts, StopsAt, GivesUp, GivesUpStep, GivesUpPolicy, IsHead, WritesScript, BeginsScript, WritesFront, WritesWhole, SoFar, told_of_fault}
+use Rattle.driver_script.specs.Turns.{Turns, Goes, Steps, Puts, StopsAt, TakesStep, GivesUp, GivesUpStep, GivesUpPolicy, IsHead, WritesScript, BeginsScript, WritesFront, WritesWhole, SoFar, told_of_fault}
 use Rattle.driver_script.proofs.OutputLemmas.{appends_more}
 
 -- ---- writing
@@ -393,6 +393,50 @@ pub statement_bad : (names : Known) (held : Held) (statement : Statement) (said 
 statement_bad names held statement said before after' is out begun =
     let P : Said → Type 0 = λ those. GivesUp names held (record { line = statement.line; said = those }) before after' in
     subst P (sym is) (gives_up_bad names held statement.line said before after' out begun)
+
+-- what taking a statement came to
+pub step_taken : (r : Result (Option Ended) RunFault) (names : Known) (old new : Held) (statement : Statement) (step : Step) (before after' : Option (List ℕ)) →
+    statement.said ≡ Does step → IfOk r (λ ended. (ended ≡ None) × Steps old new step before after') →
+    IfOk r (λ ended. TakesStep names old new statement ended before after')
+step_taken (Ok ended) names old new statement step before after' is taken =
+    rw taken.0 (statement_goes names old new statement step before after' is taken.1)
+step_taken (Err fault) names old new statement step before after' is taken = tt
+
+pub step_given_up : (r : Result (Option Ended) RunFault) (names : Known) (held : Held) (statement : Statement) (step : Step) (before after' : Option (List ℕ)) →
+    statement.said ≡ Does step → OnErr r (GivesUpStep held step before after') → OnErr r (GivesUp names held statement before after')
+step_given_up (Ok ended) names held statement step before after' is gives_up = tt
+step_given_up (Err fault) names held statement step before after' is gives_up =
+    statement_gives_up names held statement step before after' is gives_up
+
+pub policy_taken : (r : Result (Option Ended) RunFault) (names : Known) (old new : Held) (statement : Statement) (text found : List ℕ) (before after' : Option (List ℕ)) →
+    found ≡ text → statement.said ≡ Policy text → IfOk r (λ ended. (ended ≡ None) × Puts names old new found before after') →
+    IfOk r (λ ended. TakesStep names old new statement ended before after')
+policy_taken (Ok ended) names old new statement text found before after' same is taken =
+    rw taken.0 (statement_puts names old new statement text found before after' same is taken.1)
+policy_taken (Err fault) names old new statement text found before after' same is taken = tt
+
+pub policy_given_up : (r : Result (Option Ended) RunFault) (names : Known) (held : Held) (statement : Statement) (text found : List ℕ) (before after' : Option (List ℕ)) →
+    found ≡ text → statement.said ≡ Policy text → OnErr r (GivesUpPolicy names held found before after') →
+    OnErr r (GivesUp names held statement before after')
+policy_given_up (Ok ended) names held statement text found before after' same is gives_up = tt
+policy_given_up (Err fault) names held statement text found before after' same is gives_up =
+    statement_gives_up_policy names held statement text found before after' same is gives_up
+
+pub bad_taken : (r : Result (Option Ended) RunFault) (names : Known) (held : Held) (statement : Statement) (said : Said) (before after' : Option (List ℕ)) →
+    statement.said ≡ said → IsOutOfOrder said →
+    IfOk r (λ ended. (ended ≡ Some (BadLine statement.line)) × Appends before after' (ended_text (BadLine statement.line))) →
+    IfOk r (λ ended. TakesStep names held held statement ended before after')
+bad_taken (Ok ended) names held statement said before after' is out taken =
+    let P : Said → Type 0 = λ those. StopsAt names (record { line = statement.line; said = those }) (BadLine statement.line) before after' in
+    rw taken.0 (subst P (sym is) (stops_bad names statement.line said before after' out taken.1))
+bad_taken (Err fault) names held statement said before after' is out taken = tt
+
+pub bad_given_up : (r : Result (Option Ended) RunFault) (names : Known) (held : Held) (statement : Statement) (said : Said) (before after' : Option (List ℕ)) →
+    statement.said ≡ said → IsOutOfOrder said → OnErr r (AppendsFront before after' (ended_text (BadLine statement.line))) →
+    OnErr r (GivesUp names held statement before after')
+bad_given_up (Ok ended) names held statement said before after' is out begun = tt
+bad_given_up (Err fault) names held statement said before after' is out begun =
+    statement_bad names held statement said before after' is out begun
 
 -- the statements that are left, as they were found to be
 pub so_far_at : (names : Known) (start : Held) (all : List Statement) (held : Held) (left found : List Statement) (before after' : Option (List ℕ)) →

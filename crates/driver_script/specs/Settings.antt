@@ -3,7 +3,7 @@ use Rattle.std.specs.Prelude.{◌≡◌, ℕ, ◌++◌, Bool, true, false, List,
 use Rattle.std.specs.List.{list_any}
 use Rattle.std.specs.Str.{bytes_eq}
 use Rattle.channel_uri.specs.Address.{address_of}
-use Rattle.channel_uri.specs.Quantity.{mtu_from, term_length_from}
+use Rattle.channel_uri.specs.Quantity.{mtu_from, term_length_from, times}
 use Rattle.channel_uri.specs.Session.{session_id_of}
 use Rattle.driver_core.specs.declared.peer.Address.{Address}
 use Rattle.driver_core.specs.declared.settings.Settings.{Settings}
@@ -45,6 +45,10 @@ key_among (row ∷ rows) name = if bytes_eq row.0 name then Some row.1 else key_
 unfoldable pub key_of : List ℕ → Option Key
 key_of name = key_among keys name
 
+-- durations are in nanoseconds, without a unit; as in a channel they are below 2^63
+abbrev pub duration_in : List ℕ → Option ℕ
+duration_in value = times 1 value
+
 -- sizes are in bytes, without a unit; a term and a datagram have the sizes that a channel may state
 abbrev pub term_length_in : List ℕ → Option ℕ
 term_length_in value = number_of value >>= term_length_from
@@ -61,7 +65,6 @@ pages_of value = number_of value >>= λ pages.
 abbrev pub sender_of : List ℕ → Option Address
 sender_of value = address_of value >>= λ address. Some (record { octets = address.octets; port = address.port })
 
--- durations are in nanoseconds
 abbrev pub with_duration : Settings → DurationKey → ℕ → Settings
 with_duration settings ClientLiveness duration = record settings { client_liveness = duration }
 with_duration settings ImageLiveness duration = record settings { image_liveness = duration }
@@ -76,7 +79,7 @@ with_duration settings StatusInterval duration = record settings { status_interv
 
 -- the settings where that key has the value, if the value is in its range
 abbrev pub with_value : Settings → Key → List ℕ → Option Settings
-with_value settings (Duration key) value = number_of value >>= λ duration. Some (with_duration settings key duration)
+with_value settings (Duration key) value = duration_in value >>= λ duration. Some (with_duration settings key duration)
 with_value settings TermLength value = term_length_in value >>= λ size. Some (record settings { term_length = size })
 with_value settings Mtu value = mtu_in value >>= λ size. Some (record settings { mtu = size })
 with_value settings ArenaPages value = pages_of value >>= λ pages. Some (record settings { arena_pages = pages })

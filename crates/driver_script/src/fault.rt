@@ -13,9 +13,10 @@ pub enum RunFault {
     Read,
     /// The reader gave more than 16,777,216 bytes. Nothing was written.
     TooLong,
-    /// The writer failed. What it took is a front of a script's text.
+    /// The writer failed. What it took is a front of a text of the script.
     Write,
-    /// There was no memory for the script, or for the text of an answer.
+    /// There was no memory for the script, or for the text of an answer. What was written is a front of a text of the
+    /// script; nothing, where the reader has more than 16,777,216 bytes.
     NoMemory,
 }
 

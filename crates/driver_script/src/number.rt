@@ -1,4 +1,4 @@
-ghost use Rattle.driver_script.specs.Number.{below, decimal_of};
+ghost use Rattle.channel_uri.specs.Number.{below, decimal_of};
 ghost use Rattle.std.specs.Prelude.{◌≡◌, ◌^◌};
 ghost use Rattle.std.specs.Char.{is_ascii_digit};
 ghost use Rattle.std.specs.List.{list_all};
@@ -11,7 +11,7 @@ fn are_digits(word: &str) -> bool
 }
 
 /// The number that the word is in decimal.
-#[tactic(auto, unfolding(crate::specs::Number::decimal_of))]
+#[tactic(auto, unfolding(channel_uri::specs::Number::decimal_of))]
 pub(crate) fn number(word: &str) -> Option<u64>
     ensures { result ≡ below (2 ^ 64) (decimal_of word.now) }
 {

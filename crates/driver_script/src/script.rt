@@ -1,18 +1,20 @@
 ghost use Rattle.driver_core.specs.Replies.{layout_of};
 ghost use Rattle.command_codec.specs.Reply.{reply_bytes};
+ghost use Rattle.driver_script.specs.Answers.{line_text, list_line, policy_line, poll_line};
 ghost use Rattle.driver_script.specs.Ends.{OfAnswering, OfRunning};
 ghost use Rattle.driver_script.specs.Output.{AppendsFront};
 ghost use Rattle.driver_script.specs.Script.{message_text, counter_text, fragment_text, answer_text, told_text, ended_text, no_preface};
 ghost use Rattle.std.specs.Io.KnownBytes.{Appends};
 ghost use Rattle.std.specs.List.{flat_map};
 ghost use Rattle.driver_script.specs.declared.script.Ended.TheVariants.{BadLine};
+ghost use Rattle.driver_script.specs.declared.statements.Said.TheVariants.{Principal, Set, Policy};
 ghost use Rattle.driver_script.specs.declared.fault.RunFault.TheVariants.{TooLong};
 ghost use Rattle.driver_script.specs.declared.input.TheConstants.{LIMIT};
 ghost use Rattle.driver_script.specs.Statements.{statements_of};
 ghost use Rattle.driver_script.specs.Left.{left};
 ghost use Rattle.driver_script.specs.Script.{opening_of};
 ghost use Rattle.driver_script.specs.Turns.{TakesHead, IsHead, Steps, GivesUpStep, Puts, GivesUpPolicy, told_of_fault, TakesStep, GivesUp, WritesWhole, WritesFront, WritesScript, BeginsScript, IsBegun, IsUnread};
-ghost use Rattle.std.specs.Prelude.{◌≡◌, ◌<◌, ◌≤◌, ◌++◌, [], Err, IfOk, IfErr, IfSome, OnOk, OnErr, length};
+ghost use Rattle.std.specs.Prelude.{◌≡◌, ◌<◌, ◌≤◌, ◌++◌, [], Some, None, Err, IfOk, IfErr, IfSome, OnOk, OnErr, length};
 ghost use Rattle.std.specs.String.{string_bytes};
 
 use crate::answers::AnswerLine;
@@ -22,6 +24,7 @@ use crate::input::{LIMIT, read_input};
 use crate::output::write_whole;
 use crate::settings::Choices;
 use crate::statements::{Said, Statement, Statements};
+use byte_strings::Text;
 use driver_core::{Event, ListedCounter, Message};
 use driver_world::{Answer, Fragment, Step, World};
 use policy_text::{Names, PolicyFault};
@@ -106,58 +109,75 @@ fn push_fragments(text: &mut String, fragments: &[Fragment]) -> Result<(), Alloc
     Ok(())
 }
 
+/// The text of a line.
+fn text_of_line(alloc: Global, line: AnswerLine<'_>) -> Result<String, AllocError>
+    ensures { IfOk result (λ text. string_bytes text ≡ line_text line.entry) }
+{
+    format!(in alloc; "{line}")
+}
+
+/// The text of replies alone.
+fn text_of_replies(alloc: Global, messages: &[Message]) -> Result<String, AllocError>
+    ensures { IfOk result (λ text. string_bytes text ≡ flat_map message_text messages.now) }
+{
+    let mut text = String::new(alloc);
+    push_messages(&mut text, alloc, messages)?;
+    Ok(text)
+}
+
+/// The text of a policy that is in force, and of the replies to it.
+#[tactic(auto, unfolding(crate::specs::Answers::line_text))]
+fn text_of_policy(alloc: Global, epoch: u64, replies: &[Message]) -> Result<String, AllocError>
+    ensures { IfOk result (λ text. string_bytes text ≡ policy_line epoch ++ flat_map message_text replies.now) }
+{
+    let mut text = text_of_line(alloc, AnswerLine::PolicyInForce(epoch))?;
+    push_messages(&mut text, alloc, replies)?;
+    Ok(text)
+}
+
+/// The text of a poll and its fragments.
+#[tactic(auto, unfolding(crate::specs::Answers::line_text))]
+fn text_of_poll(alloc: Global, fragments: &[Fragment]) -> Result<String, AllocError>
+    ensures { IfOk result (λ text. string_bytes text ≡ poll_line (length fragments.now) ++ flat_map fragment_text fragments.now) }
+{
+    let mut text = text_of_line(alloc, AnswerLine::Poll(fragments.len() as u64))?;
+    push_fragments(&mut text, fragments)?;
+    Ok(text)
+}
+
+/// The text of a list and its counters.
+#[tactic(auto, unfolding(crate::specs::Answers::line_text))]
+fn text_of_list(alloc: Global, counters: &[ListedCounter]) -> Result<String, AllocError>
+    ensures { IfOk result (λ text. string_bytes text ≡ list_line (length counters.now) ++ flat_map counter_text counters.now) }
+{
+    let mut text = text_of_line(alloc, AnswerLine::List(counters.len() as u64))?;
+    push_counters(&mut text, counters)?;
+    Ok(text)
+}
+
 /// The text of an answer.
 #[tactic(auto, unfolding(crate::specs::Script::answer_text, crate::specs::Answers::line_text))]
 fn text_of(alloc: Global, answer: &Answer) -> Result<String, AllocError>
     ensures { IfOk result (λ text. string_bytes text ≡ answer_text answer.now) }
 {
     match answer {
-        Answer::NoMemory => format!(in alloc; "{}", AnswerLine::NoMemory),
-        Answer::Attached(client) => {
-            let line = AnswerLine::Attached(*client);
-            format!(in alloc; "{line}")
-        }
-        Answer::Full => format!(in alloc; "{}", AnswerLine::Full),
-        Answer::Stopped => format!(in alloc; "{}", AnswerLine::Stopped),
+        Answer::NoMemory => text_of_line(alloc, AnswerLine::NoMemory),
+        Answer::Attached(client) => text_of_line(alloc, AnswerLine::Attached(*client)),
+        Answer::Full => text_of_line(alloc, AnswerLine::Full),
+        Answer::Stopped => text_of_line(alloc, AnswerLine::Stopped),
         Answer::PolicyInForce { epoch, replies } => {
-            let line = AnswerLine::PolicyInForce(*epoch);
-            let mut text = format!(in alloc; "{line}")?;
-            push_messages(&mut text, alloc, replies.as_slice())?;
-            Ok(text)
+            text_of_policy(alloc, *epoch, replies.as_slice())
         }
-        Answer::PolicyFull => format!(in alloc; "{}", AnswerLine::PolicyFull),
-        Answer::Replies(messages) => {
-            let mut text = String::new(alloc);
-            push_messages(&mut text, alloc, messages.as_slice())?;
-            Ok(text)
-        }
-        Answer::Offered(offered) => {
-            let line = AnswerLine::Offer(*offered);
-            format!(in alloc; "{line}")
-        }
-        Answer::Polled(fragments) => {
-            let line = AnswerLine::Poll(fragments.len() as u64);
-            let mut text = format!(in alloc; "{line}")?;
-            push_fragments(&mut text, fragments.as_slice())?;
-            Ok(text)
-        }
-        Answer::Gone => format!(in alloc; "{}", AnswerLine::Gone),
-        Answer::Counters(counters) => {
-            let line = AnswerLine::List(counters.len() as u64);
-            let mut text = format!(in alloc; "{line}")?;
-            push_counters(&mut text, counters.as_slice())?;
-            Ok(text)
-        }
-        Answer::Value(value) => {
-            let line = AnswerLine::Value(*value);
-            format!(in alloc; "{line}")
-        }
-        Answer::Denied(verdict) => {
-            let line = AnswerLine::Denied(*verdict);
-            format!(in alloc; "{line}")
-        }
-        Answer::UnknownCounter => format!(in alloc; "{}", AnswerLine::UnknownCounter),
-        Answer::WrongClient => format!(in alloc; "{}", AnswerLine::WrongClient),
+        Answer::PolicyFull => text_of_line(alloc, AnswerLine::PolicyFull),
+        Answer::Replies(messages) => text_of_replies(alloc, messages.as_slice()),
+        Answer::Offered(offered) => text_of_line(alloc, AnswerLine::Offer(*offered)),
+        Answer::Polled(fragments) => text_of_poll(alloc, fragments.as_slice()),
+        Answer::Gone => text_of_line(alloc, AnswerLine::Gone),
+        Answer::Counters(counters) => text_of_list(alloc, counters.as_slice()),
+        Answer::Value(value) => text_of_line(alloc, AnswerLine::Value(*value)),
+        Answer::Denied(verdict) => text_of_line(alloc, AnswerLine::Denied(*verdict)),
+        Answer::UnknownCounter => text_of_line(alloc, AnswerLine::UnknownCounter),
+        Answer::WrongClient => text_of_line(alloc, AnswerLine::WrongClient),
     }
 }
 
@@ -191,6 +211,57 @@ enum Head {
     Opened(World),
 }
 
+/// Gives the name of a principal, unless it is given.
+fn take_name(
+    preface: &mut Preface,
+    line: u64,
+    name: Text,
+    number: u32,
+) -> Result<Option<Head>, AllocError>
+    ensures { IfOk result (λ head. TakesHead preface.old preface.new (record { line = line; said = Principal name number }) head) }
+{
+    if preface.names.number_of(name.as_str()).is_some() {
+        return Ok(Some(Head::Refused(line)));
+    }
+    preface.names.add(name, number)?;
+    Ok(None)
+}
+
+/// Chooses a setting, where it is one and was not chosen.
+fn take_setting(
+    preface: &mut Preface,
+    line: u64,
+    key: Text,
+    value: &str,
+) -> Result<Option<Head>, AllocError>
+    ensures { IfOk result (λ head. TakesHead preface.old preface.new (record { line = line; said = Set key value.now }) head) }
+{
+    if preface.choices.choose(key, value)? {
+        Ok(None)
+    } else {
+        Ok(Some(Head::Refused(line)))
+    }
+}
+
+/// Opens the world under the policy that the text is, where it is one.
+fn open_world(
+    alloc: Global,
+    preface: &Preface,
+    line: u64,
+    text: &str,
+) -> Result<Option<Head>, AllocError>
+    ensures { IfOk result (λ head. TakesHead preface.now preface.now (record { line = line; said = Policy text.now }) head) }
+{
+    match policy_text::read(alloc, text, &preface.names) {
+        Ok(policy) => {
+            let world = World::new(alloc, preface.choices.settings, policy, &[])?;
+            Ok(Some(Head::Opened(world)))
+        }
+        Err(PolicyFault::NoMemory) => Err(AllocError),
+        Err(_) => Ok(Some(Head::Refused(line))),
+    }
+}
+
 /// Takes one statement of the head: it gives a name or a setting, or it decides what the head comes to.
 fn take_head(
     alloc: Global,
@@ -201,30 +272,9 @@ fn take_head(
 {
     let Statement { line, said } = statement;
     match said {
-        Said::Principal { name, number } => {
-            if preface.names.number_of(name.as_str()).is_some() {
-                return Ok(Some(Head::Refused(line)));
-            }
-            preface.names.add(name, number)?;
-            Ok(None)
-        }
-        Said::Set { key, value } => {
-            if preface.choices.choose(key, value.as_str())? {
-                Ok(None)
-            } else {
-                Ok(Some(Head::Refused(line)))
-            }
-        }
-        Said::Policy(text) => match policy_text::read(alloc, text.as_str(), &preface.names) {
-            Ok(policy) => Ok(Some(Head::Opened(World::new(
-                alloc,
-                preface.choices.settings,
-                policy,
-                &[],
-            )?))),
-            Err(PolicyFault::NoMemory) => Err(AllocError),
-            Err(_) => Ok(Some(Head::Refused(line))),
-        },
+        Said::Principal { name, number } => take_name(preface, line, name, number),
+        Said::Set { key, value } => take_setting(preface, line, key, value.as_str()),
+        Said::Policy(text) => open_world(alloc, preface, line, text.as_str()),
         Said::Does(_) => Ok(Some(Head::Refused(line))),
         Said::Bad => Ok(Some(Head::Refused(line))),
     }
@@ -254,8 +304,7 @@ fn write_bad_line<W: Target>(alloc: Global, line: u64, writer: &mut W) -> Result
     ensures err { OnErr result (AppendsFront (W.contents writer.old) (W.contents writer.new) (ended_text (BadLine line))) }
     ensures begun { IfErr result (OfAnswering W.may_fail) }
 {
-    let bad = AnswerLine::BadLine(line);
-    let text = format!(in alloc; "{bad}")?;
+    let text = text_of_line(alloc, AnswerLine::BadLine(line))?;
     write_whole(writer, text.as_bytes())?;
     Ok(Ended::BadLine(line))
 }
@@ -291,11 +340,8 @@ fn refusal_of(alloc: Global, fault: PolicyFault) -> Result<String, AllocError>
     ensures { IfOk result (λ text. string_bytes text ≡ told_text (told_of_fault fault)) }
 {
     match fault {
-        PolicyFault::NoMemory => format!(in alloc; "{}", AnswerLine::NoMemory),
-        fault => {
-            let line = AnswerLine::PolicyRefused(fault);
-            format!(in alloc; "{line}")
-        }
+        PolicyFault::NoMemory => text_of_line(alloc, AnswerLine::NoMemory),
+        fault => text_of_line(alloc, AnswerLine::PolicyRefused(fault)),
     }
 }
 
@@ -334,6 +380,47 @@ fn take_policy<W: Target>(
     }
 }
 
+/// Takes a step, writes its answer, and goes on.
+fn go_on_by_step<W: Target>(
+    alloc: Global,
+    world: &mut World,
+    step: &Step,
+    writer: &mut W,
+) -> Result<Option<Ended>, RunFault>
+    ensures ok { IfOk result (λ ended. (ended ≡ None) × Steps world.old world.new step.now (W.contents writer.old) (W.contents writer.new)) }
+    ensures err { OnErr result (GivesUpStep world.old step.now (W.contents writer.old) (W.contents writer.new)) }
+    ensures begun { IfErr result (OfAnswering W.may_fail) }
+{
+    answer_step(alloc, world, step, writer)?;
+    Ok(None)
+}
+
+/// Takes the text of a policy, writes its answer, and goes on.
+fn go_on_by_policy<W: Target>(
+    alloc: Global,
+    names: &Names,
+    world: &mut World,
+    text: &str,
+    writer: &mut W,
+) -> Result<Option<Ended>, RunFault>
+    ensures ok { IfOk result (λ ended. (ended ≡ None) × Puts names.now world.old world.new text.now (W.contents writer.old) (W.contents writer.new)) }
+    ensures err { OnErr result (GivesUpPolicy names.now world.old text.now (W.contents writer.old) (W.contents writer.new)) }
+    ensures begun { IfErr result (OfAnswering W.may_fail) }
+{
+    take_policy(alloc, names, world, text, writer)?;
+    Ok(None)
+}
+
+/// Writes that a line is bad, at which the script ends.
+fn stop_at<W: Target>(alloc: Global, line: u64, writer: &mut W) -> Result<Option<Ended>, RunFault>
+    ensures ok { IfOk result (λ ended. (ended ≡ Some (BadLine line)) × Appends (W.contents writer.old) (W.contents writer.new) (ended_text (BadLine line))) }
+    ensures err { OnErr result (AppendsFront (W.contents writer.old) (W.contents writer.new) (ended_text (BadLine line))) }
+    ensures begun { IfErr result (OfAnswering W.may_fail) }
+{
+    let ended = write_bad_line(alloc, line, writer)?;
+    Ok(Some(ended))
+}
+
 /// Takes one statement behind the head: a step, a policy, or what is bad there.
 fn take_step<W: Target>(
     alloc: Global,
@@ -348,17 +435,11 @@ fn take_step<W: Target>(
 {
     let Statement { line, said } = statement;
     match said {
-        Said::Does(step) => {
-            answer_step(alloc, world, &step, writer)?;
-            Ok(None)
-        }
-        Said::Policy(text) => {
-            take_policy(alloc, names, world, text.as_str(), writer)?;
-            Ok(None)
-        }
-        Said::Principal { .. } => Ok(Some(write_bad_line(alloc, line, writer)?)),
-        Said::Set { .. } => Ok(Some(write_bad_line(alloc, line, writer)?)),
-        Said::Bad => Ok(Some(write_bad_line(alloc, line, writer)?)),
+        Said::Does(step) => go_on_by_step(alloc, world, &step, writer),
+        Said::Policy(text) => go_on_by_policy(alloc, names, world, text.as_str(), writer),
+        Said::Principal { .. } => stop_at(alloc, line, writer),
+        Said::Set { .. } => stop_at(alloc, line, writer),
+        Said::Bad => stop_at(alloc, line, writer),
     }
 }
 
@@ -367,20 +448,19 @@ fn take_steps<W: Target>(
     alloc: Global,
     names: &Names,
     statements: &mut Statements<'_>,
-    world: World,
+    world: &mut World,
     writer: &mut W,
 ) -> Result<Ended, RunFault>
-    ensures whole { IfOk result (λ ended. WritesWhole names.now world (left statements.old) ended (W.contents writer.old) (W.contents writer.new)) }
-    ensures front { OnErr result (WritesFront names.now world (left statements.old) (W.contents writer.old) (W.contents writer.new)) }
+    ensures whole { IfOk result (λ ended. WritesWhole names.now world.old (left statements.old) ended (W.contents writer.old) (W.contents writer.new)) }
+    ensures front { OnErr result (WritesFront names.now world.old (left statements.old) (W.contents writer.old) (W.contents writer.new)) }
     ensures begun { IfErr result (OfAnswering W.may_fail) }
 {
-    let mut world = world;
     'statements: loop {
         let statement = match statements.next(alloc)? {
             Some(statement) => statement,
             None => return Ok(Ended::Done),
         };
-        match take_step(alloc, names, &mut world, statement, writer)? {
+        match take_step(alloc, names, world, statement, writer)? {
             Some(ended) => return Ok(ended),
             None => {}
         }
@@ -399,7 +479,9 @@ fn run_script<W: Target>(alloc: Global, script: &[u8], writer: &mut W) -> Result
     match take_heads(alloc, &mut preface, &mut statements)? {
         Head::Ended => Ok(Ended::Done),
         Head::Refused(line) => write_bad_line(alloc, line, writer),
-        Head::Opened(world) => take_steps(alloc, &preface.names, &mut statements, world, writer),
+        Head::Opened(mut world) => {
+            take_steps(alloc, &preface.names, &mut statements, &mut world, writer)
+        }
     }
 }
 
@@ -407,8 +489,8 @@ fn run_script<W: Target>(alloc: Global, script: &[u8], writer: &mut W) -> Result
 /// which the script's bytes determine, but for the steps that are refused memory: these are answered `no memory`.
 ///
 /// # Errors
-/// Where it gives up, what it wrote is a front of such a text; nothing at all, where the reader failed or gave more
-/// than [`LIMIT`] bytes.
+/// Where it gives up, what it wrote is a front of such a text; nothing at all, where the reader failed or has more than
+/// [`LIMIT`] bytes.
 pub fn run<R: Source, W: Target>(
     alloc: Global,
     reader: &mut R,
@@ -417,6 +499,7 @@ pub fn run<R: Source, W: Target>(
     ensures whole { IfOk result (λ ended. IfSome (R.remaining reader.old) (λ script. WritesScript (statements_of script) ended (W.contents writer.old) (W.contents writer.new))) }
     ensures front { IfErr result (λ fault. IsBegun fault → IfSome (R.remaining reader.old) (λ script. BeginsScript (statements_of script) (W.contents writer.old) (W.contents writer.new))) }
     ensures nothing { IfErr result (λ fault. IsUnread fault → W.contents writer.new ≡ W.contents writer.old) }
+    ensures long { OnErr result (IfSome (R.remaining reader.old) (λ script. LIMIT < length script → W.contents writer.new ≡ W.contents writer.old)) }
     ensures bound { IfOk result (λ _. IfSome (R.remaining reader.old) (λ script. length script ≤ LIMIT)) }
     ensures too_long { result ≡ Err TooLong → IfSome (R.remaining reader.old) (λ script. LIMIT < length script) }
     ensures faults { IfErr result (OfRunning R.may_fail W.may_fail) }

@@ -1,4 +1,4 @@
-ghost use Rattle.driver_script.specs.Settings.{Chooses, chosen, key_among, key_of, no_choices, pages_of, mtu_in, sender_of, term_length_in, with_duration, with_value};
+ghost use Rattle.driver_script.specs.Settings.{Chooses, chosen, key_among, key_of, no_choices, duration_in, pages_of, mtu_in, sender_of, term_length_in, with_duration, with_value};
 ghost use Rattle.std.specs.List.{list_any};
 ghost use Rattle.std.specs.Prelude.{◌≡◌, map, IfOk, OnErr};
 ghost use Rattle.std.specs.Str.{bytes_eq};
@@ -9,6 +9,9 @@ use channel_uri::{address_of, mtu_from, session_id_of, term_length_from};
 use driver_core::{Address, Settings};
 use std::alloc::{AllocError, Global};
 use std::marker::Model;
+
+/// Durations are below this, as in a channel.
+const LIMIT: u64 = 1 << 63;
 
 /// A setting that is a duration, in nanoseconds.
 #[derive(Clone, Copy, Debug, PartialEq, Eq)]
@@ -103,6 +106,18 @@ fn key_of(name: &str) -> Option<Key>
     key_among(&keys, name)
 }
 
+/// A duration, in nanoseconds.
+fn duration_in(value: &str) -> Option<u64>
+    ensures { result ≡ duration_in value.now }
+{
+    let duration = number(value)?;
+    if duration < LIMIT {
+        Some(duration)
+    } else {
+        None
+    }
+}
+
 /// The length of a term, in bytes.
 fn term_length_in(value: &str) -> Option<u32>
     ensures { result ≡ term_length_in value.now }
@@ -169,7 +184,7 @@ fn with_value(settings: Settings, key: Key, value: &str) -> Option<Settings>
 {
     let mut settings = settings;
     match key {
-        Key::Duration(key) => settings = with_duration(settings, key, number(value)?),
+        Key::Duration(key) => settings = with_duration(settings, key, duration_in(value)?),
         Key::TermLength => settings.term_length = term_length_in(value)?,
         Key::Mtu => settings.mtu = mtu_in(value)?,
         Key::ArenaPages => settings.arena_pages = pages_of(value)?,

@@ -1,5 +1,5 @@
 use Rattle.std.proofs.Common.{sym, ◌∙◌}
-use Rattle.driver_script.proofs.NumberLemmas.{result_ok-parse}
+use Rattle.channel_uri.proofs.NumberLemmas.{result_ok-parse}
 use Rattle.driver_script.proofs.number.number.Goals as goal
 
 pub returns : goal.returns
