@@ -4,8 +4,8 @@
 #[cfg(test)]
 mod channels;
 #[cfg(test)]
-mod patterns;
+mod faults;
 #[cfg(test)]
-mod readings;
+mod patterns;
 #[cfg(test)]
 mod values;

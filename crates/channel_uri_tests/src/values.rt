@@ -1,44 +1,6 @@
-use crate::readings::{has_linger, has_session, is_found, is_rewritten};
-use channel_uri::{Key, UriError};
-use std::alloc::{AllocError, Global};
-
-/// A channel whose one key has this value.
-fn with_value(alloc: Global, key: Key, value: &str) -> Result<String, AllocError> {
-    format!(in alloc; "aeron:udp?{key}={value}")
-}
-
-/// Whether this value of the key has this fault, or none.
-fn is_value_found(alloc: Global, key: Key, value: &str, fault: Option<UriError>) -> bool {
-    match with_value(alloc, key, value) {
-        Ok(text) => is_found(alloc, text.as_str(), fault),
-        Err(_) => false,
-    }
-}
-
-/// Whether each of these values of the key has this fault, or none.
-fn are_found(alloc: Global, key: Key, values: &[&str], fault: Option<UriError>) -> bool {
-    for &value in values {
-        if !is_value_found(alloc, key, value, fault) {
-            return false;
-        }
-    }
-    true
-}
-
-/// Whether the key takes each of these values.
-fn takes(alloc: Global, key: Key, values: &[&str]) -> bool {
-    are_found(alloc, key, values, None)
-}
-
-/// Whether each of these values of the key is bad.
-fn refuses(alloc: Global, key: Key, values: &[&str]) -> bool {
-    are_found(alloc, key, values, Some(UriError::BadValue(key)))
-}
-
-/// Whether none of these values of the key is served.
-fn leaves(alloc: Global, key: Key, values: &[&str]) -> bool {
-    are_found(alloc, key, values, Some(UriError::NotServed(key)))
-}
+use crate::faults::{channel_fault, is_so};
+use channel_uri::{Channel, Key, UriError};
+use std::alloc::Global;
 
 const ADDRESSES: [&str; 7] = [
     "0.0.0.0:1",
@@ -70,14 +32,6 @@ const BAD_ADDRESSES: [&str; 17] = [
     "localhost:01",
 ];
 
-#[test]
-fn addresses(rt: HostRuntime) {
-    assert!(rt; takes(rt.alloc(), Key::Endpoint, &ADDRESSES));
-    assert!(rt; refuses(rt.alloc(), Key::Endpoint, &BAD_ADDRESSES));
-    assert!(rt; takes(rt.alloc(), Key::Control, &ADDRESSES));
-    assert!(rt; refuses(rt.alloc(), Key::Control, &BAD_ADDRESSES));
-}
-
 const NO_ADDRESSES: [&str; 21] = [
     "",
     ":",
@@ -101,11 +55,6 @@ const NO_ADDRESSES: [&str; 21] = [
     "host:1",
     "[::1]:1",
 ];
-
-#[test]
-fn texts_that_are_no_addresses(rt: HostRuntime) {
-    assert!(rt; refuses(rt.alloc(), Key::Endpoint, &NO_ADDRESSES));
-}
 
 const MTUS: [&str; 10] = [
     "64",
@@ -153,12 +102,6 @@ const NO_MTUS: [&str; 30] = [
     "18446744073709551680",
 ];
 
-#[test]
-fn mtus(rt: HostRuntime) {
-    assert!(rt; takes(rt.alloc(), Key::Mtu, &MTUS));
-    assert!(rt; refuses(rt.alloc(), Key::Mtu, &NO_MTUS));
-}
-
 const TERM_LENGTHS: [&str; 12] = [
     "65536", "64k", "64K", "131072", "128k", "1m", "1M", "8388608", "16777216", "16384k", "16m",
     "16M",
@@ -188,22 +131,6 @@ const NO_TERM_LENGTHS: [&str; 21] = [
     "18446744073709617152",
 ];
 
-#[test]
-fn term_lengths(rt: HostRuntime) {
-    assert!(rt; takes(rt.alloc(), Key::TermLength, &TERM_LENGTHS));
-    assert!(rt; refuses(rt.alloc(), Key::TermLength, &NO_TERM_LENGTHS));
-}
-
-/// Whether each channel has the session behind it.
-fn have_sessions(alloc: Global, rows: &[(&str, i32)]) -> bool {
-    for &(text, id) in rows {
-        if !has_session(alloc, text, Some(id)) {
-            return false;
-        }
-    }
-    true
-}
-
 const SESSION_IDS: [&str; 9] = [
     "-2147483648",
     "2147483647",
@@ -232,6 +159,103 @@ const NO_SESSION_IDS: [&str; 13] = [
     "-18446744073709551617",
 ];
 
+const NO_LINGERS: [&str; 19] = [
+    "",
+    "s",
+    "ns",
+    "-1",
+    "+1",
+    "1m",
+    "1h",
+    "1S",
+    "1MS",
+    "1 s",
+    "1nss",
+    "1.5s",
+    "9223372036854775808",
+    "9223372036854775808ns",
+    "9223372036854776us",
+    "9223372036855ms",
+    "9223372037s",
+    "18446744074s",
+    "18446744073709551616",
+];
+
+const NO_MODES: [&str; 7] = [
+    "", "Manual", "manual ", "man", "manuals", "dynamics", "none",
+];
+
+const MODES_OF_OTHERS: [&str; 2] = ["dynamic", "response"];
+
+const ANY: [&str; 3] = ["", "1", "127.0.0.1"];
+
+/// A key, and values of it that it takes, that are bad, and that are not served.
+type Row = (
+    Key,
+    &'static [&'static str],
+    &'static [&'static str],
+    &'static [&'static str],
+);
+
+const VALUES: [Row; 10] = [
+    (Key::Endpoint, &ADDRESSES, &BAD_ADDRESSES, &[]),
+    (Key::Endpoint, &[], &NO_ADDRESSES, &[]),
+    (Key::Control, &ADDRESSES, &BAD_ADDRESSES, &[]),
+    (Key::Mtu, &MTUS, &NO_MTUS, &[]),
+    (Key::TermLength, &TERM_LENGTHS, &NO_TERM_LENGTHS, &[]),
+    (Key::SessionId, &SESSION_IDS, &NO_SESSION_IDS, &[]),
+    (Key::Linger, &[], &NO_LINGERS, &[]),
+    (Key::ControlMode, &["manual"], &NO_MODES, &MODES_OF_OTHERS),
+    (Key::Interface, &[], &[], &ANY),
+    (Key::Tags, &[], &[], &ANY),
+];
+
+/// What is wrong with this value of the key, if anything is.
+fn fault_of(alloc: Global, key: Key, value: &str) -> Result<Option<UriError>, UriError> {
+    let text = format!(in alloc; "aeron:udp?{key}={value}")?;
+    Ok(channel_fault(alloc, text.as_str()))
+}
+
+/// Whether each of these values of the key has this fault, or none.
+fn are_found(
+    alloc: Global,
+    key: Key,
+    values: &[&str],
+    fault: Option<UriError>,
+) -> Result<bool, UriError> {
+    for &value in values {
+        if fault_of(alloc, key, value)? != fault {
+            return Ok(false);
+        }
+    }
+    Ok(true)
+}
+
+fn follow_rules(alloc: Global, rows: &[Row]) -> Result<bool, UriError> {
+    for &(key, taken, bad, others) in rows {
+        if !are_found(alloc, key, taken, None)?
+            || !are_found(alloc, key, bad, Some(UriError::BadValue(key)))?
+            || !are_found(alloc, key, others, Some(UriError::NotServed(key)))?
+        {
+            return Ok(false);
+        }
+    }
+    Ok(true)
+}
+
+#[test]
+fn values_follow_the_rules_of_their_keys(rt: HostRuntime) {
+    assert!(rt; is_so(follow_rules(rt.alloc(), &VALUES)));
+    assert!(rt; !is_so(follow_rules(rt.alloc(), &[(Key::Mtu, &["64", "65"], &[], &[])])));
+    assert!(rt; !is_so(follow_rules(rt.alloc(), &[(Key::Mtu, &[], &["65", "64"], &[])])));
+    assert!(rt;
+        !is_so(follow_rules(
+            rt.alloc(),
+            &[(Key::Tags, &[], &[], &["1"]), (Key::Mtu, &[], &[], &["65"])]
+        ))
+    );
+}
+
 const SESSIONS: [(&str, i32); 4] = [
     ("aeron:ipc?session-id=-2147483648", -2147483648),
     ("aeron:ipc?session-id=2147483647", 2147483647),
@@ -239,17 +263,29 @@ const SESSIONS: [(&str, i32); 4] = [
     ("aeron:ipc?session-id=-007", -7),
 ];
 
-#[test]
-fn session_ids(rt: HostRuntime) {
-    assert!(rt; takes(rt.alloc(), Key::SessionId, &SESSION_IDS));
-    assert!(rt; refuses(rt.alloc(), Key::SessionId, &NO_SESSION_IDS));
-    assert!(rt; have_sessions(rt.alloc(), &SESSIONS));
+/// Whether the channel of the text has this session and this linger.
+fn has(
+    alloc: Global,
+    text: &str,
+    session: Option<i32>,
+    linger: Option<u64>,
+) -> Result<bool, UriError> {
+    let channel = Channel::parse(alloc, text)?;
+    Ok(channel.session_id() == session && channel.linger() == linger)
 }
 
-/// Whether each channel has the linger behind it.
+fn have_sessions(alloc: Global, rows: &[(&str, i32)]) -> bool {
+    for &(text, id) in rows {
+        if !is_so(has(alloc, text, Some(id), None)) {
+            return false;
+        }
+    }
+    true
+}
+
 fn have_lingers(alloc: Global, rows: &[(&str, u64)]) -> bool {
     for &(text, nanoseconds) in rows {
-        if !has_linger(alloc, text, Some(nanoseconds)) {
+        if !is_so(has(alloc, text, None, Some(nanoseconds))) {
             return false;
         }
     }
@@ -274,53 +310,10 @@ const LINGERS: [(&str, u64); 12] = [
     ("aeron:ipc?linger=9223372036s", 9223372036000000000),
 ];
 
-const NO_LINGERS: [&str; 19] = [
-    "",
-    "s",
-    "ns",
-    "-1",
-    "+1",
-    "1m",
-    "1h",
-    "1S",
-    "1MS",
-    "1 s",
-    "1nss",
-    "1.5s",
-    "9223372036854775808",
-    "9223372036854775808ns",
-    "9223372036854776us",
-    "9223372036855ms",
-    "9223372037s",
-    "18446744074s",
-    "18446744073709551616",
-];
-
 #[test]
-fn lingers(rt: HostRuntime) {
+fn numbers_are_read(rt: HostRuntime) {
+    assert!(rt; have_sessions(rt.alloc(), &SESSIONS));
+    assert!(rt; !have_sessions(rt.alloc(), &[("aeron:ipc?session-id=-007", 7)]));
     assert!(rt; have_lingers(rt.alloc(), &LINGERS));
-    assert!(rt; refuses(rt.alloc(), Key::Linger, &NO_LINGERS));
-}
-
-const NO_MODES: [&str; 7] = [
-    "", "Manual", "manual ", "man", "manuals", "dynamics", "none",
-];
-
-#[test]
-fn control_modes(rt: HostRuntime) {
-    assert!(rt; takes(rt.alloc(), Key::ControlMode, &["manual"]));
-    assert!(rt; leaves(rt.alloc(), Key::ControlMode, &["dynamic", "response"]));
-    assert!(rt; refuses(rt.alloc(), Key::ControlMode, &NO_MODES));
-}
-
-#[test]
-fn keys_that_are_not_served(rt: HostRuntime) {
-    assert!(rt; leaves(rt.alloc(), Key::Interface, &["", "1", "127.0.0.1"]));
-    assert!(rt; leaves(rt.alloc(), Key::Tags, &["", "1", "127.0.0.1"]));
-}
-
-#[test]
-fn other_keys_are_kept(rt: HostRuntime) {
-    let text = "aeron:udp?Endpoint=x|alias=|endpoints=y|mtus=1|ttl=z";
-    assert!(rt; is_rewritten(rt.alloc(), text, text));
+    assert!(rt; !have_lingers(rt.alloc(), &[("aeron:ipc?linger=7us", 7_001)]));
 }
