@@ -23,6 +23,21 @@ pub fn open(alloc: Global, arena: &mut Arena, ident: Ident) -> Result<TermLog, N
     }
 }
 
+/// A log without frames, in an arena of its own, which its lease outlives.
+pub fn opened(alloc: Global, ident: Ident) -> Result<TermLog, NoRoom>
+    requires ident { IsIdent ident }
+    requires pages { ident.term_length % 4096 ≡ 0 }
+    ensures ident { IfOk result (λ log. log.kept.ident ≡ ident) }
+    ensures tail { IfOk result (λ log. log.kept.tail ≡ ident.start) }
+    ensures sent { IfOk result (λ log. log.sender.position ≡ ident.start) }
+    ensures pairs { IfOk result (λ log. log.pairs ≡ []) }
+{
+    match Arena::new(alloc, 48) {
+        Ok(mut arena) => open(alloc, &mut arena, ident),
+        Err(_) => Err(NoRoom),
+    }
+}
+
 /// Lengths of messages: empty, at the edges of a filling and of a frame, and the greatest.
 const LENGTHS: [usize; 12] = [0, 1, 31, 32, 33, 1375, 1376, 1377, 2752, 5000, 8191, 8192];
 

@@ -5,10 +5,12 @@ mod filling;
 mod plain;
 mod reading;
 
-pub use filling::{fill, follow, is_held, open};
+pub use filling::{fill, follow, is_held, open, opened};
 pub use plain::{Plain, Row};
 pub use reading::{begin_at, gives_all, gives_rows};
 
+#[cfg(test)]
+mod differing;
 #[cfg(test)]
 mod polling;
 #[cfg(test)]

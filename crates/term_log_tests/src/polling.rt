@@ -1,8 +1,5 @@
-ghost use Rattle.std.specs.Prelude.{◌≡◌, []};
-
 use super::*;
 use crate::tests::ident;
-use log_arena::Arena;
 use std::test::Fail;
 use term_log::{Fragment, LogKind, Offer, TermLog};
 
@@ -34,88 +31,143 @@ fn stands_at(log: &TermLog, subscription: u64, position: u64) -> bool {
     log.pair_position(subscription) == Some(position)
 }
 
+/// Where the fragments end of a log that begins at 65504, with a pad to the end of its term and then two messages.
+const ENDS: [u64; 2] = [65_600, 65_760];
+
+// Offers those two messages.
+fn is_filled(log: &mut TermLog) -> bool {
+    let padded = log.offer(b"x") == Offer::AdminAction;
+    let first = log.offer(b"x") == Offer::At(65_600);
+    let second = log.offer([7; 100].as_slice()) == Offer::At(65_760);
+    padded && first && second
+}
+
+/// A subscription, a limit, and of which of those fragments the poll gives which.
+const GIVEN: [(u64, usize, usize); 5] = [(4, 0, 0), (4, 1, 1), (4, 2, 2), (4, 3, 2), (5, 3, 0)];
+
+fn gives_each(log: &TermLog) -> bool {
+    let mut same = true;
+    for (subscription, limit, count) in GIVEN {
+        same &= gives(log, subscription, limit, &ENDS[..count]);
+    }
+    same
+}
+
+// Whether a poll brings a subscription from one position to another.
+fn moves(log: &mut TermLog, subscription: u64, limit: usize, from: u64, to: u64) -> bool {
+    let stood = stands_at(log, subscription, from);
+    log.poll(subscription, limit);
+    stood && stands_at(log, subscription, to)
+}
+
+fn slow_one_passes(log: &mut TermLog) -> bool {
+    let none = moves(log, 4, 0, 65_504, 65_504);
+    let one = moves(log, 4, 1, 65_504, 65_600) && gives(log, 4, 1, &ENDS[1..]);
+    let last = moves(log, 4, 1, 65_600, 65_760) && gives(log, 4, 1, &[]);
+    none && one && last
+}
+
+fn fast_one_passes(log: &mut TermLog) -> bool {
+    let all = gives(log, 9, 9, &ENDS) && moves(log, 9, 9, 65_504, 65_760);
+    log.poll(5, 9);
+    all && log.pair_position(5) == None
+}
+
 // Pads are passed uncounted, over the end of a term. A slow and a fast subscription read the same.
 #[test]
 fn polls_pass_pads(rt: HostRuntime) -> Result<(), Fail> {
-    let mut arena = Arena::new(rt.alloc(), 48)?;
-    let mut log = open(rt.alloc(), &mut arena, ident(LogKind::Udp, 65_504))?;
-    log.rejoin([4, 9].as_slice());
-    assert!(rt; log.offer(b"x") == Offer::AdminAction);
-    assert!(rt; log.offer(b"x") == Offer::At(65_600));
-    assert!(rt; log.offer([7; 100].as_slice()) == Offer::At(65_760));
-    let ends = [65_600, 65_760];
-    assert!(rt; gives(&log, 4, 0, &ends[..0]));
-    assert!(rt; gives(&log, 4, 1, &ends[..1]));
-    assert!(rt; gives(&log, 4, 2, ends.as_slice()));
-    assert!(rt; gives(&log, 4, 3, ends.as_slice()));
-    assert!(rt; gives(&log, 5, 3, &ends[..0]));
-    log.poll(4, 0);
-    assert!(rt; stands_at(&log, 4, 65_504));
-    log.poll(4, 1);
-    assert!(rt; stands_at(&log, 4, 65_600));
-    assert!(rt; gives(&log, 4, 1, &ends[1..]));
-    log.poll(4, 1);
-    assert!(rt; stands_at(&log, 4, 65_760));
-    assert!(rt; gives(&log, 4, 1, &ends[..0]));
-    assert!(rt; stands_at(&log, 9, 65_504));
-    assert!(rt; gives(&log, 9, 9, ends.as_slice()));
-    log.poll(9, 9);
-    log.poll(5, 9);
-    assert!(rt; stands_at(&log, 9, 65_760));
-    assert!(rt; log.pair_position(5) == None);
+    let mut log = opened(rt.alloc(), ident(LogKind::Udp, 65_504))?;
+    log.rejoin(&[4, 9]);
+    assert!(rt; is_filled(&mut log) && gives_each(&log));
+    assert!(rt; slow_one_passes(&mut log) && fast_one_passes(&mut log));
     Ok(())
+}
+
+// Fragments with an end changed, one too few, one too many, and in another order.
+fn tells_other_ends(log: &TermLog) -> bool {
+    let changed = gives(log, 4, 2, &[65_600, 65_792]) || gives(log, 4, 2, &[65_504, 65_760]);
+    let few = gives(log, 4, 2, &[65_600]) || gives(log, 4, 2, &[65_600, 65_760, 65_760]);
+    !changed && !few && !gives(log, 4, 2, &[65_760, 65_600])
+}
+
+#[test]
+fn other_ends_are_told(rt: HostRuntime) -> Result<(), Fail> {
+    let mut log = opened(rt.alloc(), ident(LogKind::Udp, 65_504))?;
+    log.rejoin(&[4, 9]);
+    assert!(rt; is_filled(&mut log) && tells_other_ends(&log));
+    assert!(rt; !stands_at(&log, 4, 65_536) && !moves(&mut log, 4, 1, 65_504, 65_760));
+    Ok(())
+}
+
+fn leaves_the_pad(log: &mut TermLog) -> bool {
+    let offered = log.offer(b"x") == Offer::At(65_472);
+    let padded = log.offer([7; 100].as_slice()) == Offer::AdminAction;
+    let slow = moves(log, 4, 1, 65_408, 65_472) && moves(log, 4, 1, 65_472, 65_536);
+    offered && padded && slow && moves(log, 9, 2, 65_408, 65_536)
 }
 
 // A pad behind the last fragment is left to the next poll.
 #[test]
 fn pads_behind_the_last_fragment(rt: HostRuntime) -> Result<(), Fail> {
-    let mut arena = Arena::new(rt.alloc(), 48)?;
-    let mut log = open(rt.alloc(), &mut arena, ident(LogKind::Udp, 65_408))?;
-    log.rejoin([4, 9].as_slice());
-    assert!(rt; log.offer(b"x") == Offer::At(65_472));
-    assert!(rt; log.offer([7; 100].as_slice()) == Offer::AdminAction);
-    log.poll(4, 1);
-    assert!(rt; stands_at(&log, 4, 65_472));
-    log.poll(4, 1);
-    assert!(rt; stands_at(&log, 4, 65_536));
-    log.poll(9, 2);
-    assert!(rt; stands_at(&log, 9, 65_536));
+    let mut log = opened(rt.alloc(), ident(LogKind::Udp, 65_408))?;
+    log.rejoin(&[4, 9]);
+    assert!(rt; leaves_the_pad(&mut log));
     Ok(())
+}
+
+fn parts_are_offered(log: &mut TermLog) -> bool {
+    let short = log.offer(b"abc") == Offer::At(64);
+    short && log.offer([8; 1377].as_slice()) == Offer::At(1536)
+}
+
+fn has_parts(log: &TermLog) -> bool {
+    let mut fragments = log.fragments(1, 9);
+    holds(fragments.next(), 64, 0xC0, b"abc")
+        && holds(fragments.next(), 1472, 0x80, [8; 1376].as_slice())
+        && holds(fragments.next(), 1536, 0x40, &[8])
+        && fragments.next().is_none()
+}
+
+// The first part beside one with another position, other flags, another byte, and a byte less.
+fn tells_other_parts(log: &TermLog) -> bool {
+    let moved = holds(log.fragments(1, 1).next(), 96, 0xC0, b"abc");
+    let flagged = holds(log.fragments(1, 1).next(), 64, 0x80, b"abc");
+    let changed = holds(log.fragments(1, 1).next(), 64, 0xC0, b"abd");
+    let shorter = holds(log.fragments(1, 1).next(), 64, 0xC0, b"ab");
+    !moved && !flagged && !changed && !shorter && !holds(None, 64, 0xC0, b"abc")
 }
 
 // What a fragment holds: the flags of its frame, and its part of the message.
 #[test]
 fn fragments_hold_parts(rt: HostRuntime) -> Result<(), Fail> {
-    let mut arena = Arena::new(rt.alloc(), 48)?;
-    let mut log = open(rt.alloc(), &mut arena, ident(LogKind::Ipc, 0))?;
-    log.rejoin([1].as_slice());
-    assert!(rt; log.offer(b"abc") == Offer::At(64));
-    assert!(rt; log.offer([8; 1377].as_slice()) == Offer::At(1536));
-    let mut fragments = log.fragments(1, 9);
-    assert!(rt; holds(fragments.next(), 64, 0xC0, b"abc"));
-    assert!(rt; holds(fragments.next(), 1472, 0x80, [8; 1376].as_slice()));
-    assert!(rt; holds(fragments.next(), 1536, 0x40, [8].as_slice()));
-    assert!(rt; fragments.next().is_none());
+    let mut log = opened(rt.alloc(), ident(LogKind::Ipc, 0))?;
+    log.rejoin(&[1]);
+    assert!(rt; parts_are_offered(&mut log));
+    assert!(rt; has_parts(&log) && tells_other_parts(&log));
     Ok(())
+}
+
+fn keeps_and_adds(log: &mut TermLog) -> bool {
+    log.rejoin(&[1, 2]);
+    let offered = log.offer(b"") == Offer::At(32);
+    log.rejoin(&[3, 2]);
+    let places = stands_at(log, 2, 0) && stands_at(log, 3, 32);
+    offered && places && log.pair_position(1) == None && log.limit() == 32_768
+}
+
+fn takes_away(log: &mut TermLog) -> bool {
+    log.rejoin(&[3]);
+    let alone = log.limit() == 32_800;
+    log.rejoin(&[3, 2]);
+    let again = stands_at(log, 2, 32);
+    log.rejoin(&[]);
+    alone && again && log.offer(b"") == Offer::BackPressured
 }
 
 // A subscription that stays keeps its position, one that comes begins at the tail, and all others go.
 #[test]
 fn rejoin_keeps_adds_and_takes_away(rt: HostRuntime) -> Result<(), Fail> {
-    let mut arena = Arena::new(rt.alloc(), 48)?;
-    let mut log = open(rt.alloc(), &mut arena, ident(LogKind::Ipc, 0))?;
-    log.rejoin([1, 2].as_slice());
-    assert!(rt; log.offer(b"") == Offer::At(32));
-    log.rejoin([3, 2].as_slice());
-    assert!(rt; log.pair_position(1) == None);
-    assert!(rt; stands_at(&log, 2, 0));
-    assert!(rt; stands_at(&log, 3, 32));
-    assert!(rt; log.limit() == 32_768);
-    log.rejoin([3].as_slice());
-    assert!(rt; log.limit() == 32_800);
-    log.rejoin([3, 2].as_slice());
-    assert!(rt; stands_at(&log, 2, 32));
-    log.rejoin([].as_slice());
-    assert!(rt; log.offer(b"") == Offer::BackPressured);
+    let mut log = opened(rt.alloc(), ident(LogKind::Ipc, 0))?;
+    assert!(rt; keeps_and_adds(&mut log) && takes_away(&mut log));
     Ok(())
 }

@@ -2,7 +2,7 @@ ghost use Rattle.std.specs.Prelude.{◌≡◌, []};
 
 use super::*;
 use crate::tests::ident;
-use log_arena::Arena;
+use std::alloc::Global;
 use std::test::Fail;
 use term_log::{LogKind, Offer, Status, TermLog};
 
@@ -29,15 +29,18 @@ fn heartbeat_due_past(log: &TermLog, moment: u64) -> bool {
 }
 
 // The first status message connects a log over UDP, and lets its sender send.
+fn opens_by_status(log: &mut TermLog) -> bool {
+    let closed = !log.connected(0, TIMEOUT) && log.send_budget() == 0;
+    let taken = log.status(0, 0, 32_768) == Status::Accepted(32_768);
+    let open = log.connected(0, TIMEOUT) && log.send_budget() == 1408;
+    let offered = log.offer(b"x") == Offer::At(64);
+    closed && taken && open && offered && log.sender_position() == 0 && log.tail() == 64
+}
+
 #[test]
 fn status_opens_the_log(rt: HostRuntime) -> Result<(), Fail> {
-    let mut arena = Arena::new(rt.alloc(), 48)?;
-    let mut log = open(rt.alloc(), &mut arena, ident(LogKind::Udp, 0))?;
-    assert!(rt; !log.connected(0, TIMEOUT) && log.send_budget() == 0);
-    assert_eq!(rt; log.status(0, 0, 32_768), Status::Accepted(32_768));
-    assert!(rt; log.connected(0, TIMEOUT) && log.send_budget() == 1408);
-    assert_eq!(rt; log.offer(b"x"), Offer::At(64));
-    assert!(rt; log.sender_position() == 0 && log.tail() == 64);
+    let mut log = opened(rt.alloc(), ident(LogKind::Udp, 0))?;
+    assert!(rt; opens_by_status(&mut log));
     Ok(())
 }
 
@@ -69,11 +72,9 @@ fn keeps_the_greatest_limit(log: &mut TermLog) -> bool {
 
 #[test]
 fn status_messages_limit(rt: HostRuntime) -> Result<(), Fail> {
-    let mut arena = Arena::new(rt.alloc(), 48)?;
-    let mut log = open(rt.alloc(), &mut arena, ident(LogKind::Udp, 65_440))?;
+    let mut log = opened(rt.alloc(), ident(LogKind::Udp, 65_440))?;
     assert!(rt; drops_out_of_window(&mut log));
-    assert!(rt; stops_behind_its_limit(&mut log));
-    assert!(rt; keeps_the_greatest_limit(&mut log));
+    assert!(rt; stops_behind_its_limit(&mut log) && keeps_the_greatest_limit(&mut log));
     Ok(())
 }
 
@@ -98,13 +99,17 @@ fn connects_by_pairs(log: &mut TermLog) -> bool
     status && joined && !log.connected(0, TIMEOUT)
 }
 
+fn connects(alloc: Global, kind: LogKind) -> Result<bool, Fail> {
+    let mut log = opened(alloc, ident(kind, 0))?;
+    Ok(match kind {
+        LogKind::Udp => connects_by_status(&mut log),
+        LogKind::Ipc => connects_by_pairs(&mut log),
+    })
+}
+
 #[test]
 fn connected_within_the_timeout(rt: HostRuntime) -> Result<(), Fail> {
-    let mut arena = Arena::new(rt.alloc(), 96)?;
-    let mut log = open(rt.alloc(), &mut arena, ident(LogKind::Udp, 0))?;
-    assert!(rt; connects_by_status(&mut log));
-    let mut log = open(rt.alloc(), &mut arena, ident(LogKind::Ipc, 0))?;
-    assert!(rt; connects_by_pairs(&mut log));
+    assert!(rt; connects(rt.alloc(), LogKind::Udp)? && connects(rt.alloc(), LogKind::Ipc)?);
     Ok(())
 }
 
@@ -134,10 +139,8 @@ fn asks_by_setups(log: &mut TermLog) -> bool {
 
 #[test]
 fn setups_and_heartbeats(rt: HostRuntime) -> Result<(), Fail> {
-    let mut arena = Arena::new(rt.alloc(), 48)?;
-    let mut log = open(rt.alloc(), &mut arena, ident(LogKind::Udp, 0))?;
-    assert!(rt; log.setup_due(0, TIMEOUT, INTERVAL));
-    assert!(rt; beats_behind_all_datagrams(&mut log));
+    let mut log = opened(rt.alloc(), ident(LogKind::Udp, 0))?;
+    assert!(rt; log.setup_due(0, TIMEOUT, INTERVAL) && beats_behind_all_datagrams(&mut log));
     assert!(rt; asks_by_setups(&mut log));
     Ok(())
 }

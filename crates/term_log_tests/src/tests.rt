@@ -1,9 +1,9 @@
-ghost use Rattle.std.specs.Prelude.{◌≡◌, ◌%◌, ◌^◌, ◌*◌, ◌<◌, pos};
+ghost use Rattle.std.specs.Prelude.{◌≡◌, ◌%◌, ◌^◌, ◌*◌, ◌<◌, [], pos};
 ghost use Rattle.term_log.specs.Ident.{IsIdent};
 
 use super::*;
-use log_arena::{Arena, NoRoom};
-use std::alloc::Global;
+use log_arena::NoRoom;
+use std::alloc::{AllocError, Global};
 use std::test::Fail;
 use term_log::{Ident, LogKind, Offer, TermLog};
 
@@ -24,122 +24,187 @@ pub(crate) fn ident(kind: LogKind, start: u64) -> Ident
     }
 }
 
-// Messages at the edges of a frame, and the greatest one.
+// Messages at the edges of a frame, the greatest one, and one that is too long.
+fn takes_messages(log: &mut TermLog, bytes: &[u8; 8193]) -> bool
+    requires { log.old.pairs ≡ [] }
+{
+    let joined = log.join_pair(1) == 0 && log.greatest_message() == 8192;
+    let whole = log.offer(&bytes[..1376]) == Offer::At(1408);
+    let cut = log.offer(&bytes[..1377]) == Offer::At(2880);
+    let greatest = log.offer(&bytes[..8192]) == Offer::At(11264);
+    let long = log.offer(bytes.as_slice()) == Offer::TooLong;
+    joined && whole && cut && greatest && long
+}
+
+// The same messages in a list.
+fn list_of_messages(alloc: Global, bytes: &[u8; 8193]) -> Result<Plain, AllocError> {
+    let mut plain = Plain::new(alloc);
+    plain.put_message(&bytes[..1376])?;
+    plain.put_message(&bytes[..1377])?;
+    plain.put_message(&bytes[..8192])?;
+    Ok(plain)
+}
+
+// Whether a log's lease holds what the list does.
+fn keeps_list(log: TermLog, plain: &Plain) -> bool {
+    let lease = log.close();
+    is_held(lease.bytes(), plain)
+}
+
 #[test]
 fn message_fragments(rt: HostRuntime) -> Result<(), Fail> {
-    let mut arena = Arena::new(rt.alloc(), 48)?;
-    let mut log = open(rt.alloc(), &mut arena, ident(LogKind::Ipc, 0))?;
-    assert_eq!(rt; log.join_pair(1), 0);
-    assert_eq!(rt; log.greatest_message(), 8192);
-    let message = Vec::from_elem(rt.alloc(), 9u8, 8193)?;
-    assert_eq!(rt; log.offer(&message[..1376]), Offer::At(1408));
-    assert_eq!(rt; log.offer(&message[..1377]), Offer::At(2880));
-    assert_eq!(rt; log.offer(&message[..8192]), Offer::At(11264));
-    assert_eq!(rt; log.offer(message.as_slice()), Offer::TooLong);
-    assert_eq!(rt;
-        (log.tail(), log.messages(), log.limit()),
-        (11264, 3, 32768)
-    );
-    let mut plain = Plain::new(rt.alloc());
-    plain.put_message(&message[..1376])?;
-    plain.put_message(&message[..1377])?;
-    plain.put_message(&message[..8192])?;
-    assert_eq!(rt; plain.tail(), 11264);
-    let lease = log.close();
-    assert!(rt; is_held(lease.bytes(), &plain));
+    let bytes = [9; 8193];
+    let mut log = opened(rt.alloc(), ident(LogKind::Ipc, 0))?;
+    assert!(rt; takes_messages(&mut log, &bytes));
+    assert!(rt; log.tail() == 11264 && log.messages() == 3 && log.limit() == 32768);
+    let plain = list_of_messages(rt.alloc(), &bytes)?;
+    assert!(rt; plain.tail() == 11264 && keeps_list(log, &plain));
     Ok(())
 }
 
-// The first bytes of a log, as they are laid out by the transport's specification.
+/// The header of the first frame with `abc`, as the transport's specification lays it out.
+const HEADER: [u8; 32] = [
+    35, 0, 0, 0, 0, 0xC0, 1, 0, 0, 0, 0, 0, 7, 0, 0, 0, 233, 3, 0, 0, 5, 0, 0, 0, 0, 0, 0, 0, 0, 0,
+    0, 0,
+];
+
+fn begins_with_abc(bytes: &[u8]) -> bool {
+    let (header, rest) = bytes.split_at(bytes.len().min(32));
+    header == HEADER.as_slice()
+        && rest.starts_with(b"abc")
+        && rest.iter().skip(3).all(|byte| *byte == 0)
+}
+
+// The bytes of a log with one message.
+fn lease_begins_with_abc(mut log: TermLog) -> bool {
+    let offered = log.offer(b"abc") == Offer::At(64);
+    let lease = log.close();
+    offered && begins_with_abc(lease.bytes())
+}
+
+// The first bytes of a log, and of a list, as they are laid out by the transport's specification.
 #[test]
 fn bytes_of_a_frame(rt: HostRuntime) -> Result<(), Fail> {
-    let mut arena = Arena::new(rt.alloc(), 48)?;
-    let mut log = open(rt.alloc(), &mut arena, ident(LogKind::Udp, 0))?;
-    assert_eq!(rt; log.offer(b"abc"), Offer::At(64));
-    let lease = log.close();
-    let header = [
-        35, 0, 0, 0, 0, 0xC0, 1, 0, 0, 0, 0, 0, 7, 0, 0, 0, 233, 3, 0, 0, 5, 0, 0, 0, 0, 0, 0, 0,
-        0, 0, 0, 0,
-    ];
-    assert!(rt; lease.bytes().starts_with(header.as_slice()));
-    assert!(rt; lease.bytes().iter().skip(32).take(3).eq(b"abc".iter()));
-    assert!(rt; lease.bytes().iter().skip(35).all(|byte| *byte == 0));
+    let log = opened(rt.alloc(), ident(LogKind::Udp, 0))?;
+    assert!(rt; lease_begins_with_abc(log));
+    let mut plain = Plain::new(rt.alloc());
+    plain.put_message(b"abc")?;
+    assert!(rt; plain.tail() == 64 && begins_with_abc(plain.bytes.as_slice()));
+    plain.put_message(b"")?;
+    assert!(rt; !begins_with_abc(plain.bytes.as_slice()) && !begins_with_abc(&HEADER));
     Ok(())
+}
+
+fn pads_the_rest(log: &mut TermLog) -> bool
+    requires { log.old.pairs ≡ [] }
+{
+    let joined = log.join_pair(1) == 65_504;
+    let padded = log.offer(b"x") == Offer::AdminAction;
+    let passed = log.tail() == 65_536 && log.messages() == 0;
+    let taken = log.offer(b"x") == Offer::At(65_600);
+    joined && padded && passed && taken && log.low() == 65_504 && log.messages() == 1
+}
+
+fn ends_at_the_greatest(log: &mut TermLog) -> bool
+    requires { log.old.pairs ≡ [] }
+{
+    let joined = log.join_pair(1) == 140_737_488_355_264;
+    let last = log.offer(b"x") == Offer::At(140_737_488_355_328);
+    joined && last && log.offer(b"x") == Offer::MaxPosition
 }
 
 // A message that the rest of a term has no room for, and one that would end behind the greatest position.
 #[test]
 fn padding_and_greatest_position(rt: HostRuntime) -> Result<(), Fail> {
-    let mut arena = Arena::new(rt.alloc(), 96)?;
-    let mut log = open(rt.alloc(), &mut arena, ident(LogKind::Ipc, 65_504))?;
-    assert_eq!(rt; log.join_pair(1), 65_504);
-    assert_eq!(rt; log.offer(b"x"), Offer::AdminAction);
-    assert_eq!(rt; (log.tail(), log.messages()), (65_536, 0));
-    assert_eq!(rt; log.offer(b"x"), Offer::At(65_600));
-    assert_eq!(rt; (log.low(), log.messages()), (65_504, 1));
-    let mut last = open(
-        rt.alloc(),
-        &mut arena,
-        ident(LogKind::Ipc, 140_737_488_355_264),
-    )?;
-    assert_eq!(rt; last.join_pair(1), 140_737_488_355_264);
-    assert_eq!(rt; last.offer(b"x"), Offer::At(140_737_488_355_328));
-    assert_eq!(rt; last.offer(b"x"), Offer::MaxPosition);
+    let mut log = opened(rt.alloc(), ident(LogKind::Ipc, 65_504))?;
+    assert!(rt; pads_the_rest(&mut log));
+    let mut last = opened(rt.alloc(), ident(LogKind::Ipc, 140_737_488_355_264))?;
+    assert!(rt; ends_at_the_greatest(&mut last));
     Ok(())
+}
+
+// A subscription reads up to a position. False where it can't.
+fn read_to(log: &mut TermLog, subscription: u64, position: u64) -> bool {
+    match log.pair_position(subscription) {
+        Some(at) if at <= position && position <= log.tail() => {
+            log.advance(subscription, position);
+            true
+        }
+        _ => false,
+    }
+}
+
+fn waits_for_the_slowest(log: &mut TermLog) -> bool
+    requires { log.old.pairs ≡ [] }
+{
+    let closed = log.offer(b"x") == Offer::BackPressured;
+    let first = log.join_pair(4) == 0 && log.offer(b"") == Offer::At(32);
+    let second = log.join_pair(9) == 32 && log.limit() == 32_768;
+    closed && first && second
+}
+
+fn follows_the_slowest(log: &mut TermLog) -> bool {
+    let placed = log.pair_position(9) == Some(32) && log.pair_position(5) == None;
+    let moved = read_to(log, 4, 32) && log.limit() == 32_800;
+    log.leave_pair(4);
+    log.leave_pair(9);
+    placed && moved && log.limit() == 32
 }
 
 // The slowest pair limits the log; without a pair it takes nothing.
 #[test]
 fn slowest_pair_limits(rt: HostRuntime) -> Result<(), Fail> {
-    let mut arena = Arena::new(rt.alloc(), 48)?;
-    let mut log = open(rt.alloc(), &mut arena, ident(LogKind::Ipc, 0))?;
-    assert_eq!(rt; log.offer(b"x"), Offer::BackPressured);
-    assert_eq!(rt; log.join_pair(4), 0);
-    assert_eq!(rt; log.offer(b""), Offer::At(32));
-    assert_eq!(rt; log.join_pair(9), 32);
-    assert_eq!(rt; log.limit(), 32_768);
-    assert_eq!(rt; log.pair_position(9), Some(32));
-    assert_eq!(rt; log.pair_position(5), None);
-    log.advance(4, 32);
-    assert_eq!(rt; log.limit(), 32_800);
-    log.leave_pair(4);
-    log.leave_pair(9);
-    assert_eq!(rt; log.limit(), 32);
+    let mut log = opened(rt.alloc(), ident(LogKind::Ipc, 0))?;
+    assert!(rt; waits_for_the_slowest(&mut log) && follows_the_slowest(&mut log));
     Ok(())
+}
+
+// Offers so many messages, and then looks at all frames that the log gives for each budget.
+fn fills_and_gives(
+    alloc: Global,
+    log: &mut TermLog,
+    plain: &mut Plain,
+    rounds: u32,
+    budgets: &[u64],
+) -> Result<bool, AllocError> {
+    let mut same = fill(alloc, log, plain, rounds)?;
+    for budget in budgets {
+        same &= gives_all(log, plain, *budget);
+    }
+    Ok(same)
+}
+
+// Three terms many times over.
+fn lists_are_kept(alloc: Global, log: &mut TermLog, plain: &mut Plain) -> Result<bool, AllocError> {
+    let first = fills_and_gives(alloc, log, plain, 30, &[1408])?;
+    let second = fills_and_gives(alloc, log, plain, 170, &[0, 63, 1408])?;
+    let third = fills_and_gives(alloc, log, plain, 200, &[1407, 5000, 65_536])?;
+    Ok(first && second && third)
 }
 
 // Three terms many times over: each answer, the frames from each frame on, and at the end each byte are those of plain
 // lists.
 #[test]
 fn terms_are_used_again(rt: HostRuntime) -> Result<(), Fail> {
-    let mut arena = Arena::new(rt.alloc(), 48)?;
-    let mut log = open(rt.alloc(), &mut arena, ident(LogKind::Udp, 0))?;
+    let mut log = opened(rt.alloc(), ident(LogKind::Udp, 0))?;
     let mut plain = Plain::new(rt.alloc());
-    assert!(rt; fill(rt.alloc(), &mut log, &mut plain, 30)?);
-    assert!(rt; gives_all(&log, &plain, 1408));
-    assert!(rt; fill(rt.alloc(), &mut log, &mut plain, 170)?);
-    assert!(rt; gives_all(&log, &plain, 0));
-    assert!(rt; gives_all(&log, &plain, 63));
-    assert!(rt; gives_all(&log, &plain, 1408));
-    assert!(rt; fill(rt.alloc(), &mut log, &mut plain, 200)?);
-    assert!(rt; plain.tail() > 655_360);
-    assert!(rt; gives_all(&log, &plain, 1407));
-    assert!(rt; gives_all(&log, &plain, 5000));
-    assert!(rt; gives_all(&log, &plain, 65_536));
-    assert_eq!(rt; log.tail(), plain.tail());
-    assert_eq!(rt; log.messages(), 400);
-    let lease = log.close();
-    assert!(rt; is_held(lease.bytes(), &plain));
+    assert!(rt; lists_are_kept(rt.alloc(), &mut log, &mut plain)?);
+    assert!(rt; plain.tail() > 655_360 && log.tail() == plain.tail() && log.messages() == 400);
+    assert!(rt; keeps_list(log, &plain));
     Ok(())
 }
 
 // A log with a pad at the end of a term, and two messages behind it: of 64 and of 160 positions.
-fn padded_log(alloc: Global, arena: &mut Arena) -> Result<TermLog, NoRoom> {
-    let mut log = open(alloc, arena, ident(LogKind::Udp, 65_504))?;
-    let _ = log.offer(b"x");
-    let _ = log.offer(b"x");
-    let _ = log.offer([7; 100].as_slice());
+fn padded_log(alloc: Global) -> Result<TermLog, NoRoom> {
+    let mut log = opened(alloc, ident(LogKind::Udp, 65_504))?;
+    put_three(&mut log);
     Ok(log)
+}
+
+fn put_three(log: &mut TermLog) {
+    log.offer(b"x");
+    log.offer(b"x");
+    log.offer(&[7; 100]);
 }
 
 // How many frames the log gives from a position on.
@@ -154,35 +219,75 @@ fn count_from(log: &TermLog, position: u64, budget: usize) -> usize {
     count
 }
 
+/// From a position on, within a budget, so many frames.
+const BUDGETS: [(u64, usize, usize); 7] = [
+    (65_504, 31, 0),
+    (65_504, 100_000, 1),
+    (65_536, 63, 0),
+    (65_536, 64, 1),
+    (65_536, 223, 1),
+    (65_536, 224, 2),
+    (65_760, 224, 0),
+];
+
+fn counts_each(log: &TermLog) -> bool {
+    let mut same = true;
+    for (position, budget, count) in BUDGETS {
+        same &= count_from(log, position, budget) == count;
+    }
+    same
+}
+
 // A budget ends between frames; of a pad it counts 32 bytes, and nothing is given behind one.
 #[test]
 fn frames_within_a_budget(rt: HostRuntime) -> Result<(), Fail> {
-    let mut arena = Arena::new(rt.alloc(), 48)?;
-    let log = padded_log(rt.alloc(), &mut arena)?;
-    assert!(rt; log.tail() == 65_760);
-    assert!(rt; count_from(&log, 65_504, 31) == 0);
-    assert!(rt; count_from(&log, 65_504, 100_000) == 1);
-    assert!(rt; count_from(&log, 65_536, 63) == 0);
-    assert!(rt; count_from(&log, 65_536, 64) == 1);
-    assert!(rt; count_from(&log, 65_536, 223) == 1);
-    assert!(rt; count_from(&log, 65_536, 224) == 2);
-    assert!(rt; count_from(&log, 65_760, 224) == 0);
+    let log = padded_log(rt.alloc())?;
+    assert!(rt; log.tail() == 65_760 && counts_each(&log));
     Ok(())
+}
+
+/// Which frames meet a range of so many positions, from a position on.
+const RANGES: [(u64, u64, &[u64]); 8] = [
+    (0, u64::MAX, &[65_504, 65_536, 65_600]),
+    (65_535, 1, &[65_504]),
+    (65_535, 2, &[65_504, 65_536]),
+    (65_599, 1, &[65_536]),
+    (65_599, 2, &[65_536, 65_600]),
+    (65_600, 0, &[]),
+    (65_760, 1, &[]),
+    (u64::MAX, u64::MAX, &[]),
+];
+
+fn meets_each(log: &TermLog, rows: &[(u64, u64, &[u64])]) -> bool {
+    let mut same = true;
+    for (position, size, wanted) in rows {
+        same &= begin_at(log.frames_over(*position, *size), wanted);
+    }
+    same
+}
+
+/// Ranges with a frame changed, one too few, one too many, and in another order.
+const OTHER_RANGES: [(u64, u64, &[u64]); 5] = [
+    (65_599, 2, &[65_536, 65_632]),
+    (65_599, 2, &[65_536]),
+    (65_599, 2, &[65_536, 65_600, 65_600]),
+    (65_599, 2, &[65_600, 65_536]),
+    (65_600, 0, &[65_600]),
+];
+
+fn tells_other_ranges(log: &TermLog) -> bool {
+    let mut told = true;
+    for (position, size, wanted) in OTHER_RANGES {
+        told &= !begin_at(log.frames_over(position, size), wanted);
+    }
+    told
 }
 
 // A frame meets a range also where they share but its filling, over the end of a term too.
 #[test]
 fn frames_over_a_range(rt: HostRuntime) -> Result<(), Fail> {
-    let mut arena = Arena::new(rt.alloc(), 48)?;
-    let log = padded_log(rt.alloc(), &mut arena)?;
-    let all = [65_504, 65_536, 65_600];
-    assert!(rt; begin_at(log.frames_over(0, u64::MAX), all.as_slice()));
-    assert!(rt; begin_at(log.frames_over(65_535, 1), &all[..1]));
-    assert!(rt; begin_at(log.frames_over(65_535, 2), &all[..2]));
-    assert!(rt; begin_at(log.frames_over(65_599, 1), &all[1..2]));
-    assert!(rt; begin_at(log.frames_over(65_599, 2), &all[1..]));
-    assert!(rt; begin_at(log.frames_over(65_600, 0), &all[..0]));
-    assert!(rt; begin_at(log.frames_over(65_760, 1), &all[..0]));
-    assert!(rt; begin_at(log.frames_over(u64::MAX, u64::MAX), &all[..0]));
+    let log = padded_log(rt.alloc())?;
+    assert!(rt; meets_each(&log, &RANGES) && tells_other_ranges(&log));
+    assert!(rt; !meets_each(&log, &[RANGES[1], OTHER_RANGES[0], RANGES[2]]));
     Ok(())
 }
