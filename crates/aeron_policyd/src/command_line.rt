@@ -148,7 +148,7 @@ Status: 0 when the script ended; 1 after a bad line, and after `aeron_policyd: F
 file, read failed, too long, write failed, no memory); 2 for a command line that is at fault.";
 
 /// What the command line asks for.
-#[derive(Clone, Copy, Debug, PartialEq, Eq)]
+#[derive(Clone, Copy)]
 pub enum Task<'a> {
     /// Whether a file is a policy.
     Check {
@@ -228,16 +228,24 @@ fn script<'a>(alloc: Global) -> Result<Command<'a>, AllocError> {
         .arg(file)
 }
 
+/// Adds a subcommand, if there was memory for it.
+fn with<'a>(
+    command: Command<'a>,
+    subcommand: Result<Command<'a>, AllocError>,
+) -> Result<Command<'a>, AllocError> {
+    command.subcommand(subcommand?)
+}
+
 /// The words that the program takes.
 pub(crate) fn command<'a>(alloc: Global) -> Result<Command<'a>, AllocError> {
-    Command::new(alloc, "aeron_policyd")
+    let command = Command::new(alloc, "aeron_policyd")
         .version(VERSION)
         .about(ABOUT)
         .after_help(USES)
-        .subcommand_required(true)
-        .subcommand(check(alloc)?)?
-        .subcommand(decide(alloc)?)?
-        .subcommand(script(alloc)?)
+        .subcommand_required(true);
+    let command = with(command, check(alloc))?;
+    let command = with(command, decide(alloc))?;
+    with(command, script(alloc))
 }
 
 fn decide_task<'a>(of: &ArgMatches<'a>) -> Option<Task<'a>> {
