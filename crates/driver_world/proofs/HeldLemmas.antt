@@ -6,6 +6,7 @@ use Rattle.std.proofs.lemmas.Bool.{ltb-true, ltb-false}
 use Rattle.std.proofs.lemmas.List.{drop_more, length-map, length-take-le, map-append, take_more}
 use Rattle.driver_world.specs.declared.answer.Answer.{Answer}
 use Rattle.driver_world.specs.Held.{HeldLog, HeldLogs, LiesAsBefore, held_at, with_held, place_at, with_readers, rejoined_held, readers_of}
+use Rattle.driver_world.specs.Memory.{Gives, GivesFirst, GivesHeld}
 use Rattle.driver_world.specs.Moves.{WholeLog, Move, Does, MovesFirst, MovesHeld}
 use Rattle.stream_registry.specs.declared.pairs.Pair.{Pair}
 use Rattle.term_log.specs.Whole.{rejoined_kept}
@@ -93,6 +94,14 @@ moves_at source move absent answer old at held log place is does lies =
     subst (λ o. MovesHeld source move absent old new answer o) (sym found)
     (log, does, lies, ap (λ l. let h : HeldLogs = record old { logs = l } in h) (sym (told.2 log)))
 
+-- the one at that place gives fragments
+pub gives_at : (source : ℕ) (move : WholeLog → Move) (old : HeldLogs) (at : ℕ) (held : HeldLog) → place_at old.logs source ≡ Some at
+    → held ≡ get_or old.logs at held → Gives move held → GivesFirst source move old
+gives_at source move old at held place is gives =
+    let told = found_at old.logs source at place in
+    let found : held_at old.logs source ≡ Some held = told.1 held ∙ ap Some (sym is) in
+    subst (λ o. GivesHeld move o) (sym found) gives
+
 -- an answer that comes, and that it did not come
 pub ok_each : {A E : Type 0} (P Q : A → Type 0) → ((a : A) → P a → Q a) → (r : Result A E) → IfOk r P → IfOk r Q
 ok_each P Q each (Ok a) is = each a is
@@ -101,6 +110,11 @@ ok_each P Q each (Err e) is = tt
 pub err_each : {A E : Type 0} (P Q : Type 0) → (P → Q) → (r : Result A E) → OnErr r P → OnErr r Q
 err_each P Q each (Ok a) is = tt
 err_each P Q each (Err e) is = each is
+
+-- what holds anyhow holds where it did not come
+pub err_given : {A E : Type 0} (P : Type 0) → P → (r : Result A E) → OnErr r P
+err_given P is (Ok a) = tt
+err_given P is (Err e) = is
 
 -- ---- who reads
 

@@ -8,6 +8,7 @@ use Rattle.driver_world.specs.declared.answer.Fragment.{Fragment}
 use Rattle.driver_world.specs.declared.answer.Offered.TheVariants.{NotConnected}
 use Rattle.driver_world.specs.Answers.{offered_as, fragment_of}
 use Rattle.driver_world.specs.Held.{HeldLog, LiesAsBefore}
+use Rattle.driver_world.specs.Memory.{Gives}
 use Rattle.driver_world.specs.Moves.{Does, CopiesFetched, answered, taken, given, offer_move, poll_move}
 use Rattle.term_log.specs.declared.offer.Offer.{Offer}
 use Rattle.term_log.specs.Frames.{Frame}
@@ -117,6 +118,21 @@ poll_given s client subscription limit held after request position fragments is 
           let made = copies.on log.whole stands.whole in
           let moved = carries.on log.whole stands.whole in
           rw (left, made) (refl, record { source_is = rw stays stands.source_is; whole = moved });
+    }
+
+-- so fragments are given, for which memory may be wanting
+pub poll_gives : (s : State) (client subscription limit : ℕ) (held : HeldLog) (request : LogRequest) (position : ℕ) →
+    receiving_of s client subscription held.source ≡ Some request → position_of held.log.pairs subscription ≡ Some position →
+    request.decision.verdict.allow ≡ true → Gives (poll_move s client subscription limit) held
+unfolding poll_move
+poll_gives s client subscription limit held request position is there allowed =
+    record {
+      on = λ log stands.
+          let asked : receiving_of s client subscription log.source ≡ Some request = rw (← stands.source_is) is in
+          let place = position_alike held.log log.whole subscription (Some position) stands.whole there in
+          let left : poll_move s client subscription limit log ≡ given subscription limit log =
+          rw (asked, place, allowed) refl in
+          rw left refl;
     }
 
 -- only who reads moves

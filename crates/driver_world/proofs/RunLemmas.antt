@@ -17,9 +17,10 @@ use Rattle.driver_world.specs.declared.step.Step.TheVariants.{Conductor, Offer, 
 use Rattle.driver_world.specs.Answers.{answered_by, answer_of}
 use Rattle.driver_world.specs.Ends.{RunEnd, IsAnswer, AreAnswers, after, end_of, moved, moved_on, on_log, log_at, conducted}
 use Rattle.driver_world.specs.Held.{HeldLogs}
+use Rattle.driver_world.specs.Memory.{GivesFirst, HasMemory, HaveMemory, takes_memory}
 use Rattle.driver_world.specs.Moves.{WholeLog, Move, MovesFirst, offer_move, offer_under, poll_move, poll_under}
-use Rattle.driver_world.specs.Standing.{Held, Takes, Serves, Runs, Continues}
-use Rattle.driver_world.proofs.StandLemmas.{moves_first}
+use Rattle.driver_world.specs.Standing.{Held, StandsForEnd, Takes, Serves, Runs, Continues}
+use Rattle.driver_world.proofs.StandLemmas.{gives_first, moves_first}
 use Rattle.term_log.specs.Log.{greatest_message}
 use Rattle.term_log.specs.Pairs.{position_of}
 use Rattle.term_log.specs.Whole.{is_connected}
@@ -62,6 +63,41 @@ told e step (Denied verdict) is_told is = (is, refl)
 told e step UnknownCounter is_told is = (is, refl)
 told e step WrongClient is_told is = (is, refl)
 
+-- such an answer asks for no memory
+told_has : (e : RunEnd) (step : Step) (answer : Answer) → IsTold answer → HasMemory e step answer
+told_has e step NoMemory is_told = absurd is_told
+told_has e step (Attached number) is_told = tt
+told_has e step Full is_told = tt
+told_has e step Stopped is_told = tt
+told_has e step (PolicyInForce epoch messages) is_told = tt
+told_has e step PolicyFull is_told = tt
+told_has e step (Replies messages) is_told = tt
+told_has e step (OfferedAs offered) is_told = tt
+told_has e step (Polled fragments) is_told = tt
+told_has e step IsGone is_told = tt
+told_has e step (Counters rows) is_told = tt
+told_has e step (ValueIs number) is_told = tt
+told_has e step (Denied verdict) is_told = tt
+told_has e step UnknownCounter is_told = tt
+told_has e step WrongClient is_told = tt
+
+-- what such an answer says, for each end that the world stands for
+record DoesStep (new : Held) (e : RunEnd) (step : Step) (answer : Answer) : Type 0 where
+  is_told : IsTold answer
+  given : answer ≡ (moved e step).answer
+  stands : StandsForEnd new (moved e step).after
+
+served : (old new : Held) (step : Step) (answer : Answer) → ((e : RunEnd) → StandsForEnd old e → DoesStep new e step answer) →
+    Serves old new step answer
+served old new step answer does =
+    record {
+      on = λ e stands.
+          let done = does e stands in
+          let told' = told e step answer done.is_told done.given in
+          (told'.0, rw told'.1 done.stands);
+      without_memory = λ e stands. told_has e step answer (does e stands).is_told;
+    }
+
 answered_told : (r : Response) (replies : List Message) → IsTold (answered_by r replies)
 answered_told response.Nothing replies = tt
 answered_told (response.Attached number) replies = tt
@@ -77,17 +113,14 @@ pub event_served : (old new : Held) (event : Event) (outcome : Outcome) → Take
     Serves old new (Conductor event) (answer_of outcome)
 unfolding answer_of conducted
 event_served old new event outcome takes =
-    record {
-      on = λ e stands.
-          let taken = takes.on e stands in
-          let is : answer_of outcome ≡ (moved e (Conductor event)).answer = rw taken.0 refl in
-          let told' = told e (Conductor event) (answer_of outcome) (answered_told outcome.response outcome.replies) is in
-          (told'.0, rw told'.1 taken.1);
-    }
+    served old new (Conductor event) (answer_of outcome) (λ e stands.
+    let taken = takes.on e stands in
+    record { is_told = answered_told outcome.response outcome.replies; given = rw taken.0 refl; stands = taken.1 })
 
 -- a step that is refused memory leaves all as it was
-pub refusal_served : (old new : Held) (step : Step) → new ≡ old → Serves old new step NoMemory
-refusal_served old new step same = record { on = λ e stands. (tt, rw same stands) }
+refusal_served : (old new : Held) (step : Step) → new ≡ old → ((e : RunEnd) → StandsForEnd old e → takes_memory e step ≡ true) →
+    Serves old new step NoMemory
+refusal_served old new step same takes = record { on = λ e stands. (tt, rw same stands); without_memory = takes }
 
 -- ---- a step on one log
 
@@ -121,13 +154,10 @@ pub closed_served : (held : Held) (now client registration : ℕ) (message : Lis
     offering_of held.registry client registration ≡ None →
     Serves held held (Offer now client registration message) (OfferedAs Closed)
 closed_served held now client registration message none =
-    record {
-      on = λ e stands.
-          let asked : offering_of e.registry client registration ≡ None = rw (← stands.registry) none in
-          let told' = told e (Offer now client registration message) (OfferedAs Closed) tt (rw asked refl) in
-          let left : (moved e (Offer now client registration message)).after ≡ e = rw asked refl in
-          (told'.0, rw (told'.1, left) stands);
-    }
+    served held held (Offer now client registration message) (OfferedAs Closed) (λ e stands.
+    let asked : offering_of e.registry client registration ≡ None = rw (← stands.registry) none in
+    let left : (moved e (Offer now client registration message)).after ≡ e = rw asked refl in
+    record { is_told = tt; given = rw asked refl; stands = rw left stands })
 
 -- an offer to the first log of the registration's source serves the client's step
 pub offer_served : (registry : State) (old new : HeldLogs) (now client registration : ℕ) (message : List ℕ) (request : LogRequest) (answer : Answer) →
@@ -137,23 +167,24 @@ pub offer_served : (registry : State) (old new : HeldLogs) (now client registrat
     (Offer now client registration message) answer
 unfolding on_log offer_move
 offer_served registry old new now client registration message request answer is moves =
+    served (record { registry = registry; logs = old.logs }) (record { registry = registry; logs = new.logs })
+    (Offer now client registration message) answer (λ e stands.
+    let asked : offering_of e.registry client registration ≡ Some request = rw (← stands.registry) is in
+    let there : MovesFirst request.source (offer_move e.registry now client registration message) (OfferedAs Closed) old new answer =
+    rw (← stands.registry) moves in
+    let made = moves_first e request.source (offer_move e.registry now client registration message) (OfferedAs Closed) answer old new stands.logs there in
+    let is_told : IsTold answer =
+    rw made.0
+    (moved_told e request.source (offer_move e.registry now client registration message) (OfferedAs Closed) (log_at e.logs request.source) tt
+    (λ log. offer_told e.registry now message log (offering_of e.registry client registration))) in
+    let left : (moved e (Offer now client registration message)).after
+    ≡ (moved_on e request.source (offer_move e.registry now client registration message) (OfferedAs Closed) (log_at e.logs request.source)).after =
+    rw asked refl in
     record {
-      on = λ e stands.
-          let asked : offering_of e.registry client registration ≡ Some request = rw (← stands.registry) is in
-          let there : MovesFirst request.source (offer_move e.registry now client registration message) (OfferedAs Closed) old new answer =
-          rw (← stands.registry) moves in
-          let made = moves_first e request.source (offer_move e.registry now client registration message) (OfferedAs Closed) answer old new stands.logs there in
-          let given : answer ≡ (moved e (Offer now client registration message)).answer = rw asked made.0 in
-          let is_told : IsTold answer =
-          rw made.0
-          (moved_told e request.source (offer_move e.registry now client registration message) (OfferedAs Closed) (log_at e.logs request.source) tt
-          (λ log. offer_told e.registry now message log (offering_of e.registry client registration))) in
-          let told' = told e (Offer now client registration message) answer is_told given in
-          let left : (moved e (Offer now client registration message)).after
-          ≡ (moved_on e request.source (offer_move e.registry now client registration message) (OfferedAs Closed) (log_at e.logs request.source)).after =
-          rw asked refl in
-          (told'.0, rw (told'.1, left) (record { registry = rw made.2 stands.registry; logs = made.1 }));
-    }
+      is_told = is_told;
+      given = rw asked made.0;
+      stands = rw left (record { registry = rw made.2 stands.registry; logs = made.1 });
+    })
 
 -- who is asked of the log of that source asks something of it
 sourced : (asked : Option LogRequest) (source : ℕ) → option_map (λ request. request.source) asked ≡ Some source →
@@ -184,19 +215,28 @@ pub poll_served : (registry : State) (old new : HeldLogs) (now client subscripti
     (Poll now client subscription source limit) answer
 unfolding on_log poll_move
 poll_served registry old new now client subscription source limit answer moves =
-    record {
-      on = λ e stands.
-          let there : MovesFirst source (poll_move e.registry client subscription limit) IsGone old new answer =
-          rw (← stands.registry) moves in
-          let made = moves_first e source (poll_move e.registry client subscription limit) IsGone answer old new stands.logs there in
-          let given : answer ≡ (moved e (Poll now client subscription source limit)).answer = made.0 in
-          let is_told : IsTold answer =
-          rw made.0
-          (moved_told e source (poll_move e.registry client subscription limit) IsGone (log_at e.logs source) tt
-          (λ log. poll_told subscription limit log (receiving_of e.registry client subscription log.source) (position_of log.whole.pairs subscription))) in
-          let told' = told e (Poll now client subscription source limit) answer is_told given in
-          (told'.0, rw told'.1 (record { registry = rw made.2 stands.registry; logs = made.1 }));
-    }
+    served (record { registry = registry; logs = old.logs }) (record { registry = registry; logs = new.logs })
+    (Poll now client subscription source limit) answer (λ e stands.
+    let there : MovesFirst source (poll_move e.registry client subscription limit) IsGone old new answer =
+    rw (← stands.registry) moves in
+    let made = moves_first e source (poll_move e.registry client subscription limit) IsGone answer old new stands.logs there in
+    let is_told : IsTold answer =
+    rw made.0
+    (moved_told e source (poll_move e.registry client subscription limit) IsGone (log_at e.logs source) tt
+    (λ log. poll_told subscription limit log (receiving_of e.registry client subscription log.source) (position_of log.whole.pairs subscription))) in
+    record { is_told = is_told; given = made.0; stands = record { registry = rw made.2 stands.registry; logs = made.1 } })
+
+-- a poll for whose fragments there is no memory serves it too
+pub poll_refused : (registry : State) (old new : HeldLogs) (now client subscription source limit : ℕ) → new ≡ old →
+    GivesFirst source (poll_move registry client subscription limit) old →
+    Serves (record { registry = registry; logs = old.logs }) (record { registry = registry; logs = new.logs })
+    (Poll now client subscription source limit) NoMemory
+unfolding on_log
+poll_refused registry old new now client subscription source limit same gives =
+    refusal_served (record { registry = registry; logs = old.logs }) (record { registry = registry; logs = new.logs })
+    (Poll now client subscription source limit) (rw same refl) (λ e stands.
+    let there : GivesFirst source (poll_move e.registry client subscription limit) old = rw (← stands.registry) gives in
+    gives_first e source (poll_move e.registry client subscription limit) IsGone old.logs stands.logs there)
 
 -- ---- runs
 
@@ -219,9 +259,19 @@ end_append e (step ∷ steps) more [] given are = absurd are
 end_append e (step ∷ steps) more (answer ∷ answers) given are =
     end_append (after e step answer) steps more answers given are.1
 
+-- and what each of both answers says of memory
+memory_append : (e : RunEnd) (steps more : List Step) (answers given : List Answer) →
+    AreAnswers e steps answers → HaveMemory e steps answers → HaveMemory (end_of e steps answers) more given →
+    HaveMemory e (steps ++ more) (answers ++ given)
+memory_append e [] more [] given are have next = next
+memory_append e [] more (answer ∷ answers) given are have next = absurd are
+memory_append e (step ∷ steps) more [] given are have next = absurd are
+memory_append e (step ∷ steps) more (answer ∷ answers) given are have next =
+    (have.0, memory_append (after e step answer) steps more answers given are.1 have.1 next)
+
 -- no step
 pub runs_none : (held : Held) → Runs held held [] []
-runs_none held = record { on = λ e stands. (tt, stands) }
+runs_none held = record { on = λ e stands. (tt, stands); without_memory = λ e stands. tt }
 
 -- one more step
 pub runs_more : (old middle new : Held) (steps : List Step) (step : Step) (answers : List Answer) (answer : Answer) →
@@ -235,6 +285,10 @@ runs_more old middle new steps step answers answer ran served =
             answers_append e steps (step ∷ []) answers (answer ∷ []) so_far.0 (last.0, tt),
             rw (end_append e steps (step ∷ []) answers (answer ∷ []) so_far.0) last.1,
           );
+      without_memory = λ e stands.
+          let so_far = ran.on e stands in
+          memory_append e steps (step ∷ []) answers (answer ∷ []) so_far.0 (ran.without_memory e stands)
+          (served.without_memory (end_of e steps answers) so_far.1, tt);
     }
 
 -- steps that run from each end continue each run
@@ -247,4 +301,6 @@ runs_continue old new steps answers ran =
             answers_append _ before steps earlier answers are next.0,
             rw (end_append _ before steps earlier answers are) next.1,
           );
+      without_memory = λ settings policy peers before earlier are have stands.
+          memory_append _ before steps earlier answers are have (ran.without_memory _ stands);
     }

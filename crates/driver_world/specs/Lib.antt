@@ -3,6 +3,7 @@ pub mod Ends
 pub mod Held
 pub mod Idents
 pub mod Laws
+pub mod Memory
 pub mod Moves
 pub mod Opening
 pub mod Standing

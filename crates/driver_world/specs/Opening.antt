@@ -1,8 +1,10 @@
--- The log that an event opens, if it opens one. Own rules.
-use Rattle.std.specs.Prelude.{◌≡◌, Option, Some, None}
+-- The log that an event opens, if it opens one, and what becomes of the others. Own rules.
+use Rattle.std.specs.Prelude.{◌≡◌, map, filter, Option, Some, None}
+use Rattle.driver_core.specs.declared.change.Change.{Change}
+use Rattle.driver_core.specs.Pairs.{pairs_of}
 use Rattle.driver_core.specs.Renewal.{publication_at}
 use Rattle.driver_core.specs.State.{State}
-use Rattle.driver_world.specs.Held.{HeldLogs, IsOpening, OpensFor}
+use Rattle.driver_world.specs.Held.{HeldLogs, IsOpening, OpensFor, is_kept, rejoined_held}
 use Rattle.stream_registry.specs.declared.lingering.LogPlace.{LogPlace}
 
 -- it can be opened, as the registry behind the event says
@@ -16,3 +18,13 @@ abbrev pub OpensNext : HeldLogs → HeldLogs → State → Option LogPlace → T
 OpensNext old new after None = new ≡ old
 OpensNext old new after (Some opens) =
     OpensFor old new after.settings opens.place (publication_at after.streams.publications opens.source)
+
+-- the log that the event opens is open, those are closed that it closes, and then exactly the pairs read
+pub record Follows (old new : HeldLogs) (change : Change) : Type 0 where
+  pub opened : HeldLogs
+  pub opens : OpensNext old opened change.after change.outcome.opens
+  pub left :
+      new
+      ≡ record opened {
+        logs = map (rejoined_held (pairs_of change.after)) (filter (is_kept change.outcome.closes) opened.logs);
+      }

@@ -14,6 +14,7 @@ use Rattle.driver_world.specs.declared.step.Step.{Step}
 use Rattle.driver_world.specs.Ends.{RunEnd, opening_end, conducted, inputs_of, IsAnswer, AreAnswers, after, end_of}
 use Rattle.driver_world.specs.Held.{HeldLog, HeldLogs}
 use Rattle.driver_world.specs.Idents.{ident_of}
+use Rattle.driver_world.specs.Memory.{HasMemory, HaveMemory}
 use Rattle.driver_world.specs.Moves.{WholeLog, StandsForLog}
 use Rattle.policy_core.specs.RuleList.{Rules}
 use Rattle.stream_registry.specs.declared.rows.Publication.{Publication}
@@ -79,13 +80,15 @@ pub record Takes (old new : Held) (event : Event) (outcome : Outcome) : Type 0 w
       (e : RunEnd) → StandsForEnd old e →
       (outcome ≡ (conduct e.registry event (inputs_of e.logs)).outcome) × StandsForEnd new (conducted e event).after
 
--- one step, for each end that the world stands for
+-- One step, for each end that the world stands for. Want of memory is an answer only to a step that may take some.
 pub record Serves (old new : Held) (step : Step) (answer : Answer) : Type 0 where
   pub on : (e : RunEnd) → StandsForEnd old e → IsAnswer e step answer × StandsForEnd new (after e step answer)
+  pub without_memory : (e : RunEnd) → StandsForEnd old e → HasMemory e step answer
 
 -- the steps in a row, for each end that the world stands for
 pub record Runs (old new : Held) (steps : List Step) (answers : List Answer) : Type 0 where
   pub on : (e : RunEnd) → StandsForEnd old e → AreAnswers e steps answers × StandsForEnd new (end_of e steps answers)
+  pub without_memory : (e : RunEnd) → StandsForEnd old e → HaveMemory e steps answers
 
 -- for every run whose end the world stood for, the answers continue that run by the steps, and the world stands for the new
 -- end
@@ -95,3 +98,8 @@ pub record Continues (old new : Held) (steps : List Step) (answers : List Answer
       StandsForEnd old (end_of (opening_end settings policy peers) before earlier) →
       AreAnswers (opening_end settings policy peers) (before ++ steps) (earlier ++ answers)
       × StandsForEnd new (end_of (opening_end settings policy peers) (before ++ steps) (earlier ++ answers))
+  pub without_memory : (settings : Settings) (policy : Rules) (peers : List Peer) (before : List Step) (earlier : List Answer) →
+      AreAnswers (opening_end settings policy peers) before earlier →
+      HaveMemory (opening_end settings policy peers) before earlier →
+      StandsForEnd old (end_of (opening_end settings policy peers) before earlier) →
+      HaveMemory (opening_end settings policy peers) (before ++ steps) (earlier ++ answers)

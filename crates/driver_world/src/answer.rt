@@ -39,7 +39,8 @@ pub struct Fragment {
 /// What a step is answered.
 #[derive(Debug, PartialEq, Eq, Drop)]
 pub enum Answer {
-    /// There was no memory for the step, and it changed nothing.
+    /// There was no memory for the step, and it changed nothing. Only an event, a look at all counters and a poll that is
+    /// neither gone nor denied are answered so.
     NoMemory,
     /// A client is attached, under this id.
     Attached(u64),

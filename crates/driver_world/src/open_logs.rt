@@ -3,6 +3,7 @@
 ghost use Rattle.driver_world.specs.Held.{IsLeastVacant, IsOpened, is_closed, is_kept, place_at, readers_of, rejoined_held, taken_pages, with_readers, without};
 ghost use Rattle.driver_world.specs.declared.answer.Answer.TheVariants.{Gone, Offered as OfferedAs};
 ghost use Rattle.driver_world.specs.declared.answer.Offered.TheVariants.{Closed};
+ghost use Rattle.driver_world.specs.Memory.{GivesFirst};
 ghost use Rattle.driver_world.specs.Moves.{MovesFirst, offer_move, poll_move};
 ghost use Rattle.log_arena.specs.Pages.{holes_of};
 ghost use Rattle.std.specs.Prelude.{◌≡◌, ℕ, ◌%◌, ◌<◌, ◌≤◌, [], length, map, filter, IfOk, OnOk, OnErr};
@@ -192,6 +193,7 @@ impl OpenLogs {
     ) -> Result<Answer, AllocError>
         ensures moved { IfOk result (λ answer. MovesFirst source (poll_move (V.shows view.now) client subscription limit) Gone self.old self.new answer) }
         ensures err { OnErr result (self.new ≡ self.old) }
+        ensures without_memory { OnErr result (GivesFirst source (poll_move (V.shows view.now) client subscription limit) self.old) }
     {
         let Some(at) = place_of(self.logs.as_slice(), source) else {
             return Ok(Answer::Gone);

@@ -1,6 +1,7 @@
 //! A log that a client polls.
 
 ghost use Rattle.driver_world.specs.Held.{LiesAsBefore};
+ghost use Rattle.driver_world.specs.Memory.{Gives};
 ghost use Rattle.driver_world.specs.Moves.{CopiesFetched, Does, poll_move};
 ghost use Rattle.std.specs.Prelude.{◌≡◌, IfOk, OnErr};
 
@@ -39,7 +40,7 @@ fn fragments_of(
 /// behind them. Pads are passed uncounted.
 ///
 /// # Errors
-/// Nothing is changed where there is no memory for the fragments.
+/// Nothing is changed where there is no memory for the fragments. A poll that is gone or denied takes none.
 #[tactic(auto, unfolding(crate::specs::Moves::poll_move))]
 pub fn poll_step<V: View>(
     view: &V,
@@ -52,6 +53,7 @@ pub fn poll_step<V: View>(
     ensures does { IfOk result (λ answer. Does (poll_move (V.shows view.now) client subscription limit) log.old log.new answer) }
     ensures lies { LiesAsBefore log.old log.new }
     ensures err { OnErr result (log.new ≡ log.old) }
+    ensures without_memory { OnErr result (Gives (poll_move (V.shows view.now) client subscription limit) log.old) }
 {
     let Some(request) = view.registry().receiving(client, subscription, log.source) else {
         return Ok(Answer::Gone);

@@ -1,16 +1,19 @@
-ghost use Rattle.std.specs.Prelude.{◌≡◌, IfOk, OnOk, OnErr};
+ghost use Rattle.std.specs.Prelude.{◌≡◌, ℕ, ◌≤◌, length, IfOk, OnOk, OnErr};
 ghost use Rattle.driver_core.specs.Conduct.{conduct};
+ghost use Rattle.driver_core.specs.Pairs.{pairs_of};
 ghost use Rattle.driver_core.specs.Soundness.{AreSettings, IsSound, MovesLogs};
 ghost use Rattle.driver_world.specs.Ends.{inputs_of};
-ghost use Rattle.driver_world.specs.Opening.{CanOpen, OpensNext};
+ghost use Rattle.driver_world.specs.Held.{inputs_held, readers_of};
+ghost use Rattle.driver_world.specs.Opening.{CanOpen, Follows, OpensNext};
 
 use crate::answer::{Answer, Offered};
 use crate::inputs::inputs_of;
+use crate::open_log::OpenLog;
 use crate::open_logs::OpenLogs;
 use crate::opening::open_for;
 use crate::step::Step;
 use byte_strings::Items;
-use driver_core::{Change, Event, Inputs, Outcome, Peer, Registry, Settings};
+use driver_core::{Change, Event, Outcome, Peer, Registry, Settings};
 use policy_core::Policy;
 use std::alloc::{AllocError, Global};
 use std::marker::Model;
@@ -33,17 +36,18 @@ impl Model for World {
     ghost invariant = { λ world. Match world.registry world.logs };
 }
 
-/// What the event makes of the registry, which itself stays as it is.
+/// What the event makes of the registry, which itself stays as it is, where the logs are these.
 fn change_of(
     registry: &Registry,
     alloc: Global,
     event: &Event,
-    inputs: &Inputs,
+    logs: &[OpenLog],
 ) -> Result<Change, AllocError>
-    ensures exact { IfOk result (λ change. change ≡ conduct registry.now event.now inputs.now) }
+    ensures exact { IfOk result (λ change. change ≡ conduct registry.now event.now (inputs_held logs.now)) }
     ensures moves { IfOk result (λ change. IsSound registry.now → MovesLogs registry.now change) }
 {
-    registry.next(alloc, event, inputs)
+    let inputs = inputs_of(alloc, logs)?;
+    registry.next(alloc, event, &inputs)
 }
 
 /// Opens the log that an event opens, if it opens one.
@@ -64,6 +68,25 @@ fn open_next(
         return Ok(());
     };
     open_for(logs, alloc, after, place)
+}
+
+/// The logs follow the change of an event: the log that it opens is opened before those are closed that it closes, and
+/// then the pairs read.
+///
+/// # Errors
+/// Nothing is changed where there is no memory for it.
+fn follow(logs: &mut OpenLogs, alloc: Global, change: &Change) -> Result<(), AllocError>
+    requires opens { CanOpen logs.old change.now.after change.now.outcome.opens }
+    requires few { (source : ℕ) → length (readers_of (pairs_of change.now.after) source) ≤ 512 }
+    ensures followed { OnOk result (Follows logs.old logs.new change.now) }
+    ensures err { OnErr result (logs.new ≡ logs.old) }
+{
+    let pairs = change.after.pairs(alloc)?;
+    let mut room = Vec::with_capacity(alloc, pairs.len())?;
+    open_next(logs, alloc, &change.after, change.outcome.opens)?;
+    logs.close(change.outcome.closes.as_slice());
+    logs.rejoin(pairs.as_slice(), &mut room);
+    Ok(())
 }
 
 impl World {
@@ -97,19 +120,13 @@ impl World {
         self.logs.holes()
     }
 
-    /// The conductor takes an event: the log that it opens is opened before those are closed that it closes, and then
-    /// the pairs read.
+    /// The conductor takes an event, and the logs follow.
     fn take(&mut self, alloc: Global, event: &Event) -> Result<Outcome, AllocError>
         ensures taken { IfOk result (λ outcome. Takes self.old self.new event.now outcome) }
         ensures err { OnErr result (self.new ≡ self.old) }
     {
-        let inputs = inputs_of(alloc, self.logs.as_slice())?;
-        let change = change_of(&self.registry, alloc, event, &inputs)?;
-        let pairs = change.after.pairs(alloc)?;
-        let mut room = Vec::with_capacity(alloc, pairs.len())?;
-        open_next(&mut self.logs, alloc, &change.after, change.outcome.opens)?;
-        self.logs.close(change.outcome.closes.as_slice());
-        self.logs.rejoin(pairs.as_slice(), &mut room);
+        let change = change_of(&self.registry, alloc, event, self.logs.as_slice())?;
+        follow(&mut self.logs, alloc, &change)?;
         self.registry = change.after;
         Ok(change.outcome)
     }
@@ -173,7 +190,8 @@ impl World {
         Answer::shown(self.registry.value(alloc, client, number))
     }
 
-    /// Takes one step.
+    /// Takes one step. No offer, no look at one counter and no poll that is gone or denied is answered
+    /// [`Answer::NoMemory`].
     pub fn step(&mut self, alloc: Global, step: &Step) -> Answer
         ensures { Serves self.old self.new step.now result }
     {
@@ -202,7 +220,7 @@ impl World {
     }
 
     /// Takes the steps in their order, and gives the answer of each. For every run that led to this world, the answers
-    /// continue that run.
+    /// continue that run; only steps that may take memory are answered [`Answer::NoMemory`].
     ///
     /// # Errors
     /// Where there is no memory for the list of answers, no step is taken.

@@ -47,8 +47,10 @@ fn read_data(bytes: &[u8]) -> Result<Packet<'_>, BadPacket>
 }
 
 impl Datagram {
-    /// What the datagram holds, or its first fault, in the order in which `BadPacket` has them. Bytes behind a NAK, a
-    /// status message or a SETUP are not looked at. Takes no memory.
+    /// What the datagram holds, or the first fault of its first faulty frame. Looked at are, in this order: whether there
+    /// are 8 bytes, and 32 of a later frame; the version; the type; whether there are as many bytes as the type has at
+    /// least; the length, with term offset and receiver window; the alignment; and of a later frame whether it may stand
+    /// there. Bytes behind a NAK, a status message or a SETUP are not looked at. Takes no memory.
     #[tactic(auto, unfolding(crate::specs::Datagram::packet_of))]
     pub fn read(bytes: &[u8]) -> Result<Packet<'_>, BadPacket>
         ensures { Equals content result (packet_of bytes.now) }

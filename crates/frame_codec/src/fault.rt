@@ -4,8 +4,9 @@ ghost use Rattle.std.specs.Prelude.{Some};
 use std::error::Error;
 use std::fmt;
 
-/// Why a datagram is dropped. Faults are looked for in the order in which they stand here; the whole datagram is
-/// dropped by the first fault of its first faulty frame.
+/// Why a datagram is dropped: the whole of it, by the first fault of its first faulty frame. The faults of a frame are
+/// looked for in the order in which they stand here, but for one: whether there are as many bytes as the frame's type has
+/// at least is looked at behind version and type.
 #[derive(Clone, Copy, Debug, PartialEq, Eq)]
 pub enum BadPacket {
     /// There are fewer than 8 bytes, or fewer than the frame's type has at least. Of the bytes behind a frame and its

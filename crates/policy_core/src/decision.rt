@@ -8,8 +8,9 @@ pub struct Decision {
     pub principal: u32,
     /// What was to be done.
     pub act: Act,
-    /// The number of what it was to be done to: a registration, a subscription, a log's source or a destination, by the
-    /// act; 0 for a command.
+    /// The number of what it was to be done to, by the act: the registration by which is offered; the subscription that
+    /// an image is for, or that receives; the source of the log of which is retransmitted; the destination to which is
+    /// sent; the counter that is listed; 0 for a command.
     pub subject: u64,
     /// On which stream.
     pub stream: i32,

@@ -129,8 +129,11 @@ fn policy_from(alloc: Global, table: &Table, names: &Names) -> Result<Policy, Po
 /// Reads a policy's text: a TOML document whose principals are among `names`.
 ///
 /// # Errors
-/// The first fault of the text, in the order of [`PolicyFault`]; rules are looked at one by one, and each field by
-/// field.
+/// The first fault of the text. Looked at are, in this order: whether it is TOML; the version; the keys of the document;
+/// the default; whether the rules are an array of tables; how many they are; and then the rules, one by one. Of a rule:
+/// its keys, name, principal, acts, pattern, range of stream ids and word. Of a principal, an act or a range its form is
+/// looked at first, and then whether it is known or sound; of a list of acts the form of each before any is asked for.
+/// [`PolicyFault::NoMemory`] comes where memory is wanting before a fault is found.
 #[tactic(auto, unfolding(crate::specs::Document::policy_of))]
 pub fn read(alloc: Global, text: &str, names: &Names) -> Result<Policy, PolicyFault>
     ensures exact { Gives (λ policy. policy) result (policy_of names.now text.now) }

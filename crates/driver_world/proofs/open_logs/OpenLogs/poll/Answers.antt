@@ -3,8 +3,9 @@ use Rattle.std.specs.Prelude.{slice_set}
 use Rattle.std.proofs.lemmas.List.{get_or_default, set-get_or}
 use Rattle.driver_world.specs.declared.answer.Answer.TheVariants.{Gone}
 use Rattle.driver_world.specs.Held.{HeldLog, HeldLogs, LiesAsBefore, place_at}
+use Rattle.driver_world.specs.Memory.{Gives, GivesFirst}
 use Rattle.driver_world.specs.Moves.{Does, MovesFirst, poll_move}
-use Rattle.driver_world.proofs.HeldLemmas.{err_each, found_at, moves_at, moves_none, ok_each}
+use Rattle.driver_world.proofs.HeldLemmas.{err_each, found_at, gives_at, moves_at, moves_none, ok_each}
 use Rattle.driver_world.proofs.HousedLemmas.{housed_set}
 use Rattle.driver_world.proofs.open_logs.OpenLogs.poll.Goals as goal
 
@@ -54,3 +55,16 @@ returns-clause-err g c =
     (ap (λ h. slice_set logs c.in-Some.at h) (same ∙ c.index_mut.ensures.value) ∙ set-get_or logs c.in-Some.at held)
     ∙ c.self.view_is)
     c.poll_step.result c.poll_step.ensures.err
+
+pub returns-clause-without_memory : goal.returns-clause-without_memory
+returns-clause-without_memory g c =
+    let old : HeldLogs = record { pages = c.self.inside.arena.home.pages; logs = c.self.inside.logs.items } in
+    let held : HeldLog = c.index_mut.result.now in
+    let move = poll_move (g.V.View.shows c.args.view.now) c.args.client c.args.subscription c.args.limit in
+    let place : place_at old.logs c.args.source ≡ Some c.in-Some.at =
+    ap (λ l. place_at l c.args.source) (sym c.as_slice.ensures.value) ∙ sym c.place_of.ensures ∙ c.in-Some.is in
+    err_each (Gives move held) (GivesFirst c.args.source move c.args.self.now)
+    (λ gives.
+    subst (λ (h : HeldLogs). GivesFirst c.args.source move h) c.self.view_is
+    (gives_at c.args.source move old c.in-Some.at held place c.index_mut.ensures.value gives))
+    c.poll_step.result c.poll_step.ensures.without_memory

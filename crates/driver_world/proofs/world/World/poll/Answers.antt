@@ -1,7 +1,6 @@
 use Rattle.driver_world.specs.declared.answer.Answer.TheVariants.{Gone}
-use Rattle.driver_world.specs.declared.step.Step.TheVariants.{Poll}
 use Rattle.driver_world.specs.Moves.{poll_move}
-use Rattle.driver_world.proofs.RunLemmas.{poll_served, refusal_served}
+use Rattle.driver_world.proofs.RunLemmas.{poll_refused, poll_served}
 use Rattle.driver_world.proofs.StandLemmas.{match_moved}
 use Rattle.driver_world.proofs.world.World.poll.Goals as goal
 
@@ -15,8 +14,8 @@ invariant_of-self-2 c =
 
 pub returns-in_default : goal.returns-in_default
 returns-in_default c =
-    refusal_served _ _ (Poll c.args._now c.args.client c.args.subscription c.args.source c.args.limit)
-    (rw c.in_default.ensures.err c.self.view_is)
+    rw (← c.self.view_is)
+    (poll_refused c.self.inside.registry c.self.inside.logs c.poll.new.self c.args._now c.args.client c.args.subscription c.args.source c.args.limit c.in_default.ensures.err c.in_default.ensures.without_memory)
 
 pub returns : goal.returns
 returns c =
