@@ -2,17 +2,11 @@
 #![tactic(auto)]
 
 #[cfg(test)]
-mod clients;
-#[cfg(test)]
 mod deciding;
 #[cfg(test)]
 mod ends;
 #[cfg(test)]
-mod messages;
-#[cfg(test)]
 mod play;
-#[cfg(test)]
-mod publications;
 #[cfg(test)]
 mod reading;
 #[cfg(test)]

@@ -5,7 +5,6 @@ use driver_core::Event;
 use driver_script::answers::AnswerLine;
 use driver_script::line::{Line, read_line};
 use driver_script::output::write_whole;
-use driver_script::statements::{Said, Statement, Statements};
 use driver_script::{MayFail, RunFault, read_input};
 use driver_world::{Offered, Step};
 use frame_codec::Flags;
@@ -44,6 +43,7 @@ fn is_not_read(alloc: Global, left: usize, fails: bool, fault: RunFault) -> bool
 fn a_script_is_read_whole(rt: HostRuntime) {
     assert!(rt; is_read(rt.alloc(), b"attach 0 7\n"));
     assert!(rt; is_read(rt.alloc(), b""));
+    assert!(rt; !is_not_read(rt.alloc(), 0, true, RunFault::TooLong));
     assert!(rt; are_read(rt.alloc(), 16_777_216));
 }
 
@@ -176,6 +176,7 @@ fn events_are_read(rt: HostRuntime) {
     };
     assert!(rt; is_event(rt.alloc(), "attach 18446744073709551615 0", attach));
     assert!(rt; is_event(rt.alloc(), "tick 5", Event::Tick { now: 5 }));
+    assert!(rt; !is_event(rt.alloc(), "tick 5", Event::Tick { now: 6 }));
 }
 
 /// Whether the line is this step.
@@ -383,173 +384,7 @@ fn other_lines_are_bad(rt: HostRuntime) {
     assert!(rt; are_bad(rt.alloc(), &BAD));
     assert!(rt; is_bad(rt.alloc(), b"# \xc3\xa9"));
     assert!(rt; is_bad(rt.alloc(), b"principal \xff 1"));
-}
-
-/// Whether the next statement is this one.
-fn gives_so(alloc: Global, statements: &mut Statements<'_>, wanted: &Option<Statement>) -> bool {
-    match statements.next(alloc) {
-        Ok(taken) => are_alike(alloc, &taken, wanted),
-        Err(_) => false,
-    }
-}
-
-/// Whether the next statement is on this line and says this, which is to be there.
-fn gives(
-    alloc: Global,
-    statements: &mut Statements<'_>,
-    line: u64,
-    said: Result<Said, AllocError>,
-) -> bool {
-    match said {
-        Ok(said) => gives_so(alloc, statements, &Some(Statement { line, said })),
-        Err(_) => false,
-    }
-}
-
-/// Whether there is no other statement.
-fn is_over(alloc: Global, statements: &mut Statements<'_>) -> bool {
-    matches!(statements.next(alloc), Ok(None))
-}
-
-fn said_principal(alloc: Global, name: &str, number: u32) -> Result<Said, AllocError> {
-    let name = Text::new(alloc, name)?;
-    Ok(Said::Principal { name, number })
-}
-
-fn said_policy(alloc: Global, text: &str) -> Result<Said, AllocError> {
-    Ok(Said::Policy(Text::new(alloc, text)?))
-}
-
-fn said_attach() -> Said {
-    Said::Does(Step::Conductor(Event::Attach {
-        now: 0,
-        principal: 7,
-    }))
-}
-
-fn said_command(alloc: Global) -> Result<Said, AllocError> {
-    Ok(Said::Does(command(alloc, 0, 1, b"")?))
-}
-
-const SCRIPT: &[u8] =
-    b"# the first one\nprincipal alice 7\n\npolicy\n# open\nversion = 1\n\n.\nattach 0 7\n#\n\
-policy\n.\ncmd 0 1 -\npolicy\nversion = 2\n.";
-
-#[test]
-fn a_script_is_principals_policies_and_steps(rt: HostRuntime) {
-    let mut statements = Statements::new(SCRIPT);
-    let alice = said_principal(rt.alloc(), "alice", 7);
-    assert!(rt; gives(rt.alloc(), &mut statements, 2, alice));
-    let policy = said_policy(rt.alloc(), "# open\nversion = 1\n\n");
-    assert!(rt; gives(rt.alloc(), &mut statements, 4, policy));
-    assert!(rt; gives(rt.alloc(), &mut statements, 9, Ok(said_attach())));
-    let policy = said_policy(rt.alloc(), "");
-    assert!(rt; gives(rt.alloc(), &mut statements, 11, policy));
-    assert!(rt; gives(rt.alloc(), &mut statements, 13, said_command(rt.alloc())));
-    let policy = said_policy(rt.alloc(), "version = 2\n");
-    assert!(rt; gives(rt.alloc(), &mut statements, 14, policy));
-    assert!(rt; is_over(rt.alloc(), &mut statements));
-    assert!(rt; is_over(rt.alloc(), &mut statements));
-}
-
-/// Where the statements stand.
-#[derive(Clone, Copy, PartialEq, Eq)]
-enum Place {
-    /// Behind a statement.
-    Within,
-    /// Behind a bad line of that number.
-    Bad(u64),
-    /// Behind the last statement.
-    End,
-    /// There was no memory for the next one.
-    NoMemory,
-}
-
-/// Where the statements stand behind the next one.
-fn place_behind(alloc: Global, statements: &mut Statements<'_>) -> Place {
-    match statements.next(alloc) {
-        Ok(Some(statement)) => match statement.said {
-            Said::Bad => Place::Bad(statement.line),
-            _ => Place::Within,
-        },
-        Ok(None) => Place::End,
-        Err(_) => Place::NoMemory,
-    }
-}
-
-/// Where the statements stand behind the last one or a bad line.
-fn last_place(alloc: Global, statements: &mut Statements<'_>) -> Place {
-    for _ in 0..1000u64 {
-        let place = place_behind(alloc, statements);
-        if place != Place::Within {
-            return place;
-        }
-    }
-    Place::Within
-}
-
-/// Whether the first bad line of the script has this number, and nothing is behind it; with no number, whether there
-/// is none.
-fn is_bad_at(alloc: Global, script: &str, line: Option<u64>) -> bool {
-    if script.len() >= 1000 {
-        return false;
-    }
-    let mut statements = Statements::new(script.as_bytes());
-    let wanted = match line {
-        Some(number) => Place::Bad(number),
-        None => Place::End,
-    };
-    last_place(alloc, &mut statements) == wanted && is_over(alloc, &mut statements)
-}
-
-/// Whether each script is bad at the line behind it, or sound.
-fn are_bad_at(alloc: Global, rows: &[(&str, Option<u64>)]) -> bool {
-    for &(script, line) in rows {
-        if !is_bad_at(alloc, script, line) {
-            return false;
-        }
-    }
-    true
-}
-
-const SCRIPTS: [(&str, Option<u64>); 17] = [
-    ("", None),
-    ("\n\n", None),
-    ("principal alice 7", None),
-    ("policy\n.\n", None),
-    ("policy\n.\n\nattach 0 7\n", None),
-    // A step before the policy.
-    ("\nattach 0 7\n", Some(2)),
-    ("tick 0\n", Some(1)),
-    // Settings, which are looked at only where the driver is opened.
-    ("set mtu 1\nset mtu 1\nset x y\n", None),
-    ("attach 0 7\nwhat\n", Some(1)),
-    // A policy without its last line.
-    ("\npolicy\nversion = 1\n", Some(2)),
-    ("policy\nversion = 1\n. \n..\n", Some(1)),
-    // Behind the policy.
-    ("policy\n.\nprincipal alice 7\n", Some(3)),
-    ("policy\n.\nset mtu 1408\n", Some(3)),
-    ("policy\n.\n.\n", Some(3)),
-    ("policy\n.\npolicy\n.\nprincipal alice 7\n", Some(5)),
-    // A later policy, and one without its last line.
-    (
-        "policy\n.\nattach 0 7\npolicy\n.\npolicy\n.\nattach 0 7\n",
-        None,
-    ),
-    ("policy\n.\nattach 0 7\npolicy\nversion = 1\n", Some(4)),
-];
-
-#[test]
-fn a_bad_line_ends_the_script(rt: HostRuntime) {
-    assert!(rt; are_bad_at(rt.alloc(), &SCRIPTS));
-    let mut statements = Statements::new(b"policy\n# \xc3\xa9\n.\n");
-    assert!(rt; gives(rt.alloc(), &mut statements, 2, Ok(Said::Bad)));
-    assert!(rt; is_over(rt.alloc(), &mut statements));
-    let mut statements = Statements::new(b"policy\n.\npolicy\n\xff\n.\n");
-    assert!(rt; gives(rt.alloc(), &mut statements, 1, said_policy(rt.alloc(), "")));
-    assert!(rt; gives(rt.alloc(), &mut statements, 4, Ok(Said::Bad)));
-    assert!(rt; is_over(rt.alloc(), &mut statements));
+    assert!(rt; !are_bad(rt.alloc(), &["tick", "tick 5"]));
 }
 
 /// Whether each answer is written as the text behind it.
@@ -657,6 +492,7 @@ const ANSWERS: [(AnswerLine<'static>, &str); 28] = [
 #[test]
 fn answers_are_written(rt: HostRuntime) {
     assert!(rt; are_shown(rt.alloc(), &ANSWERS));
+    assert!(rt; !are_shown(rt.alloc(), &[(AnswerLine::Poll(0), "poll 1\n")]));
     assert!(rt; is_shown(rt.alloc(), &RunFault::Read, "read failed"));
     assert!(rt; is_shown(rt.alloc(), &RunFault::TooLong, "too long"));
     assert!(rt; is_shown(rt.alloc(), &RunFault::Write, "write failed"));

@@ -1,37 +1,23 @@
-use crate::play::{is_bad_at, writes, writes_up_to};
 use byte_strings::Text;
 use driver_core::{Address, Settings};
 use driver_script::settings::Choices;
 use std::alloc::{AllocError, Global};
 
-const POLICY: &str = "policy\nversion = 1\ndefault = \"allow\"\n.\n";
-
-const ATTACH: &str = "attach 0 7\n";
-
-/// Whether a script with this setting is opened. Its logs share little memory where the setting does not say how much.
-fn takes(alloc: Global, key: &str, value: &str) -> bool {
-    let pages = if key == "arena-pages" {
-        ""
-    } else {
-        "set arena-pages 1\n"
-    };
-    let script = [
-        "# settings\nset ",
-        key,
-        " ",
-        value,
-        "\n",
-        pages,
-        POLICY,
-        ATTACH,
-    ];
-    writes(alloc, &script, &["attached 1\n"])
+/// Whether a setting was chosen, or is not the default one.
+fn is_chosen(alloc: Global, key: &str, value: &str) -> Result<bool, AllocError> {
+    let mut choices = Choices::new(alloc);
+    let chosen = choices.choose(Text::new(alloc, key)?, value)?;
+    Ok(chosen || choices.settings != Settings::default())
 }
 
-/// Whether a script with this setting is bad at its line.
+/// Whether the key takes this value.
+fn takes(alloc: Global, key: &str, value: &str) -> bool {
+    is_chosen(alloc, key, value) == Ok(true)
+}
+
+/// Whether the key does not take this value, and nothing is changed.
 fn refuses(alloc: Global, key: &str, value: &str) -> bool {
-    let script = ["# settings\nset ", key, " ", value, "\n", POLICY, ATTACH];
-    writes_up_to(alloc, &script, 2, "line 2: bad line\n")
+    is_chosen(alloc, key, value) == Ok(false)
 }
 
 /// Whether the key takes each of these values.
@@ -131,7 +117,7 @@ fn sizes_are_those_of_channels_in_bytes(rt: HostRuntime) {
     assert!(rt; refuses_each(rt.alloc(), "term-length", &NO_TERM_LENGTHS));
     assert!(rt; takes_each(rt.alloc(), "mtu", &["64", "65504", "0001408"]));
     assert!(rt; refuses_each(rt.alloc(), "mtu", &NO_MTUS));
-    assert!(rt; takes_each(rt.alloc(), "arena-pages", &["1", "001"]));
+    assert!(rt; takes_each(rt.alloc(), "arena-pages", &["1", "65536", "001"]));
     assert!(rt; refuses_each(rt.alloc(), "arena-pages", &NO_PAGES));
 }
 
@@ -187,51 +173,8 @@ const NO_KEYS: [&str; 7] = [
 #[test]
 fn other_keys_are_bad(rt: HostRuntime) {
     assert!(rt; all_refuse(rt.alloc(), &NO_KEYS, &["1408", "65536"]));
-}
-
-/// Whether a script that begins with these lines is bad at that one.
-fn is_bad(alloc: Global, head: &str, line: u64) -> bool {
-    is_bad_at(alloc, &[head, POLICY, ATTACH], line)
-}
-
-const LINGER_TWICE: &str = "set linger 1\nprincipal alice 7\n\nset mtu 64\nset linger 2\n";
-
-const DELAY_TWICE: &str = "set nak-delay 1\nset nak-repeat 1\nset nak-delay 1\n";
-
-#[test]
-fn a_key_is_given_once(rt: HostRuntime) {
-    assert!(rt; is_bad(rt.alloc(), "set mtu 1408\nset mtu 1408\n", 2));
-    assert!(rt; is_bad(rt.alloc(), LINGER_TWICE, 5));
-    assert!(rt; is_bad(rt.alloc(), DELAY_TWICE, 3));
-    // A bad value ends the script before the key is given again.
-    assert!(rt; is_bad(rt.alloc(), "set mtu 1\nset mtu 1408\n", 1));
-    assert!(rt;
-        is_bad(
-            rt.alloc(),
-            "set mtu 64\nprincipal nobody 7\nset mtu 64\n",
-            2
-        )
-    );
-}
-
-const MIXED: &str = "set client-liveness 4\nprincipal alice 7\nset mtu 64\nprincipal bob 8\n";
-
-#[test]
-fn settings_and_principals_stand_in_any_order(rt: HostRuntime) {
-    let script = [MIXED, POLICY, ATTACH, "set mtu 64\n"];
-    assert!(rt; writes_up_to(rt.alloc(), &script, 10, "attached 1\nline 10: bad line\n"));
-}
-
-/// A client is gone past the liveness that the script chose.
-#[test]
-fn the_driver_has_the_settings(rt: HostRuntime) {
-    let script = [
-        "set client-liveness 4\n",
-        POLICY,
-        "attach 3 7\ntick 7\ntick 8\n",
-    ];
-    let wanted = "attached 1\nreply 1 0a0f00000100000000000000\n";
-    assert!(rt; writes(rt.alloc(), &script, &[wanted]));
+    assert!(rt; !all_refuse(rt.alloc(), &["mtu", "linge"], &["1", "1408"]));
+    assert!(rt; !all_take(rt.alloc(), &["linger", "mtu"], &["64", "1"]));
 }
 
 /// Whether a choice is taken, and not taken again.
@@ -259,6 +202,8 @@ fn a_duration_is_that_of_its_key(rt: HostRuntime) {
     let mut settings = Settings::default();
     settings.client_liveness = 3;
     assert!(rt; chooses(rt.alloc(), "client-liveness", "3", &settings));
+    assert!(rt; !chooses(rt.alloc(), "client-liveness", "4", &settings));
+    assert!(rt; !chooses(rt.alloc(), "image-liveness", "3", &settings));
     let mut settings = Settings::default();
     settings.image_liveness = 3;
     assert!(rt; chooses(rt.alloc(), "image-liveness", "3", &settings));

@@ -1,35 +1,52 @@
-//! A registry that tests put events to. Where no memory is there, nothing is as a test expects.
+//! A registry to which tests put events. Where no memory is there, nothing is as a test expects.
 
-use crate::play::subscription;
-use byte_strings::{Bytes, Items};
-use command_codec::{Body, Command};
-use driver_core::{
-    End, Event, Inputs, Listed, LogRequest, Message, Outcome, Registry, Response, Settings, Shown,
-    View,
-};
-use policy_core::{Act, Decision, Policy, Verdict};
+use byte_strings::{Bytes, Text};
+use command_codec::{AddPublication, AddSubscription, Body, Command, Removal, TerminateDriver};
+use driver_core::{Event, Inputs, LogRequest, Outcome, Registry, Response, Settings};
+use policy_core::{Decision, Policy};
 use std::alloc::{AllocError, Global};
 use std::test::Fail;
 use stream_registry::{LogPlace, Pair};
 
-/// A registry, and where its memory comes from.
-#[derive(Drop)]
-pub(crate) struct Conductor {
-    alloc: Global,
-    registry: Registry,
+/// An event. A command is one of client 1 with correlation id 11, on `aeron:ipc` and on stream 10 where no other is
+/// named.
+#[derive(Clone, Copy, PartialEq, Eq)]
+pub(crate) enum Deed {
+    /// A client of principal 7 comes.
+    Attach,
+    Subscribe,
+    Unsubscribe(u64),
+    Publish(i32),
+    PublishAlone,
+    Unpublish(u64),
+    Terminate,
+    /// A policy without rules is put in force, which allows all or nothing.
+    Reload(bool),
+    Tick(u64),
 }
 
-/// Bytes over the handle of client 1.
-pub(crate) fn sent(alloc: Global, bytes: &[u8]) -> Result<Event, AllocError> {
-    Ok(Event::Command {
-        now: 0,
-        client: 1,
-        bytes: Bytes::new(alloc, bytes)?,
+fn subscription(alloc: Global) -> Result<Body, AllocError> {
+    Ok(Body::AddSubscription(AddSubscription {
+        registration_correlation: 0,
+        stream: 10,
+        channel: Text::new(alloc, "aeron:ipc")?,
+    }))
+}
+
+fn publication(alloc: Global, stream: i32) -> Result<AddPublication, AllocError> {
+    Ok(AddPublication {
+        stream,
+        channel: Text::new(alloc, "aeron:ipc")?,
     })
 }
 
-/// A command of client 1 with correlation id 11.
-pub(crate) fn asked(alloc: Global, now: u64, body: Body) -> Result<Event, AllocError> {
+fn termination(alloc: Global) -> Result<Body, AllocError> {
+    Ok(Body::TerminateDriver(TerminateDriver {
+        token: Bytes::new(alloc, b"")?,
+    }))
+}
+
+fn command(alloc: Global, body: Body) -> Result<Event, AllocError> {
     let bytes = Command {
         client: 1,
         correlation: 11,
@@ -37,36 +54,53 @@ pub(crate) fn asked(alloc: Global, now: u64, body: Body) -> Result<Event, AllocE
     }
     .write(alloc)?;
     Ok(Event::Command {
-        now,
+        now: 0,
         client: 1,
         bytes,
     })
 }
 
-/// Whether this was asked for principal 7 on stream 10, and decided so.
-fn is_decision(decision: &Decision, act: Act, verdict: Verdict) -> bool {
-    decision.principal == 7
-        && decision.act == act
-        && decision.stream == 10
-        && decision.verdict == verdict
-}
-
-/// Whether there is one decision alone, on this act of principal 7 on stream 10.
-fn is_decided(decisions: &[Decision], act: Act, verdict: Verdict) -> bool {
-    match decisions.first() {
-        Some(decision) => decisions.len() == 1 && is_decision(decision, act, verdict),
-        None => false,
+pub(crate) fn event(alloc: Global, deed: Deed) -> Result<Event, AllocError> {
+    match deed {
+        Deed::Attach => Ok(Event::Attach {
+            now: 0,
+            principal: 7,
+        }),
+        Deed::Subscribe => command(alloc, subscription(alloc)?),
+        Deed::Unsubscribe(registration) => {
+            command(alloc, Body::RemoveSubscription(Removal { registration }))
+        }
+        Deed::Publish(stream) => command(alloc, Body::AddPublication(publication(alloc, stream)?)),
+        Deed::PublishAlone => command(
+            alloc,
+            Body::AddExclusivePublication(publication(alloc, 10)?),
+        ),
+        Deed::Unpublish(registration) => {
+            command(alloc, Body::RemovePublication(Removal { registration }))
+        }
+        Deed::Terminate => command(alloc, termination(alloc)?),
+        Deed::Reload(default) => Ok(Event::Reload {
+            now: 0,
+            policy: Policy::new(Vec::new(alloc), default),
+        }),
+        Deed::Tick(now) => Ok(Event::Tick { now }),
     }
 }
 
-/// Whether the client's offer over that registration comes to this, by the registry that is shown.
-fn is_offering<V: View>(
-    view: &V,
-    client: u64,
-    registration: u64,
-    request: Option<LogRequest>,
-) -> bool {
-    view.registry().offering(client, registration) == request
+/// An event, the log that opens by it, and those that close.
+pub(crate) type Opening<'a> = (Deed, Option<LogPlace>, &'a [LogPlace]);
+
+/// An event, the pairs that go by it, those that come, and those that are there behind it.
+pub(crate) type Renewal<'a> = (Deed, &'a [Pair], &'a [Pair], &'a [Pair]);
+
+/// An event, and what the policy decides by it, in turn.
+pub(crate) type Deciding<'a> = (Deed, &'a [Decision]);
+
+/// A registry, and where its memory comes from.
+#[derive(Drop)]
+pub(crate) struct Conductor {
+    alloc: Global,
+    registry: Registry,
 }
 
 impl Conductor {
@@ -82,68 +116,56 @@ impl Conductor {
         })
     }
 
-    /// A registry under a policy.
-    pub(crate) fn under(alloc: Global, policy: Policy) -> Result<Conductor, Fail> {
+    /// A registry where everything is allowed.
+    pub(crate) fn new(alloc: Global) -> Result<Conductor, Fail> {
+        let policy = Policy::new(Vec::new(alloc), true);
         Conductor::set_to(alloc, Settings::default(), policy)
     }
 
-    /// A registry under a policy without rules.
-    pub(crate) fn new(alloc: Global, default: bool) -> Result<Conductor, Fail> {
-        Conductor::under(alloc, Policy::new(Vec::new(alloc), default))
-    }
-
-    /// What an event comes to, where there are no logs.
-    fn outcome(&mut self, event: &Event) -> Result<Outcome, AllocError> {
+    fn outcome(&mut self, deed: Deed) -> Result<Outcome, AllocError> {
+        let event = event(self.alloc, deed)?;
         self.registry
-            .step(self.alloc, event, &Inputs::none(self.alloc))
+            .step(self.alloc, &event, &Inputs::none(self.alloc))
     }
 
-    fn told_by(&mut self, event: &Event, ends: &[End]) -> Result<Outcome, AllocError> {
-        let inputs = Inputs {
-            silent: Items::new(self.alloc),
-            ends: Items::from(Vec::from_slice(self.alloc, ends)?),
-        };
-        self.registry.step(self.alloc, event, &inputs)
-    }
-
-    /// Whether these replies are given to client 1 by the event, where the logs reach so far.
-    pub(crate) fn replies(&mut self, event: &Event, ends: &[End], messages: &[Message]) -> bool {
-        match self.told_by(event, ends) {
-            Ok(outcome) => outcome.replies.as_slice() == messages,
-            Err(_) => false,
+    /// Whether there is memory for these events.
+    pub(crate) fn takes(&mut self, deeds: &[Deed]) -> bool {
+        for &deed in deeds {
+            if self.outcome(deed).is_err() {
+                return false;
+            }
         }
+        true
     }
 
-    /// Whether the policy decides this by the event, in turn.
-    pub(crate) fn decides_all(&mut self, event: &Event, decisions: &[Decision]) -> bool {
-        match self.outcome(event) {
-            Ok(outcome) => outcome.decisions.as_slice() == decisions,
-            Err(_) => false,
-        }
-    }
-
-    /// Whether the event opens this log, if there is one, and closes these.
-    pub(crate) fn opens_and_closes(
-        &mut self,
-        event: &Event,
-        opens: Option<LogPlace>,
-        closes: &[LogPlace],
-    ) -> bool {
-        match self.outcome(event) {
+    fn opens(&mut self, row: &Opening<'_>) -> bool {
+        let (deed, opens, closes) = *row;
+        match self.outcome(deed) {
             Ok(outcome) => outcome.opens == opens && outcome.closes.as_slice() == closes,
             Err(_) => false,
         }
     }
 
-    /// Whether these pairs go by the event, those come, and these are there behind it.
-    pub(crate) fn renews(
-        &mut self,
-        event: &Event,
-        gone: &[Pair],
-        come: &[Pair],
-        pairs: &[Pair],
-    ) -> bool {
-        match self.outcome(event) {
+    /// Whether logs open and close so.
+    pub(crate) fn opens_all(&mut self, rows: &[Opening<'_>]) -> bool {
+        for row in rows {
+            if !self.opens(row) {
+                return false;
+            }
+        }
+        true
+    }
+
+    fn has_pairs(&self, pairs: &[Pair]) -> bool {
+        match self.registry.pairs(self.alloc) {
+            Ok(found) => found.as_slice() == pairs,
+            Err(_) => false,
+        }
+    }
+
+    fn renews(&mut self, row: &Renewal<'_>) -> bool {
+        let (deed, gone, come, pairs) = *row;
+        match self.outcome(deed) {
             Ok(outcome) => {
                 outcome.gone.as_slice() == gone
                     && outcome.come.as_slice() == come
@@ -153,122 +175,47 @@ impl Conductor {
         }
     }
 
-    /// Whether so many pairs come by the event, and none goes.
-    pub(crate) fn brings(&mut self, event: &Event, come: usize) -> bool {
-        match self.outcome(event) {
-            Ok(outcome) => outcome.come.len() == come && outcome.gone.is_empty(),
-            Err(_) => false,
-        }
-    }
-
-    /// Whether the event is answered so, and so many pairs go by it and none comes.
-    pub(crate) fn closes(&mut self, event: &Event, response: Response, gone: usize) -> bool {
-        match self.outcome(event) {
-            Ok(outcome) => {
-                outcome.response == response
-                    && outcome.gone.len() == gone
-                    && outcome.come.is_empty()
+    /// Whether pairs go and come so.
+    pub(crate) fn renews_all(&mut self, rows: &[Renewal<'_>]) -> bool {
+        for row in rows {
+            if !self.renews(row) {
+                return false;
             }
+        }
+        true
+    }
+
+    fn decides(&mut self, row: &Deciding<'_>) -> bool {
+        let (deed, decisions) = *row;
+        match self.outcome(deed) {
+            Ok(outcome) => outcome.decisions.as_slice() == decisions,
             Err(_) => false,
         }
     }
 
-    /// Whether these pairs are there.
-    fn has_pairs(&self, pairs: &[Pair]) -> bool {
-        match self.registry.pairs(self.alloc) {
-            Ok(found) => found.as_slice() == pairs,
-            Err(_) => false,
+    /// Whether the policy decides so.
+    pub(crate) fn decides_all(&mut self, rows: &[Deciding<'_>]) -> bool {
+        for row in rows {
+            if !self.decides(row) {
+                return false;
+            }
         }
+        true
     }
 
-    /// Whether the client's offer over that registration comes to this.
-    pub(crate) fn offers(
-        &self,
-        client: u64,
-        registration: u64,
-        request: Option<LogRequest>,
-    ) -> bool {
-        is_offering(&self.registry, client, registration, request)
+    /// What a client's offer over that registration comes to.
+    pub(crate) fn offering(&self, client: u64, registration: u64) -> Option<LogRequest> {
+        self.registry.offering(client, registration)
     }
 
-    /// Whether the client's poll of that log comes to this.
-    pub(crate) fn receives(
+    /// What a client's poll of that log comes to.
+    pub(crate) fn receiving(
         &self,
         client: u64,
         subscription: u64,
         source: u64,
-        request: Option<LogRequest>,
-    ) -> bool {
-        self.registry.receiving(client, subscription, source) == request
-    }
-
-    /// Whether the client is listed this.
-    pub(crate) fn lists(&self, client: u64, listed: Listed) -> bool {
-        match self.registry.list(self.alloc, client) {
-            Ok(found) => found == listed,
-            Err(_) => false,
-        }
-    }
-
-    /// Whether the client is shown this of one counter.
-    pub(crate) fn shows(&self, client: u64, number: u64, shown: Shown) -> bool {
-        self.registry.value(self.alloc, client, number) == shown
-    }
-
-    /// Whether a client of principal 7 comes, and has this number.
-    pub(crate) fn attaches(&mut self, client: u64) -> bool {
-        let event = Event::Attach {
-            now: 0,
-            principal: 7,
-        };
-        match self.outcome(&event) {
-            Ok(outcome) => outcome.response == Response::Attached(client),
-            Err(_) => false,
-        }
-    }
-
-    /// Whether a policy without rules is put in force under this number, and no log goes or comes by it.
-    pub(crate) fn reloads(&mut self, now: u64, default: bool, epoch: u64) -> bool {
-        let policy = Policy::new(Vec::new(self.alloc), default);
-        match self.outcome(&Event::Reload { now, policy }) {
-            Ok(outcome) => {
-                outcome.response == Response::PolicyInForce(epoch)
-                    && outcome.gone.is_empty()
-                    && outcome.come.is_empty()
-            }
-            Err(_) => false,
-        }
-    }
-
-    /// Whether the event is decided once, on this act of principal 7 on stream 10.
-    fn decides(&mut self, event: &Event, act: Act, verdict: Verdict) -> bool {
-        match self.outcome(event) {
-            Ok(outcome) => is_decided(outcome.decisions.as_slice(), act, verdict),
-            Err(_) => false,
-        }
-    }
-
-    /// Whether ADD_SUBSCRIPTION on the channel is decided once, on this act, so.
-    pub(crate) fn asks(&mut self, channel: &str, act: Act, verdict: Verdict) -> bool {
-        match subscription(self.alloc, channel) {
-            Ok(body) => match asked(self.alloc, 0, body) {
-                Ok(event) => self.decides(&event, act, verdict),
-                Err(_) => false,
-            },
-            Err(_) => false,
-        }
-    }
-
-    /// Whether an event comes to this, which has one reply and no other response.
-    fn tells(&mut self, event: &Event, expected: &Outcome) -> bool {
-        match self.outcome(event) {
-            Ok(outcome) => {
-                outcome == *expected
-                    && outcome.response == Response::Nothing
-                    && outcome.replies.len() == 1
-            }
-            Err(_) => false,
-        }
+    ) -> Option<LogRequest> {
+        self.registry.receiving(client, subscription, source)
     }
 
     /// Another registry, equal to this one.
@@ -279,11 +226,23 @@ impl Conductor {
         })
     }
 
-    /// Whether an event comes to the same here and at a copy, which is one reply and no other response.
-    pub(crate) fn tells_as_its_copy(&mut self, event: &Event) -> bool {
+    /// Whether an event comes to this, which is so many replies and no other response.
+    fn comes_to(&mut self, deed: Deed, expected: &Outcome, replies: usize) -> bool {
+        match self.outcome(deed) {
+            Ok(outcome) => {
+                outcome == *expected
+                    && outcome.response == Response::Nothing
+                    && outcome.replies.len() == replies
+            }
+            Err(_) => false,
+        }
+    }
+
+    /// Whether an event here comes to the same as one at a copy, which is so many replies and no other response.
+    pub(crate) fn agrees(&mut self, deed: Deed, other: Deed, replies: usize) -> bool {
         match self.copy() {
-            Ok(mut copy) => match copy.outcome(event) {
-                Ok(expected) => self.tells(event, &expected),
+            Ok(mut copy) => match copy.outcome(other) {
+                Ok(expected) => self.comes_to(deed, &expected, replies),
                 Err(_) => false,
             },
             Err(_) => false,

@@ -1,35 +1,15 @@
-//! Looks at a registry that change nothing: what is asked of a log, and what is shown of the counters.
+//! What is asked of a log, and of whom, which changes nothing.
 
-use crate::conductor::{Conductor, asked};
-use crate::play::subscription;
-use crate::streams::{IPC, publication, rule};
-use byte_strings::{Items, Text};
-use driver_core::{Event, Listed, ListedCounter, LogRequest, Response, Shown};
-use policy_core::{Act, Decision, Policy, Verdict};
-use std::alloc::{AllocError, Global};
+use crate::conductor::{Conductor, Deed};
+use byte_strings::Text;
+use channel_uri::Pattern;
+use driver_core::{LogRequest, Settings};
+use policy_core::{Act, Acts, Decision, Policy, Principals, Rule, Verdict};
+use std::alloc::Global;
 use std::test::Fail;
 
-/// ADD_PUBLICATION of `aeron:ipc`, stream 10.
-fn publishing(alloc: Global) -> Result<Event, AllocError> {
-    asked(alloc, 0, publication(alloc, IPC, 10, false)?)
-}
-
-/// ADD_SUBSCRIPTION of `aeron:ipc`, stream 10.
-fn subscribing(alloc: Global) -> Result<Event, AllocError> {
-    asked(alloc, 0, subscription(alloc, IPC)?)
-}
-
-/// What policy 1 decides by its first rule, or by its default.
-fn verdict(allow: bool, rule: Option<u32>) -> Verdict {
-    Verdict {
-        allow,
-        rule,
-        epoch: 1,
-    }
-}
-
-/// What is asked of the log of source 1 for principal 7.
-fn request(act: Act, subject: u64, verdict: Verdict) -> Option<LogRequest> {
+/// What is asked of the log of source 1 for principal 7 on stream 10.
+fn request(act: Act, subject: u64, allow: bool, rule: Option<u32>) -> Option<LogRequest> {
     Some(LogRequest {
         source: 1,
         decision: Decision {
@@ -37,79 +17,95 @@ fn request(act: Act, subject: u64, verdict: Verdict) -> Option<LogRequest> {
             act,
             subject,
             stream: 10,
-            verdict,
+            verdict: Verdict {
+                allow,
+                rule,
+                epoch: 1,
+            },
         },
     })
 }
 
 /// Principal 7 may not offer, and everything else is allowed.
 fn without_offers(alloc: Global) -> Result<Policy, Fail> {
-    let rules = vec![in alloc; rule(alloc, 7, Act::Offer, false)?]?;
-    Ok(Policy::new(rules, true))
+    let rule = Rule {
+        name: Text::new(alloc, "no offers")?,
+        principals: Principals::One(7),
+        acts: Acts::none().with(Act::Offer),
+        channel: Pattern::Any,
+        low: i32::MIN,
+        high: i32::MAX,
+        allow: false,
+    };
+    Ok(Policy::new(vec![in alloc; rule]?, true))
 }
 
-/// Client 1, of principal 7, has registrations 1 and 3 with the log of source 1, and subscription 2 reads it.
-fn read_log(alloc: Global, policy: Policy) -> Result<Conductor, Fail> {
-    let mut conductor = Conductor::under(alloc, policy)?;
-    let _attached = conductor.attaches(1);
-    let _other = conductor.attaches(2);
-    let _published = conductor.closes(&publishing(alloc)?, Response::Nothing, 0);
-    let _read = conductor.brings(&subscribing(alloc)?, 1);
-    let _joined = conductor.closes(&publishing(alloc)?, Response::Nothing, 0);
-    Ok(conductor)
+/// Client 1 has registrations 1 and 3 with the log of source 1, and subscription 2 reads it.
+const READ: [Deed; 5] = [
+    Deed::Attach,
+    Deed::Attach,
+    Deed::Publish(10),
+    Deed::Subscribe,
+    Deed::Publish(10),
+];
+
+fn offers_all(conductor: &Conductor, rows: &[(u64, u64, Option<LogRequest>)]) -> bool {
+    for &(client, registration, request) in rows {
+        if conductor.offering(client, registration) != request {
+            return false;
+        }
+    }
+    true
 }
 
 #[test]
 fn offers_are_asked_by_the_registration(rt: HostRuntime) -> Result<(), Fail> {
-    let conductor = read_log(rt.alloc(), without_offers(rt.alloc())?)?;
-    let denied = verdict(false, Some(1));
-    assert!(rt; conductor.offers(1, 1, request(Act::Offer, 1, denied)));
-    assert!(rt; conductor.offers(1, 3, request(Act::Offer, 3, denied)));
-    assert!(rt; conductor.offers(1, 2, None));
-    assert!(rt; conductor.offers(2, 1, None));
-    assert!(rt; conductor.offers(9, 1, None));
+    let policy = without_offers(rt.alloc())?;
+    let mut conductor = Conductor::set_to(rt.alloc(), Settings::default(), policy)?;
+    assert!(rt; conductor.takes(&READ));
+    let wanted = [
+        (1, 1, request(Act::Offer, 1, false, Some(1))),
+        (1, 3, request(Act::Offer, 3, false, Some(1))),
+        (1, 2, None),
+        (2, 1, None),
+        (9, 1, None),
+    ];
+    assert!(rt; offers_all(&conductor, &wanted));
+    assert!(rt;
+        !offers_all(
+            &conductor,
+            &[(1, 1, request(Act::Offer, 3, false, Some(1)))]
+        )
+    );
     Ok(())
+}
+
+fn polls_all(conductor: &Conductor, rows: &[(u64, u64, u64, Option<LogRequest>)]) -> bool {
+    for &(client, subscription, source, request) in rows {
+        if conductor.receiving(client, subscription, source) != request {
+            return false;
+        }
+    }
+    true
 }
 
 #[test]
 fn polls_are_asked_by_the_subscription(rt: HostRuntime) -> Result<(), Fail> {
-    let conductor = read_log(rt.alloc(), without_offers(rt.alloc())?)?;
-    let allowed = verdict(true, None);
-    assert!(rt; conductor.receives(1, 2, 1, request(Act::Receive, 2, allowed)));
-    assert!(rt; conductor.receives(1, 2, 3, None));
-    assert!(rt; conductor.receives(1, 3, 1, None));
-    assert!(rt; conductor.receives(2, 2, 1, None));
-    Ok(())
-}
-
-/// The log of source 1 as it is listed.
-fn rows(alloc: Global) -> Result<Items<ListedCounter>, AllocError> {
-    let mut rows = Items::new(alloc);
-    rows.push(ListedCounter {
-        number: 1,
-        type_id: 10001,
-        value: 2,
-        label: Text::new(alloc, IPC)?,
-    })?;
-    Ok(rows)
-}
-
-#[test]
-fn counters_are_shown(rt: HostRuntime) -> Result<(), Fail> {
-    let conductor = read_log(rt.alloc(), without_offers(rt.alloc())?)?;
-    assert!(rt; conductor.lists(1, Listed::Counters(rows(rt.alloc())?)));
-    assert!(rt; conductor.lists(9, Listed::WrongClient));
-    assert!(rt; conductor.shows(1, 1, Shown::Value(2)));
-    assert!(rt; conductor.shows(1, 2, Shown::UnknownCounter));
-    assert!(rt; conductor.shows(9, 1, Shown::WrongClient));
-    Ok(())
-}
-
-#[test]
-fn a_counter_is_denied(rt: HostRuntime) -> Result<(), Fail> {
-    let rules = vec![in rt.alloc(); rule(rt.alloc(), 7, Act::List, false)?]?;
-    let conductor = read_log(rt.alloc(), Policy::new(rules, true))?;
-    assert!(rt; conductor.lists(1, Listed::Counters(Items::new(rt.alloc()))));
-    assert!(rt; conductor.shows(1, 1, Shown::Denied(verdict(false, Some(1)))));
+    let policy = without_offers(rt.alloc())?;
+    let mut conductor = Conductor::set_to(rt.alloc(), Settings::default(), policy)?;
+    assert!(rt; conductor.takes(&READ));
+    let wanted = [
+        (1, 2, 1, request(Act::Receive, 2, true, None)),
+        (1, 2, 3, None),
+        (1, 3, 1, None),
+        (2, 2, 1, None),
+    ];
+    assert!(rt; polls_all(&conductor, &wanted));
+    assert!(rt;
+        !polls_all(
+            &conductor,
+            &[(1, 2, 1, request(Act::Receive, 2, false, None))]
+        )
+    );
     Ok(())
 }

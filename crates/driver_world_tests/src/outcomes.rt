@@ -1,56 +1,63 @@
 //! What events do outside the registry: which logs they open and close, which pairs go and come, and what was decided.
 
-use crate::conductor::{Conductor, asked};
-use crate::play::{denied_by, done, refused, subscription, termination};
-use crate::streams::{
-    IPC, LINGER, available, available_from, publication, ready, rule, subscribed, told,
-};
-use command_codec::{Body, Removal};
-use driver_core::{End, Event, Refusal, Response, Settings};
+use crate::conductor::{Conductor, Deciding, Deed, Opening, Renewal};
+use driver_core::Settings;
 use policy_core::{Act, Decision, Policy, Verdict};
-use std::alloc::{AllocError, Global};
 use std::test::Fail;
 use stream_registry::{LogPlace, Pair};
 
-/// ADD_PUBLICATION of `aeron:ipc`.
-fn publishing(alloc: Global, now: u64, stream: i32) -> Result<Event, AllocError> {
-    asked(alloc, now, publication(alloc, IPC, stream, false)?)
+/// The greatest time for which a log lingers, in nanoseconds.
+const LINGER: u64 = 5_000_000_000;
+
+const FIRST: LogPlace = LogPlace {
+    source: 1,
+    place: 0,
+};
+
+const SECOND: LogPlace = LogPlace {
+    source: 3,
+    place: 48,
+};
+
+const THIRD: LogPlace = LogPlace {
+    source: 4,
+    place: 0,
+};
+
+/// Where two logs have room.
+const OPENINGS: [Opening<'static>; 11] = [
+    (Deed::Attach, None, &[]),
+    (Deed::Publish(10), Some(FIRST), &[]),
+    // The second time it is joined.
+    (Deed::Publish(10), None, &[]),
+    (Deed::Publish(11), Some(SECOND), &[]),
+    // There is no room for a third one.
+    (Deed::Publish(12), None, &[]),
+    (Deed::Unpublish(1), None, &[]),
+    (Deed::Unpublish(2), None, &[]),
+    (Deed::Tick(LINGER), None, &[]),
+    (Deed::Tick(LINGER + 1), None, &[FIRST]),
+    (Deed::Publish(12), Some(THIRD), &[]),
+    (Deed::Terminate, None, &[SECOND, THIRD]),
+];
+
+#[test]
+fn logs_open_and_close(rt: HostRuntime) -> Result<(), Fail> {
+    let mut settings = Settings::default();
+    settings.arena_pages = 96;
+    let policy = Policy::new(Vec::new(rt.alloc()), true);
+    let mut conductor = Conductor::set_to(rt.alloc(), settings, policy)?;
+    assert!(rt; conductor.opens_all(&OPENINGS));
+    Ok(())
 }
 
-/// ADD_EXCLUSIVE_PUBLICATION of `aeron:ipc`, stream 10.
-fn publishing_alone(alloc: Global) -> Result<Event, AllocError> {
-    asked(alloc, 0, publication(alloc, IPC, 10, true)?)
-}
-
-/// ADD_SUBSCRIPTION of `aeron:ipc`, stream 10.
-fn subscribing(alloc: Global) -> Result<Event, AllocError> {
-    asked(alloc, 0, subscription(alloc, IPC)?)
-}
-
-/// REMOVE_PUBLICATION.
-fn removing(alloc: Global, registration: u64) -> Result<Event, AllocError> {
-    asked(alloc, 0, Body::RemovePublication(Removal { registration }))
-}
-
-/// A policy without rules is put in force.
-fn reloading(alloc: Global, default: bool) -> Event {
-    Event::Reload {
-        now: 0,
-        policy: Policy::new(Vec::new(alloc), default),
-    }
-}
-
-/// A policy that denies images alone is put in force.
-fn reloading_without_images(alloc: Global) -> Result<Event, Fail> {
-    let rules = vec![in alloc; rule(alloc, 7, Act::Image, false)?]?;
-    Ok(Event::Reload {
-        now: 0,
-        policy: Policy::new(rules, true),
-    })
-}
-
-fn log(source: u64, place: u64) -> LogPlace {
-    LogPlace { source, place }
+#[test]
+fn openings_are_told_apart(rt: HostRuntime) -> Result<(), Fail> {
+    let mut conductor = Conductor::new(rt.alloc())?;
+    assert!(rt; conductor.takes(&[Deed::Attach]));
+    assert!(rt; !conductor.opens_all(&[(Deed::Publish(10), Some(SECOND), &[])]));
+    assert!(rt; !conductor.opens_all(&[(Deed::Terminate, None, &[])]));
+    Ok(())
 }
 
 fn pair(source: u64, subscription: u64) -> Pair {
@@ -60,193 +67,128 @@ fn pair(source: u64, subscription: u64) -> Pair {
     }
 }
 
-/// A registry whose logs share so many pages, where everything is allowed and client 1 is there.
-fn with_pages(alloc: Global, arena_pages: u32) -> Result<Conductor, Fail> {
-    let mut settings = Settings::default();
-    settings.arena_pages = arena_pages;
-    Conductor::set_to(alloc, settings, Policy::new(Vec::new(alloc), true))
-}
-
-#[test]
-fn logs_open_and_close(rt: HostRuntime) -> Result<(), Fail> {
-    let alloc = rt.alloc();
-    let mut conductor = with_pages(alloc, 96)?;
-    assert!(rt; conductor.attaches(1));
-    let first = publishing(alloc, 0, 10)?;
-    assert!(rt; conductor.opens_and_closes(&first, Some(log(1, 0)), &[]));
-    // The second time it is joined.
-    assert!(rt; conductor.opens_and_closes(&first, None, &[]));
-    let second = publishing(alloc, 0, 11)?;
-    assert!(rt; conductor.opens_and_closes(&second, Some(log(3, 48)), &[]));
-    // There is no room for a third one.
-    let third = publishing(alloc, 0, 12)?;
-    assert!(rt; conductor.opens_and_closes(&third, None, &[]));
-    assert!(rt; conductor.opens_and_closes(&removing(alloc, 1)?, None, &[]));
-    assert!(rt; conductor.opens_and_closes(&removing(alloc, 2)?, None, &[]));
-    let tick = Event::Tick { now: LINGER };
-    assert!(rt; conductor.opens_and_closes(&tick, None, &[]));
-    let tick = Event::Tick { now: LINGER + 1 };
-    assert!(rt; conductor.opens_and_closes(&tick, None, &[log(1, 0)]));
-    assert!(rt; conductor.opens_and_closes(&third, Some(log(4, 0)), &[]));
-    let end = asked(alloc, 0, termination(alloc)?)?;
-    assert!(rt; conductor.opens_and_closes(&end, None, &[log(3, 48), log(4, 0)]));
-    Ok(())
-}
+const FIRST_READ: [Renewal<'static>; 2] = [
+    (Deed::Attach, &[], &[], &[]),
+    (Deed::Subscribe, &[], &[], &[]),
+];
 
 #[test]
 fn pairs_go_and_come(rt: HostRuntime) -> Result<(), Fail> {
-    let alloc = rt.alloc();
-    let mut conductor = Conductor::new(alloc, true)?;
-    let subscribe = subscribing(alloc)?;
-    assert!(rt; conductor.attaches(1));
-    assert!(rt; conductor.renews(&subscribe, &[], &[], &[]));
+    let mut conductor = Conductor::new(rt.alloc())?;
+    assert!(rt; conductor.renews_all(&FIRST_READ));
     let one = [pair(2, 1)];
-    assert!(rt; conductor.renews(&publishing(alloc, 0, 10)?, &[], &one, &one));
     let two = [pair(2, 1), pair(2, 3)];
-    assert!(rt; conductor.renews(&subscribe, &[], &[pair(2, 3)], &two));
-    let come = [pair(4, 1), pair(4, 3)];
+    let own = [pair(4, 1), pair(4, 3)];
     let all = [pair(2, 1), pair(2, 3), pair(4, 1), pair(4, 3)];
-    assert!(rt; conductor.renews(&publishing_alone(alloc)?, &[], &come, &all));
-    // One who joins a log is no reader of it, and another stream is another log.
-    assert!(rt; conductor.renews(&publishing(alloc, 0, 10)?, &[], &[], &all));
-    assert!(rt; conductor.renews(&publishing(alloc, 0, 11)?, &[], &[], &all));
-    assert!(rt; conductor.renews(&reloading(alloc, false), &all, &[], &[]));
-    assert!(rt; conductor.renews(&reloading(alloc, true), &[], &all, &all));
-    let end = asked(alloc, 0, termination(alloc)?)?;
-    assert!(rt; conductor.renews(&end, &all, &[], &[]));
+    let came: [Renewal<'_>; 3] = [
+        (Deed::Publish(10), &[], &one, &one),
+        (Deed::Subscribe, &[], &two[1..], &two),
+        (Deed::PublishAlone, &[], &own, &all),
+    ];
+    assert!(rt; conductor.renews_all(&came));
+    // One who joins a log is no reader of it, and another stream is another log. Pairs go with their subscription,
+    // which no reply tells.
+    let left = [pair(2, 3), pair(4, 3)];
+    let renewed: [Renewal<'_>; 6] = [
+        (Deed::Publish(10), &[], &[], &all),
+        (Deed::Publish(11), &[], &[], &all),
+        (Deed::Reload(false), &all, &[], &[]),
+        (Deed::Reload(true), &[], &all, &all),
+        (Deed::Unsubscribe(1), &[all[0], all[2]], &[], &left),
+        (Deed::Terminate, &left, &[], &[]),
+    ];
+    assert!(rt; conductor.renews_all(&renewed));
     Ok(())
 }
 
 #[test]
-fn an_image_begins_where_its_log_reaches(rt: HostRuntime) -> Result<(), Fail> {
-    let alloc = rt.alloc();
-    let mut conductor = Conductor::new(alloc, true)?;
-    let none = [End {
-        source: 9,
-        position: 32,
-    }];
-    let reached = [
-        End {
-            source: 9,
-            position: 32,
-        },
-        End {
-            source: 1,
-            position: 131_168,
-        },
-    ];
-    assert!(rt; conductor.attaches(1));
-    let publish = publishing(alloc, 0, 10)?;
-    assert!(rt; conductor.replies(&publish, &none, &[ready(1, 11, 1, 1)]));
-    let subscribe = subscribing(alloc)?;
-    let replies = [subscribed(1, 11, 2), available(1, 1, 2, 1)];
-    assert!(rt; conductor.replies(&subscribe, &none, &replies));
-    let replies = [subscribed(1, 11, 3), available_from(1, 1, 3, 1, 131_168)];
-    assert!(rt; conductor.replies(&subscribe, &reached, &replies));
+fn renewals_are_told_apart(rt: HostRuntime) -> Result<(), Fail> {
+    let mut conductor = Conductor::new(rt.alloc())?;
+    let read = [Deed::Attach, Deed::Publish(10), Deed::Subscribe];
+    assert!(rt; conductor.takes(&read));
+    let one = [pair(1, 2)];
+    let two = [pair(1, 2), pair(1, 3)];
+    assert!(rt; !conductor.renews_all(&[(Deed::Subscribe, &[], &[], &two)]));
+    assert!(rt; !conductor.renews_all(&[(Deed::Unsubscribe(3), &[], &[], &one)]));
+    assert!(rt; !conductor.renews_all(&[(Deed::Tick(0), &[], &[], &two)]));
     Ok(())
 }
 
-/// What was decided for principal 7 on stream 10.
-fn decision(act: Act, subject: u64, verdict: Verdict) -> Decision {
+/// What the policy of that number decides by its default for principal 7 on stream 10.
+fn decision(act: Act, subject: u64, allow: bool, epoch: u64) -> Decision {
     Decision {
         principal: 7,
         act,
         subject,
         stream: 10,
-        verdict,
+        verdict: Verdict {
+            allow,
+            rule: None,
+            epoch,
+        },
     }
 }
 
-/// Allowed by the default of the policy with this number.
-fn allowed_by(epoch: u64) -> Verdict {
-    Verdict {
-        allow: true,
-        rule: None,
-        epoch,
-    }
-}
-
+/// Images are decided behind the command; those of a subscription that goes are not.
 #[test]
-fn images_are_decided_behind_the_command(rt: HostRuntime) -> Result<(), Fail> {
-    let alloc = rt.alloc();
-    let mut conductor = Conductor::new(alloc, true)?;
-    let allowed = allowed_by(1);
-    let subscribe = subscribing(alloc)?;
-    assert!(rt; conductor.attaches(1));
-    assert!(rt; conductor.decides_all(&subscribe, &[decision(Act::Subscribe, 0, allowed)]));
-    let decided = [
-        decision(Act::PublishExclusive, 0, allowed),
-        decision(Act::Image, 1, allowed),
+fn events_are_decided(rt: HostRuntime) -> Result<(), Fail> {
+    let mut conductor = Conductor::new(rt.alloc())?;
+    assert!(rt; conductor.takes(&[Deed::Attach]));
+    let subscribe = decision(Act::Subscribe, 0, true, 1);
+    let publish = decision(Act::PublishExclusive, 0, true, 1);
+    let allowed: [Deciding<'_>; 5] = [
+        (Deed::Subscribe, &[subscribe]),
+        (
+            Deed::PublishAlone,
+            &[publish, decision(Act::Image, 1, true, 1)],
+        ),
+        (
+            Deed::Subscribe,
+            &[subscribe, decision(Act::Image, 3, true, 1)],
+        ),
+        (Deed::Unsubscribe(3), &[]),
+        (
+            Deed::Subscribe,
+            &[subscribe, decision(Act::Image, 4, true, 1)],
+        ),
     ];
-    assert!(rt; conductor.decides_all(&publishing_alone(alloc)?, &decided));
-    let decided = [
-        decision(Act::Subscribe, 0, allowed),
-        decision(Act::Image, 3, allowed),
-    ];
-    assert!(rt; conductor.decides_all(&subscribe, &decided));
+    assert!(rt; conductor.decides_all(&allowed));
     // The policy takes both images away.
-    let decided = [
-        decision(Act::Image, 1, denied_by(2)),
-        decision(Act::Image, 3, denied_by(2)),
+    let taken = [
+        decision(Act::Image, 1, false, 2),
+        decision(Act::Image, 4, false, 2),
     ];
-    assert!(rt; conductor.decides_all(&reloading(alloc, false), &decided));
-    let decided = [decision(Act::Publish, 0, denied_by(2))];
-    assert!(rt; conductor.decides_all(&publishing(alloc, 0, 10)?, &decided));
-    let decided = [decision(Act::PublishExclusive, 0, denied_by(2))];
-    assert!(rt; conductor.decides_all(&publishing_alone(alloc)?, &decided));
+    let denied: [Deciding<'_>; 3] = [
+        (Deed::Reload(false), &taken),
+        (Deed::Publish(10), &[decision(Act::Publish, 0, false, 2)]),
+        (
+            Deed::PublishAlone,
+            &[decision(Act::PublishExclusive, 0, false, 2)],
+        ),
+    ];
+    assert!(rt; conductor.decides_all(&denied));
     Ok(())
 }
 
-/// Nothing is decided on an image whose log closes, or whose subscription goes.
+/// The last log closes by a tick, with its images.
+const CLOSING: [Deciding<'static>; 2] = [(Deed::Unpublish(2), &[]), (Deed::Tick(LINGER + 1), &[])];
+
 #[test]
 fn an_image_that_no_policy_takes_is_not_decided(rt: HostRuntime) -> Result<(), Fail> {
-    let alloc = rt.alloc();
-    let mut conductor = Conductor::new(alloc, true)?;
-    let subscribe = subscribing(alloc)?;
-    assert!(rt; conductor.attaches(1));
-    assert!(rt; conductor.decides_all(&subscribe, &[decision(Act::Subscribe, 0, allowed_by(1))]));
-    assert!(rt; conductor.renews(&subscribe, &[], &[], &[]));
-    let pairs = [pair(3, 1), pair(3, 2)];
-    assert!(rt; conductor.renews(&publishing(alloc, 0, 10)?, &[], &pairs, &pairs));
-    let unsubscribe = Body::RemoveSubscription(Removal { registration: 1 });
-    assert!(rt; conductor.decides_all(&asked(alloc, 0, unsubscribe)?, &[]));
-    assert!(rt; conductor.decides_all(&removing(alloc, 3)?, &[]));
-    assert!(rt; conductor.decides_all(&Event::Tick { now: LINGER + 1 }, &[]));
-    let left = Event::Tick { now: LINGER + 1 };
-    assert!(rt; conductor.renews(&left, &[], &[], &[]));
+    let mut conductor = Conductor::new(rt.alloc())?;
+    let read = [Deed::Attach, Deed::Subscribe, Deed::Publish(10)];
+    assert!(rt; conductor.takes(&read));
+    assert!(rt; conductor.decides_all(&CLOSING));
+    assert!(rt; conductor.renews_all(&[(Deed::Tick(LINGER + 1), &[], &[], &[])]));
+    assert!(rt; !conductor.decides_all(&[(Deed::Subscribe, &[])]));
     Ok(())
 }
 
-/// 512 subscriptions read 8 logs, and neither a command nor a policy makes that more.
 #[test]
-fn there_are_4096_pairs(rt: HostRuntime) -> Result<(), Fail> {
-    let alloc = rt.alloc();
-    let mut conductor = Conductor::new(alloc, true)?;
-    let subscribe = subscribing(alloc)?;
-    let publish = publishing_alone(alloc)?;
-    assert!(rt; conductor.attaches(1));
-    for _ in 0..512 {
-        assert!(rt; conductor.brings(&subscribe, 0));
-    }
-    for _ in 0..8 {
-        assert!(rt; conductor.brings(&publish, 512));
-    }
-    let full = told(1, refused(11, Refusal::Full));
-    assert!(rt; conductor.replies(&publish, &[], &[full]));
-    assert!(rt; conductor.closes(&reloading(alloc, false), Response::PolicyInForce(2), 4096));
-    assert!(rt;
-        conductor.closes(
-            &reloading_without_images(alloc)?,
-            Response::PolicyInForce(3),
-            0
-        )
-    );
-    assert!(rt; conductor.brings(&publish, 0));
-    assert!(rt; conductor.closes(&reloading(alloc, true), Response::PolicyFull, 0));
-    assert!(rt; conductor.replies(&removing(alloc, 513)?, &[], &[told(1, done(11))]));
-    assert!(rt; conductor.closes(&reloading(alloc, true), Response::PolicyFull, 0));
-    let tick = Event::Tick { now: LINGER + 1 };
-    assert!(rt; conductor.opens_and_closes(&tick, None, &[log(513, 0)]));
-    assert!(rt; conductor.brings(&reloading(alloc, true), 4096));
+fn ample_memory(rt: HostRuntime) -> Result<(), Fail> {
+    let mut conductor = Conductor::new(rt.alloc())?;
+    assert!(rt; conductor.takes(&[Deed::Attach]));
+    assert!(rt; conductor.agrees(Deed::Subscribe, Deed::Subscribe, 1));
+    assert!(rt; !conductor.agrees(Deed::Subscribe, Deed::Publish(10), 1));
     Ok(())
 }
