@@ -9,6 +9,3 @@ mod laws;
 
 pub use audit::{Audit, NoMemory};
 pub use laws::end_of_the_pushes_is_kept;
-
-#[cfg(test)]
-mod tests;

@@ -11,6 +11,3 @@ mod text;
 pub use bytes::Bytes;
 pub use items::Items;
 pub use text::Text;
-
-#[cfg(test)]
-mod tests;

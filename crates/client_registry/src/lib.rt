@@ -13,6 +13,3 @@ pub use client::Client;
 pub use clients::Clients;
 pub use error::AdmitError;
 pub use laws::{clients_are_found_by_their_ids, ids_are_never_given_again};
-
-#[cfg(test)]
-mod tests;

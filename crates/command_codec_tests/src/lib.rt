@@ -1,13 +1,13 @@
-//! Tests of `command_codec`.
+//! Tests of `command_codec`: the bytes of each command and reply, and of what is none.
 #![tactic(auto)]
 
 #[cfg(test)]
-mod clients;
+mod codes;
 #[cfg(test)]
-mod counters;
+mod commands;
 #[cfg(test)]
 mod layouts;
 #[cfg(test)]
-mod publications;
+mod lengths;
 #[cfg(test)]
-mod tests;
+mod replies;

@@ -13,6 +13,3 @@ pub use counter::Counter;
 pub use counters::Counters;
 pub use fault::CounterFault;
 pub use laws::any_number_shows_the_same;
-
-#[cfg(test)]
-mod tests;

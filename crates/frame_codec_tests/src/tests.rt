@@ -3,7 +3,6 @@ use frame_codec::{
     TermPlace, padded_length, position, term_of, write_beat, write_data, write_nak, write_pad,
     write_setup, write_sm,
 };
-use std::alloc::Global;
 use std::test::Fail;
 
 /// A SETUP of session 9, stream 10: terms of 64 KiB from term 5 on, MTU 1408.
@@ -71,27 +70,6 @@ fn front(bytes: &[u8], size: usize) -> &[u8] {
     front
 }
 
-/// A data frame of `abc` with its filling.
-fn abc_at(offset: u32, flags: Flags) -> [u8; 64] {
-    let mut out = [0xff; 64];
-    write_data(&mut out, flags, &at(offset), b"abc");
-    out
-}
-
-/// A data frame without a payload.
-fn empty_at(offset: u32, flags: Flags) -> [u8; 32] {
-    let mut out = [0xff; 32];
-    write_data(&mut out, flags, &at(offset), &[]);
-    out
-}
-
-/// A pad of that length.
-fn pad_at(offset: u32, size: u32) -> [u8; 32] {
-    let mut out = [0xff; 32];
-    write_pad(&mut out, Flags::UNFRAGMENTED, &at(offset), size);
-    out
-}
-
 /// The SETUP, and a byte behind it that is not written.
 fn written_setup(setup: &Setup) -> [u8; 41] {
     let mut out = [0xff; 41];
@@ -106,17 +84,39 @@ fn written_data() -> [u8; 65] {
     out
 }
 
-/// What a datagram is read as, or the word for its fault.
-fn word(rt: &HostRuntime, bytes: &[u8]) -> Result<String, Fail> {
-    let word = match Datagram::read(bytes) {
-        Ok(Packet::Data(_)) => String::from_str(rt.alloc(), "data")?,
-        Ok(Packet::Beat(_)) => String::from_str(rt.alloc(), "beat")?,
-        Ok(Packet::Nak(_)) => String::from_str(rt.alloc(), "nak")?,
-        Ok(Packet::Sm(_)) => String::from_str(rt.alloc(), "status")?,
-        Ok(Packet::Setup(_)) => String::from_str(rt.alloc(), "setup")?,
-        Err(fault) => fault.to_string(rt.alloc())?,
-    };
-    Ok(word)
+/// What a datagram holds.
+#[derive(Clone, Copy, Debug, PartialEq, Eq)]
+enum Held {
+    Data,
+    Beat,
+    Nak,
+    Status,
+    Setup,
+}
+
+/// What a datagram holds, or why it is dropped.
+type Answer = Result<Held, BadPacket>;
+
+/// What becomes of a datagram.
+fn read_as(bytes: &[u8]) -> Answer {
+    match Datagram::read(bytes)? {
+        Packet::Data(_) => Ok(Held::Data),
+        Packet::Beat(_) => Ok(Held::Beat),
+        Packet::Nak(_) => Ok(Held::Nak),
+        Packet::Sm(_) => Ok(Held::Status),
+        Packet::Setup(_) => Ok(Held::Setup),
+    }
+}
+
+/// What becomes of a datagram of at most 128 bytes with one byte set.
+fn read_with(datagram: &[u8], place: usize, value: u8) -> Answer {
+    let mut bytes = [0; 128];
+    let size = datagram.len().min(128);
+    bytes[..size].copy_from_slice(&datagram[..size]);
+    if place < size {
+        bytes[place] = value;
+    }
+    read_as(&bytes[..size])
 }
 
 fn frames(bytes: &[u8]) -> Option<Frames<'_>> {
@@ -126,446 +126,515 @@ fn frames(bytes: &[u8]) -> Option<Frames<'_>> {
     }
 }
 
-#[test]
-fn positions(rt: HostRuntime) {
-    assert_eq!(rt; position(5, 7, 96, 65_536), 131_168);
-    assert_eq!(rt; term_of(5, 131_168, 65_536), (7, 96));
-    assert_eq!(rt; position(2_147_483_647, -2_147_483_648, 64, 65_536), 65_600);
-    assert_eq!(rt;
-        term_of(2_147_483_647, 65_600, 65_536),
-        (-2_147_483_648, 64)
-    );
-    assert_eq!(rt; position(5, 5, 0, 65_536), 0);
-    assert_eq!(rt; padded_length(35), 64);
-    assert_eq!(rt; padded_length(64), 64);
+/// Initial term, term and offset, and the position, in terms of 64 KiB.
+const PLACES: [(i32, i32, u32, u64); 3] = [
+    (5, 7, 96, 131_168),
+    (2_147_483_647, -2_147_483_648, 64, 65_600),
+    (5, 5, 0, 0),
+];
+
+/// Whether these are the positions of these places, and the other way round.
+fn are_positions(rows: &[(i32, i32, u32, u64)]) -> bool {
+    let mut same = true;
+    for (initial, term, offset, wanted) in rows {
+        same &= position(*initial, *term, *offset, 65_536) == *wanted
+            && term_of(*initial, *wanted, 65_536) == (*term, *offset);
+    }
+    same
 }
 
 #[test]
-fn dropped_datagrams(rt: HostRuntime) -> Result<(), Fail> {
-    assert_eq!(rt; word(&rt, &[])?.as_str(), "too-short");
-    let mut bytes = DATA;
-    bytes[4] = 1;
-    assert_eq!(rt; word(&rt, &bytes)?.as_str(), "bad-version");
-    let mut bytes = DATA;
-    bytes[6] = 4;
-    assert_eq!(rt; word(&rt, &bytes)?.as_str(), "other-type");
-    let mut bytes = DATA;
-    bytes[0] = 31;
-    assert_eq!(rt; word(&rt, &bytes)?.as_str(), "bad-length");
-    let mut bytes = DATA;
-    bytes[8] = 33;
-    assert_eq!(rt; word(&rt, &bytes)?.as_str(), "unaligned");
-    Ok(())
+fn positions(rt: HostRuntime) {
+    assert!(rt; are_positions(&PLACES));
+    assert!(rt; padded_length(35) == 64 && padded_length(64) == 64);
+}
+
+/// Whether each datagram with one byte set becomes that.
+fn are_changed(rows: &[(&[u8], usize, u8, Answer)]) -> bool {
+    let mut same = true;
+    for (datagram, place, value, wanted) in rows {
+        same &= read_with(datagram, *place, *value) == *wanted;
+    }
+    same
+}
+
+const DROPPED: [(&[u8], usize, u8, Answer); 5] = [
+    (&[], 0, 0, Err(BadPacket::TooShort)),
+    (&DATA, 4, 1, Err(BadPacket::BadVersion)),
+    (&DATA, 6, 4, Err(BadPacket::OtherType)),
+    (&DATA, 0, 31, Err(BadPacket::BadLength)),
+    (&DATA, 8, 33, Err(BadPacket::Unaligned)),
+];
+
+#[test]
+fn dropped_datagrams(rt: HostRuntime) {
+    assert!(rt; are_changed(&DROPPED));
+}
+
+/// Frames with one byte set: a negative field is a bad length.
+const NEGATIVE: [(&[u8], usize, u8, Answer); 8] = [
+    (&STATUS, 23, 0x80, Err(BadPacket::BadLength)),
+    (&STATUS, 27, 0x80, Err(BadPacket::BadLength)),
+    (&NAK, 23, 0x80, Err(BadPacket::BadLength)),
+    // Of how many bytes a NAK is, is not looked at; a status message needs no alignment.
+    (&NAK, 27, 0x80, Ok(Held::Nak)),
+    (&STATUS, 20, 33, Ok(Held::Status)),
+    (&NAK, 20, 33, Err(BadPacket::Unaligned)),
+    (&PAD, 0, 0, Err(BadPacket::BadLength)),
+    (&BEAT, 8, 33, Err(BadPacket::Unaligned)),
+];
+
+#[test]
+fn negative_fields(rt: HostRuntime) {
+    assert!(rt; are_changed(&NEGATIVE));
+}
+
+/// The first SETUP's fields.
+const SETUP_FIELDS: Setup = Setup {
+    flags: Flags::NONE,
+    term_offset: 0,
+    session_id: 9,
+    stream_id: 10,
+    initial_term_id: 5,
+    active_term_id: 5,
+    term_length: 65_536,
+    mtu: 1408,
+    ttl: 0,
+};
+
+fn is_setup(bytes: &[u8], wanted: Setup) -> bool {
+    match Datagram::read(bytes) {
+        Ok(Packet::Setup(read)) => read == wanted,
+        _ => false,
+    }
+}
+
+/// Whether the datagram is one data frame or pad, of this header, bytes and payload.
+fn is_frame(datagram: &[u8], header: &Header, bytes: &[u8], payload: &[u8]) -> bool {
+    match frames(datagram) {
+        Some(mut found) => match found.next() {
+            Some(frame) => {
+                frame.header == *header
+                    && frame.bytes == bytes
+                    && frame.payload() == payload
+                    && found.next().is_none()
+            }
+            None => false,
+        },
+        None => false,
+    }
+}
+
+fn header_of(kind: Kind, length: u32, place: TermPlace) -> Header {
+    Header {
+        kind,
+        length,
+        flags: Flags::UNFRAGMENTED,
+        place,
+        reserved_value: 0,
+    }
+}
+
+fn is_setup_written() -> bool {
+    let out = written_setup(&SETUP_FIELDS);
+    front(&out, 40) == SETUP.as_slice() && out[40] == 0xff
+}
+
+fn is_data_written() -> bool {
+    let out = written_data();
+    let filling = out[35..64].iter().all(|byte| *byte == 0);
+    front(&out, 35) == DATA.as_slice() && filling && out[64] == 0xff
+}
+
+fn is_of_one_frame(flags: Flags) -> bool {
+    flags.contains(Flags::BEGIN)
+        && flags.contains(Flags::END)
+        && !flags.contains(Flags::END_OF_STREAM)
 }
 
 #[test]
 fn setup_and_data(rt: HostRuntime) {
-    let setup = Setup {
-        flags: Flags::NONE,
-        term_offset: 0,
-        session_id: 9,
-        stream_id: 10,
-        initial_term_id: 5,
-        active_term_id: 5,
-        term_length: 65_536,
-        mtu: 1408,
-        ttl: 0,
-    };
-    match Datagram::read(&SETUP) {
-        Ok(Packet::Setup(read)) => assert_eq!(rt; read, setup),
-        _ => assert!(rt; false),
+    let header = header_of(Kind::Data, 35, at(0));
+    assert!(rt; is_setup(&SETUP, SETUP_FIELDS) && is_setup_written());
+    assert!(rt; is_frame(&DATA, &header, &DATA, b"abc") && is_of_one_frame(header.flags));
+    assert!(rt; is_data_written());
+}
+
+fn is_status(bytes: &[u8], wanted: StatusMessage) -> bool {
+    match Datagram::read(bytes) {
+        Ok(Packet::Sm(read)) => read == wanted,
+        _ => false,
     }
-    let out = written_setup(&setup);
-    assert_eq!(rt; front(&out, 40), SETUP.as_slice());
-    assert_eq!(rt; out[40], 0xff);
+}
 
-    let Some(mut found) = frames(&DATA) else {
-        assert!(rt; false);
-        return;
-    };
-    let Some(frame) = found.next() else {
-        assert!(rt; false);
-        return;
-    };
-    let header = Header {
-        kind: Kind::Data,
-        length: 35,
-        flags: Flags::UNFRAGMENTED,
-        place: at(0),
-        reserved_value: 0,
-    };
-    assert_eq!(rt; frame.header, header);
-    assert_eq!(rt; frame.bytes, DATA.as_slice());
-    assert_eq!(rt; frame.payload(), b"abc".as_slice());
-    assert!(rt; frame.header.flags.contains(Flags::BEGIN));
-    assert!(rt; frame.header.flags.contains(Flags::END));
-    assert!(rt; !frame.header.flags.contains(Flags::END_OF_STREAM));
-    assert!(rt; found.next().is_none());
+fn is_nak(bytes: &[u8], wanted: Nak) -> bool {
+    match Datagram::read(bytes) {
+        Ok(Packet::Nak(read)) => read == wanted,
+        _ => false,
+    }
+}
 
-    let out = written_data();
-    assert_eq!(rt; front(&out, 35), DATA.as_slice());
-    assert!(rt; out[35..64].iter().all(|byte| *byte == 0));
-    assert_eq!(rt; out[64], 0xff);
+const STATUS_FIELDS: StatusMessage = StatusMessage {
+    flags: Flags::NONE,
+    session_id: 9,
+    stream_id: 10,
+    consumption_term_id: 5,
+    consumption_term_offset: 0,
+    receiver_window: 32_768,
+    receiver_id: 1,
+};
+
+const NAK_FIELDS: Nak = Nak {
+    flags: Flags::NONE,
+    session_id: 9,
+    stream_id: 10,
+    term_id: 5,
+    term_offset: 0,
+    length: 64,
+};
+
+fn is_status_written() -> bool {
+    let mut out = [0xff; 36];
+    write_sm(&mut out, &STATUS_FIELDS);
+    out.as_slice() == STATUS.as_slice()
+}
+
+fn is_nak_written() -> bool {
+    let mut out = [0xff; 28];
+    write_nak(&mut out, &NAK_FIELDS);
+    out.as_slice() == NAK.as_slice()
 }
 
 #[test]
 fn nak_and_status_timing(rt: HostRuntime) {
-    let message = StatusMessage {
-        flags: Flags::NONE,
-        session_id: 9,
-        stream_id: 10,
-        consumption_term_id: 5,
-        consumption_term_offset: 0,
-        receiver_window: 32_768,
-        receiver_id: 1,
-    };
-    match Datagram::read(&STATUS) {
-        Ok(Packet::Sm(read)) => assert_eq!(rt; read, message),
-        _ => assert!(rt; false),
-    }
-    let mut out = [0xff; 36];
-    write_sm(&mut out, &message);
-    assert_eq!(rt; out.as_slice(), STATUS.as_slice());
+    assert!(rt; is_status(&STATUS, STATUS_FIELDS) && is_status_written());
+    assert!(rt; is_nak(&NAK, NAK_FIELDS) && is_nak_written());
+}
 
-    let nak = Nak {
-        flags: Flags::NONE,
-        session_id: 9,
-        stream_id: 10,
-        term_id: 5,
-        term_offset: 0,
-        length: 64,
-    };
-    match Datagram::read(&NAK) {
-        Ok(Packet::Nak(read)) => assert_eq!(rt; read, nak),
-        _ => assert!(rt; false),
+fn is_pad_written() -> bool {
+    let mut out = [0xff; 32];
+    write_pad(&mut out, Flags::UNFRAGMENTED, &at(64), 96);
+    out.as_slice() == PAD.as_slice()
+}
+
+fn is_beat(bytes: &[u8], length: u32, place: TermPlace) -> bool {
+    match Datagram::read(bytes) {
+        Ok(Packet::Beat(read)) => read.length == length && read.place == place,
+        _ => false,
     }
-    let mut out = [0xff; 28];
-    write_nak(&mut out, &nak);
-    assert_eq!(rt; out.as_slice(), NAK.as_slice());
+}
+
+fn is_beat_written() -> bool {
+    let mut out = [0xff; 32];
+    write_beat(&mut out, Flags::UNFRAGMENTED, &at(64));
+    out.as_slice() == BEAT.as_slice()
 }
 
 #[test]
 fn pads_and_heartbeats(rt: HostRuntime) {
-    let Some(mut found) = frames(&PAD) else {
-        assert!(rt; false);
-        return;
-    };
-    let Some(pad) = found.next() else {
-        assert!(rt; false);
-        return;
-    };
-    let header = Header {
-        kind: Kind::Pad,
-        length: 96,
-        flags: Flags::UNFRAGMENTED,
-        place: at(64),
-        reserved_value: 0,
-    };
-    assert_eq!(rt; pad.header, header);
-    assert_eq!(rt; pad.bytes, PAD.as_slice());
-    assert!(rt; pad.payload().is_empty());
-    assert!(rt; found.next().is_none());
-    let mut out = [0xff; 32];
-    write_pad(&mut out, Flags::UNFRAGMENTED, &at(64), 96);
-    assert_eq!(rt; out.as_slice(), PAD.as_slice());
-
-    match Datagram::read(&BEAT) {
-        Ok(Packet::Beat(read)) => assert_eq!(rt; (read.length, read.place), (0, at(64))),
-        _ => assert!(rt; false),
-    }
-    let mut out = [0xff; 32];
-    write_beat(&mut out, Flags::UNFRAGMENTED, &at(64));
-    assert_eq!(rt; out.as_slice(), BEAT.as_slice());
+    let header = header_of(Kind::Pad, 96, at(64));
+    assert!(rt; is_frame(&PAD, &header, &PAD, b"") && is_pad_written());
+    assert!(rt; is_beat(&BEAT, 0, at(64)) && is_beat_written());
 }
 
-/// Fields of all sizes, with bytes that differ, and bits without a name.
-#[test]
-fn every_byte_of_a_field_counts(rt: HostRuntime) {
-    let bytes = [
-        0x24, 0, 0, 0, 0, 0x93, 3, 0, // length, version, flags, type
-        1, 2, 3, 4, 5, 6, 7, 0x88, 0xff, 0xff, 0xff, 0xff, // session, stream, term
-        0x21, 2, 3, 4, 0x44, 0x33, 0x22, 0x11, // consumption term offset, window
-        8, 7, 6, 5, 4, 3, 2, 0x81, // receiver id
-    ];
-    match Datagram::read(&bytes) {
-        Ok(Packet::Sm(message)) => {
-            assert_eq!(rt; message.flags.bits, 0x93);
-            assert!(rt; message.flags.contains(Flags::SEND_SETUP));
-            assert_eq!(rt; message.session_id, 0x0403_0201);
-            assert_eq!(rt; message.stream_id, -2_012_805_627);
-            assert_eq!(rt; message.consumption_term_id, -1);
-            assert_eq!(rt; message.consumption_term_offset, 0x0403_0221);
-            assert_eq!(rt; message.receiver_window, 0x1122_3344);
-            assert_eq!(rt; message.receiver_id, 0x8102_0304_0506_0708);
-        }
-        _ => assert!(rt; false),
-    }
+/// A status message with fields of all sizes, with bytes that differ, and bits without a name.
+const FULL_STATUS: [u8; 36] = [
+    0x24, 0, 0, 0, 0, 0x93, 3, 0, // length, version, flags, type
+    1, 2, 3, 4, 5, 6, 7, 0x88, 0xff, 0xff, 0xff, 0xff, // session, stream, term
+    0x21, 2, 3, 4, 0x44, 0x33, 0x22, 0x11, // consumption term offset, window
+    8, 7, 6, 5, 4, 3, 2, 0x81, // receiver id
+];
+
+const FULL_STATUS_FIELDS: StatusMessage = StatusMessage {
+    flags: Flags { bits: 0x93 },
+    session_id: 0x0403_0201,
+    stream_id: -2_012_805_627,
+    consumption_term_id: -1,
+    consumption_term_offset: 0x0403_0221,
+    receiver_window: 0x1122_3344,
+    receiver_id: 0x8102_0304_0506_0708,
+};
+
+fn is_reserved_value_read() -> bool {
     let mut data = DATA;
     data[24] = 0x11;
     data[31] = 0x88;
-    match frames(&data) {
-        Some(mut found) => match found.next() {
-            Some(frame) => assert_eq!(rt; frame.header.reserved_value, 0x8800_0000_0000_0011),
-            None => assert!(rt; false),
-        },
-        None => assert!(rt; false),
-    }
+    let mut header = header_of(Kind::Data, 35, at(0));
+    header.reserved_value = 0x8800_0000_0000_0011;
+    is_frame(&data, &header, &data, b"abc")
 }
 
 #[test]
-fn prefixes(rt: HostRuntime) -> Result<(), Fail> {
-    for size in 0..40 {
-        assert_eq!(rt;
-            word(&rt, &SETUP[..size])?.as_str(),
-            "too-short",
-            "at {size}"
-        );
+fn every_byte_of_a_field_counts(rt: HostRuntime) {
+    assert!(rt; is_status(&FULL_STATUS, FULL_STATUS_FIELDS));
+    assert!(rt; FULL_STATUS_FIELDS.flags.contains(Flags::SEND_SETUP));
+    assert!(rt; is_reserved_value_read());
+}
+
+/// Each of these is beside something that differs in one place.
+#[test]
+fn other_fields_are_told(rt: HostRuntime) {
+    let pad = header_of(Kind::Pad, 96, at(64));
+    let data = header_of(Kind::Data, 35, at(0));
+    assert!(rt;
+        !is_setup(
+            &SETUP,
+            Setup {
+                mtu: 1409,
+                ..SETUP_FIELDS
+            }
+        ) && !is_setup(&DATA, SETUP_FIELDS)
+    );
+    assert!(rt; !is_status(&STATUS, FULL_STATUS_FIELDS) && !is_status(&NAK, STATUS_FIELDS));
+    assert!(rt;
+        !is_nak(
+            &NAK,
+            Nak {
+                length: 65,
+                ..NAK_FIELDS
+            }
+        ) && !is_beat(&BEAT, 0, at(96))
+    );
+    assert!(rt; !is_frame(&DATA, &pad, &DATA, b"abc") && !is_frame(&DATA, &data, &DATA, b"abd"));
+    assert!(rt; !is_frame(&DATA, &data, &PAD, b"abc") && !is_frame(&run(), &data, &DATA, b"abc"));
+}
+
+/// Each of these tables has one row that differs.
+#[test]
+fn other_answers_are_told(rt: HostRuntime) {
+    assert!(rt; !are_positions(&[PLACES[0], (5, 5, 0, 32)]));
+    assert!(rt; !are_positions(&[(5, 5, 32, 0), PLACES[2]]));
+    assert!(rt; !are_changed(&[DROPPED[1], (&DATA, 4, 0, Err(BadPacket::BadVersion))]));
+    assert!(rt; !are_changed(&[(&DATA, 4, 1, Err(BadPacket::OtherType)), DROPPED[2]]));
+    assert!(rt; !are_prefixes(&[(&DATA, 34, 36, Err(BadPacket::BadLength)), FRONTS[12]]));
+    assert!(rt; !are_prefixes(&[FRONTS[12], (&DATA, 35, 36, Ok(Held::Beat))]));
+}
+
+/// Whether each datagram's first bytes, from so many up to fewer than so many, become that.
+fn are_prefixes(rows: &[(&[u8], usize, usize, Answer)]) -> bool {
+    let mut same = true;
+    for (datagram, from, to, wanted) in rows {
+        for size in *from..*to {
+            same &= read_as(front(datagram, size)) == *wanted;
+        }
     }
-    for size in 0..36 {
-        assert_eq!(rt;
-            word(&rt, &STATUS[..size])?.as_str(),
-            "too-short",
-            "at {size}"
-        );
-    }
-    for size in 0..28 {
-        assert_eq!(rt; word(&rt, &NAK[..size])?.as_str(), "too-short", "at {size}");
-    }
-    for size in 0..32 {
-        assert_eq!(rt; word(&rt, &PAD[..size])?.as_str(), "too-short", "at {size}");
-        assert_eq!(rt;
-            word(&rt, &BEAT[..size])?.as_str(),
-            "too-short",
-            "at {size}"
-        );
-        assert_eq!(rt;
-            word(&rt, &DATA[..size])?.as_str(),
-            "too-short",
-            "at {size}"
-        );
-    }
-    for size in 32..35 {
-        assert_eq!(rt;
-            word(&rt, &DATA[..size])?.as_str(),
-            "bad-length",
-            "at {size}"
-        );
-    }
-    assert_eq!(rt; word(&rt, &SETUP)?.as_str(), "setup");
-    assert_eq!(rt; word(&rt, &STATUS)?.as_str(), "status");
-    assert_eq!(rt; word(&rt, &NAK)?.as_str(), "nak");
-    assert_eq!(rt; word(&rt, &PAD)?.as_str(), "data");
-    assert_eq!(rt; word(&rt, &BEAT)?.as_str(), "beat");
-    assert_eq!(rt; word(&rt, &DATA)?.as_str(), "data");
-    Ok(())
+    same
+}
+
+const FRONTS: [(&[u8], usize, usize, Answer); 13] = [
+    (&SETUP, 0, 40, Err(BadPacket::TooShort)),
+    (&SETUP, 40, 41, Ok(Held::Setup)),
+    (&STATUS, 0, 36, Err(BadPacket::TooShort)),
+    (&STATUS, 36, 37, Ok(Held::Status)),
+    (&NAK, 0, 28, Err(BadPacket::TooShort)),
+    (&NAK, 28, 29, Ok(Held::Nak)),
+    (&PAD, 0, 32, Err(BadPacket::TooShort)),
+    (&PAD, 32, 33, Ok(Held::Data)),
+    (&BEAT, 0, 32, Err(BadPacket::TooShort)),
+    (&BEAT, 32, 33, Ok(Held::Beat)),
+    (&DATA, 0, 32, Err(BadPacket::TooShort)),
+    (&DATA, 32, 35, Err(BadPacket::BadLength)),
+    (&DATA, 35, 36, Ok(Held::Data)),
+];
+
+#[test]
+fn prefixes(rt: HostRuntime) {
+    assert!(rt; are_prefixes(&FRONTS));
 }
 
 /// What becomes of a SETUP or a data frame at offset 0, by the rules, when one byte is set to 0, 1, 0x80 or 0xff.
-/// `sound` is what it is read as otherwise. Both have their length in one byte, and neither length is a multiple of 32.
-fn changed(place: usize, value: u8, sound: &'static str) -> &'static str {
+/// `sound` is what it holds otherwise. Both have their length in one byte, and neither length is a multiple of 32.
+fn changed(place: usize, value: u8, sound: Held) -> Answer {
     match (place, value) {
         // A length that is too small, or above the bytes there, or negative.
-        (0, _) => "bad-length",
-        (1..=3, 0) => sound,
-        (1..=3, _) => "bad-length",
-        (4, 0) => sound,
-        (4, _) => "bad-version",
+        (0, _) => Err(BadPacket::BadLength),
+        (1..=3, 0) => Ok(sound),
+        (1..=3, _) => Err(BadPacket::BadLength),
+        (4, 0) => Ok(sound),
+        (4, _) => Err(BadPacket::BadVersion),
         // A pad of such a length; data; no type.
-        (6, 0) => "bad-length",
-        (6, 1) => "data",
-        (6, _) => "other-type",
-        (7, 0) => sound,
-        (7, _) => "other-type",
+        (6, 0) => Err(BadPacket::BadLength),
+        (6, 1) => Ok(Held::Data),
+        (6, _) => Err(BadPacket::OtherType),
+        (7, 0) => Ok(sound),
+        (7, _) => Err(BadPacket::OtherType),
         // An offset of 1 or 255.
-        (8, 1) => "unaligned",
-        (8, 0xff) => "unaligned",
+        (8, 1) => Err(BadPacket::Unaligned),
+        (8, 0xff) => Err(BadPacket::Unaligned),
         // A negative offset.
-        (11, 0x80) => "bad-length",
-        (11, 0xff) => "bad-length",
-        _ => sound,
+        (11, 0x80) => Err(BadPacket::BadLength),
+        (11, 0xff) => Err(BadPacket::BadLength),
+        _ => Ok(sound),
     }
 }
 
-#[test]
-fn each_byte_changed(rt: HostRuntime) -> Result<(), Fail> {
+/// Whether the datagram with each byte of `size` set to one of these becomes what the rules say.
+fn changes_are_known(datagram: &[u8], size: usize, sound: Held) -> bool {
+    let mut same = true;
     for value in [0, 1, 0x80, 0xff] {
-        for place in 0..40 {
-            let mut bytes = SETUP;
-            bytes[place] = value;
-            let expected = changed(place, value, "setup");
-            assert_eq!(rt;
-                word(&rt, &bytes)?.as_str(),
-                expected,
-                "at {place}, {value}"
-            );
-        }
-        for place in 0..35 {
-            let mut bytes = DATA;
-            bytes[place] = value;
-            let expected = changed(place, value, "data");
-            assert_eq!(rt;
-                word(&rt, &bytes)?.as_str(),
-                expected,
-                "at {place}, {value}"
-            );
+        for place in 0..size {
+            same &= read_with(datagram, place, value) == changed(place, value, sound);
         }
     }
-    Ok(())
+    same
+}
+
+#[test]
+fn each_byte_changed(rt: HostRuntime) {
+    assert!(rt; changes_are_known(&SETUP, 40, Held::Setup));
+    assert!(rt; changes_are_known(&DATA, 35, Held::Data));
+    assert!(rt; !changes_are_known(&PAD, 32, Held::Data));
 }
 
 /// Two data frames and a pad, one behind the other: `abc` at 0, nothing at 64, and the pad at 96.
-fn run(alloc: Global) -> Result<Vec<u8>, Fail> {
-    let mut bytes = Vec::from_slice(alloc, &abc_at(0, Flags::BEGIN))?;
-    bytes.extend_from_slice(&empty_at(64, Flags::END))?;
-    bytes.extend_from_slice(&pad_at(96, 64))?;
-    Ok(bytes)
+fn run() -> [u8; 128] {
+    let mut out = [0xff; 128];
+    write_data(&mut out, Flags::BEGIN, &at(0), b"abc");
+    write_data(&mut out[64..], Flags::END, &at(64), &[]);
+    write_pad(&mut out[96..], Flags::UNFRAGMENTED, &at(96), 64);
+    out
 }
 
-#[test]
-fn several_frames(rt: HostRuntime) -> Result<(), Fail> {
-    let bytes = run(rt.alloc())?;
-    let bytes = bytes.as_slice();
-    let mut seen = Vec::new(rt.alloc());
-    match frames(bytes) {
-        Some(found) => {
-            for frame in found {
-                seen.push((
-                    frame.header.place.term_offset,
-                    frame.header.length,
-                    frame.header.kind,
-                    frame.payload().len(),
-                ))?;
-            }
-        }
-        None => assert!(rt; false),
-    }
-    let expected = [
-        (0, 35, Kind::Data, 3),
-        (64, 32, Kind::Data, 0),
-        (96, 64, Kind::Pad, 0),
-    ];
-    assert_eq!(rt; seen.as_slice(), expected.as_slice());
-    // The filling of the last frame may be missing.
-    assert_eq!(rt; word(&rt, front(bytes, 35))?.as_str(), "data");
-    assert_eq!(rt; word(&rt, front(bytes, 50))?.as_str(), "data");
-    assert_eq!(rt; word(&rt, front(bytes, 64))?.as_str(), "data");
-    // A rest behind it is a frame, or too short.
-    assert_eq!(rt; word(&rt, front(bytes, 65))?.as_str(), "too-short");
-    assert_eq!(rt; word(&rt, front(bytes, 95))?.as_str(), "too-short");
-    assert_eq!(rt; word(&rt, front(bytes, 96))?.as_str(), "data");
-    Ok(())
-}
+/// The offset, length, kind and payload's length of a frame.
+type Row = (u32, u32, Kind, usize);
 
-/// The run with one byte set.
-fn word_with(rt: &HostRuntime, place: usize, value: u8) -> Result<String, Fail> {
-    let mut bytes = run(rt.alloc())?;
-    if place < bytes.len() {
-        bytes[place] = value;
-    }
-    word(rt, bytes.as_slice())
-}
-
-#[test]
-fn faults_of_later_frames(rt: HostRuntime) -> Result<(), Fail> {
-    assert_eq!(rt; word_with(&rt, 64 + 4, 1)?.as_str(), "bad-version");
-    assert_eq!(rt; word_with(&rt, 64 + 6, 4)?.as_str(), "other-type");
-    // No heartbeat stands behind another frame.
-    assert_eq!(rt; word_with(&rt, 64, 0)?.as_str(), "bad-length");
-    assert_eq!(rt; word_with(&rt, 64, 31)?.as_str(), "bad-length");
-    assert_eq!(rt; word_with(&rt, 64 + 8, 65)?.as_str(), "unaligned");
-    // Another offset, session, stream, term.
-    assert_eq!(rt; word_with(&rt, 64 + 8, 96)?.as_str(), "mixed");
-    assert_eq!(rt; word_with(&rt, 64 + 12, 8)?.as_str(), "mixed");
-    assert_eq!(rt; word_with(&rt, 64 + 16, 8)?.as_str(), "mixed");
-    assert_eq!(rt; word_with(&rt, 64 + 20, 8)?.as_str(), "mixed");
-    // A SETUP behind a frame is too long for the rest, or mixed.
-    assert_eq!(rt; word_with(&rt, 64 + 6, 5)?.as_str(), "bad-length");
-    assert_eq!(rt; word_with(&rt, 96 + 6, 5)?.as_str(), "too-short");
-    assert_eq!(rt; word_with(&rt, 96 + 6, 2)?.as_str(), "bad-length");
-    Ok(())
-}
-
-#[test]
-fn frames_of_other_types_behind_a_frame(rt: HostRuntime) -> Result<(), Fail> {
-    let mut bytes = Vec::from_slice(rt.alloc(), &abc_at(0, Flags::UNFRAGMENTED))?;
-    bytes.extend_from_slice(&SETUP)?;
-    assert_eq!(rt; word(&rt, bytes.as_slice())?.as_str(), "mixed");
-    // Its own faults come first.
-    let mut unaligned = SETUP;
-    unaligned[8] = 1;
-    let mut bytes = Vec::from_slice(rt.alloc(), &abc_at(0, Flags::UNFRAGMENTED))?;
-    bytes.extend_from_slice(&unaligned)?;
-    assert_eq!(rt; word(&rt, bytes.as_slice())?.as_str(), "unaligned");
-    let mut short = SETUP;
-    short[0] = 39;
-    let mut bytes = Vec::from_slice(rt.alloc(), &abc_at(0, Flags::UNFRAGMENTED))?;
-    bytes.extend_from_slice(&short)?;
-    assert_eq!(rt; word(&rt, bytes.as_slice())?.as_str(), "bad-length");
-    Ok(())
-}
-
-#[test]
-fn bytes_behind_a_pad(rt: HostRuntime) -> Result<(), Fail> {
-    let mut all = Vec::from_slice(rt.alloc(), &pad_at(0, 32))?;
-    all.extend_from_slice(&abc_at(32, Flags::UNFRAGMENTED))?;
-    let bytes = all.as_slice();
-    assert_eq!(rt; word(&rt, front(bytes, 32))?.as_str(), "data");
-    for size in 33..64 {
-        assert_eq!(rt;
-            word(&rt, front(bytes, size))?.as_str(),
-            "too-short",
-            "at {size}"
+/// Whether a datagram's frames are these.
+fn has_frames(bytes: &[u8], rows: &[Row]) -> bool {
+    let Some(found) = frames(bytes) else {
+        return false;
+    };
+    let mut count = 0usize;
+    let mut same = true;
+    for frame in found {
+        let row = (
+            frame.header.place.term_offset,
+            frame.header.length,
+            frame.header.kind,
+            frame.payload().len(),
         );
+        same &= rows.get(count) == Some(&row);
+        count = count.wrapping_add(1);
     }
-    assert_eq!(rt; word(&rt, front(bytes, 66))?.as_str(), "bad-length");
-    assert_eq!(rt; word(&rt, bytes)?.as_str(), "mixed");
-    Ok(())
+    same && count == rows.len()
+}
+
+const RUN_ROWS: [Row; 3] = [
+    (0, 35, Kind::Data, 3),
+    (64, 32, Kind::Data, 0),
+    (96, 64, Kind::Pad, 0),
+];
+
+#[test]
+fn several_frames(rt: HostRuntime) {
+    let bytes = run();
+    // The filling of the last frame may be missing. A rest behind it is a frame, or too short.
+    let rows: [(&[u8], usize, usize, Answer); 6] = [
+        (&bytes, 35, 36, Ok(Held::Data)),
+        (&bytes, 50, 51, Ok(Held::Data)),
+        (&bytes, 64, 65, Ok(Held::Data)),
+        (&bytes, 65, 66, Err(BadPacket::TooShort)),
+        (&bytes, 95, 96, Err(BadPacket::TooShort)),
+        (&bytes, 96, 97, Ok(Held::Data)),
+    ];
+    assert!(rt; has_frames(&bytes, &RUN_ROWS) && are_prefixes(&rows));
 }
 
 #[test]
-fn negative_fields(rt: HostRuntime) -> Result<(), Fail> {
-    let mut status = STATUS;
-    status[23] = 0x80;
-    assert_eq!(rt; word(&rt, &status)?.as_str(), "bad-length");
-    let mut status = STATUS;
-    status[27] = 0x80;
-    assert_eq!(rt; word(&rt, &status)?.as_str(), "bad-length");
-    let mut nak = NAK;
-    nak[23] = 0x80;
-    assert_eq!(rt; word(&rt, &nak)?.as_str(), "bad-length");
-    // Of how many bytes a NAK is, is not looked at; a status message needs no alignment.
-    let mut nak = NAK;
-    nak[27] = 0x80;
-    assert_eq!(rt; word(&rt, &nak)?.as_str(), "nak");
-    let mut status = STATUS;
-    status[20] = 33;
-    assert_eq!(rt; word(&rt, &status)?.as_str(), "status");
-    let mut nak = NAK;
-    nak[20] = 33;
-    assert_eq!(rt; word(&rt, &nak)?.as_str(), "unaligned");
-    let mut pad = PAD;
-    pad[0] = 0;
-    assert_eq!(rt; word(&rt, &pad)?.as_str(), "bad-length");
-    let mut beat = BEAT;
-    beat[8] = 33;
-    assert_eq!(rt; word(&rt, &beat)?.as_str(), "unaligned");
-    Ok(())
+fn other_frames_are_told(rt: HostRuntime) {
+    let [first, second, third] = RUN_ROWS;
+    let bytes = run();
+    assert!(rt; !has_frames(&bytes, &[first, second]));
+    assert!(rt; !has_frames(&bytes, &[first, second, third, third]));
+    assert!(rt; !has_frames(&bytes, &[second, first, third]));
+    assert!(rt; !has_frames(&bytes, &[first, second, (96, 64, Kind::Data, 0)]));
+    assert!(rt; !has_frames(&SETUP, &[]));
+}
+
+/// Whether a datagram has these faults with one byte set, so many bytes from its start.
+fn has_faults(datagram: &[u8], from: usize, rows: &[(usize, u8, BadPacket)]) -> bool {
+    let mut same = true;
+    for (place, value, fault) in rows {
+        same &= read_with(datagram, from.saturating_add(*place), *value) == Err(*fault);
+    }
+    same
+}
+
+/// From the second frame of the run on.
+const LATER_FAULTS: [(usize, u8, BadPacket); 12] = [
+    (4, 1, BadPacket::BadVersion),
+    (6, 4, BadPacket::OtherType),
+    // No heartbeat stands behind another frame.
+    (0, 0, BadPacket::BadLength),
+    (0, 31, BadPacket::BadLength),
+    (8, 65, BadPacket::Unaligned),
+    // Another offset, session, stream, term.
+    (8, 96, BadPacket::Mixed),
+    (12, 8, BadPacket::Mixed),
+    (16, 8, BadPacket::Mixed),
+    (20, 8, BadPacket::Mixed),
+    // A SETUP behind a frame is too long for the rest, or mixed.
+    (6, 5, BadPacket::BadLength),
+    (32 + 6, 5, BadPacket::TooShort),
+    (32 + 6, 2, BadPacket::BadLength),
+];
+
+/// Of a SETUP behind a data frame; its own faults come before `Mixed`.
+const SETUP_FAULTS: [(usize, u8, BadPacket); 3] = [
+    (0, 40, BadPacket::Mixed),
+    (8, 1, BadPacket::Unaligned),
+    (0, 39, BadPacket::BadLength),
+];
+
+/// A data frame of `abc`, and the SETUP behind it.
+fn setup_behind() -> [u8; 104] {
+    let mut bytes = [0xff; 104];
+    write_data(&mut bytes, Flags::UNFRAGMENTED, &at(0), b"abc");
+    bytes[64..].copy_from_slice(&SETUP);
+    bytes
+}
+
+#[test]
+fn faults_of_later_frames(rt: HostRuntime) {
+    assert!(rt; has_faults(&run(), 64, &LATER_FAULTS));
+    assert!(rt; has_faults(&setup_behind(), 64, &SETUP_FAULTS));
+    assert!(rt;
+        !has_faults(
+            &run(),
+            64,
+            &[(4, 0, BadPacket::BadVersion), LATER_FAULTS[0]]
+        )
+    );
+    assert!(rt; !has_faults(&run(), 64, &[LATER_FAULTS[0], (4, 1, BadPacket::OtherType)]));
+}
+
+#[test]
+fn bytes_behind_a_pad(rt: HostRuntime) {
+    let mut bytes = [0xff; 96];
+    write_pad(&mut bytes, Flags::UNFRAGMENTED, &at(0), 32);
+    write_data(&mut bytes[32..], Flags::UNFRAGMENTED, &at(32), b"abc");
+    let rows: [(&[u8], usize, usize, Answer); 4] = [
+        (&bytes, 32, 33, Ok(Held::Data)),
+        (&bytes, 33, 64, Err(BadPacket::TooShort)),
+        (&bytes, 66, 67, Err(BadPacket::BadLength)),
+        (&bytes, 96, 97, Err(BadPacket::Mixed)),
+    ];
+    assert!(rt; are_prefixes(&rows));
 }
 
 /// A status message of 40 bytes is read by its first 36; bytes behind a NAK are not looked at.
 #[test]
-fn longer_frames(rt: HostRuntime) -> Result<(), Fail> {
-    let mut long = [0xff; 40];
-    long[..36].copy_from_slice(&STATUS);
-    assert_eq!(rt; word(&rt, &long)?.as_str(), "status");
-    long[0] = 40;
-    assert_eq!(rt; word(&rt, &long)?.as_str(), "status");
-    long[0] = 41;
-    assert_eq!(rt; word(&rt, &long)?.as_str(), "bad-length");
-    let mut long = [0xff; 30];
-    long[..28].copy_from_slice(&NAK);
-    assert_eq!(rt; word(&rt, &long)?.as_str(), "nak");
-    Ok(())
+fn longer_frames(rt: HostRuntime) {
+    let mut status = [0xff; 40];
+    status[..36].copy_from_slice(&STATUS);
+    let mut nak = [0xff; 30];
+    nak[..28].copy_from_slice(&NAK);
+    let rows: [(&[u8], usize, u8, Answer); 4] = [
+        (&status, 0, 36, Ok(Held::Status)),
+        (&status, 0, 40, Ok(Held::Status)),
+        (&status, 0, 41, Err(BadPacket::BadLength)),
+        (&nak, 0, 28, Ok(Held::Nak)),
+    ];
+    assert!(rt; are_changed(&rows));
 }
 
 #[test]

@@ -5,14 +5,14 @@ ghost use Rattle.log_arena_tests.specs.Leases.{AllOf};
 use log_arena::{Arena, Lease, NoRoom, PAGE};
 use std::alloc::{AllocError, Global};
 
-/// Takes `steps` steps in an arena of `pages` pages. Whether the holes were those of the page table after each,
-/// and the bytes used and free were its counts.
-pub fn churn(alloc: Global, pages: usize, steps: u32) -> Result<bool, AllocError>
+/// Takes `steps` steps in an arena of `pages` pages, beside a page table of `listed` pages. Whether the holes were those
+/// of the page table after each, and the bytes used and free were its counts.
+pub fn churn(alloc: Global, pages: usize, listed: usize, steps: u32) -> Result<bool, AllocError>
     requires { (0 < pages) × (pages ≤ 65536) }
 {
     let mut arena = Arena::new(alloc, pages)?;
     let mut leases = Vec::new(alloc);
-    let mut table = Vec::from_elem(alloc, false, pages)?;
+    let mut table = Vec::from_elem(alloc, false, listed)?;
     let mut word = 1;
     let mut same = true;
     for _ in 0..steps {
@@ -65,8 +65,8 @@ fn mark(table: &mut Vec<bool>, at: usize, count: usize, leased: bool) {
     }
 }
 
-// Whether the arena's holes, used and free bytes are those of the table.
-fn agrees(alloc: Global, arena: &Arena, table: &[bool]) -> Result<bool, AllocError> {
+/// Whether the arena's holes, used and free bytes are those of the table.
+pub fn agrees(alloc: Global, arena: &Arena, table: &[bool]) -> Result<bool, AllocError> {
     let mut holes: Vec<(usize, usize)> = Vec::new(alloc);
     let mut free: usize = 0;
     let mut all: usize = 0;

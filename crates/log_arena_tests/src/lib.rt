@@ -5,7 +5,7 @@ mod churning;
 mod journal;
 mod owners;
 
-pub use churning::churn;
+pub use churning::{agrees, churn};
 pub use journal::Journal;
 pub use owners::hand_over;
 

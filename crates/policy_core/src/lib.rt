@@ -19,6 +19,3 @@ pub use policy::{Policy, least_rule_decides};
 pub use request::Request;
 pub use rule::{Principals, Rule};
 pub use verdict::Verdict;
-
-#[cfg(test)]
-mod tests;

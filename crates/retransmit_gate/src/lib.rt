@@ -16,6 +16,3 @@ pub use gate::Gate;
 pub use laws::ranges_meet_where_they_share_a_position;
 pub use nakker::{Missing, Nak, Nakker};
 pub use resent::Resent;
-
-#[cfg(test)]
-mod tests;

@@ -2,6 +2,8 @@
 #![tactic(auto)]
 
 #[cfg(test)]
+mod differing;
+#[cfg(test)]
 mod leaving;
 #[cfg(test)]
 mod limits;

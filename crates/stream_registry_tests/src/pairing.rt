@@ -72,6 +72,22 @@ fn reload_closes_one_image(rt: HostRuntime) -> Result<(), Fail> {
     Ok(())
 }
 
+// A pair changed, one too few, one too many, and in another order.
+fn tells_other_pairs(play: &Play) -> bool {
+    let changed = all_pairs_are(play, &[pair(3, 1), pair(3, 3)]);
+    let few = all_pairs_are(play, &[pair(3, 1)]);
+    let many = all_pairs_are(play, &[pair(3, 1), pair(3, 2), pair(3, 2)]);
+    let order = all_pairs_are(play, &[pair(3, 2), pair(3, 1)]);
+    !changed && !few && !many && !order
+}
+
+#[test]
+fn other_pairs_are_told(rt: HostRuntime) -> Result<(), Fail> {
+    let mut play = Play::new(rt.alloc());
+    assert!(rt; two_subscribe_and_one_publishes(&mut play) && tells_other_pairs(&play));
+    Ok(())
+}
+
 /// Whether the subscription reads the log under this policy.
 fn is_read(play: &Play, policy: &Policy, source: u64, subscription: u64) -> bool {
     play.streams

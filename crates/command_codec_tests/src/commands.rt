@@ -1,0 +1,391 @@
+use crate::layouts::{changed, command_fault, each_front_is_malformed, is_so, longer};
+use byte_strings::{Bytes, Text};
+use command_codec::{
+    AddCounter, AddPublication, AddSubscription, Body, Command, CommandFault, Removal, SetCounter,
+    TerminateDriver,
+};
+use std::alloc::{AllocError, Global};
+
+/// ADD_PUBLICATION of client 1 with correlation id 12: `aeron:ipc`, stream 10.
+const ADD: [u8; 37] = [
+    0x01, 0, 0, 0, // type
+    0x01, 0, 0, 0, 0, 0, 0, 0, // client
+    0x0c, 0, 0, 0, 0, 0, 0, 0, // correlation
+    0x0a, 0, 0, 0, // stream
+    0x09, 0, 0, 0, 0x61, 0x65, 0x72, 0x6f, 0x6e, 0x3a, 0x69, 0x70, 0x63, // channel
+];
+
+/// ADD_EXCLUSIVE_PUBLICATION of client 2 with correlation id 258: `aeron:udp`, stream -2.
+const ADD_EXCLUSIVE: [u8; 37] = [
+    0x03, 0, 0, 0, // type
+    0x02, 0, 0, 0, 0, 0, 0, 0, // client
+    0x02, 0x01, 0, 0, 0, 0, 0, 0, // correlation
+    0xfe, 0xff, 0xff, 0xff, // stream
+    0x09, 0, 0, 0, 0x61, 0x65, 0x72, 0x6f, 0x6e, 0x3a, 0x75, 0x64, 0x70, // channel
+];
+
+/// REMOVE_PUBLICATION of client 1 with correlation id 13, for registration 3.
+const REMOVE_PUBLICATION: [u8; 28] = [
+    0x02, 0, 0, 0, // type
+    0x01, 0, 0, 0, 0, 0, 0, 0, // client
+    0x0d, 0, 0, 0, 0, 0, 0, 0, // correlation
+    0x03, 0, 0, 0, 0, 0, 0, 0, // registration
+];
+
+/// ADD_SUBSCRIPTION of client 1 with correlation id 11: `aeron:ipc`, stream 10.
+const SUBSCRIBE: [u8; 45] = [
+    0x04, 0, 0, 0, // type
+    0x01, 0, 0, 0, 0, 0, 0, 0, // client
+    0x0b, 0, 0, 0, 0, 0, 0, 0, // correlation
+    0, 0, 0, 0, 0, 0, 0, 0, // registration correlation
+    0x0a, 0, 0, 0, // stream
+    0x09, 0, 0, 0, 0x61, 0x65, 0x72, 0x6f, 0x6e, 0x3a, 0x69, 0x70, 0x63, // channel
+];
+
+/// The same without its last byte.
+const CUT: [u8; 44] = [
+    0x04, 0, 0, 0, 0x01, 0, 0, 0, 0, 0, 0, 0, 0x0b, 0, 0, 0, 0, 0, 0, 0, 0, 0, 0, 0, 0, 0, 0, 0,
+    0x0a, 0, 0, 0, 0x09, 0, 0, 0, 0x61, 0x65, 0x72, 0x6f, 0x6e, 0x3a, 0x69, 0x70,
+];
+
+/// Two bytes behind a CLIENT_KEEPALIVE.
+const LONGER: [u8; 22] = [
+    0x06, 0, 0, 0, 0x02, 0, 0, 0, 0, 0, 0, 0, 0x07, 0, 0, 0, 0, 0, 0, 0, 0, 0,
+];
+
+/// ADD_SUBSCRIPTION whose numbers have each byte, both signs, and the greatest value.
+const ODD_SUBSCRIBE: [u8; 36] = [
+    0x04, 0, 0, 0, // type
+    0x08, 0x07, 0x06, 0x05, 0x04, 0x03, 0x02, 0x01, // client
+    0xff, 0xff, 0xff, 0xff, 0xff, 0xff, 0xff, 0xff, // correlation
+    0x01, 0, 0, 0, 0, 0, 0, 0, // registration correlation
+    0xfe, 0xff, 0xff, 0xff, // stream
+    0, 0, 0, 0, // channel
+];
+
+/// REMOVE_SUBSCRIPTION of client 1 with correlation id 13, for registration 1.
+const REMOVE_SUBSCRIPTION: [u8; 28] = [
+    0x05, 0, 0, 0, // type
+    0x01, 0, 0, 0, 0, 0, 0, 0, // client
+    0x0d, 0, 0, 0, 0, 0, 0, 0, // correlation
+    0x01, 0, 0, 0, 0, 0, 0, 0, // registration
+];
+
+/// CLIENT_KEEPALIVE of client 2 with correlation id 7.
+const KEEPALIVE: [u8; 20] = [
+    0x06, 0, 0, 0, // type
+    0x02, 0, 0, 0, 0, 0, 0, 0, // client
+    0x07, 0, 0, 0, 0, 0, 0, 0, // correlation
+];
+
+/// ADD_COUNTER of client 3 with correlation id 5: type 100, a key of three bytes, label `ab`.
+const ADD_COUNTER: [u8; 37] = [
+    0x09, 0, 0, 0, // type
+    0x03, 0, 0, 0, 0, 0, 0, 0, // client
+    0x05, 0, 0, 0, 0, 0, 0, 0, // correlation
+    0x64, 0, 0, 0, // type id
+    0x03, 0, 0, 0, 0x00, 0xff, 0x80, // key
+    0x02, 0, 0, 0, 0x61, 0x62, // label
+];
+
+/// REMOVE_COUNTER of client 3 with correlation id 7: counter 258.
+const REMOVE_COUNTER: [u8; 28] = [
+    0x0a, 0, 0, 0, // type
+    0x03, 0, 0, 0, 0, 0, 0, 0, // client
+    0x07, 0, 0, 0, 0, 0, 0, 0, // correlation
+    0x02, 0x01, 0, 0, 0, 0, 0, 0, // registration
+];
+
+/// CLIENT_CLOSE of client 2 with correlation id 8.
+const CLOSE: [u8; 20] = [
+    0x0b, 0, 0, 0, // type
+    0x02, 0, 0, 0, 0, 0, 0, 0, // client
+    0x08, 0, 0, 0, 0, 0, 0, 0, // correlation
+];
+
+/// TERMINATE_DRIVER of client 2 with correlation id 9, and a token of three bytes.
+const TERMINATE: [u8; 27] = [
+    0x0e, 0, 0, 0, // type
+    0x02, 0, 0, 0, 0, 0, 0, 0, // client
+    0x09, 0, 0, 0, 0, 0, 0, 0, // correlation
+    0x03, 0, 0, 0, 0x00, 0xff, 0x80, // token
+];
+
+/// SET_COUNTER of client 3 with correlation id 6: counter 258 becomes -2.
+const SET: [u8; 36] = [
+    0x01, 0x10, 0, 0, // type
+    0x03, 0, 0, 0, 0, 0, 0, 0, // client
+    0x06, 0, 0, 0, 0, 0, 0, 0, // correlation
+    0x02, 0x01, 0, 0, 0, 0, 0, 0, // registration
+    0xfe, 0xff, 0xff, 0xff, 0xff, 0xff, 0xff, 0xff, // value
+];
+
+/// The same for the least value.
+const SET_LEAST: [u8; 36] = [
+    0x01, 0x10, 0, 0, 0x03, 0, 0, 0, 0, 0, 0, 0, 0x06, 0, 0, 0, 0, 0, 0, 0, 0x02, 0x01, 0, 0, 0, 0,
+    0, 0, 0, 0, 0, 0, 0, 0, 0, 0x80,
+];
+
+/// The same for the greatest value.
+const SET_GREATEST: [u8; 36] = [
+    0x01, 0x10, 0, 0, 0x03, 0, 0, 0, 0, 0, 0, 0, 0x06, 0, 0, 0, 0, 0, 0, 0, 0x02, 0x01, 0, 0, 0, 0,
+    0, 0, 0xff, 0xff, 0xff, 0xff, 0xff, 0xff, 0xff, 0x7f,
+];
+
+/// What a command asks for, told without memory.
+#[derive(Clone, Copy)]
+enum Plain {
+    AddPublication(i32, &'static str),
+    RemovePublication(u64),
+    AddExclusivePublication(i32, &'static str),
+    AddSubscription(u64, i32, &'static str),
+    RemoveSubscription(u64),
+    ClientKeepalive,
+    AddCounter(i32, &'static [u8], &'static str),
+    RemoveCounter(u64),
+    ClientClose,
+    TerminateDriver(&'static [u8]),
+    SetCounter(u64, i64),
+}
+
+fn publication(alloc: Global, stream: i32, channel: &str) -> Result<AddPublication, AllocError> {
+    let channel = Text::new(alloc, channel)?;
+    Ok(AddPublication { stream, channel })
+}
+
+fn subscription(
+    alloc: Global,
+    registration_correlation: u64,
+    stream: i32,
+    channel: &str,
+) -> Result<AddSubscription, AllocError> {
+    let channel = Text::new(alloc, channel)?;
+    Ok(AddSubscription {
+        registration_correlation,
+        stream,
+        channel,
+    })
+}
+
+fn counter(alloc: Global, type_id: i32, key: &[u8], label: &str) -> Result<AddCounter, AllocError> {
+    let key = Bytes::new(alloc, key)?;
+    let label = Text::new(alloc, label)?;
+    Ok(AddCounter {
+        type_id,
+        key,
+        label,
+    })
+}
+
+fn body(alloc: Global, plain: Plain) -> Result<Body, AllocError> {
+    Ok(match plain {
+        Plain::AddPublication(stream, channel) => {
+            Body::AddPublication(publication(alloc, stream, channel)?)
+        }
+        Plain::RemovePublication(registration) => Body::RemovePublication(Removal { registration }),
+        Plain::AddExclusivePublication(stream, channel) => {
+            Body::AddExclusivePublication(publication(alloc, stream, channel)?)
+        }
+        Plain::AddSubscription(other, stream, channel) => {
+            Body::AddSubscription(subscription(alloc, other, stream, channel)?)
+        }
+        Plain::RemoveSubscription(registration) => {
+            Body::RemoveSubscription(Removal { registration })
+        }
+        Plain::ClientKeepalive => Body::ClientKeepalive,
+        Plain::AddCounter(type_id, key, label) => {
+            Body::AddCounter(counter(alloc, type_id, key, label)?)
+        }
+        Plain::RemoveCounter(registration) => Body::RemoveCounter(Removal { registration }),
+        Plain::ClientClose => Body::ClientClose,
+        Plain::TerminateDriver(token) => Body::TerminateDriver(TerminateDriver {
+            token: Bytes::new(alloc, token)?,
+        }),
+        Plain::SetCounter(registration, value) => Body::SetCounter(SetCounter {
+            registration,
+            value,
+        }),
+    })
+}
+
+/// The client, the correlation id and the rest of a command, and its bytes.
+type Row = (u64, u64, Plain, &'static [u8]);
+
+const COMMANDS: [Row; 14] = [
+    (1, 12, Plain::AddPublication(10, "aeron:ipc"), &ADD),
+    (
+        2,
+        258,
+        Plain::AddExclusivePublication(-2, "aeron:udp"),
+        &ADD_EXCLUSIVE,
+    ),
+    (1, 13, Plain::RemovePublication(3), &REMOVE_PUBLICATION),
+    (
+        1,
+        11,
+        Plain::AddSubscription(0, 10, "aeron:ipc"),
+        &SUBSCRIBE,
+    ),
+    (
+        0x0102_0304_0506_0708,
+        u64::MAX,
+        Plain::AddSubscription(1, -2, ""),
+        &ODD_SUBSCRIBE,
+    ),
+    (1, 13, Plain::RemoveSubscription(1), &REMOVE_SUBSCRIPTION),
+    (2, 7, Plain::ClientKeepalive, &KEEPALIVE),
+    (
+        3,
+        5,
+        Plain::AddCounter(100, &[0x00, 0xff, 0x80], "ab"),
+        &ADD_COUNTER,
+    ),
+    (3, 7, Plain::RemoveCounter(258), &REMOVE_COUNTER),
+    (2, 8, Plain::ClientClose, &CLOSE),
+    (
+        2,
+        9,
+        Plain::TerminateDriver(&[0x00, 0xff, 0x80]),
+        &TERMINATE,
+    ),
+    (3, 6, Plain::SetCounter(258, -2), &SET),
+    (3, 6, Plain::SetCounter(258, i64::MIN), &SET_LEAST),
+    (3, 6, Plain::SetCounter(258, i64::MAX), &SET_GREATEST),
+];
+
+/// Whether the command of the row is written as its bytes, read from them, copied, and named by its correlation id.
+fn is_row(alloc: Global, row: Row) -> Result<bool, CommandFault> {
+    let (client, correlation, plain, bytes) = row;
+    let body = body(alloc, plain)?;
+    let command = Command {
+        client,
+        correlation,
+        body,
+    };
+    Ok(
+        command.write(alloc)?.as_slice() == bytes
+            && Command::read(alloc, bytes)? == command
+            && command.copy(alloc)? == command
+            && Command::correlation_of(bytes) == correlation,
+    )
+}
+
+fn are_rows(alloc: Global, rows: &[Row]) -> bool {
+    for &row in rows {
+        if !is_so(is_row(alloc, row)) {
+            return false;
+        }
+    }
+    true
+}
+
+/// With ample memory.
+#[test]
+fn commands_have_their_bytes(rt: HostRuntime) {
+    assert!(rt; are_rows(rt.alloc(), &COMMANDS));
+    assert!(rt; !are_rows(rt.alloc(), &[(2, 6, Plain::ClientKeepalive, &KEEPALIVE)]));
+}
+
+/// Whether the bytes with another one, a zero, are no command because of a field, nor is a front of them.
+fn is_whole(alloc: Global, bytes: &[u8]) -> Result<bool, CommandFault> {
+    let longer = longer(alloc, bytes)?;
+    Ok(
+        each_front_is_malformed(alloc, bytes)
+            && command_fault(alloc, longer.as_slice()) == Some(CommandFault::Malformed),
+    )
+}
+
+fn are_whole(alloc: Global, rows: &[Row]) -> bool {
+    for &(_, _, _, bytes) in rows {
+        if !is_so(is_whole(alloc, bytes)) {
+            return false;
+        }
+    }
+    true
+}
+
+/// No front of a command is one, and neither is a command with another byte.
+#[test]
+fn commands_end_with_their_bytes(rt: HostRuntime) {
+    assert!(rt; are_whole(rt.alloc(), &COMMANDS));
+    assert!(rt; !each_front_is_malformed(rt.alloc(), &LONGER));
+}
+
+/// The bytes of a command, a place, another byte that stands there, and what is wrong then.
+type ChangedRow = (&'static [u8], usize, u8, CommandFault);
+
+const CHANGED: [ChangedRow; 9] = [
+    (&SUBSCRIBE, 0, 0x55, CommandFault::Unknown),
+    // A length past the end, one below the bytes there, a negative one, a channel that is not ASCII.
+    (&SUBSCRIBE, 32, 0x0a, CommandFault::Malformed),
+    (&SUBSCRIBE, 32, 0x08, CommandFault::Malformed),
+    (&SUBSCRIBE, 35, 0x80, CommandFault::Malformed),
+    (&SUBSCRIBE, 44, 0xe9, CommandFault::Malformed),
+    (&ADD, 24, 0x0a, CommandFault::Malformed),
+    (&ADD, 24, 0x08, CommandFault::Malformed),
+    (&ADD, 27, 0x80, CommandFault::Malformed),
+    (&ADD, 36, 0xe9, CommandFault::Malformed),
+];
+
+/// Whether the bytes with another one at a place have this fault.
+fn is_faulty_at(alloc: Global, row: ChangedRow) -> Result<bool, CommandFault> {
+    let (bytes, place, byte, fault) = row;
+    let changed = changed(alloc, bytes, place, byte)?;
+    Ok(command_fault(alloc, changed.as_slice()) == Some(fault))
+}
+
+fn are_faulty_there(alloc: Global, rows: &[ChangedRow]) -> bool {
+    for &row in rows {
+        if !is_so(is_faulty_at(alloc, row)) {
+            return false;
+        }
+    }
+    true
+}
+
+#[test]
+fn fields_that_do_not_fit_are_malformed(rt: HostRuntime) {
+    assert!(rt; are_faulty_there(rt.alloc(), &CHANGED));
+    assert!(rt; !are_faulty_there(rt.alloc(), &[(&ADD, 24, 0x09, CommandFault::Malformed)]));
+}
+
+/// Bytes that are no command, why, and what stands in the place of their correlation id.
+const NO_COMMANDS: [(&[u8], CommandFault, u64); 5] = [
+    (&CUT, CommandFault::Malformed, 11),
+    (&[], CommandFault::Malformed, 0),
+    // The type is looked at before the rest.
+    (&[0x55, 0, 0, 0], CommandFault::Unknown, 0),
+    (
+        &[
+            0x55, 0, 0, 0, 0x01, 0, 0, 0, 0, 0, 0, 0, 0x0b, 0, 0, 0, 0, 0, 0, 0,
+        ],
+        CommandFault::Unknown,
+        11,
+    ),
+    (
+        &[
+            0x04, 0, 0, 0, 0x01, 0, 0, 0, 0, 0, 0, 0, 0x0b, 0, 0, 0, 0, 0, 0,
+        ],
+        CommandFault::Malformed,
+        0,
+    ),
+];
+
+/// Whether each has its fault, and its correlation id.
+fn are_answered(alloc: Global, rows: &[(&[u8], CommandFault, u64)]) -> bool {
+    for &(bytes, fault, correlation) in rows {
+        if command_fault(alloc, bytes) != Some(fault)
+            || Command::correlation_of(bytes) != correlation
+        {
+            return false;
+        }
+    }
+    true
+}
+
+#[test]
+fn malformed_commands(rt: HostRuntime) {
+    assert!(rt; are_answered(rt.alloc(), &NO_COMMANDS));
+    assert!(rt; !are_answered(rt.alloc(), &[(&CUT, CommandFault::Malformed, 12)]));
+    assert!(rt; !are_answered(rt.alloc(), &[(&CUT, CommandFault::Unknown, 11)]));
+}
