@@ -60,7 +60,7 @@ fn all_refuse(alloc: Global, keys: &[&str], values: &[&str]) -> bool {
     true
 }
 
-const DURATIONS: [&str; 11] = [
+const DURATIONS: [&str; 10] = [
     "client-liveness",
     "image-liveness",
     "linger",
@@ -71,21 +71,28 @@ const DURATIONS: [&str; 11] = [
     "setup-interval",
     "heartbeat-interval",
     "status-interval",
-    "receiver-id",
 ];
 
-const NO_DURATIONS: [&str; 7] = ["-1", "-0", "18446744073709551616", "5s", "+5", "", "1 2"];
+const NO_DURATIONS: [&str; 7] = ["-1", "-0", "9223372036854775808", "5s", "+5", "", "1 2"];
+
+const NO_IDS: [&str; 3] = ["-1", "18446744073709551616", "+5"];
 
 #[test]
-fn durations_are_numbers_of_64_bits(rt: HostRuntime) {
+fn durations_are_below_2_to_the_63(rt: HostRuntime) {
+    assert!(rt; all_take(rt.alloc(), &DURATIONS, &["0", "9223372036854775807", "007"]));
+    assert!(rt; all_refuse(rt.alloc(), &DURATIONS, &NO_DURATIONS));
+}
+
+#[test]
+fn receiver_ids_have_64_bits(rt: HostRuntime) {
     assert!(rt;
-        all_take(
+        takes_each(
             rt.alloc(),
-            &DURATIONS,
+            "receiver-id",
             &["0", "18446744073709551615", "007"]
         )
     );
-    assert!(rt; all_refuse(rt.alloc(), &DURATIONS, &NO_DURATIONS));
+    assert!(rt; refuses_each(rt.alloc(), "receiver-id", &NO_IDS));
 }
 
 const NO_TERM_LENGTHS: [&str; 7] = [
