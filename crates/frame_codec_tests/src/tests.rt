@@ -489,9 +489,11 @@ fn each_byte_changed(rt: HostRuntime) {
 /// Two data frames and a pad, one behind the other: `abc` at 0, nothing at 64, and the pad at 96.
 fn run() -> [u8; 128] {
     let mut out = [0xff; 128];
-    write_data(&mut out, Flags::BEGIN, &at(0), b"abc");
-    write_data(&mut out[64..], Flags::END, &at(64), &[]);
-    write_pad(&mut out[96..], Flags::UNFRAGMENTED, &at(96), 64);
+    let (first, rest) = out.split_at_mut(64);
+    let (second, third) = rest.split_at_mut(32);
+    write_data(first, Flags::BEGIN, &at(0), b"abc");
+    write_data(second, Flags::END, &at(64), &[]);
+    write_pad(third, Flags::UNFRAGMENTED, &at(96), 64);
     out
 }
 
@@ -607,11 +609,18 @@ fn faults_of_later_frames(rt: HostRuntime) {
     assert!(rt; !has_faults(&run(), 64, &[LATER_FAULTS[0], (4, 1, BadPacket::OtherType)]));
 }
 
+/// A pad of 32 bytes, and a data frame behind it.
+fn pad_and_data() -> [u8; 96] {
+    let mut out = [0xff; 96];
+    let (pad, data) = out.split_at_mut(32);
+    write_pad(pad, Flags::UNFRAGMENTED, &at(0), 32);
+    write_data(data, Flags::UNFRAGMENTED, &at(32), b"abc");
+    out
+}
+
 #[test]
 fn bytes_behind_a_pad(rt: HostRuntime) {
-    let mut bytes = [0xff; 96];
-    write_pad(&mut bytes, Flags::UNFRAGMENTED, &at(0), 32);
-    write_data(&mut bytes[32..], Flags::UNFRAGMENTED, &at(32), b"abc");
+    let bytes = pad_and_data();
     let rows: [(&[u8], usize, usize, Answer); 4] = [
         (&bytes, 32, 33, Ok(Held::Data)),
         (&bytes, 33, 64, Err(BadPacket::TooShort)),
