@@ -1,4 +1,5 @@
--- The fields of the commands that remove: REMOVE_SUBSCRIPTION and REMOVE_COUNTER. (The layout is this project's own.)
+-- The fields of the commands that remove: REMOVE_PUBLICATION, REMOVE_SUBSCRIPTION and REMOVE_COUNTER. (The layout is this
+-- project's own.)
 use Rattle.std.specs.Prelude.{ℕ, ◌<◌, ◌^◌, List, Result, Ok}
 use Rattle.command_codec.specs.declared.fault.CommandFault.{CommandFault}
 use Rattle.command_codec.specs.declared.removal.Removal.{Removal}
