@@ -1,0 +1,7 @@
+ghost use Rattle.std.specs.Prelude.{◌≡◌};
+
+/// What has another one that is equal to it without memory.
+pub trait Twin: Drop {
+    fn twin(&self) -> Self
+        ensures { result ≡ self.now };
+}
