@@ -2,7 +2,6 @@
 use Rattle.std.proofs.Common.{◌≡◌, ℕ, ◌+◌, ◌≤◌, ◌==◌, Bool, true, false, cond, List, [], ◌∷◌, ◌++◌, Option, Some, None, Result, Ok, Err, refl, sym, ap, subst, ◌∙◌, map, length, drop, nat_eq, nat_lt, codes, append_assoc, append-nil, length-append, arith}
 use Rattle.std.specs.List.{AllByRecursion, slice_split, starts_with}
 use Rattle.std.specs.Str.{bytes_eq}
-use Rattle.std.proofs.lemmas.Bool.{ltb-false}
 use Rattle.std.proofs.lemmas.Bool.Decides.{Decides-eqb, nat_tests}
 use Rattle.std.proofs.lemmas.List.Elements.{All-from_recursion}
 use Rattle.std.proofs.lemmas.List.Splits.{slice_split_at, slice_split_none}
@@ -11,7 +10,7 @@ use Rattle.channel_uri.specs.declared.error.UriError.{UriError}
 use Rattle.channel_uri.specs.declared.error.UriError.TheVariants.{EmptyKey, NoScheme, BadMedia}
 use Rattle.channel_uri.specs.declared.media.Media.{Media}
 use Rattle.channel_uri.specs.declared.media.Media.TheVariants.{Udp, Ipc, Counter}
-use Rattle.channel_uri.specs.Canonical.{pairs_text, canonical_of, IsCanonical, CanonicalDenotes}
+use Rattle.channel_uri.specs.Canonical.{pairs_text, canonical_of, CanonicalDenotes}
 use Rattle.channel_uri.specs.Channel.{Shape, denotes, media_of}
 use Rattle.channel_uri.specs.Keys.{Pair, InByteOrder, kept}
 use Rattle.channel_uri.specs.Media.{name_of}
@@ -73,6 +72,9 @@ where_size true b value = address_size value
 where_size false true value = address_size value
 where_size false false value = omega arith
 
+pub value_size : (key value : List ℕ) → length (value_read key value) ≤ length value
+value_size key value = where_size (bytes_eq key (codes "endpoint")) (bytes_eq key (codes "control")) value
+
 -- ---- pairs that are kept
 
 record IsKept (pair : Pair) : Type 0 where
@@ -82,7 +84,7 @@ record IsKept (pair : Pair) : Type 0 where
   pub value_no_bar : Lacks 124 pair.1
   pub read : value_read pair.0 pair.1 ≡ pair.1
 
-record IsPair (piece : List ℕ) (pair : Pair) : Type 0 where
+pub record IsPair (piece : List ℕ) (pair : Pair) : Type 0 where
   pub named : (length pair.0 == 0) ≡ false
   pub no_equals : Lacks 61 pair.0
   pub whole : piece ≡ pair.0 ++ 61 ∷ pair.1
@@ -99,7 +101,7 @@ is_pair_from piece (Some sides) pair is e =
     let parts = cut_parts 61 piece sides.0 sides.1 is in
     subst (IsPair piece) same (record { named = ok.0; no_equals = parts.first; whole = parts.whole })
 
-is_pair : (piece : List ℕ) (pair : Pair) → pair_of piece ≡ Ok pair → IsPair piece pair
+pub is_pair : (piece : List ℕ) (pair : Pair) → pair_of piece ≡ Ok pair → IsPair piece pair
 is_pair piece pair e = is_pair_from piece (cut 61 piece) pair refl e
 
 is_kept : (piece : List ℕ) (pair : Pair) → IsPair piece pair → Lacks 124 piece → IsKept (pair_read pair)

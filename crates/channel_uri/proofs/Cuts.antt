@@ -1,10 +1,11 @@
 -- Texts that are cut at a byte.
-use Rattle.std.proofs.Common.{◌≡◌, ℕ, zero, suc, ◌+◌, ◌<◌, ◌==◌, Bool, true, false, not, cond, List, [], ◌∷◌, ◌++◌, Option, Some, None, refl, sym, ap, ◌∙◌, length, take, drop, get_or, nat_lt, length-append, arith}
+use Rattle.std.proofs.Common.{◌≡◌, ℕ, zero, suc, ◌+◌, ◌<◌, ◌==◌, Bool, true, false, not, cond, List, [], ◌∷◌, ◌++◌, Option, Some, None, refl, ap, subst, ◌∙◌, length, take, drop, get_or, nat_lt, length-append, arith}
 use Rattle.std.specs.List.{AllByRecursion, slice_split, onto_first, prefix_len, position_or_len, before_first, after_first}
 use Rattle.std.proofs.Math.Numerals.{one-add}
 use Rattle.std.proofs.Math.Seq.{take-append_seam, drop-append-add}
-use Rattle.std.proofs.lemmas.Bool.{cond-true, cond-false, ltb-true, lt-ltb, eqb-true, eq-eqb}
+use Rattle.std.proofs.lemmas.Bool.{ltb-true, ltb-false, lt-ltb, eqb-true, eq-eqb}
 use Rattle.std.proofs.lemmas.List.Sums.{passes_at_first, split_at_first}
+use Rattle.std.proofs.lemmas.List.{take_all}
 use Rattle.channel_uri.specs.Syntax.{cut}
 
 -- the text has no such byte
@@ -77,6 +78,16 @@ cut_from mark text front back true is e =
 
 pub cut_parts : (mark : ℕ) (text front back : List ℕ) → cut mark text ≡ Some (front, back) → Parts mark text front back
 cut_parts mark text front back e = cut_from mark text front back _ refl e
+
+cut_none_from : (mark : ℕ) (text : List ℕ) (sides : List ℕ × List ℕ) (b : Bool) → nat_lt (position_or_len (λ c. c == mark) text) (length text) ≡ b →
+    cond {A = Option (List ℕ × List ℕ)} b (Some sides) None ≡ None → Lacks mark text
+cut_none_from mark text sides true is e = absurd cc
+cut_none_from mark text sides false is e =
+    subst (Lacks mark) (take_all (position_or_len (λ c. c == mark) text) text (ltb-false _ _ is)) (lacks_before mark text)
+
+-- a text that can't be cut has no such byte
+pub cut_lacks : (mark : ℕ) (text : List ℕ) → cut mark text ≡ None → Lacks mark text
+cut_lacks mark text e = cut_none_from mark text _ _ refl e
 
 -- ---- all pieces
 

@@ -2,8 +2,9 @@ pub mod AddressText
 pub mod Canonical
 pub mod Cuts
 pub mod EndingLemmas
-pub mod KeysLemmas
 pub mod LastValue
 pub mod NumberLemmas
 pub mod Parsed
+pub mod PieceLemmas
 pub mod Sorted
+pub mod TableLemmas

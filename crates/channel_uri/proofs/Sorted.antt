@@ -11,10 +11,10 @@ use Rattle.std.proofs.lemmas.Map.Text.{is_eq-slice_cmp}
 use Rattle.std.proofs.lemmas.Slice.Eq.{bytes_eq-Decides}
 use Rattle.channel_uri.specs.Keys.{Pair, InByteOrder, bytes_cmp, put, kept}
 
-equal_keys : (key other : List ℕ) → slice_cmp nat_cmp key other ≡ Equal → key ≡ other
+pub equal_keys : (key other : List ℕ) → slice_cmp nat_cmp key other ≡ Equal → key ≡ other
 equal_keys key other is = (bytes_eq-Decides key other).0 (sym (is_eq-slice_cmp key other) ∙ ap is_eq is)
 
-turned : (key other : List ℕ) (o : Ordering) → slice_cmp nat_cmp key other ≡ o → slice_cmp nat_cmp other key ≡ ordering_reverse o
+pub turned : (key other : List ℕ) (o : Ordering) → slice_cmp nat_cmp key other ≡ o → slice_cmp nat_cmp other key ≡ ordering_reverse o
 turned key other o is = nat_list_cmp_total.antisymm other key ∙ ap ordering_reverse is
 
 -- ---- what holds of each pair
@@ -37,7 +37,7 @@ all_kept P keys (pair ∷ pairs) all new = all_kept P (put keys pair) pairs (all
 
 -- ---- byte order
 
-all_above : (low key : List ℕ) → slice_cmp nat_cmp low key ≡ Less → (es : List Pair) → AllByRecursion (λ e. bytes_cmp key e.0 ≡ Less) es →
+pub all_above : (low key : List ℕ) → slice_cmp nat_cmp low key ≡ Less → (es : List Pair) → AllByRecursion (λ e. bytes_cmp key e.0 ≡ Less) es →
     AllByRecursion (λ e. bytes_cmp low e.0 ≡ Less) es
 all_above low key is [] all = tt
 all_above low key is (e ∷ es) all = (nat_list_cmp_total.trans low key e.0 is all.0, all_above low key is es all.1)
@@ -50,7 +50,7 @@ in_order_from key value e es Equal is all order later = (all, order)
 in_order_from key value e es Greater is all order later =
     (all_put (λ other. bytes_cmp e.0 other.0 ≡ Less) es (key, value) all (turned key e.0 Greater is), later)
 
-in_order_put : (keys : List Pair) (pair : Pair) → InByteOrder keys → InByteOrder (put keys pair)
+pub in_order_put : (keys : List Pair) (pair : Pair) → InByteOrder keys → InByteOrder (put keys pair)
 in_order_put [] pair order = (tt, tt)
 in_order_put (e ∷ es) pair order =
     in_order_from pair.0 pair.1 e es (slice_cmp nat_cmp pair.0 e.0) refl order.0 order.1 (in_order_put es pair order.1)

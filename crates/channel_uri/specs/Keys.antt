@@ -1,4 +1,4 @@
-use Rattle.std.specs.Prelude.{◌≡◌, ℕ, List, [], ◌∷◌, Option, String, reverse}
+use Rattle.std.specs.Prelude.{◌≡◌, ℕ, List, [], ◌∷◌, Option, reverse}
 use Rattle.std.specs.Ordering.{nat_cmp}
 use Rattle.std.specs.Cmp.Lexicographic.{slice_cmp}
 use Rattle.std.specs.declared.cmp.Ordering.{Ordering}
@@ -7,15 +7,10 @@ use Rattle.std.specs.List.{AllByRecursion}
 use Rattle.std.specs.BTreeMap.{insert_entry}
 use Rattle.std.specs.Map.{lookup}
 use Rattle.std.specs.Str.{bytes_eq}
-use Rattle.std.specs.String.{string_bytes}
 
 -- a key and its value
 abbrev pub Pair : Type 0
 Pair = List ℕ × List ℕ
-
--- an entry of the table, by its bytes
-abbrev pub texts : {A : Type 0} → String A × String A → Pair
-texts entry = (string_bytes entry.0, string_bytes entry.1)
 
 -- the order of bytes, in which keys stand
 abbrev pub bytes_cmp : List ℕ → List ℕ → Ordering

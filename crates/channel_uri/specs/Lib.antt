@@ -8,8 +8,10 @@ pub mod Media
 pub mod Number
 pub mod Parameters
 pub mod Pattern
+pub mod Pieces
 pub mod Place
 pub mod Quantity
 pub mod Session
 pub mod Syntax
+pub mod Table
 pub mod Values

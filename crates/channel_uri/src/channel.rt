@@ -60,7 +60,7 @@ impl Channel {
     /// [`UriError::TooLong`] is looked at first, then the syntax from the left, and then the values that are kept, in the
     /// byte order of their keys: the first fault is given.
     #[tactic(auto, unfolding(crate::specs::Channel::denotes))]
-    pub fn parse(alloc: Global, text: &str) -> Result<Channel, UriError>
+    pub fn parse(_alloc: Global, text: &str) -> Result<Channel, UriError>
         ensures exact { Gives (λ channel. channel) result (denotes text.now) }
         ensures without_memory { takes_memory text.now ≡ false → Equals (λ channel. channel) result (denotes text.now) }
     {
@@ -71,7 +71,7 @@ impl Channel {
         let rest = syntax::behind_scheme(unspied)?;
         let (word, pairs) = syntax::halves(rest);
         let media = media_of(spy, word)?;
-        let keys = syntax::keys_of(alloc, pairs)?;
+        let keys = syntax::keys_of(pairs)?;
         match values::first_fault(&keys) {
             Some(fault) => Err(fault),
             None => Ok(Channel { spy, media, keys }),
@@ -155,6 +155,21 @@ impl Channel {
         Ok(Text::from(text))
     }
 
+    /// A channel with room for any other.
+    pub fn room(alloc: Global) -> Result<Channel, AllocError>
+        ensures { IfOk result (λ channel. channel ≡ ipc_shape) }
+    {
+        Ok(Channel::ipc(alloc))
+    }
+
+    /// Becomes equal to another channel. It takes no memory.
+    pub fn set_from(&mut self, other: &Channel)
+        ensures { self.new ≡ other.now }
+    {
+        (self.spy, self.media) = (other.spy, other.media);
+        self.keys.set_from(&other.keys);
+    }
+
     /// Another channel, equal to this one.
     pub fn copy(&self) -> Result<Channel, AllocError>
         ensures { IfOk result (λ channel. channel ≡ self.now) }
@@ -179,11 +194,12 @@ fn push_pairs(text: &mut String, keys: &Keys) -> Result<(), AllocError>
     ensures { OnOk result (string_bytes text.new ≡ string_bytes text.old ++ pairs_text true keys.now) }
 {
     let mut first = true;
-    for (key, value) in keys.iter() {
+    for at in 0..keys.len() {
+        let (key, value) = keys.at(at);
         text.push_str(mark_of(first))?;
-        text.push_str(key.as_str())?;
+        text.push_str(key)?;
         text.push_str("=")?;
-        text.push_str(value.as_str())?;
+        text.push_str(value)?;
         first = false;
     }
     Ok(())

@@ -1,69 +1,92 @@
-ghost use Rattle.channel_uri.specs.Keys.{texts, value_at, put};
+ghost use Rattle.channel_uri.specs.Keys.{value_at};
 ghost use Rattle.std.specs.Option.{option_copied};
-ghost use Rattle.std.specs.Prelude.{◌≡◌, [], IfOk, map, OnOk, OnErr};
-ghost use Rattle.std.specs.String.{string_bytes};
+ghost use Rattle.std.specs.Prelude.{◌≡◌, ◌<◌, [], IfOk, length, slice_index_or};
 
-use std::alloc::{AllocError, AllocFailed, Global};
-use std::collections::{BTreeMap, btree_map};
+use crate::table::Table;
+use std::alloc::{AllocError, Global};
 use std::marker::Model;
 
-/// The keys of a channel or a pattern with their values, in the byte order of the keys.
+/// The keys of a channel or a pattern with their values, in the byte order of the keys. They lie in the value itself.
 #[derive(Debug, Drop)]
 pub struct Keys {
-    table: BTreeMap<String, String>,
+    table: Table,
 }
 
 impl Model for Keys {
-    ghost use Rattle.std.specs.Prelude.{List, ℕ, map};
-    ghost use Rattle.std.specs.String.{string_bytes};
+    ghost use Rattle.channel_uri.specs.Keys.{Pair};
+    ghost use Rattle.std.specs.Prelude.{List, ℕ};
 
     ghost Value = { List (List ℕ × List ℕ) };
 
-    ghost view = { λ keys. map (λ entry. (string_bytes entry.0, string_bytes entry.1)) keys.table.entries };
+    ghost view = { λ keys. keys.table.pairs };
 }
 
 impl Keys {
     /// No keys. It takes no memory.
-    pub fn new(alloc: Global) -> Keys
+    pub fn new(_alloc: Global) -> Keys
         ensures { result ≡ [] }
     {
         Keys {
-            table: BTreeMap::new(alloc),
+            table: Table::new(),
         }
+    }
+
+    /// No keys, with room for those of any channel or pattern.
+    pub fn room(alloc: Global) -> Result<Keys, AllocError>
+        ensures { IfOk result (λ keys. keys ≡ []) }
+    {
+        Ok(Keys::new(alloc))
+    }
+
+    /// The keys of a table.
+    pub(crate) fn of(table: Table) -> Keys
+        ensures { result ≡ table.pairs }
+    {
+        Keys { table }
     }
 
     /// The value of `key`.
     pub fn get(&self, key: &str) -> Option<&str>
         ensures { option_copied result ≡ value_at key.now self.now }
     {
-        match self.table.get(key) {
-            Some(value) => Some(value.as_str()),
-            None => None,
-        }
+        self.table.get(key)
     }
 
-    /// Gives `key` this value, in place of an earlier one.
-    pub(crate) fn put(&mut self, alloc: Global, key: &str, value: String) -> Result<(), AllocError>
-        ensures ok { OnOk result (self.new ≡ put self.old (key.now, string_bytes value)) }
-        ensures err { OnErr result (self.new ≡ self.old) }
+    /// Takes the keys of another in place of its own. It takes no memory.
+    pub fn set_from(&mut self, other: &Keys)
+        ensures { self.new ≡ other.now }
     {
-        let key = String::from_str(alloc, key)?;
-        self.table.insert(key, value)?;
-        Ok(())
+        self.table.set_from(&other.table);
+    }
+
+    /// Other keys, with the same values. They take no memory.
+    pub(crate) fn twin(&self) -> Keys
+        ensures { result ≡ self.now }
+    {
+        let mut table = Table::new();
+        table.set_from(&self.table);
+        Keys { table }
     }
 
     /// Other keys, with the same values.
     pub fn copy(&self) -> Result<Keys, AllocError>
         ensures { IfOk result (λ keys. keys ≡ self.now) }
     {
-        let table = self.table.clone()?;
-        Ok(Keys { table })
+        Ok(self.twin())
     }
 
-    /// The keys with their values, in byte order.
-    pub(crate) fn iter(&self) -> btree_map::Iter<'_, String, String>
-        ensures { map texts result ≡ self.now }
+    /// How many keys there are.
+    pub(crate) fn len(&self) -> usize
+        ensures { result ≡ length self.now }
     {
-        self.table.iter()
+        self.table.len()
+    }
+
+    /// A key with its value, counted in byte order.
+    pub(crate) fn at(&self, at: usize) -> (&str, &str)
+        requires { at < length self.now }
+        ensures { (result.0.now, result.1.now) ≡ slice_index_or self.now at (result.0.now, result.1.now) }
+    {
+        self.table.at(at)
     }
 }

@@ -19,6 +19,7 @@ mod place;
 mod quantity;
 mod session;
 mod syntax;
+mod table;
 mod values;
 
 pub use address::{Address, address_of};

@@ -1,5 +1,6 @@
 ghost use Rattle.channel_uri.specs.Fault.{Equals, Gives};
 ghost use Rattle.channel_uri.specs.Pattern.{pattern_of, pattern_media_of, pattern_takes_memory, front_of, value_fits, is_fit, all_fit, covers};
+ghost use Rattle.channel_uri.specs.declared.pattern.Pattern.TheVariants.{Any};
 ghost use Rattle.std.specs.List.{starts_with};
 ghost use Rattle.std.specs.Prelude.{◌≡◌, IfOk, false, nat_eq, option_copied};
 
@@ -75,8 +76,9 @@ fn is_fit(wanted: &str, value: Option<&str>) -> bool
 fn all_fit(wanted: &Keys, keys: &Keys) -> bool
     ensures { result ≡ all_fit wanted.now keys.now }
 {
-    for (key, value) in wanted.iter() {
-        if !is_fit(value.as_str(), keys.get(key.as_str())) {
+    for at in 0..wanted.len() {
+        let (key, value) = wanted.at(at);
+        if !is_fit(value, keys.get(key)) {
             return false;
         }
     }
@@ -90,7 +92,7 @@ impl Pattern {
     /// # Errors
     /// The first fault of the text, from the left; [`UriError::TooLong`] is looked at first.
     #[tactic(auto, unfolding(crate::specs::Pattern::pattern_of))]
-    pub fn parse(alloc: Global, text: &str) -> Result<Pattern, UriError>
+    pub fn parse(_alloc: Global, text: &str) -> Result<Pattern, UriError>
         ensures exact { Gives (λ pattern. pattern) result (pattern_of text.now) }
         ensures without_memory { pattern_takes_memory text.now ≡ false → Equals (λ pattern. pattern) result (pattern_of text.now) }
     {
@@ -103,7 +105,7 @@ impl Pattern {
         let rest = syntax::behind_scheme(text)?;
         let (word, pairs) = syntax::halves(rest);
         let media = media_of(word)?;
-        let keys = syntax::keys_of(alloc, pairs)?;
+        let keys = syntax::keys_of(pairs)?;
         Ok(Pattern::Of(media, keys))
     }
 
@@ -116,6 +118,30 @@ impl Pattern {
             Pattern::Any => true,
             Pattern::Of(media, wanted) => media.same(channel.media())
                 && all_fit(wanted, channel.keys()),
+        }
+    }
+
+    /// A pattern with room for any other.
+    pub fn room(_alloc: Global) -> Result<Pattern, AllocError>
+        ensures { IfOk result (λ pattern. pattern ≡ Any) }
+    {
+        Ok(Pattern::Any)
+    }
+
+    /// Becomes equal to another pattern. It takes no memory.
+    pub fn set_from(&mut self, other: &Pattern)
+        ensures { self.new ≡ other.now }
+    {
+        *self = other.twin();
+    }
+
+    /// Another pattern, equal to this one. It takes no memory.
+    fn twin(&self) -> Pattern
+        ensures { result ≡ self.now }
+    {
+        match self {
+            Pattern::Any => Pattern::Any,
+            Pattern::Of(media, keys) => Pattern::Of(*media, keys.twin()),
         }
     }
 

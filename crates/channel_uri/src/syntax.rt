@@ -1,13 +1,12 @@
 ghost use Rattle.channel_uri.specs.Fault.{Equals, Gives};
+ghost use Rattle.channel_uri.specs.Pieces.{PutsPiece, first_piece};
 ghost use Rattle.channel_uri.specs.Syntax.{cut, before_end, address_read, value_read, unspied, behind_scheme, halves, pair_of, keys_of};
-ghost use Rattle.std.specs.List.{slice_split};
 ghost use Rattle.std.specs.Option.{option_map};
-ghost use Rattle.std.specs.String.{string_bytes};
-ghost use Rattle.std.specs.Prelude.{◌≡◌, ◌<◌, ◌==◌, IfOk, is_some, false, map, option_copied};
+ghost use Rattle.std.specs.Prelude.{◌≡◌, ◌+◌, ◌<◌, ◌≤◌, ◌++◌, IfSome, IfOk, length, option_copied};
 
 use crate::error::UriError;
 use crate::keys::Keys;
-use std::alloc::{AllocError, Global};
+use crate::table::Table;
 
 /// What stands before and behind the first `mark`.
 pub(crate) fn cut(text: &str, mark: char) -> Option<(&str, &str)>
@@ -26,7 +25,8 @@ pub(crate) fn before_end<'a>(end: &str, text: &'a str) -> Option<&'a str>
 
 /// Whether the text asks for a spy, and what stands behind that prefix.
 pub(crate) fn unspied(text: &str) -> (bool, &str)
-    ensures { (result.0, result.1.now) ≡ unspied text.now }
+    ensures parts { (result.0, result.1.now) ≡ unspied text.now }
+    ensures shorter { length result.1.now ≤ length text.now }
 {
     match text.strip_prefix("aeron-spy:") {
         Some(rest) => (true, rest),
@@ -36,7 +36,8 @@ pub(crate) fn unspied(text: &str) -> (bool, &str)
 
 /// What stands behind the scheme.
 pub(crate) fn behind_scheme(text: &str) -> Result<&str, UriError>
-    ensures { Equals (λ rest. rest.now) result (behind_scheme text.now) }
+    ensures rest { Equals (λ rest. rest.now) result (behind_scheme text.now) }
+    ensures shorter { IfOk result (λ rest. length rest.now ≤ length text.now) }
 {
     match text.strip_prefix("aeron:") {
         Some(rest) => Ok(rest),
@@ -46,7 +47,8 @@ pub(crate) fn behind_scheme(text: &str) -> Result<&str, UriError>
 
 /// The word of the medium, and the text of the pairs where there is a `?`.
 pub(crate) fn halves(text: &str) -> (&str, Option<&str>)
-    ensures { (result.0.now, option_copied result.1) ≡ halves text.now }
+    ensures parts { (result.0.now, option_copied result.1) ≡ halves text.now }
+    ensures shorter { IfSome result.1 (λ pairs. length pairs.now ≤ length text.now) }
 {
     match cut(text, '?') {
         Some((media, pairs)) => (media, Some(pairs)),
@@ -70,53 +72,63 @@ fn pair_of(piece: &str) -> Result<(&str, &str), UriError>
     Ok((key, value))
 }
 
-/// An address as it is kept: `localhost:` at its head is read as `127.0.0.1:`.
-fn address_read(alloc: Global, value: &str) -> Result<String, AllocError>
-    ensures { IfOk result (λ read. string_bytes read ≡ address_read value.now) }
+/// An address as it is kept, in two parts: `localhost:` at its head is read as `127.0.0.1:`.
+fn address_read(value: &str) -> (&'static str, &str)
+    ensures { result.0.now ++ result.1.now ≡ address_read value.now }
 {
     match value.strip_prefix("localhost:") {
-        Some(rest) => {
-            let mut read = String::from_str(alloc, "127.0.0.1:")?;
-            read.push_str(rest)?;
-            Ok(read)
-        }
-        None => String::from_str(alloc, value),
+        Some(rest) => ("127.0.0.1:", rest),
+        None => ("", value),
     }
 }
 
-/// The value that is kept for a key.
-fn value_read(alloc: Global, key: &str, value: &str) -> Result<String, AllocError>
-    ensures { IfOk result (λ read. string_bytes read ≡ value_read key.now value.now) }
+/// The value that is kept for a key, in two parts.
+fn value_read<'a>(key: &str, value: &'a str) -> (&'static str, &'a str)
+    ensures { result.0.now ++ result.1.now ≡ value_read key.now value.now }
 {
     if key == "endpoint" {
-        return address_read(alloc, value);
+        return address_read(value);
     }
     if key == "control" {
-        return address_read(alloc, value);
+        return address_read(value);
     }
-    String::from_str(alloc, value)
+    ("", value)
 }
 
-fn pieces_of(alloc: Global, text: &str) -> Result<Vec<&str>, AllocError>
-    ensures { IfOk result (λ pieces. map (λ piece. piece.now) pieces.items ≡ slice_split (λ b. b == 124) text.now) }
+/// The first piece, and the text behind the `|` after it, where there is one.
+fn first_piece(text: &str) -> (&str, Option<&str>)
+    ensures { (result.0.now, option_copied result.1) ≡ first_piece text.now }
 {
-    text.split('|').collect(alloc)
+    match cut(text, '|') {
+        Some((piece, rest)) => (piece, Some(rest)),
+        None => (text, None),
+    }
+}
+
+/// Puts the pair that the piece is among the others.
+fn put_piece(table: &mut Table, piece: &str) -> Result<(), UriError>
+    requires text_fits { table.old.used + length piece.now ≤ 1024 }
+    requires span_fits { length table.old.pairs < 342 }
+    ensures { PutsPiece table.old piece.now table.new result }
+{
+    let (key, value) = pair_of(piece)?;
+    let (head, rest) = value_read(key, value);
+    table.put(key, head, rest);
+    Ok(())
 }
 
 /// The keys of the text behind the `?`; none where there is no `?`.
 #[tactic(auto, unfolding(crate::specs::Syntax::keys_of))]
-pub(crate) fn keys_of(alloc: Global, text: Option<&str>) -> Result<Keys, UriError>
-    ensures exact { Gives (λ keys. keys) result (keys_of (option_copied text.entry)) }
-    ensures without_memory { is_some text.entry ≡ false → Equals (λ keys. keys) result (keys_of (option_copied text.entry)) }
+pub(crate) fn keys_of(text: Option<&str>) -> Result<Keys, UriError>
+    requires { IfSome text (λ some. length some.now ≤ 1024) }
+    ensures { Equals (λ keys. keys) result (keys_of (option_copied text.entry)) }
 {
-    let mut keys = Keys::new(alloc);
-    let Some(text) = text else {
-        return Ok(keys);
-    };
-    let pieces = pieces_of(alloc, text)?;
-    for piece in &pieces {
-        let (key, value) = pair_of(piece)?;
-        keys.put(alloc, key, value_read(alloc, key, value)?)?;
+    let mut table = Table::new();
+    let mut rest = text;
+    while let Some(text) = rest {
+        let (piece, behind) = first_piece(text);
+        put_piece(&mut table, piece)?;
+        rest = behind;
     }
-    Ok(keys)
+    Ok(Keys::of(table))
 }

@@ -64,8 +64,9 @@ pub(crate) fn fault_of(key: &str, value: &str) -> Option<UriError>
 pub(crate) fn first_fault(keys: &Keys) -> Option<UriError>
     ensures { result ≡ first_fault keys.now }
 {
-    for (key, value) in keys.iter() {
-        let fault = fault_of(key.as_str(), value.as_str());
+    for at in 0..keys.len() {
+        let (key, value) = keys.at(at);
+        let fault = fault_of(key, value);
         if fault.is_some() {
             return fault;
         }

@@ -1,10 +1,7 @@
-use Rattle.std.proofs.Common.{◌≡◌, map}
-use Rattle.channel_uri.specs.Keys.{texts}
+use Rattle.std.proofs.Common.{◌≡◌, drop}
 use Rattle.channel_uri.specs.Values.{first_fault}
 use Rattle.channel_uri.proofs.values.first_fault.Given as goal
 
 -- the pairs that are left decide
-abbrev pub invariant-loop-key : goal.invariant-loop-key
-invariant-loop-key l =
-    (goal.iterator-loop-key).can_next l.key-iterator × (goal.iterator-loop-key).is_finite l.key-iterator
-    × (first_fault (map texts l.key-iterator) ≡ first_fault l.keys)
+abbrev pub invariant-loop-at : goal.invariant-loop-at
+invariant-loop-at l = first_fault (drop l.at l.keys) ≡ first_fault l.keys
