@@ -1,5 +1,5 @@
 -- What `strip_suffix` says of an ending.
-use Rattle.std.proofs.Common.{◌≡◌, ℕ, ◌-◌, Bool, true, false, List, [], ◌∷◌, ◌++◌, Option, Some, None, refl, ap, ◌∙◌, sym, length, take, nat_eq, arith, length-append, ⊎_elim}
+use Rattle.std.proofs.Common.{◌≡◌, ℕ, ◌-◌, true, List, ◌++◌, Option, Some, None, refl, ap, ◌∙◌, sym, length, nat_eq, arith, length-append, ⊎_elim}
 use Rattle.std.specs.List.{ends_with}
 use Rattle.std.specs.Option.{MatchOption, option_copied}
 use Rattle.std.specs.Str.Pattern.{FindsTextSuffix, StripsSuffix}

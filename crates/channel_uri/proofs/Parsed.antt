@@ -11,7 +11,7 @@ use Rattle.channel_uri.specs.Channel.{Shape, denotes, media_of}
 use Rattle.channel_uri.specs.Key.{key_of}
 use Rattle.channel_uri.specs.Keys.{Pair, value_at}
 use Rattle.channel_uri.specs.Number.{◌>>?◌}
-use Rattle.channel_uri.specs.Parameters.{ReadWhereItStands, StatedIsRead, ValuesKeepTheirRules, endpoint_of, control_of, stated_session_of, stated_mtu_of, stated_term_length_of, stated_linger_of}
+use Rattle.channel_uri.specs.Parameters.{StatedIsRead, ValuesKeepTheirRules, endpoint_of, control_of, stated_session_of, stated_mtu_of, stated_term_length_of, stated_linger_of}
 use Rattle.channel_uri.specs.Quantity.{mtu_of, term_length_of, linger_of}
 use Rattle.channel_uri.specs.Session.{session_id_of}
 use Rattle.channel_uri.specs.Syntax.{◌>>=◌, unspied, behind_scheme, halves, keys_of}

@@ -1,5 +1,5 @@
 -- What a text denotes as a channel (Aeron wiki, channel configuration).
-use Rattle.std.specs.Prelude.{ℕ, Bool, true, false, not, ◌&&◌, List, [], Result, Ok, Err, is_ok, is_some, nat_lt, length, codes, if◌then◌else◌}
+use Rattle.std.specs.Prelude.{ℕ, Bool, false, List, [], Result, Ok, Err, nat_lt, length, codes, if◌then◌else◌}
 use Rattle.std.specs.Str.{bytes_eq}
 use Rattle.channel_uri.specs.declared.error.UriError.{UriError}
 use Rattle.channel_uri.specs.declared.error.UriError.TheVariants.{TooLong, BadMedia}
@@ -32,15 +32,6 @@ denotes text =
     media_of (unspied text).0 (halves rest).0 >>= λ media.
     keys_of (halves rest).1 >>= λ keys.
     checked (first_fault keys) (record { spy = (unspied text).0; media = media; keys = keys })
-
--- the text is no longer than a text may be, and has a scheme and a medium that are served, and then pairs to keep; no other
--- text takes memory
-abbrev pub takes_memory : List ℕ → Bool
-takes_memory text =
-    not (nat_lt 1024 (length text))
-    && is_ok (behind_scheme (unspied text).1 >>= λ rest.
-    media_of (unspied text).0 (halves rest).0 >>= λ media.
-    if is_some (halves rest).1 then Ok media else Err BadMedia)
 
 -- the subject of a rule on counters
 abbrev pub counter_shape : Shape

@@ -1,6 +1,6 @@
 use Rattle.std.specs.Prelude.{◌≡◌, ℕ, List, ◌++◌, Result, Ok, Err, codes}
 use Rattle.channel_uri.specs.declared.error.UriError.{UriError}
-use Rattle.channel_uri.specs.declared.error.UriError.TheVariants.{TooLong, NoScheme, BadMedia, EmptyKey, KeyWithoutValue, BadValue, NotServed, NoMemory}
+use Rattle.channel_uri.specs.declared.error.UriError.TheVariants.{TooLong, NoScheme, BadMedia, EmptyKey, KeyWithoutValue, BadValue, NotServed}
 use Rattle.channel_uri.specs.Key.{key_text}
 
 -- the words for a fault
@@ -12,19 +12,8 @@ fault_text EmptyKey = codes "empty key"
 fault_text KeyWithoutValue = codes "key without value"
 fault_text (BadValue key) = codes "bad value of " ++ key_text key
 fault_text (NotServed key) = codes "not served: " ++ key_text key
-fault_text NoMemory = codes "no memory"
 
--- the meaning of a text is this fault; want of memory tells nothing of the text
-abbrev pub Fails : {M : Type 0} → UriError → Result M UriError → Type 0
-Fails NoMemory meaning = Unit {0}
-Fails error meaning = meaning ≡ Err error
-
--- the answer is the meaning of the text, seen by `view`, unless there was no memory for it
-abbrev pub Gives : {T M : Type 0} → (T → M) → Result T UriError → Result M UriError → Type 0
-Gives view (Ok value) meaning = meaning ≡ Ok (view value)
-Gives view (Err error) meaning = Fails error meaning
-
--- the same of a reader that takes no memory: each answer is the meaning of the text
+-- the answer is the meaning of the text, seen by `view`
 abbrev pub Equals : {T M : Type 0} → (T → M) → Result T UriError → Result M UriError → Type 0
 Equals view (Ok value) meaning = meaning ≡ Ok (view value)
 Equals view (Err error) meaning = meaning ≡ Err error

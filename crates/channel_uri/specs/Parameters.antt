@@ -1,5 +1,5 @@
 -- What a channel says of its log. Each is decided by the same readers that its text was checked with.
-use Rattle.std.specs.Prelude.{◌≡◌, ℕ, Bool, true, ℤ, List, Option, Some, None, Ok, is_some, codes}
+use Rattle.std.specs.Prelude.{◌≡◌, ℕ, ℤ, List, Option, Some, None, Ok, is_some, codes}
 use Rattle.channel_uri.specs.declared.address.Address.{Address}
 use Rattle.channel_uri.specs.Address.{address_of}
 use Rattle.channel_uri.specs.Channel.{Shape, denotes}

@@ -1,5 +1,5 @@
 -- Patterns of a policy's rules, and which channels they cover.
-use Rattle.std.specs.Prelude.{ℕ, Bool, true, false, not, ◌&&◌, ◌||◌, ◌==◌, List, [], Option, Some, None, Result, Ok, Err, is_ok, is_some, nat_eq, nat_lt, length, codes, if◌then◌else◌}
+use Rattle.std.specs.Prelude.{ℕ, Bool, true, false, ◌&&◌, ◌||◌, ◌==◌, List, Option, Some, None, Result, Ok, Err, nat_eq, nat_lt, length, codes, if◌then◌else◌}
 use Rattle.std.specs.List.{list_all, starts_with}
 use Rattle.std.specs.Str.{bytes_eq}
 use Rattle.channel_uri.specs.declared.error.UriError.{UriError}
@@ -30,15 +30,6 @@ pattern_of text =
     pattern_media_of (halves rest).0 >>= λ media.
     keys_of (halves rest).1 >>= λ keys.
     Ok (Of media keys)
-
--- the text is no longer than a text may be, and has a scheme and a medium, and then pairs to keep; no other text takes
--- memory
-abbrev pub pattern_takes_memory : List ℕ → Bool
-pattern_takes_memory text =
-    not (nat_lt 1024 (length text))
-    && is_ok (behind_scheme text >>= λ rest.
-    pattern_media_of (halves rest).0 >>= λ media.
-    if is_some (halves rest).1 then Ok media else Err BadMedia)
 
 -- what stands before a final `*`
 abbrev pub front_of : List ℕ → Option (List ℕ)

@@ -1,5 +1,5 @@
 -- Session ids (Aeron wiki, channel configuration: `session-id`).
-use Rattle.std.specs.Prelude.{ℕ, ◌+◌, ◌^◌, ℤ, pos, neg_ℤ, List, Option, Some, None, nat_eq, drop, codes, if◌then◌else◌}
+use Rattle.std.specs.Prelude.{ℕ, ◌+◌, ◌^◌, ℤ, pos, neg_ℤ, List, Option, nat_eq, drop, codes, if◌then◌else◌}
 use Rattle.std.specs.List.{starts_with}
 use Rattle.std.specs.Option.{option_map}
 use Rattle.channel_uri.specs.Number.{decimal_of, below}

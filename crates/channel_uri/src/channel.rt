@@ -1,9 +1,9 @@
-ghost use Rattle.channel_uri.specs.Fault.{Equals, Gives};
+ghost use Rattle.channel_uri.specs.Fault.{Equals};
 ghost use Rattle.channel_uri.specs.Channel.{media_of};
 ghost use Rattle.channel_uri.specs.Canonical.{mark_of, pairs_text};
 ghost use Rattle.channel_uri.specs.Keys.{value_at};
 ghost use Rattle.std.specs.Option.{option_map};
-ghost use Rattle.std.specs.Prelude.{◌≡◌, ◌++◌, IfOk, OnOk, false, true, option_copied};
+ghost use Rattle.std.specs.Prelude.{◌≡◌, ◌++◌, IfOk, OnOk, true, option_copied};
 ghost use Rattle.std.specs.String.{string_bytes};
 
 use crate::error::UriError;
@@ -49,20 +49,19 @@ fn media_of(spy: bool, word: &str) -> Result<Media, UriError>
 
 impl Channel {
     ghost use Rattle.channel_uri.specs.Canonical.{canonical_of};
-    ghost use Rattle.channel_uri.specs.Channel.{denotes, takes_memory, counter_shape, ipc_shape};
+    ghost use Rattle.channel_uri.specs.Channel.{denotes, counter_shape, ipc_shape};
     ghost use Rattle.channel_uri.specs.Place.{spot_of, spot_at};
 
     /// Reads a channel's text: `aeron:udp` or `aeron:ipc`, for a spy of `udp` behind `aeron-spy:`, and then perhaps a
     /// `?` and pairs `key=value` with `|` between them. A repeated key keeps its last value; in `endpoint` and `control` a
-    /// leading `localhost:` is read as `127.0.0.1:`. Each value that is kept follows the rule of its key.
+    /// leading `localhost:` is read as `127.0.0.1:`. Each value that is kept follows the rule of its key. It takes no memory.
     ///
     /// # Errors
     /// [`UriError::TooLong`] is looked at first, then the syntax from the left, and then the values that are kept, in the
     /// byte order of their keys: the first fault is given.
     #[tactic(auto, unfolding(crate::specs::Channel::denotes))]
-    pub fn parse(_alloc: Global, text: &str) -> Result<Channel, UriError>
-        ensures exact { Gives (λ channel. channel) result (denotes text.now) }
-        ensures without_memory { takes_memory text.now ≡ false → Equals (λ channel. channel) result (denotes text.now) }
+    pub fn parse(text: &str) -> Result<Channel, UriError>
+        ensures { Equals (λ channel. channel) result (denotes text.now) }
     {
         if text.len() > 1024 {
             return Err(UriError::TooLong);
@@ -78,25 +77,25 @@ impl Channel {
         }
     }
 
-    /// The subject of a rule on counters. No text of a channel denotes it. It takes no memory.
-    pub fn counter(alloc: Global) -> Channel
+    /// The subject of a rule on counters. No text of a channel denotes it.
+    pub fn counter() -> Channel
         ensures { result ≡ counter_shape }
     {
         Channel {
             spy: false,
             media: Media::Counter,
-            keys: Keys::new(alloc),
+            keys: Keys::new(),
         }
     }
 
-    /// Shared memory, without any key: the channel of the text `aeron:ipc`. It takes no memory.
-    pub fn ipc(alloc: Global) -> Channel
+    /// Shared memory, without any key: the channel of the text `aeron:ipc`.
+    pub fn ipc() -> Channel
         ensures { result ≡ ipc_shape }
     {
         Channel {
             spy: false,
             media: Media::Ipc,
-            keys: Keys::new(alloc),
+            keys: Keys::new(),
         }
     }
 
@@ -155,13 +154,6 @@ impl Channel {
         Ok(Text::from(text))
     }
 
-    /// A channel with room for any other.
-    pub fn room(alloc: Global) -> Result<Channel, AllocError>
-        ensures { IfOk result (λ channel. channel ≡ ipc_shape) }
-    {
-        Ok(Channel::ipc(alloc))
-    }
-
     /// Becomes equal to another channel. It takes no memory.
     pub fn set_from(&mut self, other: &Channel)
         ensures { self.new ≡ other.now }
@@ -170,15 +162,15 @@ impl Channel {
         self.keys.set_from(&other.keys);
     }
 
-    /// Another channel, equal to this one.
-    pub fn copy(&self) -> Result<Channel, AllocError>
-        ensures { IfOk result (λ channel. channel ≡ self.now) }
+    /// Another channel, equal to this one. It takes no memory.
+    pub fn copy(&self) -> Channel
+        ensures { result ≡ self.now }
     {
-        Ok(Channel {
+        Channel {
             spy: self.spy,
             media: self.media,
-            keys: self.keys.copy()?,
-        })
+            keys: self.keys.copy(),
+        }
     }
 }
 

@@ -1,9 +1,7 @@
 ghost use Rattle.channel_uri.specs.Fault.{fault_text};
-ghost use Rattle.channel_uri.specs.declared.error.UriError.TheVariants.{NoMemory};
-ghost use Rattle.std.specs.Prelude.{◌≡◌, Some};
+ghost use Rattle.std.specs.Prelude.{Some};
 
 use crate::key::Key;
-use std::alloc::{AllocError, AllocFailed};
 use std::error::Error;
 use std::fmt;
 
@@ -27,24 +25,6 @@ pub enum UriError {
     BadValue(Key),
     /// The key, or this value of it, is not served here.
     NotServed(Key),
-    /// There is no memory for the parts of the text.
-    NoMemory,
-}
-
-impl From<AllocError> for UriError {
-    ghost from_gives = { λ _ error. error ≡ NoMemory };
-
-    fn from(_error: AllocError) -> UriError {
-        UriError::NoMemory
-    }
-}
-
-impl<T: Drop> From<AllocFailed<T>> for UriError {
-    ghost from_gives = { λ _ error. error ≡ NoMemory };
-
-    fn from(_error: AllocFailed<T>) -> UriError {
-        UriError::NoMemory
-    }
 }
 
 impl fmt::Display for UriError {
@@ -59,7 +39,6 @@ impl fmt::Display for UriError {
             UriError::KeyWithoutValue => f.write_str("key without value"),
             UriError::BadValue(key) => write!(f, "bad value of {key}"),
             UriError::NotServed(key) => write!(f, "not served: {key}"),
-            UriError::NoMemory => f.write_str("no memory"),
         }
     }
 }

@@ -1,9 +1,8 @@
 ghost use Rattle.channel_uri.specs.Keys.{value_at};
 ghost use Rattle.std.specs.Option.{option_copied};
-ghost use Rattle.std.specs.Prelude.{◌≡◌, ◌<◌, [], IfOk, length, slice_index_or};
+ghost use Rattle.std.specs.Prelude.{◌≡◌, ◌<◌, [], length, slice_index_or};
 
 use crate::table::Table;
-use std::alloc::{AllocError, Global};
 use std::marker::Model;
 
 /// The keys of a channel or a pattern with their values, in the byte order of the keys. They lie in the value itself.
@@ -22,20 +21,13 @@ impl Model for Keys {
 }
 
 impl Keys {
-    /// No keys. It takes no memory.
-    pub fn new(_alloc: Global) -> Keys
+    /// No keys.
+    pub fn new() -> Keys
         ensures { result ≡ [] }
     {
         Keys {
             table: Table::new(),
         }
-    }
-
-    /// No keys, with room for those of any channel or pattern.
-    pub fn room(alloc: Global) -> Result<Keys, AllocError>
-        ensures { IfOk result (λ keys. keys ≡ []) }
-    {
-        Ok(Keys::new(alloc))
     }
 
     /// The keys of a table.
@@ -60,19 +52,12 @@ impl Keys {
     }
 
     /// Other keys, with the same values. They take no memory.
-    pub(crate) fn twin(&self) -> Keys
+    pub fn copy(&self) -> Keys
         ensures { result ≡ self.now }
     {
         let mut table = Table::new();
         table.set_from(&self.table);
         Keys { table }
-    }
-
-    /// Other keys, with the same values.
-    pub fn copy(&self) -> Result<Keys, AllocError>
-        ensures { IfOk result (λ keys. keys ≡ self.now) }
-    {
-        Ok(self.twin())
     }
 
     /// How many keys there are.

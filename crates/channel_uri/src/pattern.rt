@@ -1,15 +1,13 @@
-ghost use Rattle.channel_uri.specs.Fault.{Equals, Gives};
-ghost use Rattle.channel_uri.specs.Pattern.{pattern_of, pattern_media_of, pattern_takes_memory, front_of, value_fits, is_fit, all_fit, covers};
-ghost use Rattle.channel_uri.specs.declared.pattern.Pattern.TheVariants.{Any};
+ghost use Rattle.channel_uri.specs.Fault.{Equals};
+ghost use Rattle.channel_uri.specs.Pattern.{pattern_of, pattern_media_of, front_of, value_fits, is_fit, all_fit, covers};
 ghost use Rattle.std.specs.List.{starts_with};
-ghost use Rattle.std.specs.Prelude.{◌≡◌, IfOk, false, nat_eq, option_copied};
+ghost use Rattle.std.specs.Prelude.{◌≡◌, nat_eq, option_copied};
 
 use crate::channel::Channel;
 use crate::error::UriError;
 use crate::keys::Keys;
 use crate::media::Media;
 use crate::syntax;
-use std::alloc::{AllocError, Global};
 
 /// Which channels a rule of a policy means.
 #[derive(Debug, Drop)]
@@ -87,14 +85,13 @@ fn all_fit(wanted: &Keys, keys: &Keys) -> bool
 
 impl Pattern {
     /// Reads a pattern: `*`, or `aeron:` and a medium, with pairs by the syntax of channels. Values are not checked;
-    /// in `endpoint` and `control` a leading `localhost:` is read as `127.0.0.1:`.
+    /// in `endpoint` and `control` a leading `localhost:` is read as `127.0.0.1:`. It takes no memory.
     ///
     /// # Errors
     /// The first fault of the text, from the left; [`UriError::TooLong`] is looked at first.
     #[tactic(auto, unfolding(crate::specs::Pattern::pattern_of))]
-    pub fn parse(_alloc: Global, text: &str) -> Result<Pattern, UriError>
-        ensures exact { Gives (λ pattern. pattern) result (pattern_of text.now) }
-        ensures without_memory { pattern_takes_memory text.now ≡ false → Equals (λ pattern. pattern) result (pattern_of text.now) }
+    pub fn parse(text: &str) -> Result<Pattern, UriError>
+        ensures { Equals (λ pattern. pattern) result (pattern_of text.now) }
     {
         if text.len() > 1024 {
             return Err(UriError::TooLong);
@@ -121,37 +118,20 @@ impl Pattern {
         }
     }
 
-    /// A pattern with room for any other.
-    pub fn room(_alloc: Global) -> Result<Pattern, AllocError>
-        ensures { IfOk result (λ pattern. pattern ≡ Any) }
-    {
-        Ok(Pattern::Any)
-    }
-
     /// Becomes equal to another pattern. It takes no memory.
     pub fn set_from(&mut self, other: &Pattern)
         ensures { self.new ≡ other.now }
     {
-        *self = other.twin();
+        *self = other.copy();
     }
 
     /// Another pattern, equal to this one. It takes no memory.
-    fn twin(&self) -> Pattern
+    pub fn copy(&self) -> Pattern
         ensures { result ≡ self.now }
     {
         match self {
             Pattern::Any => Pattern::Any,
-            Pattern::Of(media, keys) => Pattern::Of(*media, keys.twin()),
-        }
-    }
-
-    /// Another pattern, equal to this one.
-    pub fn copy(&self) -> Result<Pattern, AllocError>
-        ensures { IfOk result (λ pattern. pattern ≡ self.now) }
-    {
-        match self {
-            Pattern::Any => Ok(Pattern::Any),
-            Pattern::Of(media, keys) => Ok(Pattern::Of(*media, keys.copy()?)),
+            Pattern::Of(media, keys) => Pattern::Of(*media, keys.copy()),
         }
     }
 }

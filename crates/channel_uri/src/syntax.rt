@@ -1,4 +1,4 @@
-ghost use Rattle.channel_uri.specs.Fault.{Equals, Gives};
+ghost use Rattle.channel_uri.specs.Fault.{Equals};
 ghost use Rattle.channel_uri.specs.Pieces.{PutsPiece, first_piece};
 ghost use Rattle.channel_uri.specs.Syntax.{cut, before_end, address_read, value_read, unspied, behind_scheme, halves, pair_of, keys_of};
 ghost use Rattle.std.specs.Option.{option_map};
