@@ -2,30 +2,29 @@ ghost use Rattle.policy_core.specs.Question.{Question, question_of};
 ghost use Rattle.policy_core.specs.Rule.{matches};
 ghost use Rattle.policy_core.specs.RuleList.{Rules};
 ghost use Rattle.policy_core.specs.Rules.{verdict_of, SomeRuleMatches, NoRuleMatches, IsFirstMatch, ruled, defaulted};
-ghost use Rattle.std.specs.Prelude.{◌≡◌, ◌≤◌, ℕ, List, IfOk, length, position};
+ghost use Rattle.std.specs.Prelude.{◌≡◌, ◌≤◌, ℕ, List, [], IfOk, false, length, position};
 
 use crate::request::Request;
 use crate::rule::Rule;
 use crate::verdict::Verdict;
+use rows::Rows;
 use std::alloc::{AllocError, Global};
 use std::marker::Model;
 
-/// Rules in their order, and the word that stands where none of them matches. There are at most 1,024 rules.
+/// Rules in their order, and the word that stands where none of them matches. There are at most 1,024 rules, and there is
+/// room for as many, whatever policy it is.
 #[derive(Debug, Drop)]
 pub struct Policy {
-    rules: Vec<Rule>,
+    rules: Rows<Rule, 1024>,
     default: bool,
 }
 
 impl Model for Policy {
-    ghost use Rattle.std.specs.Prelude.{◌≤◌, length};
     ghost use Rattle.policy_core.specs.RuleList.{Rules};
 
     ghost Value = { Rules };
 
-    ghost view = { λ policy. record { rules = policy.rules.items; default_allows = policy.default } };
-
-    ghost invariant = { λ policy. length policy.rules.items ≤ 1024 };
+    ghost view = { λ policy. record { rules = policy.rules; default_allows = policy.default } };
 }
 
 /// The place of the first rule that matches.
@@ -36,12 +35,25 @@ fn first_match(rules: &[Rule], request: &Request<'_>) -> Option<usize>
 }
 
 impl Policy {
-    /// A policy of these rules, which allows or denies by `default`. It takes no memory.
-    pub fn new(rules: Vec<Rule>, default: bool) -> Policy
+    /// A policy of these rules, which allows or denies by `default`.
+    pub fn new(rules: Vec<Rule>, default: bool) -> Result<Policy, AllocError>
         requires { length rules.items ≤ 1024 }
-        ensures { result ≡ record { rules = rules.items; default_allows = default } }
+        ensures { IfOk result (λ policy. policy ≡ record { rules = rules.items; default_allows = default }) }
     {
-        Policy { rules, default }
+        Ok(Policy {
+            rules: Rows::of(rules)?,
+            default,
+        })
+    }
+
+    /// A policy without rules, which denies.
+    pub fn room(alloc: Global) -> Result<Policy, AllocError>
+        ensures { IfOk result (λ policy. policy ≡ record { rules = []; default_allows = false }) }
+    {
+        Ok(Policy {
+            rules: Rows::new(alloc)?,
+            default: false,
+        })
     }
 
     /// The rules, in their order.
@@ -65,9 +77,9 @@ impl Policy {
     pub fn verdict(&self, epoch: u64, request: &Request<'_>) -> Verdict
         ensures { result ≡ verdict_of self.now epoch (question_of request.now) }
     {
-        match first_match(&self.rules, request) {
+        match first_match(self.rules.as_slice(), request) {
             Some(index) => Verdict {
-                allow: self.rules[index].allow,
+                allow: self.rules.as_slice()[index].allow,
                 rule: Some(index as u32 + 1),
                 epoch,
             },
@@ -79,16 +91,20 @@ impl Policy {
         }
     }
 
+    /// Becomes equal to another policy. It takes no memory.
+    pub fn set_from(&mut self, other: &Policy)
+        ensures { self.new ≡ other.now }
+    {
+        self.rules.set_from(&other.rules);
+        self.default = other.default;
+    }
+
     /// Another policy, equal to this one.
     pub fn copy(&self, alloc: Global) -> Result<Policy, AllocError>
         ensures { IfOk result (λ policy. policy ≡ self.now) }
     {
-        let mut rules = Vec::new(alloc);
-        for rule in &self.rules {
-            rules.push(rule.copy(alloc)?)?;
-        }
         Ok(Policy {
-            rules,
+            rules: self.rules.copy(alloc)?,
             default: self.default,
         })
     }

@@ -1,13 +1,13 @@
 ghost use Rattle.policy_core.specs.Question.{question_of};
 ghost use Rattle.policy_core.specs.Rule.{matches, speaks_of};
-ghost use Rattle.std.specs.Prelude.{◌≡◌, IfOk};
+ghost use Rattle.std.specs.Prelude.{◌≡◌};
 
 use crate::act::Act;
 use crate::acts::Acts;
 use crate::request::Request;
-use byte_strings::Text;
+use byte_strings::ShortText;
 use channel_uri::Pattern;
-use std::alloc::{AllocError, Global};
+use rows::Twin;
 
 /// Whom a rule speaks of.
 #[derive(Clone, Copy, Debug)]
@@ -32,8 +32,8 @@ impl Principals {
 /// One rule of a policy. It matches a request that each of its parts fits.
 #[derive(Debug, Drop)]
 pub struct Rule {
-    /// What readers call the rule; it decides nothing.
-    pub name: Text,
+    /// What readers call the rule, in at most 64 bytes; it decides nothing.
+    pub name: ShortText<64>,
     /// Whom the rule speaks of.
     pub principals: Principals,
     /// Of which acts.
@@ -60,19 +60,18 @@ impl Rule {
             && self.low <= request.stream
             && request.stream <= self.high
     }
+}
 
-    /// Another rule, equal to this one.
-    pub fn copy(&self, alloc: Global) -> Result<Rule, AllocError>
-        ensures { IfOk result (λ rule. rule ≡ self.now) }
-    {
-        Ok(Rule {
-            name: self.name.copy(alloc)?,
+impl Twin for Rule {
+    fn twin(&self) -> Rule {
+        Rule {
+            name: self.name.copy(),
             principals: self.principals,
             acts: self.acts,
-            channel: self.channel.copy()?,
+            channel: self.channel.copy(),
             low: self.low,
             high: self.high,
             allow: self.allow,
-        })
+        }
     }
 }

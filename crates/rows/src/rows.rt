@@ -52,6 +52,16 @@ impl<T: Drop, const N: usize> Rows<T, N> {
         })
     }
 
+    /// These rows, with room for N.
+    pub fn of(items: Vec<T>) -> Result<Rows<T, N>, AllocError>
+        requires { length items.items ≤ N }
+        ensures { IfOk result (λ rows. rows ≡ items.items) }
+    {
+        let mut items = items;
+        items.reserve(N - items.len())?;
+        Ok(Rows { items })
+    }
+
     pub fn as_slice(&self) -> &[T]
         ensures value { result.now ≡ self.now }
         ensures few { length result.now ≤ N }
