@@ -1,8 +1,7 @@
 -- The fields of ON_ERROR are read as they were written, and written as they were read.
-use Rattle.std.proofs.Common.{◌≡◌, ℕ, ℤ, List, [], ◌++◌, Option, Some, None, Ok, refl, ap, subst, ◌∙◌, append_assoc, arith, ok_or, ◌<◌, ◌^◌}
+use Rattle.std.proofs.Common.{◌≡◌, ℕ, ℤ, List, [], ◌++◌, Ok, refl, ap, subst, ◌∙◌, append_assoc, arith, ok_or, ◌<◌, ◌^◌}
 use Rattle.std.specs.Int.{w32}
 use Rattle.command_codec.specs.declared.fault.CommandFault.TheVariants.{Malformed}
-use Rattle.command_codec.specs.declared.error_code.ErrorCode.{ErrorCode}
 use Rattle.command_codec.specs.declared.error_reply.ErrorReply.{ErrorReply}
 use Rattle.command_codec.specs.Gives.{◌>>=◌}
 use Rattle.command_codec.specs.Fields.{number_at, signed_at, longest, text_at, ended, number_bytes, signed_bytes, with_length, IsBytes}

@@ -12,7 +12,7 @@ use Rattle.byteorder.specs.Numbers.{little_from-lt, little_number-reads_back, le
 use Rattle.command_codec.specs.declared.fault.CommandFault.{CommandFault}
 use Rattle.command_codec.specs.declared.fault.CommandFault.TheVariants.{Malformed}
 use Rattle.command_codec.specs.Gives.{◌>>=◌}
-use Rattle.command_codec.specs.Fields.{number_in, number_at, signed_at, longest, bytes_at, text_at, ended, one_number, two_numbers, number_bytes, signed_bytes, with_length, IsBytes, IsText}
+use Rattle.command_codec.specs.Fields.{number_in, number_at, signed_at, bytes_at, text_at, ended, one_number, two_numbers, number_bytes, signed_bytes, with_length, IsBytes, IsText}
 use Rattle.command_codec.proofs.Numbers.{bytes_of_number}
 
 -- ---- steps that did not fail

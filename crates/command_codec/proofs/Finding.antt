@@ -1,5 +1,5 @@
 -- What a search of a list found.
-use Rattle.std.proofs.Common.{◌≡◌, ℕ, Bool, true, false, cond, eqb, List, [], ◌∷◌, find, Option, Some, None, Result, Ok, Err, ok_or, refl, sym, ap, ◌∙◌, ◌⊎◌, inl, inr}
+use Rattle.std.proofs.Common.{◌≡◌, ℕ, Bool, true, false, cond, eqb, List, [], ◌∷◌, find, Option, Some, Ok, ok_or, refl, sym, ap, ◌∙◌, ◌⊎◌, inl, inr}
 use Rattle.std.proofs.lemmas.Bool.{eqb-true}
 use Rattle.command_codec.specs.declared.fault.CommandFault.{CommandFault}
 use Rattle.command_codec.proofs.FieldLemmas.{was_some}

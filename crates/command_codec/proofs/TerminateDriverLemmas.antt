@@ -1,7 +1,6 @@
 -- The fields of TERMINATE_DRIVER are read as they were written, and written as they were read.
 use Rattle.std.proofs.Common.{◌≡◌, ℕ, ◌<◌, ◌^◌, List, Ok, refl, subst, arith}
 use Rattle.command_codec.specs.declared.terminate_driver.TerminateDriver.{TerminateDriver}
-use Rattle.command_codec.specs.Gives.{◌>>=◌}
 use Rattle.command_codec.specs.Fields.{bytes_at, ended, with_length, IsBytes}
 use Rattle.command_codec.specs.TerminateDriver.{longest_token, terminate_driver_of, terminate_driver_bytes, IsTerminateDriver}
 use Rattle.command_codec.proofs.FieldLemmas.{bind_ok, step, Takes-all, bytes_takes, bytes_last, ended_takes}

@@ -98,7 +98,7 @@ AreFields bodies.ClientClose = Unit {0}
 AreFields (bodies.TerminateDriver fields) = IsTerminateDriver fields
 AreFields (bodies.SetCounter fields) = IsSetCounter fields
 
--- whether a command's fields have a text or a byte string
+-- whether a command's fields have a text that takes memory
 abbrev pub has_bytes : Body → Bool
 has_bytes (bodies.AddPublication fields) = true
 has_bytes (bodies.RemovePublication fields) = false
@@ -106,7 +106,7 @@ has_bytes (bodies.AddExclusivePublication fields) = true
 has_bytes (bodies.AddSubscription fields) = true
 has_bytes (bodies.RemoveSubscription fields) = false
 has_bytes bodies.ClientKeepalive = false
-has_bytes (bodies.AddCounter fields) = true
+has_bytes (bodies.AddCounter fields) = false
 has_bytes (bodies.RemoveCounter fields) = false
 has_bytes bodies.ClientClose = false
 has_bytes (bodies.TerminateDriver fields) = true

@@ -1,10 +1,9 @@
-ghost use Rattle.std.specs.Prelude.{◌≡◌, ◌++◌, false, true, IfOk, OnOk};
-ghost use Rattle.command_codec.specs.Gives.{Gives, takes_memory};
+ghost use Rattle.std.specs.Prelude.{◌≡◌, ◌++◌, OnOk};
 
 use crate::fault::CommandFault;
 use crate::fields;
-use byte_strings::{Bytes, Text};
-use std::alloc::{AllocError, Global};
+use byte_strings::{ShortBytes, ShortText};
+use std::alloc::AllocError;
 
 /// The greatest length of a counter's key, in bytes.
 const LONGEST_KEY: u32 = 112;
@@ -17,10 +16,10 @@ const LONGEST_LABEL: u32 = 380;
 pub struct AddCounter {
     /// What kind of counter it is, in the client's own numbering.
     pub type_id: i32,
-    /// The client's own name for it: any bytes. A key that was read has at most 112.
-    pub key: Bytes,
-    /// What it is called. A label that was read is ASCII of at most 380 bytes.
-    pub label: Text,
+    /// The client's own name for it: any bytes.
+    pub key: ShortBytes<112>,
+    /// What it is called. A label that was read is ASCII.
+    pub label: ShortText<380>,
 }
 
 impl AddCounter {
@@ -28,10 +27,8 @@ impl AddCounter {
 
     /// The fields behind a command's head.
     #[tactic(auto, unfolding(crate::specs::AddCounter::add_counter_of))]
-    pub(crate) fn read(alloc: Global, bytes: &[u8]) -> Result<AddCounter, CommandFault>
-        ensures exact { Gives result (add_counter_of bytes.now) }
-        ensures without_memory { takes_memory (λ _. true) (add_counter_of bytes.now) ≡ false
-            → result ≡ add_counter_of bytes.now }
+    pub(crate) fn read(bytes: &[u8]) -> Result<AddCounter, CommandFault>
+        ensures { result ≡ add_counter_of bytes.now }
     {
         let (type_id, rest) = fields::i32_at(bytes)?;
         let (key, rest) = fields::bytes_at(rest, LONGEST_KEY)?;
@@ -39,8 +36,8 @@ impl AddCounter {
         fields::end(rest)?;
         Ok(AddCounter {
             type_id,
-            key: Bytes::new(alloc, key)?,
-            label: Text::new(alloc, label)?,
+            key: ShortBytes::new(key),
+            label: ShortText::new(label),
         })
     }
 
@@ -51,17 +48,17 @@ impl AddCounter {
     {
         fields::put_i32(out, self.type_id)?;
         fields::put_bytes(out, self.key.as_slice())?;
-        fields::put_text(out, &self.label)
+        fields::put_bytes(out, self.label.as_str().as_bytes())
     }
 
     /// Another command with the same fields.
-    pub(crate) fn copy(&self, alloc: Global) -> Result<AddCounter, AllocError>
-        ensures { IfOk result (λ copy. copy ≡ self.now) }
+    pub(crate) fn copy(&self) -> AddCounter
+        ensures { result ≡ self.now }
     {
-        Ok(AddCounter {
+        AddCounter {
             type_id: self.type_id,
-            key: self.key.copy(alloc)?,
-            label: self.label.copy(alloc)?,
-        })
+            key: self.key.copy(),
+            label: self.label.copy(),
+        }
     }
 }

@@ -96,7 +96,7 @@ impl Kind {
             )?)),
             Kind::RemoveSubscription => Ok(Body::RemoveSubscription(Removal::read(bytes)?)),
             Kind::ClientKeepalive => fields::end(bytes).map(|()| Body::ClientKeepalive),
-            Kind::AddCounter => Ok(Body::AddCounter(AddCounter::read(alloc, bytes)?)),
+            Kind::AddCounter => Ok(Body::AddCounter(AddCounter::read(bytes)?)),
             Kind::RemoveCounter => Ok(Body::RemoveCounter(Removal::read(bytes)?)),
             Kind::ClientClose => fields::end(bytes).map(|()| Body::ClientClose),
             Kind::TerminateDriver => Ok(Body::TerminateDriver(TerminateDriver::read(
@@ -160,7 +160,7 @@ impl Body {
             Body::AddSubscription(fields) => Ok(Body::AddSubscription(fields.copy(alloc)?)),
             Body::RemoveSubscription(fields) => Ok(Body::RemoveSubscription(*fields)),
             Body::ClientKeepalive => Ok(Body::ClientKeepalive),
-            Body::AddCounter(fields) => Ok(Body::AddCounter(fields.copy(alloc)?)),
+            Body::AddCounter(fields) => Ok(Body::AddCounter(fields.copy())),
             Body::RemoveCounter(fields) => Ok(Body::RemoveCounter(*fields)),
             Body::ClientClose => Ok(Body::ClientClose),
             Body::TerminateDriver(fields) => Ok(Body::TerminateDriver(fields.copy(alloc)?)),

@@ -1,6 +1,6 @@
 //! The fields that commands and replies are made of.
 
-ghost use Rattle.std.specs.Prelude.{◌≡◌, ◌≤◌, ◌++◌, length, OnOk, if◌then◌else◌, Option, Some, None};
+ghost use Rattle.std.specs.Prelude.{◌≡◌, ◌≤◌, ◌++◌, length, IfOk, OnOk, if◌then◌else◌, Option, Some, None};
 ghost use Rattle.std.specs.Char.{is_ascii};
 ghost use Rattle.std.specs.Int.{w32, w64};
 ghost use Rattle.std.specs.List.{list_all};
@@ -88,7 +88,8 @@ fn ascii_text(bytes: &[u8]) -> Option<&str>
 /// Bytes behind their length, and the bytes after them.
 #[tactic(auto, unfolding(crate::specs::Fields::bytes_at))]
 pub fn bytes_at(bytes: &[u8], greatest: u32) -> Result<(&[u8], &[u8]), CommandFault>
-    ensures { Equals (λ x. (x.0.now, x.1.now)) result (bytes_at greatest bytes.now) }
+    ensures exact { Equals (λ x. (x.0.now, x.1.now)) result (bytes_at greatest bytes.now) }
+    ensures few { IfOk result (λ x. length x.0.now ≤ greatest) }
 {
     let (size, rest) = u32_at(bytes)?;
     // A length is a signed number. Read without its sign, a negative one is above the longest.
@@ -105,7 +106,8 @@ pub fn bytes_at(bytes: &[u8], greatest: u32) -> Result<(&[u8], &[u8]), CommandFa
 /// A text of ASCII behind its length, and the bytes after it.
 #[tactic(auto, unfolding(crate::specs::Fields::text_at))]
 pub fn text_at(bytes: &[u8], greatest: u32) -> Result<(&str, &[u8]), CommandFault>
-    ensures { Equals (λ x. (x.0.now, x.1.now)) result (text_at greatest bytes.now) }
+    ensures exact { Equals (λ x. (x.0.now, x.1.now)) result (text_at greatest bytes.now) }
+    ensures few { IfOk result (λ x. length x.0.now ≤ greatest) }
 {
     let (front, rest) = bytes_at(bytes, greatest)?;
     match ascii_text(front) {
