@@ -1,5 +1,5 @@
 -- A text of white space and comments alone.
-use Rattle.std.proofs.Common.{◌≡◌, ℕ, List, Result, Ok, Err, Some, None, false, sym, ◌∙◌, subst}
+use Rattle.std.proofs.Common.{◌≡◌, ℕ, List, Result, Ok, Err, Some, None, false, is_ok, refl, sym, ◌∙◌, subst}
 use Rattle.std.proofs.lemmas.Option.{same_Some, none-some}
 use Rattle.toml.specs.Data.{Members, no_members}
 use Rattle.toml.specs.Errors.{IsBlank}
@@ -26,11 +26,17 @@ unfolding policy_from
 no_members_answer names (Ok policy) same = cc
 no_members_answer names (Err fault) same = sym same
 
+refused_no_members : (names : Known) → is_ok (policy_from names no_members) ≡ false
+unfolding policy_from
+refused_no_members names = refl
+
 -- and one without a version
 pub blank_answer : (names : Known) (text : List ℕ) (table : Members) (answer : Result Rules PolicyFault) → IsBlank text →
     parse_document text ≡ Some table →
-    (has_rules table ≡ false → Equals (λ policy. policy) answer (policy_from names table)) → answer ≡ Err BadVersion
+    (has_rules table ≡ false → is_ok (policy_from names table) ≡ false → Equals (λ policy. policy) answer (policy_from names table)) →
+    answer ≡ Err BadVersion
 blank_answer names text table answer blank parsed exact =
     let no_table : table ≡ no_members = same_Some _ _ (sym parsed ∙ parse_document-blank text blank) in
     no_members_answer names answer
-    (subst (λ (t : Members). Equals (λ policy. policy) answer (policy_from names t)) no_table (exact (rw no_table)))
+    (subst (λ (t : Members). Equals (λ policy. policy) answer (policy_from names t)) no_table
+    (exact (rw no_table) (subst (λ (t : Members). is_ok (policy_from names t) ≡ false) (sym no_table) (refused_no_members names))))

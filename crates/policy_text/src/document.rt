@@ -1,6 +1,6 @@
 ghost use Rattle.policy_text.specs.Document.{is_version_1, default_of, rule_at, rules_from, listed_rules, rules_of, policy_from, policy_of, has_rules};
 ghost use Rattle.policy_text.specs.Fault.{Equals, Gives};
-ghost use Rattle.std.specs.Prelude.{◌≡◌, ◌≤◌, IfOk, false, length};
+ghost use Rattle.std.specs.Prelude.{◌≡◌, ◌≤◌, IfOk, false, is_ok, length};
 ghost use Rattle.toml.specs.Errors.{IsBlank};
 ghost use Rattle.toml.specs.View.{array_view, table_view, view};
 
@@ -44,11 +44,11 @@ fn default_of(table: &Table) -> Result<bool, PolicyFault>
 }
 
 /// The rule of this number that a value is.
-fn rule_at(alloc: Global, number: u32, value: &Value, names: &Names) -> Result<Rule, PolicyFault>
-    ensures { Gives (λ rule. rule) result (rule_at names.now number (view value.now)) }
+fn rule_at(number: u32, value: &Value, names: &Names) -> Result<Rule, PolicyFault>
+    ensures { Equals (λ rule. rule) result (rule_at names.now number (view value.now)) }
 {
     match value.as_table() {
-        Some(table) => rule_of(alloc, number, table, names),
+        Some(table) => rule_of(number, table, names),
         None => Err(PolicyFault::BadField {
             rule: 0,
             field: Field::Rule,
@@ -65,7 +65,7 @@ fn rules_from(alloc: Global, items: &Array, names: &Names) -> Result<Vec<Rule>, 
     let mut rules = Vec::new(alloc);
     let mut number = 1;
     for value in items {
-        rules.push(rule_at(alloc, number, value, names)?)?;
+        rules.push(rule_at(number, value, names)?)?;
         number += 1;
     }
     Ok(rules)
@@ -110,7 +110,7 @@ fn rules_of(alloc: Global, table: &Table, names: &Names) -> Result<Vec<Rule>, Po
 #[tactic(auto, unfolding(crate::specs::Document::policy_from))]
 fn policy_from(alloc: Global, table: &Table, names: &Names) -> Result<Policy, PolicyFault>
     ensures exact { Gives (λ policy. policy) result (policy_from names.now (table_view table.now)) }
-    ensures without_memory { has_rules (table_view table.now) ≡ false → Equals (λ policy. policy) result (policy_from names.now (table_view table.now)) }
+    ensures without_memory { has_rules (table_view table.now) ≡ false → is_ok (policy_from names.now (table_view table.now)) ≡ false → Equals (λ policy. policy) result (policy_from names.now (table_view table.now)) }
 {
     if !is_version_1(table) {
         return Err(PolicyFault::BadVersion);
@@ -123,7 +123,7 @@ fn policy_from(alloc: Global, table: &Table, names: &Names) -> Result<Policy, Po
     }
     let default = default_of(table)?;
     let rules = rules_of(alloc, table, names)?;
-    Ok(Policy::new(rules, default))
+    Ok(Policy::new(rules, default)?)
 }
 
 /// Reads a policy's text: a TOML document whose principals are among `names`.

@@ -1,15 +1,14 @@
-ghost use Rattle.policy_text.specs.Fault.{Equals, Gives};
+ghost use Rattle.policy_text.specs.Fault.{Equals};
 ghost use Rattle.policy_text.specs.Fields.{is_printable, is_name, name_of, principal_of, act_at, listed_acts, acts_of, channel_of, two_integers, range_of, stream_of, allow_of, rule_of};
-ghost use Rattle.std.specs.Prelude.{◌≡◌};
+ghost use Rattle.std.specs.Prelude.{◌≡◌, ◌≤◌, length, IfOk};
 ghost use Rattle.toml.specs.View.{array_view, table_view, view};
 
 use crate::fault::{Field, PolicyFault};
 use crate::members::{all_known, all_texts, bool_at, len_of, member, text_at};
 use crate::names::Names;
-use byte_strings::Text;
-use channel_uri::{Pattern, UriError};
+use byte_strings::ShortText;
+use channel_uri::Pattern;
 use policy_core::{Act, Acts, Principals, Rule};
-use std::alloc::Global;
 use toml::value::Array;
 use toml::{Table, Value};
 
@@ -29,7 +28,8 @@ fn is_name(text: &str) -> bool
 
 /// The name of a rule.
 fn name_of(number: u32, table: &Table) -> Result<&str, PolicyFault>
-    ensures { Equals (λ name. name.now) result (name_of number (table_view table.now)) }
+    ensures exact { Equals (λ name. name.now) result (name_of number (table_view table.now)) }
+    ensures few { IfOk result (λ name. length name.now ≤ 64) }
 {
     let bad = PolicyFault::BadField {
         rule: number,
@@ -125,8 +125,8 @@ fn acts_of(number: u32, table: &Table) -> Result<Acts, PolicyFault>
 }
 
 /// The pattern of a rule's channels.
-fn channel_of(alloc: Global, number: u32, table: &Table) -> Result<Pattern, PolicyFault>
-    ensures { Gives (λ pattern. pattern) result (channel_of number (table_view table.now)) }
+fn channel_of(number: u32, table: &Table) -> Result<Pattern, PolicyFault>
+    ensures { Equals (λ pattern. pattern) result (channel_of number (table_view table.now)) }
 {
     let bad = PolicyFault::BadField {
         rule: number,
@@ -135,9 +135,8 @@ fn channel_of(alloc: Global, number: u32, table: &Table) -> Result<Pattern, Poli
     let Some(text) = text_at(table, "channel") else {
         return Err(bad);
     };
-    match Pattern::parse(alloc, text) {
+    match Pattern::parse(text) {
         Ok(pattern) => Ok(pattern),
-        Err(UriError::NoMemory) => Err(PolicyFault::NoMemory),
         Err(_) => Err(bad),
     }
 }
@@ -197,13 +196,8 @@ fn allow_of(number: u32, table: &Table) -> Result<bool, PolicyFault>
 
 /// The rule of this number that a table is.
 #[tactic(auto, unfolding(crate::specs::Fields::rule_of))]
-pub(crate) fn rule_of(
-    alloc: Global,
-    number: u32,
-    table: &Table,
-    names: &Names,
-) -> Result<Rule, PolicyFault>
-    ensures { Gives (λ rule. rule) result (rule_of names.now number (table_view table.now)) }
+pub(crate) fn rule_of(number: u32, table: &Table, names: &Names) -> Result<Rule, PolicyFault>
+    ensures { Equals (λ rule. rule) result (rule_of names.now number (table_view table.now)) }
 {
     if !all_known(
         table,
@@ -217,12 +211,11 @@ pub(crate) fn rule_of(
     let name = name_of(number, table)?;
     let principals = principal_of(number, table, names)?;
     let acts = acts_of(number, table)?;
-    let channel = channel_of(alloc, number, table)?;
+    let channel = channel_of(number, table)?;
     let (low, high) = stream_of(number, table)?;
     let allow = allow_of(number, table)?;
-    let name = Text::new(alloc, name)?;
     Ok(Rule {
-        name,
+        name: ShortText::new(name),
         principals,
         acts,
         channel,
