@@ -1,9 +1,9 @@
 -- The clients that are attached, in the order in which they came: a plain list, with the id that was given last. Own rules.
-use Rattle.std.specs.Prelude.{◌≡◌, ℕ, ◌+◌, ◌-◌, ◌==◌, Bool, not, ◌&&◌, nat_lt, length, max, map, filter, find, List, [], ◌∷◌, ◌++◌, Option, Result, Ok, Err, if◌then◌else◌}
+use Rattle.std.specs.Prelude.{ℕ, ◌+◌, ◌-◌, ◌==◌, Bool, not, ◌&&◌, nat_lt, length, max, map, filter, find, List, [], ◌∷◌, ◌++◌, Option, Result, Ok, Err, if◌then◌else◌}
 use Rattle.std.specs.Option.{option_map}
 use Rattle.client_registry.specs.declared.client.Client.{Client}
 use Rattle.client_registry.specs.declared.error.AdmitError.{AdmitError}
-use Rattle.client_registry.specs.declared.error.AdmitError.TheVariants.{Full, NoMemory}
+use Rattle.client_registry.specs.declared.error.AdmitError.TheVariants.{Full}
 
 -- for how long a client lives of which nothing is heard, the clients that are attached, and the id given last
 pub record ClientList : Type 0 where
@@ -64,9 +64,3 @@ without clients number = record clients { rows = filter (is_other number) client
 -- all went; their ids are not used again
 abbrev pub cleared : ClientList → ClientList
 cleared clients = record clients { rows = [] }
-
--- the answer is this one, unless memory ran out
-abbrev pub Gives : Result ℕ AdmitError → Result ℕ AdmitError → Type 0
-Gives (Err NoMemory) answer = Unit {0}
-Gives (Err Full) answer = answer ≡ Err Full
-Gives (Ok number) answer = answer ≡ Ok number

@@ -1,3 +1,7 @@
+ghost use Rattle.std.specs.Prelude.{◌≡◌};
+
+use rows::Twin;
+
 /// A client that is attached.
 #[derive(Clone, Copy, Debug, PartialEq, Eq)]
 pub struct Client {
@@ -7,4 +11,10 @@ pub struct Client {
     pub principal: u32,
     /// The moment at which the client was last heard of, in nanoseconds.
     pub heard: u64,
+}
+
+impl Twin for Client {
+    fn twin(&self) -> Client {
+        *self
+    }
 }

@@ -1,22 +1,22 @@
-ghost use Rattle.client_registry.specs.Clients.{Gives, has_room, client_at, heard_one, is_expired, is_other};
-ghost use Rattle.client_registry.specs.declared.error.AdmitError.TheVariants.{Full};
-ghost use Rattle.std.specs.Prelude.{◌≡◌, IfOk, OnOk, OnErr, Err, true, false, map, filter};
+ghost use Rattle.client_registry.specs.Clients.{client_at, heard_one, is_other};
+ghost use Rattle.std.specs.Prelude.{◌≡◌, IfOk, OnOk, OnErr};
 
 use crate::client::Client;
 use crate::error::AdmitError;
 use byte_strings::Items;
+use rows::{Change, Rows, Test};
 use std::alloc::{AllocError, Global};
 use std::marker::Model;
 
 /// How many clients are attached at most.
 const CLIENTS: usize = 64;
 
-/// The clients that are attached, in the order in which they came.
+/// The clients that are attached, in the order in which they came, in room that is there from the beginning.
 #[derive(Debug, Drop)]
 pub struct Clients {
     /// For how long a client lives of which nothing is heard, in nanoseconds.
     liveness: u64,
-    rows: Vec<Client>,
+    rows: Rows<Client, 64>,
     /// The id that was given last; 0 at first.
     last: u64,
 }
@@ -26,52 +26,53 @@ impl Model for Clients {
 
     ghost Value = { ClientList };
 
-    ghost view = { λ clients. record { liveness = clients.liveness; rows = clients.rows.items; last = clients.last } };
+    ghost view = { λ clients. record { liveness = clients.liveness; rows = clients.rows; last = clients.last } };
 }
 
-/// The client as it is once the one of this id was heard of.
-fn heard_one(client: Client, number: u64, now: u64) -> Client
-    ensures { result ≡ heard_one number now client }
-{
-    if client.number == number {
-        Client {
-            heard: client.heard.max(now),
-            ..client
+/// The client of this id is heard of at this moment.
+#[derive(Clone, Copy)]
+struct Heard {
+    number: u64,
+    now: u64,
+}
+
+impl Change<Client> for Heard {
+    ghost changed = { λ heard client. heard_one heard.number heard.now client };
+
+    fn change(&self, client: &mut Client) {
+        if client.number == self.number {
+            client.heard = client.heard.max(self.now);
         }
-    } else {
-        client
     }
 }
 
-/// Marks the client of this id as heard of.
-fn hear(rows: &mut [Client], number: u64, now: u64)
-    ensures { rows.new ≡ map (heard_one number now) rows.old }
-{
-    for client in rows.iter_mut() {
-        *client = heard_one(*client, number, now);
-    }
+/// Whether a client has another id.
+#[derive(Clone, Copy)]
+struct Others {
+    number: u64,
 }
 
-/// Takes the client of this id away.
-fn take_away(rows: &mut Vec<Client>, number: u64)
-    ensures { rows.new.items ≡ filter (is_other number) rows.old.items }
-{
-    rows.retain(|client| client.number != number);
+impl Test<Client> for Others {
+    ghost keeps = { λ others client. is_other others.number client };
+
+    fn keeps(&self, client: &Client) -> bool {
+        client.number != self.number
+    }
 }
 
 impl Clients {
     ghost use Rattle.client_registry.specs.Clients.{opened, admission, admitted, principal_at, touched, expired_of, without, cleared};
 
     /// Nobody is attached yet. A client of which nothing is heard for longer than `liveness`, in nanoseconds, is past it.
-    /// It takes no memory.
-    pub fn new(alloc: Global, liveness: u64) -> Clients
-        ensures { result ≡ opened liveness }
+    /// The room for all who may come is taken here.
+    pub fn new(alloc: Global, liveness: u64) -> Result<Clients, AllocError>
+        ensures { IfOk result (λ clients. clients ≡ opened liveness) }
     {
-        Clients {
+        Ok(Clients {
             liveness,
-            rows: Vec::new(alloc),
+            rows: Rows::new(alloc)?,
             last: 0,
-        }
+        })
     }
 
     /// Other clients, equal to these.
@@ -80,7 +81,7 @@ impl Clients {
     {
         Ok(Clients {
             liveness: self.liveness,
-            rows: Vec::from_slice(alloc, self.rows.as_slice())?,
+            rows: self.rows.copy(alloc)?,
             last: self.last,
         })
     }
@@ -92,40 +93,45 @@ impl Clients {
         self.rows.as_slice()
     }
 
-    /// A client comes, which acts for `principal` and is heard of at `now`. It is given the next id.
+    /// The id that a client would be given that comes now.
     ///
     /// # Errors
-    /// [`AdmitError::Full`] where 64 clients are attached or no id is left; nothing is changed by an error.
-    #[tactic(auto, unfolding(crate::specs::Clients::admission, crate::specs::Clients::admitted))]
-    pub fn admit(&mut self, principal: u32, now: u64) -> Result<u64, AdmitError>
-        ensures answer { Gives result (admission self.old) }
-        ensures without_memory { has_room self.old ≡ false → result ≡ Err Full }
-        ensures admitted { OnOk result (self.new ≡ admitted self.old principal now) }
-        ensures err { OnErr result (self.new ≡ self.old) }
+    /// [`AdmitError::Full`] where 64 clients are attached or no id is left.
+    #[tactic(auto, unfolding(crate::specs::Clients::admission))]
+    pub fn admission(&self) -> Result<u64, AdmitError>
+        ensures { result ≡ admission self.now }
     {
         if self.rows.len() >= CLIENTS || self.last == u64::MAX {
             return Err(AdmitError::Full);
         }
-        let number = self.last + 1;
-        let client = Client {
+        Ok(self.last + 1)
+    }
+
+    /// A client comes, which acts for `principal` and is heard of at `now`. It is given the next id.
+    ///
+    /// # Errors
+    /// [`AdmitError::Full`] where 64 clients are attached or no id is left; nothing is changed then.
+    #[tactic(auto, unfolding(crate::specs::Clients::admission, crate::specs::Clients::admitted))]
+    pub fn admit(&mut self, principal: u32, now: u64) -> Result<u64, AdmitError>
+        ensures answer { result ≡ admission self.old }
+        ensures admitted { OnOk result (self.new ≡ admitted self.old principal now) }
+        ensures err { OnErr result (self.new ≡ self.old) }
+    {
+        let number = self.admission()?;
+        self.last = number;
+        self.rows.push(Client {
             number,
             principal,
             heard: now,
-        };
-        match self.rows.push(client) {
-            Ok(()) => {
-                self.last = number;
-                Ok(number)
-            }
-            Err(_) => Err(AdmitError::NoMemory),
-        }
+        });
+        Ok(number)
     }
 
     /// The client of this id.
     pub fn get(&self, number: u64) -> Option<Client>
         ensures { result ≡ client_at self.now.rows number }
     {
-        for client in &self.rows {
+        for client in self.rows.as_slice() {
             if client.number == number {
                 return Some(*client);
             }
@@ -148,7 +154,7 @@ impl Clients {
     pub fn touch(&mut self, number: u64, now: u64)
         ensures { self.new ≡ touched self.old number now }
     {
-        hear(self.rows.as_mut_slice(), number, now);
+        self.rows.change(&Heard { number, now });
     }
 
     /// The ids of the clients of which nothing was heard for longer than the liveness, in their order.
@@ -157,7 +163,7 @@ impl Clients {
         ensures { IfOk result (λ numbers. numbers ≡ expired_of self.now now) }
     {
         let mut numbers = Items::new(alloc);
-        for client in &self.rows {
+        for client in self.rows.as_slice() {
             if now.saturating_sub(client.heard) > self.liveness {
                 numbers.push(client.number)?;
             }
@@ -170,7 +176,7 @@ impl Clients {
     pub fn remove(&mut self, number: u64)
         ensures { self.new ≡ without self.old number }
     {
-        take_away(&mut self.rows, number);
+        self.rows.retain(&Others { number });
     }
 
     /// All clients go.

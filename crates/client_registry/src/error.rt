@@ -3,6 +3,4 @@
 pub enum AdmitError {
     /// There are 64 clients, or the greatest id was given.
     Full,
-    /// There was no memory for the client.
-    NoMemory,
 }

@@ -1,23 +1,24 @@
 ghost use Rattle.counters.specs.Counters.{has_room, made, counter_at, has, is_another, is_of_another, set_one, is_visible};
-ghost use Rattle.counters.specs.declared.fault.CounterFault.TheVariants.{UnknownCounter, Full, NoMemory};
+ghost use Rattle.counters.specs.declared.fault.CounterFault.TheVariants.{UnknownCounter};
 ghost use Rattle.std.specs.Option.{option_copied};
-ghost use Rattle.std.specs.Prelude.{◌≡◌, ◌↔◌, ◌++◌, ◌∷◌, [], IfOk, IfErr, IsOk, OnOk, OnErr, Err, true, false, not, filter, map};
+ghost use Rattle.std.specs.Prelude.{◌≡◌, ◌↔◌, ◌++◌, ◌∷◌, [], IfOk, IfErr, IsOk, OnOk, OnErr, true, not};
 
 use crate::counter::Counter;
 use crate::fault::CounterFault;
-use byte_strings::{Bytes, Items, Text};
+use byte_strings::{Items, ShortBytes, ShortText};
 use channel_uri::Channel;
 use policy_core::{Act, Policy, Request};
+use rows::{Change, Rows, Test};
 use std::alloc::{AllocError, Global};
 use std::marker::Model;
 
 /// How many counters there are at most.
 const COUNTERS: usize = 1024;
 
-/// The counters of all clients, in the order of their registration numbers.
+/// The counters of all clients, in the order of their registration numbers, in room that is there from the beginning.
 #[derive(Debug, Drop)]
 pub struct Counters {
-    rows: Vec<Counter>,
+    rows: Rows<Counter, 1024>,
 }
 
 impl Model for Counters {
@@ -26,47 +27,62 @@ impl Model for Counters {
 
     ghost Value = { List Counter };
 
-    ghost view = { λ counters. counters.rows.items };
+    ghost view = { λ counters. counters.rows };
 }
 
-/// Gives the counter this value, if it is this client's of this number.
-fn set_one(counter: &mut Counter, client: u64, number: u64, value: i64)
-    ensures { counter.new ≡ set_one client number value counter.old }
-{
-    if counter.client == client && counter.number == number {
-        counter.value = value;
+/// This client's counter of this number is given a value.
+#[derive(Clone, Copy)]
+struct Given {
+    client: u64,
+    number: u64,
+    value: i64,
+}
+
+impl Change<Counter> for Given {
+    ghost changed = { λ given counter. set_one given.client given.number given.value counter };
+
+    fn change(&self, counter: &mut Counter) {
+        if counter.client == self.client && counter.number == self.number {
+            counter.value = self.value;
+        }
     }
 }
 
-/// Gives this client's counter of this number the value.
-fn set_all(rows: &mut [Counter], client: u64, number: u64, value: i64)
-    ensures { rows.new ≡ map (set_one client number value) rows.old }
-{
-    for counter in rows.iter_mut() {
-        set_one(counter, client, number, value);
+/// Whether a counter is another one than this client's of this number.
+#[derive(Clone, Copy)]
+struct Another {
+    client: u64,
+    number: u64,
+}
+
+impl Test<Counter> for Another {
+    ghost keeps = { λ another counter. is_another another.client another.number counter };
+
+    fn keeps(&self, counter: &Counter) -> bool {
+        !(counter.client == self.client && counter.number == self.number)
     }
 }
 
-/// Takes away this client's counter of this number.
-fn take_away(rows: &mut Vec<Counter>, client: u64, number: u64)
-    ensures { rows.new.items ≡ filter (is_another client number) rows.old.items }
-{
-    rows.retain(|counter| !(counter.client == client && counter.number == number));
+/// Whether a counter is of another client.
+#[derive(Clone, Copy)]
+struct OfAnother {
+    client: u64,
 }
 
-/// Takes away all counters of this client.
-fn take_away_those_of(rows: &mut Vec<Counter>, client: u64)
-    ensures { rows.new.items ≡ filter (is_of_another client) rows.old.items }
-{
-    rows.retain(|counter| counter.client != client);
+impl Test<Counter> for OfAnother {
+    ghost keeps = { λ another counter. is_of_another another.client counter };
+
+    fn keeps(&self, counter: &Counter) -> bool {
+        counter.client != self.client
+    }
 }
 
 /// Whether the policy shows the counter to the principal, by its type id.
 #[tactic(auto, unfolding(crate::specs::Counters::is_visible))]
-fn is_visible(alloc: Global, policy: &Policy, principal: u32, counter: &Counter) -> bool
+fn is_visible(policy: &Policy, principal: u32, counter: &Counter) -> bool
     ensures { result ≡ is_visible policy.now principal counter.now }
 {
-    let channel = Channel::counter(alloc);
+    let channel = Channel::counter();
     let request = Request {
         principal,
         act: Act::List,
@@ -76,27 +92,16 @@ fn is_visible(alloc: Global, policy: &Policy, principal: u32, counter: &Counter)
     policy.verdict(1, &request).allow
 }
 
-/// Other counters, equal to these.
-fn copies(alloc: Global, rows: &[Counter]) -> Result<Vec<Counter>, AllocError>
-    ensures { IfOk result (λ copies. copies.items ≡ rows.now) }
-{
-    let mut copies = Vec::new(alloc);
-    for counter in rows {
-        copies.push(counter.copy(alloc)?)?;
-    }
-    Ok(copies)
-}
-
 impl Counters {
     ghost use Rattle.counters.specs.Counters.{set, without, without_those_of, visible_of};
 
-    /// There are no counters. It takes no memory.
-    pub fn new(alloc: Global) -> Counters
-        ensures { result ≡ [] }
+    /// There are no counters. The room for all that may come is taken here.
+    pub fn new(alloc: Global) -> Result<Counters, AllocError>
+        ensures { IfOk result (λ counters. counters ≡ []) }
     {
-        Counters {
-            rows: Vec::new(alloc),
-        }
+        Ok(Counters {
+            rows: Rows::new(alloc)?,
+        })
     }
 
     /// Other counters, equal to these.
@@ -104,7 +109,7 @@ impl Counters {
         ensures { IfOk result (λ counters. counters ≡ self.now) }
     {
         Ok(Counters {
-            rows: copies(alloc, self.rows.as_slice())?,
+            rows: self.rows.copy(alloc)?,
         })
     }
 
@@ -123,44 +128,32 @@ impl Counters {
     }
 
     /// A client's counter comes, under this registration number. Its value is 0.
-    ///
-    /// # Errors
-    /// [`CounterFault::Full`] where there are 1,024 counters; nothing is changed by an error.
     pub fn add(
         &mut self,
         number: u64,
         client: u64,
         type_id: i32,
-        key: Bytes,
-        label: Text,
-    ) -> Result<(), CounterFault>
-        ensures full { has_room self.old ≡ false → result ≡ Err Full }
-        ensures room { has_room self.old ≡ true → IfErr result (λ fault. fault ≡ NoMemory) }
-        ensures added { OnOk result (self.new ≡ self.old ++ made number client type_id key label ∷ []) }
-        ensures err { OnErr result (self.new ≡ self.old) }
+        key: &ShortBytes<112>,
+        label: &ShortText<380>,
+    )
+        requires room { has_room self.old ≡ true }
+        ensures { self.new ≡ self.old ++ made number client type_id key.now label.now ∷ [] }
     {
-        if self.is_full() {
-            return Err(CounterFault::Full);
-        }
-        let counter = Counter {
+        self.rows.push(Counter {
             number,
             client,
             type_id,
-            key,
-            label,
+            key: key.copy(),
+            label: label.copy(),
             value: 0,
-        };
-        match self.rows.push(counter) {
-            Ok(()) => Ok(()),
-            Err(_) => Err(CounterFault::NoMemory),
-        }
+        });
     }
 
     /// The counter of this number.
     pub fn get(&self, number: u64) -> Option<&Counter>
         ensures { option_copied result ≡ counter_at self.now number }
     {
-        for counter in &self.rows {
+        for counter in self.rows.as_slice() {
             if counter.number == number {
                 return Some(counter);
             }
@@ -169,10 +162,10 @@ impl Counters {
     }
 
     /// Whether the client has a counter of this number.
-    fn has(&self, client: u64, number: u64) -> bool
+    pub fn has(&self, client: u64, number: u64) -> bool
         ensures { result ≡ has self.now client number }
     {
-        for counter in &self.rows {
+        for counter in self.rows.as_slice() {
             if counter.client == client && counter.number == number {
                 return true;
             }
@@ -194,7 +187,11 @@ impl Counters {
         if !self.has(client, number) {
             return Err(CounterFault::UnknownCounter);
         }
-        set_all(self.rows.as_mut_slice(), client, number, value);
+        self.rows.change(&Given {
+            client,
+            number,
+            value,
+        });
         Ok(())
     }
 
@@ -212,7 +209,7 @@ impl Counters {
         if !self.has(client, number) {
             return Err(CounterFault::UnknownCounter);
         }
-        take_away(&mut self.rows, client, number);
+        self.rows.retain(&Another { client, number });
         Ok(())
     }
 
@@ -221,7 +218,14 @@ impl Counters {
     pub fn remove_those_of(&mut self, client: u64)
         ensures { self.new ≡ without_those_of self.old client }
     {
-        take_away_those_of(&mut self.rows, client);
+        self.rows.retain(&OfAnother { client });
+    }
+
+    /// All counters go.
+    pub fn clear(&mut self)
+        ensures { self.new ≡ [] }
+    {
+        self.rows.clear();
     }
 
     /// Copies of the counters that the policy shows to the principal, in their order.
@@ -235,9 +239,9 @@ impl Counters {
         ensures { IfOk result (λ shown. shown ≡ visible_of self.now policy.now principal) }
     {
         let mut shown = Items::new(alloc);
-        for counter in &self.rows {
-            if is_visible(alloc, policy, principal, counter) {
-                shown.push(counter.copy(alloc)?)?;
+        for counter in self.rows.as_slice() {
+            if is_visible(policy, principal, counter) {
+                shown.push(counter.copy())?;
             }
         }
         Ok(shown)

@@ -3,8 +3,4 @@
 pub enum CounterFault {
     /// The client has no counter of this number.
     UnknownCounter,
-    /// There are 1,024 counters.
-    Full,
-    /// There was no memory for the counter.
-    NoMemory,
 }
