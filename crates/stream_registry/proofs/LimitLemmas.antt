@@ -62,6 +62,24 @@ granted_room s wanted adding is =
     either_room s adding wanted.exclusive (making_of s wanted) (adding_by s wanted (joined_at s.publications wanted.channel wanted.stream))
     (making_room s wanted adding) (by_room s wanted adding (joined_at s.publications wanted.channel wanted.stream)) is
 
+first_of : (a b : Bool) → (a && b) ≡ true → a ≡ true
+first_of true b is = refl
+first_of false b is = absurd (cc)
+
+second_of : (a b : Bool) → (a && b) ≡ true → b ≡ true
+second_of true b is = is
+second_of false b is = absurd (cc)
+
+pub join_has_room : (s : Streams) (wanted : Wanted) (source : ℕ) (session : ℤ) → adding_of s wanted ≡ Ok (Join source session) →
+    has_room_for_registration s ≡ true
+join_has_room s wanted source session is = granted_room s wanted (Join source session) is
+
+pub make_has_room : (s : Streams) (wanted : Wanted) (session : ℤ) → adding_of s wanted ≡ Ok (Make session) →
+    (has_room_for_registration s ≡ true) × (has_room_for_log s ≡ true)
+make_has_room s wanted session is =
+    let both = granted_room s wanted (Make session) is in
+    (first_of (has_room_for_registration s) (has_room_for_log s) both, second_of (has_room_for_registration s) (has_room_for_log s) both)
+
 -- ---- the lists
 
 one_more : {A : Type 0} (rows : List A) (row : A) (limit : ℕ) → length rows < limit → length (rows ++ row ∷ []) ≤ limit
@@ -74,14 +92,6 @@ fewer stays rows limit few =
     let both : length (filter stays rows) + length (filter (λ row. not (stays row)) rows) ≡ length rows =
     length-filter_both stays (λ row. not (stays row)) (λ row. refl) rows in
     omega (arith, both, few)
-
-first_of : (a b : Bool) → (a && b) ≡ true → a ≡ true
-first_of true b is = refl
-first_of false b is = absurd (cc)
-
-second_of : (a b : Bool) → (a && b) ≡ true → b ≡ true
-second_of true b is = is
-second_of false b is = absurd (cc)
 
 added_within : (s : Streams) (number client place : ℕ) (wanted : Wanted) (adding : Adding) → IsWithinLimits s → HasRoom s adding →
     IsWithinLimits (added s number client wanted place adding)

@@ -11,3 +11,4 @@ pub mod Places
 pub mod SessionLaws
 pub mod Sessions
 pub mod Streams
+pub mod Wish

@@ -1,6 +1,5 @@
-ghost use Rattle.stream_registry.specs.Adding.{added, adding_of, has_room_for_log, has_room_for_registration, has_room_for_subscription, joining_of, log_of, made, making_of, registered, registration_of, session_of, subscribed};
-ghost use Rattle.stream_registry.specs.declared.fault.StreamFault.TheVariants.{Full, NoMemory};
-ghost use Rattle.std.specs.Prelude.{◌≡◌, ◌++◌, ◌∷◌, [], IfOk, IfErr, OnOk, OnErr, Ok, Err, is_ok, true, false};
+ghost use Rattle.stream_registry.specs.Adding.{added, adding_of, has_room_for_log, has_room_for_registration, has_room_for_subscription, joining_of, log_of, made, making_of, registered, session_of, subscribed};
+ghost use Rattle.std.specs.Prelude.{◌≡◌, Ok, true};
 
 use crate::fault::StreamFault;
 use crate::joining::{contradicts, joined_at};
@@ -9,7 +8,6 @@ use crate::sessions::{after, free_session, is_stated_again};
 use crate::streams::Streams;
 use crate::wanted::{Adding, Wanted};
 use channel_uri::Channel;
-use std::alloc::AllocError;
 
 /// How many logs of publications there are at most.
 const LOGS: usize = 256;
@@ -19,26 +17,6 @@ const REGISTRATIONS: usize = 1024;
 
 /// How many subscriptions there are at most.
 const SUBSCRIPTIONS: usize = 512;
-
-/// Registers the client with the publication of this source number.
-fn register(
-    registrations: &mut Vec<Registration>,
-    number: u64,
-    client: u64,
-    wanted: Wanted,
-    source: u64,
-) -> Result<(), AllocError>
-    ensures ok { OnOk result (registrations.new.items ≡ registrations.old.items ++ registration_of number client wanted source ∷ []) }
-    ensures err { OnErr result (registrations.new.items ≡ registrations.old.items) }
-{
-    registrations.push(Registration {
-        number,
-        client,
-        channel: wanted.channel,
-        source,
-    })?;
-    Ok(())
-}
 
 impl Streams {
     fn has_room_for_log(&self) -> bool
@@ -53,7 +31,8 @@ impl Streams {
         self.registrations.len() < REGISTRATIONS
     }
 
-    fn has_room_for_subscription(&self) -> bool
+    /// Whether there are fewer than 512 subscriptions.
+    pub fn has_room_for_subscription(&self) -> bool
         ensures { result ≡ has_room_for_subscription self.now }
     {
         self.subscriptions.len() < SUBSCRIPTIONS
@@ -130,112 +109,81 @@ impl Streams {
     }
 
     /// The row of a new log.
-    fn log(
-        &self,
-        number: u64,
-        wanted: &Wanted,
-        place: u64,
-        session: i32,
-    ) -> Result<Publication, AllocError>
-        ensures { IfOk result (λ log. log ≡ log_of self.now number wanted.now place session) }
+    fn log(&self, number: u64, wanted: &Wanted, place: u64, session: i32) -> Publication
+        ensures { result ≡ log_of self.now number wanted.now place session }
     {
-        Ok(Publication {
+        Publication {
             source: number,
-            channel: wanted.channel.copy()?,
+            channel: wanted.channel.copy(),
             stream: wanted.stream,
             session,
             exclusive: wanted.exclusive,
             place,
             measures: self.defaults.with_those_of(&wanted.channel),
             lingering_since: None,
-        })
+        }
     }
 
-    /// Makes a log, and registers the client with it.
-    fn make(
-        &mut self,
-        number: u64,
-        client: u64,
-        wanted: Wanted,
-        place: u64,
-        session: i32,
-    ) -> Result<(), AllocError>
-        ensures ok { OnOk result (self.new ≡ registered (made self.old number wanted place session) number client wanted number) }
-        ensures err { OnErr result (self.new ≡ self.old) }
+    /// Makes a log.
+    fn make(&mut self, number: u64, wanted: &Wanted, place: u64, session: i32)
+        requires { has_room_for_log self.old ≡ true }
+        ensures { self.new ≡ made self.old number wanted.now place session }
     {
-        let log = self.log(number, &wanted, place, session)?;
-        let is_stated = wanted.channel.session_id().is_some();
-        self.publications.reserve(1)?;
-        register(&mut self.registrations, number, client, wanted, number)?;
-        match self.publications.push(log) {
-            Ok(()) => {}
-            Err(_) => unreachable!(),
-        }
-        if !is_stated {
+        let log = self.log(number, wanted, place, session);
+        self.publications.push(log);
+        if wanted.channel.session_id().is_none() {
             self.next_session = after(session);
         }
-        Ok(())
+    }
+
+    /// Registers the client with the publication of this source number.
+    fn register(&mut self, number: u64, client: u64, wanted: &Wanted, source: u64)
+        requires { has_room_for_registration self.old ≡ true }
+        ensures { self.new ≡ registered self.old number client wanted.now source }
+    {
+        self.registrations.push(Registration {
+            number,
+            client,
+            channel: wanted.channel.copy(),
+            source,
+        });
     }
 
     /// A client publishes: it is registered, under this number, with the publication that [`Streams::adding`] names, or
-    /// with a new one, whose source number this is and whose log lies at `place`. The answer is that of
-    /// [`Streams::adding`].
-    ///
-    /// # Errors
-    /// As [`Streams::adding`]; [`StreamFault::NoMemory`] only where the client would be registered. Nothing is changed by
-    /// an error.
+    /// with a new one, whose source number this is and whose log lies at `place`. `adding` is the answer of
+    /// [`Streams::adding`]. It takes no memory.
     pub fn add_publication(
         &mut self,
         number: u64,
         client: u64,
-        wanted: Wanted,
+        wanted: &Wanted,
         place: u64,
-    ) -> Result<Adding, StreamFault>
-        ensures answer { IfOk result (λ adding. adding_of self.old wanted ≡ Ok adding) }
-        ensures refused { is_ok (adding_of self.old wanted) ≡ false → result ≡ adding_of self.old wanted }
-        ensures granted { is_ok (adding_of self.old wanted) ≡ true → IfErr result (λ fault. fault ≡ NoMemory) }
-        ensures added { IfOk result (λ adding. self.new ≡ added self.old number client wanted place adding) }
-        ensures err { OnErr result (self.new ≡ self.old) }
+        adding: Adding,
+    )
+        requires taken { adding_of self.old wanted.now ≡ Ok adding }
+        ensures { self.new ≡ added self.old number client wanted.now place adding }
     {
-        let adding = self.adding(&wanted)?;
         match adding {
-            Adding::Join { source, .. } => {
-                register(&mut self.registrations, number, client, wanted, source)?
+            Adding::Join { source, .. } => self.register(number, client, wanted, source),
+            Adding::Make { session } => {
+                self.make(number, wanted, place, session);
+                self.register(number, client, wanted, number);
             }
-            Adding::Make { session } => self.make(number, client, wanted, place, session)?,
         }
-        Ok(adding)
     }
 
-    /// A client subscribes, under this number.
-    ///
-    /// # Errors
-    /// [`StreamFault::Full`] where there are 512 subscriptions; nothing is changed by an error.
+    /// A client subscribes, under this number. It takes no memory. Where there is no room is asked before
+    /// ([`Streams::has_room_for_subscription`]).
     #[tactic(auto, unfolding(crate::specs::Adding::subscribed))]
-    pub fn add_subscription(
-        &mut self,
-        number: u64,
-        client: u64,
-        channel: Channel,
-        stream: i32,
-    ) -> Result<(), StreamFault>
-        ensures full { has_room_for_subscription self.old ≡ false → result ≡ Err Full }
-        ensures room { has_room_for_subscription self.old ≡ true → IfErr result (λ fault. fault ≡ NoMemory) }
-        ensures added { OnOk result (self.new ≡ subscribed self.old number client channel stream) }
-        ensures err { OnErr result (self.new ≡ self.old) }
+    pub fn add_subscription(&mut self, number: u64, client: u64, channel: &Channel, stream: i32)
+        requires { has_room_for_subscription self.old ≡ true }
+        ensures { self.new ≡ subscribed self.old number client channel.now stream }
     {
-        if !self.has_room_for_subscription() {
-            return Err(StreamFault::Full);
-        }
-        let subscription = Subscription {
+        self.subscriptions.push(Subscription {
             number,
             client,
-            channel,
+            channel: channel.copy(),
             stream,
-        };
-        match self.subscriptions.push(subscription) {
-            Ok(()) => Ok(()),
-            Err(_) => Err(StreamFault::NoMemory),
-        }
+        });
     }
 }

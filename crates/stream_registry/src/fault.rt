@@ -1,7 +1,3 @@
-ghost use Rattle.std.specs.Prelude.{◌≡◌};
-
-use std::alloc::AllocError;
-
 /// Why nothing is done about a publication or a subscription.
 #[derive(Clone, Copy, Debug, PartialEq, Eq)]
 pub enum StreamFault {
@@ -13,16 +9,4 @@ pub enum StreamFault {
     Conflict,
     /// There would be too many publications, registrations or subscriptions.
     Full,
-    /// There was no memory.
-    NoMemory,
-}
-
-impl From<AllocError> for StreamFault {
-    ghost use Rattle.stream_registry.specs.declared.fault.StreamFault.TheVariants.{NoMemory};
-
-    ghost from_gives = { λ refused fault. fault ≡ NoMemory };
-
-    fn from(_: AllocError) -> StreamFault {
-        StreamFault::NoMemory
-    }
 }

@@ -1,54 +1,74 @@
 ghost use Rattle.stream_registry.specs.Leaving.{has_registration, has_subscription, is_another_registration, is_another_subscription, is_registration_of_another, is_subscription_of_another, left, unregistered, unsubscribed};
 ghost use Rattle.stream_registry.specs.declared.fault.StreamFault.TheVariants.{UnknownPublication, UnknownSubscription};
-ghost use Rattle.std.specs.Prelude.{◌≡◌, ◌↔◌, IfErr, IsOk, OnOk, OnErr, filter, true};
+ghost use Rattle.std.specs.Prelude.{◌≡◌, ◌↔◌, IfErr, IsOk, OnOk, OnErr, true};
 
 use crate::fault::StreamFault;
 use crate::rows::{Registration, Subscription};
 use crate::streams::Streams;
+use rows::Test;
 
-/// Takes away the client's registration of this number.
-fn take_registration(registrations: &mut Vec<Registration>, client: u64, number: u64)
-    ensures { registrations.new.items ≡ filter (is_another_registration client number) registrations.old.items }
-{
-    registrations.retain(|row| !(row.client == client && row.number == number));
+/// Keeps all rows but the client's own of this number.
+#[derive(Clone, Copy)]
+struct Another {
+    client: u64,
+    number: u64,
 }
 
-/// Takes away the client's subscription of this number.
-fn take_subscription(subscriptions: &mut Vec<Subscription>, client: u64, number: u64)
-    ensures { subscriptions.new.items ≡ filter (is_another_subscription client number) subscriptions.old.items }
-{
-    subscriptions.retain(|row| !(row.client == client && row.number == number));
+impl Test<Registration> for Another {
+    ghost keeps = { λ test registration. is_another_registration test.client test.number registration };
+
+    fn keeps(&self, registration: &Registration) -> bool {
+        !(registration.client == self.client && registration.number == self.number)
+    }
 }
 
-/// Takes away all registrations of the client.
-fn take_registrations_of(registrations: &mut Vec<Registration>, client: u64)
-    ensures { registrations.new.items ≡ filter (is_registration_of_another client) registrations.old.items }
-{
-    registrations.retain(|registration| registration.client != client);
+impl Test<Subscription> for Another {
+    ghost keeps = { λ test subscription. is_another_subscription test.client test.number subscription };
+
+    fn keeps(&self, subscription: &Subscription) -> bool {
+        !(subscription.client == self.client && subscription.number == self.number)
+    }
 }
 
-/// Takes away all subscriptions of the client.
-fn take_subscriptions_of(subscriptions: &mut Vec<Subscription>, client: u64)
-    ensures { subscriptions.new.items ≡ filter (is_subscription_of_another client) subscriptions.old.items }
-{
-    subscriptions.retain(|subscription| subscription.client != client);
+/// Keeps the rows of all clients but this one.
+#[derive(Clone, Copy)]
+struct OfAnother {
+    client: u64,
+}
+
+impl Test<Registration> for OfAnother {
+    ghost keeps = { λ test registration. is_registration_of_another test.client registration };
+
+    fn keeps(&self, registration: &Registration) -> bool {
+        registration.client != self.client
+    }
+}
+
+impl Test<Subscription> for OfAnother {
+    ghost keeps = { λ test subscription. is_subscription_of_another test.client subscription };
+
+    fn keeps(&self, subscription: &Subscription) -> bool {
+        subscription.client != self.client
+    }
 }
 
 impl Streams {
     /// Whether the client has a registration of this number.
-    fn has_registration(&self, client: u64, number: u64) -> bool
+    pub fn has_registration(&self, client: u64, number: u64) -> bool
         ensures { result ≡ has_registration self.now client number }
     {
         self.registrations
+            .as_slice()
             .iter()
             .any(|row| row.client == client && row.number == number)
     }
 
     /// Whether the client has a subscription of this number.
-    fn has_subscription(&self, client: u64, number: u64) -> bool
+    pub fn has_subscription(&self, client: u64, number: u64) -> bool
         ensures { result ≡ has_subscription self.now client number }
     {
         self.subscriptions
+            .as_slice()
             .iter()
             .any(|row| row.client == client && row.number == number)
     }
@@ -72,7 +92,7 @@ impl Streams {
         if !self.has_registration(client, number) {
             return Err(StreamFault::UnknownPublication);
         }
-        take_registration(&mut self.registrations, client, number);
+        self.registrations.retain(&Another { client, number });
         self.settle(now);
         Ok(())
     }
@@ -91,7 +111,7 @@ impl Streams {
         if !self.has_subscription(client, number) {
             return Err(StreamFault::UnknownSubscription);
         }
-        take_subscription(&mut self.subscriptions, client, number);
+        self.subscriptions.retain(&Another { client, number });
         Ok(())
     }
 
@@ -101,8 +121,8 @@ impl Streams {
     pub fn client_left(&mut self, client: u64, now: u64)
         ensures { self.new ≡ left self.old client now }
     {
-        take_registrations_of(&mut self.registrations, client);
-        take_subscriptions_of(&mut self.subscriptions, client);
+        self.registrations.retain(&OfAnother { client });
+        self.subscriptions.retain(&OfAnother { client });
         self.settle(now);
     }
 }

@@ -21,12 +21,14 @@ mod rows;
 mod sessions;
 mod streams;
 mod wanted;
+mod wish;
 
 pub use fault::StreamFault;
 pub use laws::{limits_are_kept, places_are_least, places_share_nothing, sessions_are_free};
 pub use lingering::LogPlace;
 pub use measures::Measures;
-pub use pairs::Pair;
-pub use rows::{Publication, Registration, Subscription};
+pub use pairs::{Pair, reads};
+pub use self::rows::{Publication, Registration, Subscription};
 pub use streams::Streams;
 pub use wanted::{Adding, Wanted};
+pub use wish::Wish;

@@ -1,9 +1,10 @@
-ghost use Rattle.stream_registry.specs.Lingering.{closed, closing_of, is_not_past, is_past, is_used, place_of, registrations_of, settled, settled_one};
-ghost use Rattle.std.specs.Prelude.{◌≡◌, IfOk, OnOk, OnErr, map, filter};
+ghost use Rattle.stream_registry.specs.Lingering.{closed, closing_of, is_not_past, is_past, is_used, registrations_of, settled, settled_one};
+ghost use Rattle.std.specs.Prelude.{◌≡◌, IfOk};
 
 use crate::rows::{Publication, Registration};
 use crate::streams::Streams;
 use byte_strings::Items;
+use rows::{Change, Test};
 use std::alloc::{AllocError, Global};
 
 /// A log, and the page at which its memory begins.
@@ -32,12 +33,18 @@ fn settle_one(publication: &mut Publication, registrations: &[Registration], now
     }
 }
 
-/// Lets each publication linger with which nobody is registered.
-fn settle_all(publications: &mut [Publication], registrations: &[Registration], now: u64)
-    ensures { publications.new ≡ map (settled_one registrations.now now) publications.old }
-{
-    for publication in publications.iter_mut() {
-        settle_one(publication, registrations, now);
+/// Lets publications linger from `now` on with which none of these is registered.
+#[derive(Clone, Copy)]
+struct Settling<'a> {
+    registrations: &'a [Registration],
+    now: u64,
+}
+
+impl Change<Publication> for Settling<'_> {
+    ghost changed = { λ change publication. settled_one change.registrations.now change.now publication };
+
+    fn change(&self, publication: &mut Publication) {
+        settle_one(publication, self.registrations, self.now);
     }
 }
 
@@ -51,31 +58,18 @@ fn is_past(publication: &Publication, now: u64) -> bool
     }
 }
 
-/// Takes away the publications that linger for longer than they may.
-fn take_away_past(publications: &mut Vec<Publication>, now: u64)
-    ensures { publications.new.items ≡ filter (is_not_past now) publications.old.items }
-{
-    publications.retain(|publication| !is_past(publication, now));
+/// Keeps the publications that don't linger for longer than they may at this moment.
+#[derive(Clone, Copy)]
+struct NotPast {
+    now: u64,
 }
 
-/// The logs of the publications that linger for longer than they may.
-fn closing(
-    alloc: Global,
-    publications: &[Publication],
-    now: u64,
-) -> Result<Items<LogPlace>, AllocError>
-    ensures { IfOk result (λ logs. logs ≡ map place_of (filter (is_past now) publications.now)) }
-{
-    let mut logs = Items::new(alloc);
-    for publication in publications {
-        if is_past(publication, now) {
-            logs.push(LogPlace {
-                source: publication.source,
-                place: publication.place,
-            })?;
-        }
+impl Test<Publication> for NotPast {
+    ghost keeps = { λ test publication. is_not_past test.now publication };
+
+    fn keeps(&self, publication: &Publication) -> bool {
+        !is_past(publication, self.now)
     }
-    Ok(logs)
 }
 
 impl Streams {
@@ -84,6 +78,7 @@ impl Streams {
         ensures { result ≡ registrations_of self.now source }
     {
         self.registrations
+            .as_slice()
             .iter()
             .filter(|registration| registration.source == source)
             .count()
@@ -94,30 +89,35 @@ impl Streams {
     pub(crate) fn settle(&mut self, now: u64)
         ensures { self.new ≡ settled self.old now }
     {
-        settle_all(
-            self.publications.as_mut_slice(),
-            self.registrations.as_slice(),
+        self.publications.change(&Settling {
+            registrations: self.registrations.as_slice(),
             now,
-        );
+        });
     }
 
-    /// The publications go that linger for longer than they may at `now`. The answer tells their logs, by their source
-    /// numbers.
-    ///
-    /// # Errors
-    /// Where there is no memory for the answer; nothing is changed then.
-    #[tactic(auto, unfolding(crate::specs::Lingering::closed, crate::specs::Lingering::closing_of))]
-    pub fn close_lingering(
-        &mut self,
-        alloc: Global,
-        now: u64,
-    ) -> Result<Items<LogPlace>, AllocError>
-        ensures logs { IfOk result (λ logs. logs ≡ closing_of self.old now) }
-        ensures closed { OnOk result (self.new ≡ closed self.old now) }
-        ensures err { OnErr result (self.new ≡ self.old) }
+    /// The logs of the publications that linger for longer than they may at `now`, by their source numbers.
+    #[tactic(auto, unfolding(crate::specs::Lingering::closing_of))]
+    pub fn closing(&self, alloc: Global, now: u64) -> Result<Items<LogPlace>, AllocError>
+        ensures { IfOk result (λ logs. logs ≡ closing_of self.now now) }
     {
-        let logs = closing(alloc, self.publications.as_slice(), now)?;
-        take_away_past(&mut self.publications, now);
+        let mut logs = Items::new(alloc);
+        for publication in self.publications.as_slice() {
+            if is_past(publication, now) {
+                logs.push(LogPlace {
+                    source: publication.source,
+                    place: publication.place,
+                })?;
+            }
+        }
         Ok(logs)
+    }
+
+    /// The publications go that linger for longer than they may at `now`: their logs are those of [`Streams::closing`]. It
+    /// takes no memory.
+    #[tactic(auto, unfolding(crate::specs::Lingering::closed))]
+    pub fn close(&mut self, now: u64)
+        ensures { self.new ≡ closed self.old now }
+    {
+        self.publications.retain(&NotPast { now });
     }
 }

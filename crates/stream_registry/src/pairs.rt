@@ -1,4 +1,5 @@
 ghost use Rattle.stream_registry.specs.Pairs.{fits, is_allowed, is_of, is_pair, is_read, pairs_at, pairs_of, reads_as};
+ghost use Rattle.stream_registry.specs.Wish.{row_of};
 ghost use Rattle.std.specs.List.{list_any};
 ghost use Rattle.std.specs.Prelude.{◌≡◌, ◌++◌, IfOk, OnOk};
 
@@ -6,6 +7,7 @@ use crate::places::is_ipc;
 use crate::rows::{Publication, Subscription};
 use crate::sessions::agrees_with;
 use crate::streams::Streams;
+use crate::wish::Wish;
 use byte_strings::Items;
 use client_registry::Clients;
 use policy_core::{Act, Policy, Request};
@@ -22,43 +24,44 @@ pub struct Pair {
 
 /// Whether the subscription reads the log, if the policy lets it.
 #[tactic(auto, unfolding(crate::specs::Pairs::fits))]
-fn fits(publication: &Publication, subscription: &Subscription) -> bool
-    ensures { result ≡ fits publication.now subscription.now }
+fn fits(publication: &Publication, wish: &Wish<'_>) -> bool
+    ensures { result ≡ fits publication.now (row_of wish.now) }
 {
     is_ipc(publication.channel.media())
-        && is_ipc(subscription.channel.media())
-        && publication.stream == subscription.stream
-        && agrees_with(publication.session, subscription.channel.session_id())
+        && is_ipc(wish.channel.media())
+        && publication.stream == wish.stream
+        && agrees_with(publication.session, wish.channel.session_id())
 }
 
 /// Whether the policy, which goes by this number, lets the client have messages on its subscription.
 #[tactic(auto, unfolding(crate::specs::Pairs::is_allowed))]
-fn is_allowed(clients: &Clients, policy: &Policy, epoch: u64, subscription: &Subscription) -> bool
-    ensures { result ≡ is_allowed clients.now.rows policy.now epoch subscription.now }
+fn is_allowed(clients: &Clients, policy: &Policy, epoch: u64, wish: &Wish<'_>) -> bool
+    ensures { result ≡ is_allowed clients.now.rows policy.now epoch (row_of wish.now) }
 {
-    let Some(principal) = clients.principal_of(subscription.client) else {
+    let Some(principal) = clients.principal_of(wish.client) else {
         return false;
     };
     let request = Request {
         principal,
         act: Act::Image,
-        channel: &subscription.channel,
-        stream: subscription.stream,
+        channel: wish.channel,
+        stream: wish.stream,
     };
     policy.verdict(epoch, &request).allow
 }
 
-/// Whether the subscription reads the log.
-fn is_pair(
+/// Whether the subscription reads the log, or would if it were there: they fit, and the policy, which goes by the number
+/// `epoch`, allows the act `image` to the subscription's client. It takes no memory.
+pub fn reads(
     clients: &Clients,
     policy: &Policy,
     epoch: u64,
     publication: &Publication,
-    subscription: &Subscription,
+    wish: &Wish<'_>,
 ) -> bool
-    ensures { result ≡ is_pair clients.now.rows policy.now epoch publication.now subscription.now }
+    ensures { result ≡ is_pair clients.now.rows policy.now epoch publication.now (row_of wish.now) }
 {
-    fits(publication, subscription) && is_allowed(clients, policy, epoch, subscription)
+    fits(publication, wish) && is_allowed(clients, policy, epoch, wish)
 }
 
 /// Puts the pairs of a log behind the others.
@@ -73,7 +76,7 @@ fn push_pairs(
     ensures { OnOk result (pairs.new ≡ pairs.old ++ pairs_at clients.now.rows policy.now epoch subscriptions.now publication.now) }
 {
     for subscription in subscriptions {
-        if is_pair(clients, policy, epoch, publication, subscription) {
+        if reads(clients, policy, epoch, publication, &subscription.wish()) {
             pairs.push(Pair {
                 source: publication.source,
                 subscription: subscription.number,
@@ -96,7 +99,7 @@ fn is_read_by(
 {
     for subscription in subscriptions {
         if subscription.number == number
-            && is_pair(clients, policy, epoch, publication, subscription)
+            && reads(clients, policy, epoch, publication, &subscription.wish())
         {
             return true;
         }
@@ -147,7 +150,7 @@ impl Streams {
     {
         let mut pairs = Items::new(alloc);
         let subscriptions = self.subscriptions.as_slice();
-        for publication in &self.publications {
+        for publication in self.publications.as_slice() {
             push_pairs(
                 &mut pairs,
                 clients,

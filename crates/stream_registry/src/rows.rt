@@ -1,8 +1,6 @@
-ghost use Rattle.std.specs.Prelude.{◌≡◌, IfOk};
-
 use crate::measures::Measures;
 use channel_uri::Channel;
-use std::alloc::AllocError;
+use rows::Twin;
 
 /// A live publication: one log, which all that are registered with it share.
 #[derive(Debug, Drop)]
@@ -49,48 +47,39 @@ pub struct Subscription {
     pub stream: i32,
 }
 
-impl Publication {
-    /// Another publication, equal to this one.
-    pub(crate) fn copy(&self) -> Result<Publication, AllocError>
-        ensures { IfOk result (λ copy. copy ≡ self.now) }
-    {
-        Ok(Publication {
+impl Twin for Publication {
+    fn twin(&self) -> Publication {
+        Publication {
             source: self.source,
-            channel: self.channel.copy()?,
+            channel: self.channel.copy(),
             stream: self.stream,
             session: self.session,
             exclusive: self.exclusive,
             place: self.place,
             measures: self.measures,
             lingering_since: self.lingering_since,
-        })
+        }
     }
 }
 
-impl Registration {
-    /// Another registration, equal to this one.
-    pub(crate) fn copy(&self) -> Result<Registration, AllocError>
-        ensures { IfOk result (λ copy. copy ≡ self.now) }
-    {
-        Ok(Registration {
+impl Twin for Registration {
+    fn twin(&self) -> Registration {
+        Registration {
             number: self.number,
             client: self.client,
-            channel: self.channel.copy()?,
+            channel: self.channel.copy(),
             source: self.source,
-        })
+        }
     }
 }
 
-impl Subscription {
-    /// Another subscription, equal to this one.
-    pub(crate) fn copy(&self) -> Result<Subscription, AllocError>
-        ensures { IfOk result (λ copy. copy ≡ self.now) }
-    {
-        Ok(Subscription {
+impl Twin for Subscription {
+    fn twin(&self) -> Subscription {
+        Subscription {
             number: self.number,
             client: self.client,
-            channel: self.channel.copy()?,
+            channel: self.channel.copy(),
             stream: self.stream,
-        })
+        }
     }
 }

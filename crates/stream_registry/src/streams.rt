@@ -2,19 +2,21 @@ ghost use Rattle.std.specs.Prelude.{◌≡◌, IfOk};
 
 use crate::measures::Measures;
 use crate::rows::{Publication, Registration, Subscription};
+use rows::Rows;
 use std::alloc::{AllocError, Global};
 use std::marker::Model;
 
-/// What is published, who is registered with it, and what is subscribed to.
+/// What is published, who is registered with it, and what is subscribed to. There is room from the beginning for as much
+/// as there may be, so that what changes these lists takes no memory.
 #[derive(Debug, Drop)]
 pub struct Streams {
     /// What a log is made by where its channel says nothing.
     pub(crate) defaults: Measures,
     /// The number from which on the next session is looked for.
     pub(crate) next_session: i32,
-    pub(crate) publications: Vec<Publication>,
-    pub(crate) registrations: Vec<Registration>,
-    pub(crate) subscriptions: Vec<Subscription>,
+    pub(crate) publications: Rows<Publication, 256>,
+    pub(crate) registrations: Rows<Registration, 1024>,
+    pub(crate) subscriptions: Rows<Subscription, 512>,
 }
 
 impl Model for Streams {
@@ -25,69 +27,31 @@ impl Model for Streams {
     ghost view = { λ streams. record {
       defaults = streams.defaults;
       next_session = streams.next_session;
-      publications = streams.publications.items;
-      registrations = streams.registrations.items;
-      subscriptions = streams.subscriptions.items;
+      publications = streams.publications;
+      registrations = streams.registrations;
+      subscriptions = streams.subscriptions;
     } };
-}
-
-/// Other publications, equal to these.
-fn publication_copies(
-    alloc: Global,
-    publications: &[Publication],
-) -> Result<Vec<Publication>, AllocError>
-    ensures { IfOk result (λ copies. copies.items ≡ publications.now) }
-{
-    let mut copies = Vec::new(alloc);
-    for publication in publications {
-        copies.push(publication.copy()?)?;
-    }
-    Ok(copies)
-}
-
-/// Other registrations, equal to these.
-fn registration_copies(
-    alloc: Global,
-    registrations: &[Registration],
-) -> Result<Vec<Registration>, AllocError>
-    ensures { IfOk result (λ copies. copies.items ≡ registrations.now) }
-{
-    let mut copies = Vec::new(alloc);
-    for registration in registrations {
-        copies.push(registration.copy()?)?;
-    }
-    Ok(copies)
-}
-
-/// Other subscriptions, equal to these.
-fn subscription_copies(
-    alloc: Global,
-    subscriptions: &[Subscription],
-) -> Result<Vec<Subscription>, AllocError>
-    ensures { IfOk result (λ copies. copies.items ≡ subscriptions.now) }
-{
-    let mut copies = Vec::new(alloc);
-    for subscription in subscriptions {
-        copies.push(subscription.copy()?)?;
-    }
-    Ok(copies)
 }
 
 impl Streams {
     ghost use Rattle.stream_registry.specs.Streams.{opened, cleared};
 
     /// Nothing is published and nothing is subscribed to. A log is made by `defaults` where its channel says nothing, and
-    /// the first session that no channel states is `first_session`. It takes no memory.
-    pub fn new(alloc: Global, defaults: Measures, first_session: i32) -> Streams
-        ensures { result ≡ opened defaults first_session }
+    /// the first session that no channel states is `first_session`.
+    pub fn new(
+        alloc: Global,
+        defaults: Measures,
+        first_session: i32,
+    ) -> Result<Streams, AllocError>
+        ensures { IfOk result (λ streams. streams ≡ opened defaults first_session) }
     {
-        Streams {
+        Ok(Streams {
             defaults,
             next_session: first_session,
-            publications: Vec::new(alloc),
-            registrations: Vec::new(alloc),
-            subscriptions: Vec::new(alloc),
-        }
+            publications: Rows::new(alloc)?,
+            registrations: Rows::new(alloc)?,
+            subscriptions: Rows::new(alloc)?,
+        })
     }
 
     /// Other lists, equal to these.
@@ -97,9 +61,9 @@ impl Streams {
         Ok(Streams {
             defaults: self.defaults,
             next_session: self.next_session,
-            publications: publication_copies(alloc, self.publications.as_slice())?,
-            registrations: registration_copies(alloc, self.registrations.as_slice())?,
-            subscriptions: subscription_copies(alloc, self.subscriptions.as_slice())?,
+            publications: self.publications.copy(alloc)?,
+            registrations: self.registrations.copy(alloc)?,
+            subscriptions: self.subscriptions.copy(alloc)?,
         })
     }
 

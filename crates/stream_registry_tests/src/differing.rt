@@ -10,9 +10,13 @@ fn tells_answers(play: &mut Play) -> bool {
     let opened = play.publishes(1, 1, "aeron:ipc", made(1));
     let source = play.publishes(2, 1, "aeron:ipc", joined(2, 1));
     let shared = play.publishes(2, 1, "aeron:ipc", joined(1, 1));
-    let refused = play.subscribes(3, 1, "aeron:ipc", Err(StreamFault::Full));
+    let refused = play.publishes(3, 1, "aeron:ipc", Err(StreamFault::Full));
     let channel = play.publishes(4, 1, "ipc", made(2));
     opened && shared && !session && !source && !refused && !channel
+}
+
+fn tells_subscriptions(play: &mut Play) -> bool {
+    play.subscribes(3, 1, "aeron:ipc") && !play.subscribes(4, 1, "ipc")
 }
 
 // The log is at page 1, and has 48 pages: the next one goes behind it.
@@ -30,8 +34,9 @@ fn tells_counts(play: &Play) -> bool {
 
 #[test]
 fn other_answers_are_told(rt: HostRuntime) -> Result<(), Fail> {
-    let mut play = Play::new(rt.alloc());
-    assert!(rt; tells_answers(&mut play) && tells_places(&mut play) && tells_counts(&play));
+    let mut play = Play::new(rt.alloc())?;
+    assert!(rt; tells_answers(&mut play) && tells_subscriptions(&mut play));
+    assert!(rt; tells_places(&mut play) && tells_counts(&play));
     Ok(())
 }
 
@@ -49,7 +54,7 @@ fn tells_closing(play: &mut Play) -> bool {
 
 #[test]
 fn other_closings_are_told(rt: HostRuntime) -> Result<(), Fail> {
-    let mut play = Play::new(rt.alloc());
+    let mut play = Play::new(rt.alloc())?;
     assert!(rt; tells_closing(&mut play) && play.has(0, 0, 0));
     Ok(())
 }

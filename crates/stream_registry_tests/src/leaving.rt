@@ -25,7 +25,7 @@ fn lingers_and_closes(play: &mut Play) -> bool {
 
 #[test]
 fn a_log_lingers_and_then_closes(rt: HostRuntime) -> Result<(), Fail> {
-    let mut play = Play::new(rt.alloc());
+    let mut play = Play::new(rt.alloc())?;
     assert!(rt; lingers_and_closes(&mut play));
     Ok(())
 }
@@ -42,7 +42,7 @@ fn lingering_is_not_joined(play: &mut Play) -> bool {
 
 #[test]
 fn a_lingering_log_is_not_joined(rt: HostRuntime) -> Result<(), Fail> {
-    let mut play = Play::new(rt.alloc());
+    let mut play = Play::new(rt.alloc())?;
     assert!(rt; lingering_is_not_joined(&mut play));
     Ok(())
 }
@@ -50,14 +50,14 @@ fn a_lingering_log_is_not_joined(rt: HostRuntime) -> Result<(), Fail> {
 fn two_clients_come(play: &mut Play) -> bool {
     play.publishes(1, 1, "aeron:ipc", made(1))
         && play.publishes(2, 2, "aeron:ipc", joined(1, 1))
-        && play.subscribes(3, 1, "aeron:ipc", Ok(()))
-        && play.subscribes(4, 2, "aeron:ipc", Ok(()))
+        && play.subscribes(3, 1, "aeron:ipc")
+        && play.subscribes(4, 2, "aeron:ipc")
         && play.has(1, 2, 2)
 }
 
 #[test]
 fn what_a_client_has_goes_with_it(rt: HostRuntime) -> Result<(), Fail> {
-    let mut play = Play::new(rt.alloc());
+    let mut play = Play::new(rt.alloc())?;
     assert!(rt; two_clients_come(&mut play));
     play.streams.client_left(1, 0);
     assert!(rt; play.has(1, 1, 1) && play.streams.remove_subscription(2, 4) == Ok(()));
@@ -68,7 +68,7 @@ fn what_a_client_has_goes_with_it(rt: HostRuntime) -> Result<(), Fail> {
 
 #[test]
 fn a_copy_is_on_its_own(rt: HostRuntime) -> Result<(), Fail> {
-    let mut play = Play::new(rt.alloc());
+    let mut play = Play::new(rt.alloc())?;
     assert!(rt; two_clients_come(&mut play));
     let copy = Play {
         alloc: rt.alloc(),
@@ -81,7 +81,7 @@ fn a_copy_is_on_its_own(rt: HostRuntime) -> Result<(), Fail> {
 
 fn own_subscriptions_go(play: &mut Play) -> bool {
     let unknown = Err(StreamFault::UnknownSubscription);
-    play.subscribes(1, 1, "aeron:ipc", Ok(()))
+    play.subscribes(1, 1, "aeron:ipc")
         && play.streams.remove_subscription(2, 1) == unknown
         && play.streams.remove_subscription(1, 2) == unknown
         && play.streams.remove_subscription(1, 1) == Ok(())
@@ -90,7 +90,7 @@ fn own_subscriptions_go(play: &mut Play) -> bool {
 
 #[test]
 fn a_client_removes_its_own_subscriptions(rt: HostRuntime) -> Result<(), Fail> {
-    let mut play = Play::new(rt.alloc());
+    let mut play = Play::new(rt.alloc())?;
     assert!(rt; own_subscriptions_go(&mut play));
     Ok(())
 }

@@ -24,7 +24,7 @@ fn further_logs_are_refused(play: &mut Play) -> bool {
 
 #[test]
 fn there_are_256_logs_at_most(rt: HostRuntime) -> Result<(), Fail> {
-    let mut play = Play::new(rt.alloc());
+    let mut play = Play::new(rt.alloc())?;
     assert!(rt; logs_are_made(&mut play) && further_logs_are_refused(&mut play));
     Ok(())
 }
@@ -47,7 +47,7 @@ fn further_registrations_are_refused(play: &mut Play) -> bool {
 
 #[test]
 fn there_are_1024_registrations_at_most(rt: HostRuntime) -> Result<(), Fail> {
-    let mut play = Play::new(rt.alloc());
+    let mut play = Play::new(rt.alloc())?;
     assert!(rt; play.publishes(1, 1, "aeron:ipc", made(1)));
     assert!(rt; one_log_is_joined(&mut play) && further_registrations_are_refused(&mut play));
     Ok(())
@@ -56,17 +56,24 @@ fn there_are_1024_registrations_at_most(rt: HostRuntime) -> Result<(), Fail> {
 /// Whether 512 can subscribe.
 fn many_subscribe(play: &mut Play) -> bool {
     for number in 1..513u64 {
-        if !play.subscribes(number, 1, "aeron:ipc", Ok(())) {
+        if !play.subscribes(number, 1, "aeron:ipc") {
             return false;
         }
     }
     true
 }
 
+fn a_further_one_waits_for_another_to_go(play: &mut Play) -> bool {
+    !play.subscribes(513, 1, "aeron:ipc")
+        && play.has(0, 0, 512)
+        && play.streams.remove_subscription(1, 7) == Ok(())
+        && play.subscribes(513, 1, "aeron:ipc")
+        && !play.subscribes(514, 1, "aeron:ipc")
+}
+
 #[test]
 fn there_are_512_subscriptions_at_most(rt: HostRuntime) -> Result<(), Fail> {
-    let mut play = Play::new(rt.alloc());
-    let full = Err(StreamFault::Full);
-    assert!(rt; many_subscribe(&mut play) && play.subscribes(513, 1, "aeron:ipc", full));
+    let mut play = Play::new(rt.alloc())?;
+    assert!(rt; many_subscribe(&mut play) && a_further_one_waits_for_another_to_go(&mut play));
     Ok(())
 }

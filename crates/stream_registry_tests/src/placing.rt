@@ -25,7 +25,7 @@ fn its_place_is_free_once_it_closes(play: &mut Play) -> bool {
 
 #[test]
 fn place_reused_after_linger(rt: HostRuntime) -> Result<(), Fail> {
-    let mut play = Play::new(rt.alloc());
+    let mut play = Play::new(rt.alloc())?;
     assert!(rt; first_log_fills_the_arena(&mut play));
     play.streams.client_left(1, 0);
     assert!(rt; its_place_is_free_once_it_closes(&mut play));
@@ -34,7 +34,7 @@ fn place_reused_after_linger(rt: HostRuntime) -> Result<(), Fail> {
 
 #[test]
 fn a_log_has_three_terms(rt: HostRuntime) -> Result<(), Fail> {
-    let mut play = Play::new(rt.alloc());
+    let mut play = Play::new(rt.alloc())?;
     assert!(rt; play.goes_to(47, SHORT, None) && play.goes_to(95, LONG, None));
     assert!(rt; play.makes(1, 144, LONG, 0) && play.goes_to(144, LONG, None));
     assert!(rt; play.makes(2, 144, SHORT, 96) && play.goes_to(144, SHORT, None));
@@ -60,7 +60,7 @@ fn hole_is_filled(play: &mut Play) -> bool {
 
 #[test]
 fn the_first_hole_that_is_long_enough_is_filled(rt: HostRuntime) -> Result<(), Fail> {
-    let mut play = Play::new(rt.alloc());
+    let mut play = Play::new(rt.alloc())?;
     assert!(rt; three_logs_in_a_row(&mut play) && hole_is_filled(&mut play));
     Ok(())
 }
@@ -74,7 +74,7 @@ fn least_place_stands_later_in_the_list(play: &mut Play) -> bool {
 
 #[test]
 fn the_order_of_logs_does_not_matter(rt: HostRuntime) -> Result<(), Fail> {
-    let mut play = Play::new(rt.alloc());
+    let mut play = Play::new(rt.alloc())?;
     assert!(rt; three_logs_in_a_row(&mut play));
     assert!(rt; least_place_stands_later_in_the_list(&mut play));
     Ok(())

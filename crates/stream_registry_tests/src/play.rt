@@ -1,7 +1,7 @@
 //! Streams that tests play with, all on stream 10. Where no memory is there, nothing is as a test expects.
 
 use channel_uri::{Channel, UriError};
-use std::alloc::Global;
+use std::alloc::{AllocError, Global};
 use stream_registry::{Adding, LogPlace, Measures, StreamFault, Streams, Wanted};
 
 /// How long a log lingers whose channel does not say.
@@ -24,9 +24,9 @@ pub(crate) fn joined(source: u64, session: i32) -> Result<Adding, StreamFault> {
     Ok(Adding::Join { source, session })
 }
 
-fn wanted(alloc: Global, text: &str, stream: i32, exclusive: bool) -> Result<Wanted, UriError> {
+fn wanted(text: &str, stream: i32, exclusive: bool) -> Result<Wanted, UriError> {
     Ok(Wanted {
-        channel: Channel::parse(alloc, text)?,
+        channel: Channel::parse(text)?,
         stream,
         exclusive,
     })
@@ -34,32 +34,39 @@ fn wanted(alloc: Global, text: &str, stream: i32, exclusive: bool) -> Result<Wan
 
 impl Play {
     /// The first session that is looked for is `first`.
-    pub(crate) fn from_session(alloc: Global, first: i32) -> Play {
+    pub(crate) fn from_session(alloc: Global, first: i32) -> Result<Play, AllocError> {
         let defaults = Measures {
             mtu: 1408,
             term_length: 65_536,
             linger: LINGER,
         };
-        Play {
+        Ok(Play {
             alloc,
-            streams: Streams::new(alloc, defaults, first),
-        }
+            streams: Streams::new(alloc, defaults, first)?,
+        })
     }
 
-    pub(crate) fn new(alloc: Global) -> Play {
+    pub(crate) fn new(alloc: Global) -> Result<Play, AllocError> {
         Play::from_session(alloc, 1)
     }
 
-    /// Whether this is answered, first to the question and then to the ADD. The log lies at the page of its number.
+    /// Whether this is answered. It is done then, and the log lies at the page of its number.
     pub(crate) fn adds(
         &mut self,
         number: u64,
         client: u64,
-        wanted: Wanted,
+        wanted: &Wanted,
         answer: Result<Adding, StreamFault>,
     ) -> bool {
-        self.streams.adding(&wanted) == answer
-            && self.streams.add_publication(number, client, wanted, number) == answer
+        let adding = self.streams.adding(wanted);
+        if adding != answer {
+            return false;
+        }
+        if let Ok(adding) = adding {
+            self.streams
+                .add_publication(number, client, wanted, number, adding);
+        }
+        true
     }
 
     /// Whether a publication of this stream is answered so.
@@ -71,8 +78,8 @@ impl Play {
         exclusive: bool,
         answer: Result<Adding, StreamFault>,
     ) -> bool {
-        match wanted(self.alloc, text, stream, exclusive) {
-            Ok(wanted) => self.adds(number, 1, wanted, answer),
+        match wanted(text, stream, exclusive) {
+            Ok(wanted) => self.adds(number, 1, &wanted, answer),
             Err(_) => false,
         }
     }
@@ -85,15 +92,15 @@ impl Play {
         text: &str,
         answer: Result<Adding, StreamFault>,
     ) -> bool {
-        match wanted(self.alloc, text, 10, false) {
-            Ok(wanted) => self.adds(number, client, wanted, answer),
+        match wanted(text, 10, false) {
+            Ok(wanted) => self.adds(number, client, &wanted, answer),
             Err(_) => false,
         }
     }
 
     /// Whether a log of this channel would go there, in an arena of so many pages.
     pub(crate) fn goes_to(&self, arena_pages: u32, text: &str, place: Option<u64>) -> bool {
-        match wanted(self.alloc, text, 10, true) {
+        match wanted(text, 10, true) {
             Ok(wanted) => self.streams.place_for(arena_pages, &wanted) == place,
             Err(_) => false,
         }
@@ -101,38 +108,40 @@ impl Play {
 
     /// Whether a log of this number is made there, of a client of the same number.
     pub(crate) fn makes(&mut self, number: u64, arena_pages: u32, text: &str, place: u64) -> bool {
-        match wanted(self.alloc, text, 10, true) {
-            Ok(wanted) => {
-                self.streams.place_for(arena_pages, &wanted) == Some(place)
-                    && self
-                        .streams
-                        .add_publication(number, number, wanted, place)
-                        .is_ok()
-            }
-            Err(_) => false,
+        let Ok(wanted) = wanted(text, 10, true) else {
+            return false;
+        };
+        let Ok(adding) = self.streams.adding(&wanted) else {
+            return false;
+        };
+        let goes_there = self.streams.place_for(arena_pages, &wanted) == Some(place);
+        if goes_there {
+            self.streams
+                .add_publication(number, number, &wanted, place, adding);
         }
+        goes_there
     }
 
-    /// Whether a subscription is answered so.
-    pub(crate) fn subscribes(
-        &mut self,
-        number: u64,
-        client: u64,
-        text: &str,
-        answer: Result<(), StreamFault>,
-    ) -> bool {
-        match Channel::parse(self.alloc, text) {
-            Ok(channel) => self.streams.add_subscription(number, client, channel, 10) == answer,
-            Err(_) => false,
+    /// Whether a subscription finds room. It is there then.
+    pub(crate) fn subscribes(&mut self, number: u64, client: u64, text: &str) -> bool {
+        let Ok(channel) = Channel::parse(text) else {
+            return false;
+        };
+        let has_room = self.streams.has_room_for_subscription();
+        if has_room {
+            self.streams.add_subscription(number, client, &channel, 10);
         }
+        has_room
     }
 
     /// Whether these logs close at this moment.
     pub(crate) fn closes(&mut self, now: u64, logs: &[LogPlace]) -> bool {
-        match self.streams.close_lingering(self.alloc, now) {
-            Ok(closed) => closed.as_slice() == logs,
+        let closes = match self.streams.closing(self.alloc, now) {
+            Ok(closing) => closing.as_slice() == logs,
             Err(_) => false,
-        }
+        };
+        self.streams.close(now);
+        closes
     }
 
     /// Whether the log of this source is there, and lingers since this moment, or not at all.

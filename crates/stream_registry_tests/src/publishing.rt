@@ -18,7 +18,7 @@ fn equal_channels_share(play: &mut Play) -> bool {
 
 #[test]
 fn one_log_for_equal_channels(rt: HostRuntime) -> Result<(), Fail> {
-    let mut play = Play::new(rt.alloc());
+    let mut play = Play::new(rt.alloc())?;
     assert!(rt; equal_channels_share(&mut play));
     Ok(())
 }
@@ -34,7 +34,7 @@ fn missing_keys_are_defaults(play: &mut Play) -> bool {
 
 #[test]
 fn a_missing_key_is_as_the_defaults(rt: HostRuntime) -> Result<(), Fail> {
-    let mut play = Play::new(rt.alloc());
+    let mut play = Play::new(rt.alloc())?;
     assert!(rt; missing_keys_are_defaults(&mut play));
     Ok(())
 }
@@ -52,7 +52,7 @@ fn own_logs_are_not_joined(play: &mut Play) -> bool {
 
 #[test]
 fn some_logs_are_never_joined(rt: HostRuntime) -> Result<(), Fail> {
-    let mut play = Play::new(rt.alloc());
+    let mut play = Play::new(rt.alloc())?;
     assert!(rt; own_logs_are_not_joined(&mut play));
     Ok(())
 }

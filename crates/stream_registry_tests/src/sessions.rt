@@ -6,7 +6,7 @@ use stream_registry::{LogPlace, StreamFault};
 
 #[test]
 fn sessions_wrap(rt: HostRuntime) -> Result<(), Fail> {
-    let mut play = Play::from_session(rt.alloc(), i32::MAX);
+    let mut play = Play::from_session(rt.alloc(), i32::MAX)?;
     assert!(rt; play.publishes_on(1, "aeron:ipc", 10, false, made(i32::MAX)));
     assert!(rt; play.publishes_on(2, "aeron:ipc", 11, false, made(i32::MIN)));
     Ok(())
@@ -21,7 +21,7 @@ fn stated_moves_nothing(play: &mut Play) -> bool {
 
 #[test]
 fn a_session_that_is_stated_moves_nothing(rt: HostRuntime) -> Result<(), Fail> {
-    let mut play = Play::new(rt.alloc());
+    let mut play = Play::new(rt.alloc())?;
     assert!(rt; stated_moves_nothing(&mut play));
     Ok(())
 }
@@ -41,7 +41,7 @@ fn stated_again_is_refused(play: &mut Play) -> bool {
 
 #[test]
 fn a_session_that_is_stated_again_is_refused(rt: HostRuntime) -> Result<(), Fail> {
-    let mut play = Play::new(rt.alloc());
+    let mut play = Play::new(rt.alloc())?;
     assert!(rt; stated_again_is_refused(&mut play));
     Ok(())
 }
@@ -58,7 +58,7 @@ fn closed_session_is_not_next(play: &mut Play) -> bool {
 
 #[test]
 fn a_session_is_not_given_again_at_once(rt: HostRuntime) -> Result<(), Fail> {
-    let mut play = Play::new(rt.alloc());
+    let mut play = Play::new(rt.alloc())?;
     assert!(rt; closed_session_is_not_next(&mut play));
     Ok(())
 }

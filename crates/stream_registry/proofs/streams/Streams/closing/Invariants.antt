@@ -1,9 +1,9 @@
 use Rattle.std.proofs.Common.{◌≡◌, ◌++◌, drop, map, filter}
 use Rattle.stream_registry.specs.Lingering.{is_past, place_of}
-use Rattle.stream_registry.proofs.lingering.closing.Given as goal
+use Rattle.stream_registry.proofs.streams.Streams.closing.Given as goal
 
 -- the logs so far, and then those of the publications that are left
 abbrev pub invariant-loop-publication : goal.invariant-loop-publication
 invariant-loop-publication l =
-    l.logs ++ map place_of (filter (is_past l.now) (drop l.publication-index l.publications))
-    ≡ map place_of (filter (is_past l.now) l.publications)
+    l.logs ++ map place_of (filter (is_past l.now) (drop l.publication-index l.self.publications))
+    ≡ map place_of (filter (is_past l.now) l.self.publications)
