@@ -10,6 +10,7 @@ pub mod PublishingOnlyLemmas
 pub mod RefusalLemmas
 pub mod ReloadLemmas
 pub mod RemovalLemmas
+pub mod RemovedExactlyLemmas
 pub mod RenewalLemmas
 pub mod SubscribingLemmas
 pub mod SubscribingOnlyLemmas

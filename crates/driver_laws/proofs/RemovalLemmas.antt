@@ -84,7 +84,7 @@ unfolding remove_subscription
 removal_is_unknown s request known = rw known refl
 
 -- one reply comes before those of images, and none behind them
-told_first : (s : State) (inputs : Inputs) (draft : Draft) (message : Message) → draft.replies ≡ message ∷ [] →
+pub told_first : (s : State) (inputs : Inputs) (draft : Draft) (message : Message) → draft.replies ≡ message ∷ [] →
     draft.later ≡ [] →
     (renewed s inputs draft).outcome.replies
     ≡ message
@@ -109,14 +109,13 @@ removed_change s now handle inputs request own =
     }
 
 -- a refusal leaves the pairs as they are
-unknown_change : (s : State) (now handle : ℕ) (inputs : Inputs) (request : RemovalRequest) →
-    request.client.number ≡ handle →
-    IsUnknown s now handle request (
-    renewed s inputs (
-    refused (at_request s now handle) [] request.client.number request.correlation UnknownSubscription))
+pub unknown_change : (s : State) (now handle client correlation : ℕ) (inputs : Inputs) (refusal : Refusal) →
+    client ≡ handle →
+    IsUnknown s now handle correlation refusal (
+    renewed s inputs (refused (at_request s now handle) [] client correlation refusal))
 unfolding refused replied told
-unknown_change s now handle inputs request own =
-    let draft = refused (at_request s now handle) [] request.client.number request.correlation UnknownSubscription in
+unknown_change s now handle client correlation inputs refusal own =
+    let draft = refused (at_request s now handle) [] client correlation refusal in
     let as_it_is = unchanged s inputs draft (pairs_heard s now handle) in
     record { after_is = as_it_is.after; told = as_it_is.replies ∙ rw own refl; decided = as_it_is.decisions }
 
@@ -134,7 +133,7 @@ by_number s now handle inputs request own =
           (removed_change s now handle inputs request own);
       unknown = λ unknown.
           rw (removal_is_unknown (at_request s now handle) request (same ∙ unknown))
-          (unknown_change s now handle inputs request own);
+          (unknown_change s now handle request.client.number request.correlation inputs UnknownSubscription own);
     }
 
 pub removed_exactly : (s : State) (now handle : ℕ) (bytes : List ℕ) (inputs : Inputs) (request : RemovalRequest) →

@@ -1,3 +1,5 @@
+pub mod ClosingLaws
+pub mod CounterLaws
 pub mod DenialLaws
 pub mod Events
 pub mod GrantLaws

@@ -3,6 +3,7 @@
 //! `specs/` define by them.
 #![tactic(auto)]
 
+ghost use Rattle.driver_laws.specs.CounterLaws.{CountersAreRemovedExactly};
 ghost use Rattle.driver_laws.specs.DenialLaws.{DenialsAreNamed};
 ghost use Rattle.driver_laws.specs.GrantLaws.{CountersAreGrantedExactly, TerminationsAreGrantedExactly, CountersAndTerminationsAreGrantedOnly};
 ghost use Rattle.driver_laws.specs.ImageLaws.{ImagesAreGrantedExactly};
@@ -10,7 +11,7 @@ ghost use Rattle.driver_laws.specs.ListingLaws.{CountersAreShownExactly};
 ghost use Rattle.driver_laws.specs.PublishingLaws.{PublicationsAreGrantedExactly, PublicationsAreGrantedOnly};
 ghost use Rattle.driver_laws.specs.RefusalLaws.{RefusalsChangeNoMoreThanMoments};
 ghost use Rattle.driver_laws.specs.ReloadLaws.{ReloadsCloseExactly, NewestPolicyIsInForce};
-ghost use Rattle.driver_laws.specs.RemovalLaws.{SubscriptionsAreRemovedExactly, SubscriptionsAreRemovedOnly};
+ghost use Rattle.driver_laws.specs.RemovalLaws.{RegistrationsAreRemovedExactly, SubscriptionsAreRemovedExactly, SubscriptionsAreRemovedOnly};
 ghost use Rattle.driver_laws.specs.SoundnessLaws.{RegistriesAreSound};
 ghost use Rattle.driver_laws.specs.SubscribingLaws.{SubscriptionsAreGrantedExactly, SubscriptionsAreGrantedOnly};
 
@@ -83,6 +84,19 @@ pub fn subscriptions_are_removed_exactly()
 /// the driver was ended by a request that the policy in force allowed.
 pub fn subscriptions_are_removed_only()
     ensures { SubscriptionsAreRemovedOnly }
+{}
+
+/// A client's request that its registration with a publication go takes away the one of that number that is the client's
+/// own, and nothing else; the log lingers from then on where nobody else is registered with it. Where the client has none,
+/// nothing goes, and the publication is unknown.
+pub fn registrations_are_removed_exactly()
+    ensures { RegistrationsAreRemovedExactly }
+{}
+
+/// A client's request that a counter go takes away the one of that number that is the client's own, and nothing else; where
+/// it has none, nothing goes, and the counter is unknown.
+pub fn counters_are_removed_exactly()
+    ensures { CountersAreRemovedExactly }
 {}
 
 /// A reload puts its policy in force under the next number and leaves all lists as they are: the pairs go that the old
