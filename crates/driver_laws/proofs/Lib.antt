@@ -1,5 +1,6 @@
 pub mod DenialLemmas
 pub mod DenialTextLemmas
+pub mod GoneLemmas
 pub mod GrantLemmas
 pub mod GrantOnlyLemmas
 pub mod ImageLemmas

@@ -40,7 +40,7 @@ row_principal : (b : Bool) (row : Client) (moment : ℕ) → (cond b (record row
 row_principal true row moment = refl
 row_principal false row moment = refl
 
-row_number : (b : Bool) (row : Client) (moment : ℕ) → (cond b (record row { heard = moment }) row).number ≡ row.number
+pub row_number : (b : Bool) (row : Client) (moment : ℕ) → (cond b (record row { heard = moment }) row).number ≡ row.number
 row_number true row moment = refl
 row_number false row moment = refl
 

@@ -7,6 +7,7 @@ ghost use Rattle.driver_laws.specs.CounterLaws.{CountersAreRemovedExactly};
 ghost use Rattle.driver_laws.specs.DenialLaws.{DenialsAreNamed};
 ghost use Rattle.driver_laws.specs.GrantLaws.{CountersAreGrantedExactly, TerminationsAreGrantedExactly, CountersAndTerminationsAreGrantedOnly};
 ghost use Rattle.driver_laws.specs.ImageLaws.{ImagesAreGrantedExactly};
+ghost use Rattle.driver_laws.specs.LeavingLaws.{ClientsGoExactly, RowsGoWithTheirClient};
 ghost use Rattle.driver_laws.specs.ListingLaws.{CountersAreShownExactly};
 ghost use Rattle.driver_laws.specs.PublishingLaws.{PublicationsAreGrantedExactly, PublicationsAreGrantedOnly};
 ghost use Rattle.driver_laws.specs.RefusalLaws.{RefusalsChangeNoMoreThanMoments};
@@ -97,6 +98,17 @@ pub fn registrations_are_removed_exactly()
 /// it has none, nothing goes, and the counter is unknown.
 pub fn counters_are_removed_exactly()
     ensures { CountersAreRemovedExactly }
+{}
+
+/// A client is not there after a tick at which nothing was heard of it for longer than the liveness, after its own request
+/// that it close, and after a request that the driver end which the policy in force allowed.
+pub fn clients_go_exactly()
+    ensures { ClientsGoExactly }
+{}
+
+/// After an event that takes a client away no registration, subscription or counter of it is there.
+pub fn rows_go_with_their_client()
+    ensures { RowsGoWithTheirClient }
 {}
 
 /// A reload puts its policy in force under the next number and leaves all lists as they are: the pairs go that the old
