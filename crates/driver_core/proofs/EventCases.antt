@@ -16,10 +16,9 @@ use Rattle.client_registry.specs.Clients.{client_at, has_room}
 use Rattle.counters.specs.Counters.{has}
 use Rattle.driver_core.specs.Commands.{heard, requested, asked, asked_by, command, command_from, body_change, refusal_for}
 use Rattle.driver_core.specs.Conduct.{drafted}
-use Rattle.driver_core.specs.Laws.{is_heard}
+use Rattle.driver_core.specs.Requests.{is_heard, Asks, PublicationRequest, AsksToPublish, wanted_by, SubscriptionRequest, AsksToSubscribe, RemovalRequest, AsksToRemove, IsAsked}
 use Rattle.driver_core.specs.Publishing.{is_publishable, add_publication, publication_decision, publish, publish_by, publish_on, publish_under, published, publishing_act, refused_by_streams, has_place, has_room_for_publication}
 use Rattle.driver_core.specs.Reloading.{reload, reloaded, has_room_for_policy}
-use Rattle.driver_core.specs.Requests.{Asks, PublicationRequest, AsksToPublish, wanted_by, SubscriptionRequest, AsksToSubscribe, RemovalRequest, AsksToRemove, IsAsked}
 use Rattle.driver_core.specs.State.{State, at_moment}
 use Rattle.driver_core.specs.Subscribing.{is_subscribable, subscribe, subscribe_on, add_subscription, subscribed, decision_of, has_room_for_subscription}
 use Rattle.driver_core.specs.Terminating.{terminate, terminated, termination_decision}
@@ -49,6 +48,10 @@ use Rattle.stream_registry.specs.declared.wanted.Adding.{Adding}
 use Rattle.stream_registry.specs.declared.wanted.Wanted.{Wanted}
 use Rattle.stream_registry.specs.Adding.{adding_of}
 use Rattle.stream_registry.specs.Leaving.{has_registration, has_subscription}
+
+-- the state at which a request is decided
+abbrev pub at_request : State → ℕ → ℕ → State
+at_request s now handle = heard (at_moment s now) handle
 
 -- a refusal for which the policy is not asked
 abbrev pub IsPlain : Refusal → Type 0

@@ -17,16 +17,15 @@ use Rattle.driver_core.specs.declared.settings.Settings.{Settings}
 use Rattle.driver_core.specs.Attaching.{attached}
 use Rattle.driver_core.specs.Closing.{keep_alive, close}
 use Rattle.driver_core.specs.Commands.{heard}
-use Rattle.driver_core.specs.Conduct.{conduct, drafted, state_after}
+use Rattle.driver_core.specs.Conduct.{conduct, drafted, state_after, state_of}
 use Rattle.driver_core.specs.Counting.{counted, with_counter, valued, uncounted}
 use Rattle.driver_core.specs.Draft.{answered, told, replied, replied_opening, refused}
-use Rattle.driver_core.specs.Laws.{state_of}
 use Rattle.driver_core.specs.Leaving.{left, all_left}
 use Rattle.driver_core.specs.Publishing.{has_place, opening_of, place_of_new, published, with_publication}
 use Rattle.driver_core.specs.Reloading.{in_force, reloaded}
 use Rattle.driver_core.specs.Renewal.{renewed}
 use Rattle.driver_core.specs.Requests.{RemovalRequest, SubscriptionRequest, wanted_by}
-use Rattle.driver_core.specs.Soundness.{AreSettings, AreSizes, IsSound, MovesLogs, Opens, RegistriesAreSound, is_left, log_of}
+use Rattle.driver_core.specs.Soundness.{AreSettings, AreSizes, IsSound, MovesLogs, Opens, is_left, log_of}
 use Rattle.driver_core.specs.State.{State, at_moment, has_number, opened}
 use Rattle.driver_core.specs.Subscribing.{has_room_for_subscription, subscribed, with_subscription}
 use Rattle.driver_core.specs.Terminating.{stopped_for_good, terminated}
@@ -51,8 +50,7 @@ use Rattle.stream_registry.specs.LogPages.{log_pages}
 use Rattle.stream_registry.specs.PageLaws.{IsLaidOut}
 use Rattle.stream_registry.specs.Streams.{Streams}
 use Rattle.stream_registry.proofs.PageLawLemmas.{all_least, share_nothing}
-use Rattle.driver_core.proofs.EventCases.{Cases, attach_cases, command_cases, reload_cases}
-use Rattle.driver_core.proofs.LawLemmas.{at_request}
+use Rattle.driver_core.proofs.EventCases.{Cases, at_request, attach_cases, command_cases, reload_cases}
 use Rattle.driver_core.proofs.LogListLemmas.{all_kept, ascend_push, ascend_up_to, closed_logs, kept_ascend, none_kept, same_logs_ascend, same_logs_sizes, settled_logs}
 use Rattle.driver_core.proofs.SizeLemmas.{sizes_of_made}
 
@@ -554,6 +552,7 @@ events_keep_sound s [] sound = sound
 events_keep_sound s (event ∷ events) sound =
     events_keep_sound (state_after s event.0 event.1) events (moves_logs s event.0 event.1 sound).sound
 
-pub registries_sound : RegistriesAreSound
+pub registries_sound : (settings : Settings) (policy : Rules) (peers : List Peer) (events : List (Event × Inputs)) →
+    AreSettings settings → IsSound (state_of (opened settings policy peers) events)
 registries_sound settings policy peers events sound =
     events_keep_sound (opened settings policy peers) events (opened_sound settings policy peers sound)

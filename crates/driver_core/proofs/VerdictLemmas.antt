@@ -1,16 +1,12 @@
 -- Which rule a verdict is by.
-use Rattle.std.proofs.Common.{◌≡◌, ℕ, zero, suc, false, List, [], ◌∷◌, Option, Some, None, ◌⊎◌, inl, inr, refl, sym, ap, ◌∙◌, ⊎_elim}
+use Rattle.std.proofs.Common.{◌≡◌, zero, suc, false, List, [], ◌∷◌, ◌⊎◌, inl, inr, refl, sym, ap, ◌∙◌, ⊎_elim}
 use Rattle.std.proofs.lemmas.Bool.{cases_Bool}
-use Rattle.driver_core.specs.declared.refusal.Refusal.TheVariants.{Denied}
-use Rattle.driver_core.specs.Replies.{refusal_text}
 use Rattle.driver_core.specs.State.{State}
-use Rattle.driver_core.specs.Verdicts.{IsByPolicy, denial_text, verdict_on}
+use Rattle.driver_core.specs.Verdicts.{IsByPolicy, verdict_on}
 use Rattle.policy_core.specs.declared.rule.Rule.{Rule}
-use Rattle.policy_core.specs.declared.verdict.Verdict.{Verdict}
 use Rattle.policy_core.specs.Question.{Question}
 use Rattle.policy_core.specs.Rule.{matches}
 use Rattle.policy_core.specs.Rules.{SomeRuleMatches, NoRuleMatches}
-use Rattle.policy_core.specs.Verdict.{verdict_text}
 use Rattle.policy_core.proofs.FirstMatch.{first_decides, some_first, none_defaults}
 
 -- ---- some rule matches, or none
@@ -50,29 +46,3 @@ by_policy s question =
     (λ none.
     inr (record { none_matches = none; verdict_is = none_defaults s.policy s.epoch question none }))
     (some_or_none s.policy.rules question)
-
--- it carries the number of the policy in force
-pub epoch_of : (s : State) (question : Question) → (verdict_on s question).epoch ≡ s.epoch
-epoch_of s question =
-    ⊎_elim
-    (λ by. ap (λ (v : Verdict). v.epoch) by.verdict_is)
-    (λ by. ap (λ (v : Verdict). v.epoch) by.verdict_is)
-    (by_policy s question)
-
--- ---- a denial in words
-
-pub denial_words : (verdict : Verdict) → refusal_text (Denied verdict) ≡ verdict_text verdict
-unfolding refusal_text
-denial_words verdict = refl
-
-texts : (rule : Option ℕ) (epoch : ℕ) →
-    verdict_text (record { allow = false; rule = rule; epoch = epoch }) ≡ denial_text rule epoch
-unfolding verdict_text
-texts (Some rule) epoch = refl
-texts None epoch = refl
-
-pub denial_is_named : (verdict : Verdict) (epoch : ℕ) → verdict.allow ≡ false → verdict.epoch ≡ epoch →
-    refusal_text (Denied verdict) ≡ denial_text verdict.rule epoch
-denial_is_named verdict epoch denies same =
-    let is : verdict ≡ record { allow = false; rule = verdict.rule; epoch = epoch } = rw (← denies, ← same) refl in
-    denial_words verdict ∙ ap verdict_text is ∙ texts verdict.rule epoch

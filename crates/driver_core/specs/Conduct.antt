@@ -1,4 +1,5 @@
 -- One event of the conductor: two total functions, neither of which reads the other.
+use Rattle.std.specs.Prelude.{List, [], ◌∷◌}
 use Rattle.driver_core.specs.declared.change.Change.{Change}
 use Rattle.driver_core.specs.declared.draft.Draft.{Draft}
 use Rattle.driver_core.specs.declared.event.Event.{Event}
@@ -30,3 +31,8 @@ outcome_of s event inputs = (conduct s event inputs).outcome
 -- what the event leaves
 abbrev pub state_after : State → Event → Inputs → State
 state_after s event inputs = (conduct s event inputs).after
+
+-- the registry after these events, each with what the logs said at it
+abbrev pub state_of : State → List (Event × Inputs) → State
+state_of s [] = s
+state_of s (event ∷ events) = state_of (state_after s event.0 event.1) events

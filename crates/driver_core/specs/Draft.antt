@@ -1,6 +1,6 @@
 -- What an event's own rule makes of the registry, before the pairs are renewed.
 use Rattle.std.specs.Prelude.{ℕ, List, [], ◌∷◌, Option, None}
-use Rattle.driver_core.specs.declared.draft.Draft.{Draft}
+use Rattle.driver_core.specs.declared.draft.Draft.{Draft as Declared}
 use Rattle.driver_core.specs.declared.outcome.Response.{Response}
 use Rattle.driver_core.specs.declared.outcome.Response.TheVariants.{Nothing}
 use Rattle.driver_core.specs.declared.refusal.Refusal.{Refusal}
@@ -10,6 +10,10 @@ use Rattle.driver_core.specs.declared.replies.Reply.TheVariants.{Error}
 use Rattle.driver_core.specs.State.{State}
 use Rattle.policy_core.specs.declared.decision.Decision.{Decision}
 use Rattle.stream_registry.specs.declared.lingering.LogPlace.{LogPlace}
+
+-- a draft, as crates above name it
+abbrev pub Draft : Type 0
+Draft = Declared
 
 -- the event is answered, and nobody else is told anything
 unfoldable pub answered : State → Response → Draft

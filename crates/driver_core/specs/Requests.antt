@@ -1,5 +1,5 @@
 -- Well-formed requests of clients, and what the policy is asked about them.
-use Rattle.std.specs.Prelude.{◌≡◌, ℕ, pos, Bool, true, List, Some, Ok, ◌⊎◌, if◌then◌else◌}
+use Rattle.std.specs.Prelude.{◌≡◌, ℕ, ◌==◌, pos, Bool, true, false, ◌&&◌, List, Some, is_some, Result, Ok, Err, ◌⊎◌, if◌then◌else◌}
 use Rattle.driver_core.specs.Deciding.{question_by}
 use Rattle.driver_core.specs.Publishing.{is_publishable, publishing_act, wanted_of}
 use Rattle.driver_core.specs.State.{State}
@@ -12,12 +12,22 @@ use Rattle.command_codec.specs.declared.add_publication.AddPublication.{AddPubli
 use Rattle.command_codec.specs.declared.add_subscription.AddSubscription.{AddSubscription}
 use Rattle.command_codec.specs.declared.command.Body.{Body}
 use Rattle.command_codec.specs.declared.command.Body.TheVariants.{AddPublication as Publishes, AddExclusivePublication as PublishesExclusively, AddSubscription as Adds, RemoveSubscription as Removes, AddCounter as AddsCounter, TerminateDriver as Terminates}
+use Rattle.command_codec.specs.declared.command.Command.{Command as Read}
+use Rattle.command_codec.specs.declared.fault.CommandFault.{CommandFault}
 use Rattle.command_codec.specs.declared.removal.Removal.{Removal}
 use Rattle.command_codec.specs.declared.terminate_driver.TerminateDriver.{TerminateDriver}
 use Rattle.command_codec.specs.Command.{command_of}
 use Rattle.policy_core.specs.declared.act.Act.TheVariants.{Counter as MakeCounter, Terminate}
 use Rattle.policy_core.specs.Question.{Question}
 use Rattle.stream_registry.specs.declared.wanted.Wanted.{Wanted}
+
+-- a client is heard of by a command that is laid out as one and names it, over its own handle
+abbrev pub names : ℕ → Result Read CommandFault → Bool
+names handle (Ok command) = command.client == handle
+names handle (Err fault) = false
+
+abbrev pub is_heard : State → ℕ → List ℕ → Bool
+is_heard s handle bytes = names handle (command_of bytes) && is_some (client_at s.clients.rows handle)
 
 -- The bytes that come over a handle are this client's request under that correlation id: they are laid out as one and name
 -- the handle's own client, which is there.

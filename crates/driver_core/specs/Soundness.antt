@@ -4,13 +4,8 @@
 use Rattle.std.specs.Prelude.{◌≡◌, ℕ, ◌%◌, ◌<◌, ◌≤◌, Bool, not, ◌==◌, List, [], ◌∷◌, ◌++◌, length, map, filter, All, Option, Some, None}
 use Rattle.std.specs.List.{list_any}
 use Rattle.driver_core.specs.declared.change.Change.{Change}
-use Rattle.driver_core.specs.declared.event.Event.{Event}
-use Rattle.driver_core.specs.declared.event.Inputs.{Inputs}
-use Rattle.driver_core.specs.declared.peer.Peer.{Peer}
 use Rattle.driver_core.specs.declared.settings.Settings.{Settings}
-use Rattle.driver_core.specs.Laws.{state_of}
-use Rattle.driver_core.specs.State.{State, opened}
-use Rattle.policy_core.specs.RuleList.{Rules}
+use Rattle.driver_core.specs.State.{State}
 use Rattle.stream_registry.specs.declared.lingering.LogPlace.{LogPlace}
 use Rattle.stream_registry.specs.declared.measures.Measures.{Measures}
 use Rattle.stream_registry.specs.declared.rows.Publication.{Publication}
@@ -77,10 +72,3 @@ pub record MovesLogs (s : State) (change : Change) : Type 0 where
   pub logs :
       map log_of change.after.streams.publications
       ≡ filter (is_left change.outcome.closes) (map log_of s.streams.publications) ++ opened
-
--- ---- of every registry
-
-abbrev pub RegistriesAreSound : Type 0
-RegistriesAreSound =
-    (settings : Settings) (policy : Rules) (peers : List Peer) (events : List (Event × Inputs)) →
-    AreSettings settings → IsSound (state_of (opened settings policy peers) events)

@@ -1,6 +1,5 @@
 -- Verdicts and what they are by: words that the laws share.
-use Rattle.std.specs.Prelude.{◌≡◌, ℕ, ◌+◌, List, ◌++◌, Option, Some, None, ◌⊎◌, codes}
-use Rattle.std.specs.Fmt.{decimal}
+use Rattle.std.specs.Prelude.{◌≡◌, ℕ, ◌+◌, Some, None, ◌⊎◌}
 use Rattle.driver_core.specs.State.{State}
 use Rattle.policy_core.specs.declared.rule.Rule.{Rule}
 use Rattle.policy_core.specs.declared.verdict.Verdict.{Verdict}
@@ -27,8 +26,3 @@ pub record IsByDefault (policy : Rules) (epoch : ℕ) (question : Question) (ver
 abbrev pub IsByPolicy : State → Question → Verdict → Type 0
 IsByPolicy s question verdict =
     IsByRule s.policy s.epoch question verdict ⊎ IsByDefault s.policy s.epoch question verdict
-
--- the text of a denial names the rule by its number, or the default
-abbrev pub denial_text : Option ℕ → ℕ → List ℕ
-denial_text (Some rule) epoch = codes "denied by rule " ++ (decimal rule ++ (codes " in policy " ++ decimal epoch))
-denial_text None epoch = codes "denied by default in policy " ++ decimal epoch

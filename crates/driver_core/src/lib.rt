@@ -14,7 +14,6 @@ mod counting;
 mod deciding;
 mod draft;
 mod event;
-mod laws;
 mod leaving;
 mod listing;
 mod log_request;
@@ -38,15 +37,6 @@ mod view;
 
 pub use change::Change;
 pub use event::{End, Event, Inputs};
-pub use laws::{
-    counters_and_terminations_are_granted_only, counters_are_granted_exactly,
-    counters_are_shown_exactly, denials_are_named, images_are_granted_exactly,
-    newest_policy_is_in_force, publications_are_granted_exactly, publications_are_granted_only,
-    refusals_change_no_more_than_moments, registries_are_sound, reloads_close_exactly,
-    subscriptions_are_granted_exactly, subscriptions_are_granted_only,
-    subscriptions_are_removed_exactly, subscriptions_are_removed_only,
-    terminations_are_granted_exactly,
-};
 pub use listing::{Listed, ListedCounter, Shown};
 pub use log_request::LogRequest;
 pub use outcome::{Outcome, Response};

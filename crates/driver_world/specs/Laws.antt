@@ -5,8 +5,7 @@ use Rattle.driver_core.specs.declared.event.Inputs.{Inputs}
 use Rattle.driver_core.specs.declared.log_request.LogRequest.{LogRequest}
 use Rattle.driver_core.specs.declared.peer.Peer.{Peer}
 use Rattle.driver_core.specs.declared.settings.Settings.{Settings}
-use Rattle.driver_core.specs.Conduct.{outcome_of}
-use Rattle.driver_core.specs.Laws.{state_of}
+use Rattle.driver_core.specs.Conduct.{outcome_of, state_of}
 use Rattle.driver_core.specs.Listing.{list, value}
 use Rattle.driver_core.specs.LogRequests.{offering_of, registration_at, has_pair}
 use Rattle.driver_core.specs.Pairs.{pairs_of}

@@ -1,5 +1,0 @@
-use Rattle.driver_core.proofs.SoundnessLemmas.{registries_sound}
-use Rattle.driver_core.proofs.laws.registries_are_sound.Goals as goal
-
-pub returns : goal.returns
-returns c = registries_sound

@@ -1,5 +1,0 @@
-use Rattle.driver_core.proofs.ReloadLemmas.{reloads_close}
-use Rattle.driver_core.proofs.laws.reloads_close_exactly.Goals as goal
-
-pub returns : goal.returns
-returns c settings policy peers events = reloads_close _

@@ -1,5 +1,0 @@
-use Rattle.driver_core.proofs.RemovalLemmas.{removed_exactly}
-use Rattle.driver_core.proofs.laws.subscriptions_are_removed_exactly.Goals as goal
-
-pub returns : goal.returns
-returns c settings policy peers events = removed_exactly _

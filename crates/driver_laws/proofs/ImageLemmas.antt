@@ -1,0 +1,136 @@
+-- The pairs are those of logs and subscriptions that fit, where the policy allows the image.
+use Rattle.std.proofs.Common.{◌≡◌, ℕ, Bool, true, List, [], ◌∷◌, Option, Some, None, map, refl, ap, ⊎_elim}
+use Rattle.std.specs.List.{All, Contains, filter, flat_map}
+use Rattle.std.proofs.lemmas.Bool.{and_parts}
+use Rattle.std.proofs.lemmas.List.Elements.{All-append, All-contains, All-contains_itself, All-head, All-map, All-nil, All-tail, All-weaker, Contains-append_cases, Contains-append_left, Contains-append_right, Contains-push, filter_passes}
+use Rattle.driver_core.specs.Conduct.{conduct}
+use Rattle.driver_core.specs.Pairs.{pairs_of}
+use Rattle.driver_core.specs.Renewal.{renewed}
+use Rattle.driver_core.specs.State.{State}
+use Rattle.driver_laws.specs.ImageLaws.{IsReadBy, IsOfReader, PairsExactly}
+use Rattle.client_registry.specs.Clients.{principal_at}
+use Rattle.policy_core.specs.RuleList.{Rules}
+use Rattle.policy_core.specs.Rules.{verdict_of}
+use Rattle.stream_registry.specs.declared.pairs.Pair.{Pair}
+use Rattle.stream_registry.specs.declared.rows.Publication.{Publication}
+use Rattle.stream_registry.specs.declared.rows.Subscription.{Subscription}
+use Rattle.stream_registry.specs.Pairs.{fits, image_question, is_allowed, is_allowed_to, is_pair, pair_of, pairs_at, pairs_of as pairs_on}
+use Rattle.driver_core.proofs.ListLemmas.{contains_none, left_was_there, only_one, passes_are_left}
+use Rattle.driver_core.proofs.VerdictLemmas.{by_policy}
+
+-- ---- what a map and a flat map have
+
+all_parts : {X Y : Type 0} (P : Y → Type 0) (parts : X → List Y) (xs : List X) → All (λ x. All P (parts x)) xs →
+    All P (flat_map parts xs)
+all_parts P parts [] each = All-nil P
+all_parts P parts (x ∷ xs) each =
+    All-append P (parts x) (flat_map parts xs) (All-head (λ y. All P (parts y)) x xs each)
+    (all_parts P parts xs (All-tail (λ y. All P (parts y)) x xs each))
+
+in_part : {X Y : Type 0} (parts : X → List Y) (xs : List X) (x : X) (y : Y) → Contains xs x → Contains (parts x) y →
+    Contains (flat_map parts xs) y
+in_part parts [] x y there has = absurd (contains_none x there)
+in_part parts (z ∷ zs) x y there has =
+    ⊎_elim
+    (λ first.
+    Contains-append_left (parts z) (flat_map parts zs) y (rw (ap parts (only_one z x first)) has))
+    (λ later. Contains-append_right (parts z) (flat_map parts zs) y (in_part parts zs x y later has))
+    (Contains-append_cases (z ∷ []) zs x there)
+
+is_mapped : {X Y : Type 0} (change : X → Y) (xs : List X) (x : X) → Contains xs x → Contains (map change xs) (change x)
+is_mapped change [] x there = absurd (contains_none x there)
+is_mapped change (z ∷ zs) x there =
+    ⊎_elim
+    (λ first.
+    Contains-append_left (change z ∷ []) (map change zs) (change x) (rw (only_one z x first) (Contains-push [] (change x))))
+    (λ later. Contains-append_right (change z ∷ []) (map change zs) (change x) (is_mapped change zs x later))
+    (Contains-append_cases (z ∷ []) zs x there)
+
+-- ---- a pair has a log, a subscription and the policy's word
+
+record Allowed (policy : Rules) (epoch : ℕ) (subscription : Subscription) (found : Option ℕ) : Type 0 where
+  principal : ℕ
+  attached : found ≡ Some principal
+  allows : (verdict_of policy epoch (image_question principal subscription)).allow ≡ true
+
+allowed_to : (policy : Rules) (epoch : ℕ) (subscription : Subscription) (found : Option ℕ) →
+    is_allowed_to policy epoch subscription found ≡ true → Allowed policy epoch subscription found
+allowed_to policy epoch subscription None allows = absurd (cc)
+allowed_to policy epoch subscription (Some principal) allows =
+    record { principal = principal; attached = refl; allows = allows }
+
+reads_of : (s : State) (publication : Publication) (subscription : Subscription) →
+    Contains s.streams.publications publication → Contains s.streams.subscriptions subscription →
+    is_pair s.clients.rows s.policy s.epoch publication subscription ≡ true → IsReadBy s publication subscription
+unfolding is_allowed
+reads_of s publication subscription live stands pairs =
+    let parts = and_parts (fits publication subscription) (is_allowed s.clients.rows s.policy s.epoch subscription) pairs in
+    let allowed =
+    allowed_to s.policy s.epoch subscription (principal_at s.clients.rows subscription.client) parts.1
+    in
+    record {
+      principal = allowed.principal;
+      is_live = live;
+      stands = stands;
+      fitting = parts.0;
+      attached = allowed.attached;
+      by = by_policy s (image_question allowed.principal subscription);
+      allowed = allowed.allows;
+    }
+
+readers_of_log : (s : State) (publication : Publication) → Contains s.streams.publications publication →
+    All (IsOfReader s) (pairs_at s.clients.rows s.policy s.epoch s.streams.subscriptions publication)
+readers_of_log s publication live =
+    let test : Subscription → Bool = is_pair s.clients.rows s.policy s.epoch publication in
+    let readers : List Subscription = filter test s.streams.subscriptions in
+    All-map (IsOfReader s) (pair_of publication) readers
+    (All-weaker (Contains readers) (λ subscription. IsOfReader s (pair_of publication subscription))
+    (λ subscription has.
+    record {
+      publication = publication;
+      subscription = subscription;
+      pair_is = refl;
+      reads =
+          reads_of s publication subscription live (left_was_there test s.streams.subscriptions subscription has)
+          (All-contains (λ reader. test reader ≡ true) readers subscription (filter_passes test s.streams.subscriptions) has);
+    })
+    readers (All-contains_itself readers))
+
+has_reader : (s : State) (pair : Pair) → Contains (pairs_of s) pair → IsOfReader s pair
+unfolding pairs_of pairs_on
+has_reader s pair has =
+    All-contains (IsOfReader s) (pairs_of s) pair
+    (all_parts (IsOfReader s) (pairs_at s.clients.rows s.policy s.epoch s.streams.subscriptions) s.streams.publications
+    (All-weaker (Contains s.streams.publications)
+    (λ publication.
+    All (IsOfReader s) (pairs_at s.clients.rows s.policy s.epoch s.streams.subscriptions publication))
+    (readers_of_log s) s.streams.publications (All-contains_itself s.streams.publications)))
+    has
+
+-- ---- and where these are, there is the pair
+
+is_pair_of : (s : State) (publication : Publication) (subscription : Subscription) → IsReadBy s publication subscription →
+    is_pair s.clients.rows s.policy s.epoch publication subscription ≡ true
+unfolding is_allowed
+is_pair_of s publication subscription reads = rw (reads.fitting, reads.attached, reads.allowed) refl
+
+has_pair : (s : State) (publication : Publication) (subscription : Subscription) → IsReadBy s publication subscription →
+    Contains (pairs_of s) (pair_of publication subscription)
+unfolding pairs_of pairs_on
+has_pair s publication subscription reads =
+    let test : Subscription → Bool = is_pair s.clients.rows s.policy s.epoch publication in
+    in_part (pairs_at s.clients.rows s.policy s.epoch s.streams.subscriptions) s.streams.publications publication
+    (pair_of publication subscription) reads.is_live
+    (is_mapped (pair_of publication) (filter test s.streams.subscriptions) subscription
+    (passes_are_left test s.streams.subscriptions subscription (is_pair_of s publication subscription reads) reads.stands))
+
+-- ---- exactly these
+
+pub pairs_exactly : (s : State) → PairsExactly s
+unfolding conduct renewed
+pairs_exactly s = record {
+  only = has_reader s;
+  exactly = has_pair s;
+  gone = λ event inputs. refl;
+  come = λ event inputs. refl;
+}

@@ -1,0 +1,17 @@
+pub mod DenialLemmas
+pub mod DenialTextLemmas
+pub mod GoneLemmas
+pub mod GrantLemmas
+pub mod GrantOnlyLemmas
+pub mod ImageLemmas
+pub mod LeavingLemmas
+pub mod ListingLemmas
+pub mod PublishingLemmas
+pub mod PublishingOnlyLemmas
+pub mod RefusalLemmas
+pub mod ReloadLemmas
+pub mod RemovalLemmas
+pub mod RemovedExactlyLemmas
+pub mod RenewalLemmas
+pub mod SubscribingLemmas
+pub mod SubscribingOnlyLemmas

@@ -1,0 +1,96 @@
+-- A client is shown exactly the counters that the policy in force shows it.
+use Rattle.std.proofs.Common.{◌≡◌, ℕ, Bool, List, [], ◌∷◌, Some, None, refl, sym, ◌∙◌}
+use Rattle.std.specs.List.{filter}
+use Rattle.driver_core.specs.declared.listing.Listed.TheVariants as listed_as
+use Rattle.driver_core.specs.declared.listing.Shown.TheVariants as shown_as
+use Rattle.driver_core.specs.Listing.{list, value}
+use Rattle.driver_core.specs.Renewal.{publication_at}
+use Rattle.driver_core.specs.State.{State}
+use Rattle.driver_core.specs.Verdicts.{verdict_on}
+use Rattle.driver_laws.specs.ListingLaws.{ListsExactly, ShowsExactly, ShowsPublicationExactly, LooksExactly, look_question, is_shown_to, publication_look}
+use Rattle.client_registry.specs.declared.client.Client.{Client}
+use Rattle.client_registry.specs.Clients.{client_at}
+use Rattle.counters.specs.declared.counter.Counter.{Counter}
+use Rattle.counters.specs.Counters.{counter_at, is_visible, visible_of}
+use Rattle.stream_registry.specs.declared.rows.Publication.{Publication}
+use Rattle.counters.proofs.VisibleLemmas.{any_number}
+use Rattle.driver_core.proofs.VerdictLemmas.{by_policy}
+use Rattle.driver_laws.proofs.DenialTextLemmas.{epoch_of, denial_words, denial_is_named}
+
+-- tests that agree leave the same
+filter_agree : {X : Type 0} (p q : X → Bool) → ((x : X) → p x ≡ q x) → (xs : List X) → filter p xs ≡ filter q xs
+filter_agree p q same [] = refl
+filter_agree p q same (x ∷ xs) = rw (same x, filter_agree p q same xs) refl
+
+lists_exactly : (s : State) (handle : ℕ) (client : Client) → client_at s.clients.rows handle ≡ Some client →
+    ListsExactly s client (list s handle)
+unfolding list visible_of
+lists_exactly s handle client found = record {
+  answer_is =
+      rw (
+        found,
+        filter_agree (is_visible s.policy client.principal) (is_shown_to s client)
+            (λ counter. sym (any_number s.policy s.epoch client.principal counter)) s.counters,
+      )
+      refl;
+  by = λ counter. by_policy s (look_question client counter);
+  publications_by = λ publication. by_policy s (publication_look client publication);
+}
+
+shows_exactly : (s : State) (handle : ℕ) (client : Client) (number : ℕ) (counter : Counter) →
+    client_at s.clients.rows handle ≡ Some client → counter_at s.counters number ≡ Some counter →
+    ShowsExactly s client counter (value s handle number)
+unfolding value
+shows_exactly s handle client number counter found there =
+    let question = look_question client counter in
+    record {
+      by = by_policy s question;
+      shown = λ allows. rw (found, there, allows) refl;
+      denied = λ denies. rw (found, there, denies) refl;
+      text = λ denies.
+          sym (denial_words (verdict_on s question))
+          ∙ denial_is_named (verdict_on s question) s.epoch denies (epoch_of s question);
+    }
+
+shows_publication_exactly : (s : State) (handle : ℕ) (client : Client) (number : ℕ) (publication : Publication) →
+    client_at s.clients.rows handle ≡ Some client → counter_at s.counters number ≡ None →
+    publication_at s.streams.publications number ≡ Some publication →
+    ShowsPublicationExactly s client publication (value s handle number)
+unfolding value
+shows_publication_exactly s handle client number publication found none there =
+    let question = publication_look client publication in
+    record {
+      by = by_policy s question;
+      shown = λ allows. rw (found, none, there, allows) refl;
+      denied = λ denies. rw (found, none, there, denies) refl;
+      text = λ denies.
+          sym (denial_words (verdict_on s question))
+          ∙ denial_is_named (verdict_on s question) s.epoch denies (epoch_of s question);
+    }
+
+unknown_is_told : (s : State) (handle : ℕ) (client : Client) (number : ℕ) →
+    client_at s.clients.rows handle ≡ Some client → counter_at s.counters number ≡ None →
+    publication_at s.streams.publications number ≡ None → value s handle number ≡ shown_as.UnknownCounter
+unfolding value
+unknown_is_told s handle client number found none nothing = rw (found, none, nothing) refl
+
+nobody_is_listed : (s : State) (handle : ℕ) → client_at s.clients.rows handle ≡ None →
+    list s handle ≡ listed_as.WrongClient
+unfolding list
+nobody_is_listed s handle gone = rw gone refl
+
+nobody_is_shown : (s : State) (handle number : ℕ) → client_at s.clients.rows handle ≡ None →
+    value s handle number ≡ shown_as.WrongClient
+unfolding value
+nobody_is_shown s handle number gone = rw gone refl
+
+pub looks_exactly : (s : State) (handle : ℕ) → LooksExactly s handle
+looks_exactly s handle = record {
+  listed = λ client found. lists_exactly s handle client found;
+  valued = λ client number counter found there. shows_exactly s handle client number counter found there;
+  published = λ client number publication found none there.
+      shows_publication_exactly s handle client number publication found none there;
+  unknown = λ client number found none nothing. unknown_is_told s handle client number found none nothing;
+  lists_nobody = λ gone. nobody_is_listed s handle gone;
+  values_nobody = λ number gone. nobody_is_shown s handle number gone;
+}

@@ -1,0 +1,238 @@
+-- A reload closes exactly, and the newest policy is in force.
+use Rattle.std.proofs.Common.{◌≡◌, ℕ, ◌+◌, true, false, List, [], refl, ◌∙◌}
+use Rattle.std.proofs.lemmas.Bool.{cond_both}
+use Rattle.std.proofs.lemmas.List.{append-nil}
+use Rattle.driver_core.specs.declared.event.Event.{Event}
+use Rattle.driver_core.specs.declared.event.Event.TheVariants.{Attach, Command, Reload, Tick}
+use Rattle.driver_core.specs.declared.event.Inputs.{Inputs}
+use Rattle.driver_core.specs.declared.outcome.Response.{Response}
+use Rattle.driver_core.specs.declared.outcome.Response.TheVariants.{PolicyFull}
+use Rattle.driver_core.specs.declared.refusal.Refusal.{Refusal}
+use Rattle.driver_core.specs.Attaching.{attached}
+use Rattle.driver_core.specs.Closing.{keep_alive, close}
+use Rattle.driver_core.specs.Commands.{heard}
+use Rattle.driver_core.specs.Conduct.{conduct, drafted, state_after}
+use Rattle.driver_core.specs.Counting.{counted, with_counter, valued, uncounted}
+use Rattle.driver_core.specs.Draft.{Draft, answered, told, replied, replied_opening, refused}
+use Rattle.driver_core.specs.Pairs.{pairs_of, is_within_pairs}
+use Rattle.driver_core.specs.Publishing.{published, with_publication}
+use Rattle.driver_core.specs.Reloading.{in_force, reloaded, has_room_for_policy, reload}
+use Rattle.driver_core.specs.Renewal.{renewed}
+use Rattle.driver_core.specs.Requests.{PublicationRequest, SubscriptionRequest, RemovalRequest, wanted_by}
+use Rattle.driver_core.specs.State.{State, at_moment}
+use Rattle.driver_core.specs.Subscribing.{subscribed, with_subscription}
+use Rattle.driver_core.specs.Terminating.{terminated, stopped_for_good}
+use Rattle.driver_core.specs.Ticking.{tick, ticked, late}
+use Rattle.driver_core.specs.Unpublishing.{unpublished}
+use Rattle.driver_core.specs.Unsubscribing.{unsubscribed}
+use Rattle.driver_laws.specs.ReloadLaws.{ClosesExactly, ClosesNothing, IsReloadedExactly, Numbered, in_force_at, newest_after}
+use Rattle.client_registry.specs.declared.client.Client.{Client}
+use Rattle.command_codec.specs.declared.add_counter.AddCounter.{AddCounter}
+use Rattle.command_codec.specs.declared.set_counter.SetCounter.{SetCounter}
+use Rattle.policy_core.specs.declared.decision.Decision.{Decision}
+use Rattle.policy_core.specs.RuleList.{Rules}
+use Rattle.stream_registry.specs.declared.wanted.Adding.{Adding}
+use Rattle.driver_core.proofs.EventCases.{Cases, command_cases, attach_cases}
+use Rattle.driver_laws.proofs.LeavingLemmas.{left_in_force, one_left_in_force}
+use Rattle.driver_laws.proofs.RenewalLemmas.{unchanged}
+
+-- ---- a reload closes exactly
+
+reload_grants : (s : State) (policy : Rules) → has_room_for_policy s policy ≡ true → reload s policy ≡ reloaded s policy
+unfolding reload
+reload_grants s policy room = rw room refl
+
+reload_is_full : (s : State) (policy : Rules) → has_room_for_policy s policy ≡ false →
+    reload s policy ≡ answered s PolicyFull
+unfolding reload
+reload_is_full s policy room = rw room refl
+
+room_is : (s : State) (now : ℕ) (policy : Rules) →
+    has_room_for_policy (at_moment s now) policy ≡ has_room_for_policy s policy
+unfolding at_moment in_force is_within_pairs pairs_of
+room_is s now policy = refl
+
+reloaded_closes : (s : State) (now : ℕ) (policy : Rules) (inputs : Inputs) →
+    ClosesExactly s now policy inputs (renewed s inputs (reloaded (at_moment s now) policy))
+unfolding renewed reloaded answered in_force at_moment
+reloaded_closes s now policy inputs = record {
+  after_is = refl;
+  told = refl;
+  gone = refl;
+  come = refl;
+  replies = append-nil _;
+  decisions = refl;
+  opens = refl;
+  closes = refl;
+}
+
+moment_pairs : (s : State) (now : ℕ) → pairs_of (at_moment s now) ≡ pairs_of s
+unfolding at_moment pairs_of
+moment_pairs s now = refl
+
+full_closes_nothing : (s : State) (now : ℕ) (inputs : Inputs) →
+    ClosesNothing s now (renewed s inputs (answered (at_moment s now) PolicyFull))
+unfolding renewed answered at_moment
+full_closes_nothing s now inputs =
+    let same = unchanged s inputs (answered (at_moment s now) PolicyFull) (moment_pairs s now) in
+    record {
+      after_is = refl;
+      told = refl;
+      gone = same.gone;
+      come = same.come;
+      replies = same.replies;
+      decisions = same.decisions;
+      opens = refl;
+      closes = refl;
+    }
+
+pub reloads_close : (s : State) (now : ℕ) (policy : Rules) (inputs : Inputs) →
+    IsReloadedExactly s now policy inputs (conduct s (Reload now policy) inputs)
+unfolding conduct drafted
+reloads_close s now policy inputs = record {
+  granted = λ room.
+      rw (reload_grants (at_moment s now) policy (room_is s now policy ∙ room)) (reloaded_closes s now policy inputs);
+  refused = λ full.
+      rw (reload_is_full (at_moment s now) policy (room_is s now policy ∙ full)) (full_closes_nothing s now inputs);
+}
+
+-- ---- the newest policy is in force
+
+-- a draft that keeps the policy in force
+record Keeps (s : State) (draft : Draft) : Type 0 where
+  same : in_force_at draft.after ≡ in_force_at s
+
+refusal_keeps : (s left : State) (decisions : List Decision) (client correlation : ℕ) (refusal : Refusal) →
+    in_force_at left ≡ in_force_at s → Keeps s (refused left decisions client correlation refusal)
+unfolding refused replied told
+refusal_keeps s left decisions client correlation refusal same = record { same = same }
+
+answer_keeps : (s left : State) (response : Response) → in_force_at left ≡ in_force_at s → Keeps s (answered left response)
+unfolding answered
+answer_keeps s left response same = record { same = same }
+
+attached_keeps : (s left : State) (principal : ℕ) → in_force_at left ≡ in_force_at s → Keeps s (attached left principal)
+unfolding attached answered
+attached_keeps s left principal same = record { same = same }
+
+grant_keeps : (s left : State) (request : SubscriptionRequest) → in_force_at left ≡ in_force_at s →
+    Keeps s (subscribed left request.client request.correlation request.channel request.fields.stream)
+unfolding subscribed with_subscription replied told
+grant_keeps s left request same = record { same = same }
+
+publication_keeps : (s left : State) (request : PublicationRequest) (adding : Adding) → in_force_at left ≡ in_force_at s →
+    Keeps s (published left request.client request.correlation (wanted_by request) adding)
+unfolding published with_publication replied_opening replied told
+publication_keeps s left request adding same = record { same = same }
+
+publication_removal_keeps : (s left : State) (client : Client) (correlation number : ℕ) →
+    in_force_at left ≡ in_force_at s → Keeps s (unpublished left client correlation number)
+unfolding unpublished replied told
+publication_removal_keeps s left client correlation number same = record { same = same }
+
+removal_keeps : (s left : State) (request : RemovalRequest) → in_force_at left ≡ in_force_at s →
+    Keeps s (unsubscribed left request.client request.correlation request.fields.registration)
+unfolding unsubscribed replied told
+removal_keeps s left request same = record { same = same }
+
+keepalive_keeps : (s left : State) → in_force_at left ≡ in_force_at s → Keeps s (keep_alive left)
+unfolding keep_alive told
+keepalive_keeps s left same = record { same = same }
+
+closing_keeps : (s left : State) (client : Client) (correlation : ℕ) → in_force_at left ≡ in_force_at s →
+    Keeps s (close left client correlation)
+unfolding close replied told
+closing_keeps s left client correlation same = record { same = one_left_in_force left client.number ∙ same }
+
+counter_keeps : (s left : State) (client : Client) (correlation : ℕ) (fields : AddCounter) →
+    in_force_at left ≡ in_force_at s → Keeps s (counted left client correlation fields)
+unfolding counted with_counter replied told
+counter_keeps s left client correlation fields same = record { same = same }
+
+value_keeps : (s left : State) (client : Client) (correlation : ℕ) (fields : SetCounter) →
+    in_force_at left ≡ in_force_at s → Keeps s (valued left client correlation fields)
+unfolding valued replied told
+value_keeps s left client correlation fields same = record { same = same }
+
+counter_removal_keeps : (s left : State) (client : Client) (correlation number : ℕ) →
+    in_force_at left ≡ in_force_at s → Keeps s (uncounted left client correlation number)
+unfolding uncounted told
+counter_removal_keeps s left client correlation number same = record { same = same }
+
+termination_keeps : (s left : State) (client : Client) (correlation : ℕ) → in_force_at left ≡ in_force_at s →
+    Keeps s (terminated left client correlation)
+unfolding terminated stopped_for_good
+termination_keeps s left client correlation same = record { same = same }
+
+moment_keeps : (s : State) (now : ℕ) → in_force_at (at_moment s now) ≡ in_force_at s
+unfolding at_moment
+moment_keeps s now = refl
+
+request_keeps : (s : State) (now handle : ℕ) → in_force_at (heard (at_moment s now) handle) ≡ in_force_at s
+unfolding at_moment heard
+request_keeps s now handle = refl
+
+command_keeps : (s : State) (now handle : ℕ) (bytes : List ℕ) → Cases (Keeps s) (at_moment s now) handle bytes
+command_keeps s now handle bytes =
+    let left = heard (at_moment s now) handle in
+    let same = request_keeps s now handle in
+    record {
+      unheard = λ correlation refusal plain not_heard.
+          refusal_keeps s (at_moment s now) [] handle correlation refusal (moment_keeps s now);
+      refusal = λ decisions client correlation refusal plain was_heard.
+          refusal_keeps s left decisions client.number correlation refusal same;
+      denial = λ client correlation act channel stream was_heard found asked denies.
+          refusal_keeps s left _ client.number correlation _ same;
+      subscription = λ request was_heard asks allows room. grant_keeps s left request same;
+      publication = λ request adding was_heard asks allows is room place. publication_keeps s left request adding same;
+      publication_removal = λ client correlation fields was_heard asks.
+          publication_removal_keeps s left client correlation fields.registration same;
+      removal = λ request was_heard asks. removal_keeps s left request same;
+      keepalive = λ was_heard. keepalive_keeps s left same;
+      counter = λ client correlation fields was_heard asks allows room. counter_keeps s left client correlation fields same;
+      value = λ client correlation fields was_heard asks. value_keeps s left client correlation fields same;
+      counter_removal = λ client correlation fields was_heard asks.
+          counter_removal_keeps s left client correlation fields.registration same;
+      closing = λ client correlation was_heard asks. closing_keeps s left client correlation same;
+      termination = λ client correlation fields was_heard asks allows. termination_keeps s left client correlation same;
+    }
+
+tick_keeps : (s : State) (now : ℕ) → Keeps s (tick (at_moment s now))
+unfolding tick ticked
+tick_keeps s now =
+    record { same = left_in_force (at_moment s now) (late (at_moment s now)) ∙ moment_keeps s now }
+
+reloaded_newest : (s : State) (now : ℕ) (policy : Rules) →
+    in_force_at (reloaded (at_moment s now) policy).after ≡ record { policy = policy; epoch = s.epoch + 1 }
+unfolding reloaded answered in_force at_moment
+reloaded_newest s now policy = refl
+
+full_newest : (s : State) (now : ℕ) → in_force_at (answered (at_moment s now) PolicyFull).after ≡ in_force_at s
+unfolding answered at_moment
+full_newest s now = refl
+
+reload_newest : (s : State) (now : ℕ) (policy : Rules) →
+    in_force_at (reload (at_moment s now) policy).after ≡ newest_after s (Reload now policy)
+reload_newest s now policy =
+    cond_both (has_room_for_policy s policy) (record { policy = policy; epoch = s.epoch + 1 }) (in_force_at s)
+    (λ (n : Numbered). in_force_at (reload (at_moment s now) policy).after ≡ n)
+    (λ room. rw (reload_grants (at_moment s now) policy (room_is s now policy ∙ room)) (reloaded_newest s now policy))
+    (λ full. rw (reload_is_full (at_moment s now) policy (room_is s now policy ∙ full)) (full_newest s now))
+
+-- what the event's own rule leaves is what the event leaves
+drafted_newest : (s : State) (event : Event) → in_force_at (drafted s event).after ≡ newest_after s event
+unfolding drafted
+drafted_newest s (Attach now principal) =
+    (attach_cases (Keeps s) (at_moment s now) principal
+    (answer_keeps s (at_moment s now) _ (moment_keeps s now))
+    (attached_keeps s (at_moment s now) principal (moment_keeps s now))
+    (answer_keeps s (at_moment s now) _ (moment_keeps s now))).same
+drafted_newest s (Command now handle bytes) =
+    (command_cases (Keeps s) s now handle bytes (command_keeps s now handle bytes)).same
+drafted_newest s (Reload now policy) = reload_newest s now policy
+drafted_newest s (Tick now) = (tick_keeps s now).same
+
+pub newest_in_force : (s : State) (event : Event) (inputs : Inputs) →
+    in_force_at (state_after s event inputs) ≡ newest_after s event
+unfolding conduct renewed
+newest_in_force s event inputs = drafted_newest s event

@@ -1,0 +1,162 @@
+-- A request that a registration or a counter go takes away what it names, and nothing else.
+use Rattle.std.proofs.Common.{◌≡◌, ℕ, true, false, List, [], refl, ap, ◌∙◌}
+use Rattle.std.proofs.lemmas.Bool.{eq-eqb}
+use Rattle.driver_core.specs.declared.event.Event.TheVariants.{Command}
+use Rattle.driver_core.specs.declared.event.Inputs.{Inputs}
+use Rattle.driver_core.specs.declared.refusal.Refusal.TheVariants.{UnknownCounter, UnknownPublication}
+use Rattle.driver_core.specs.declared.replies.Reply.TheVariants.{OperationSuccess}
+use Rattle.driver_core.specs.Commands.{asked, body_change, command, heard, requested}
+use Rattle.driver_core.specs.Conduct.{conduct, drafted}
+use Rattle.driver_core.specs.Counting.{remove_counter, uncounted}
+use Rattle.driver_core.specs.Draft.{Draft, refused, replied, told}
+use Rattle.driver_core.specs.Pairs.{pairs_of}
+use Rattle.driver_core.specs.Renewal.{renewed}
+use Rattle.driver_core.specs.Requests.{Asks}
+use Rattle.driver_core.specs.State.{State, at_moment}
+use Rattle.driver_core.specs.Unpublishing.{remove_publication, unpublished}
+use Rattle.driver_laws.specs.CounterLaws.{IsUncounted, IsUncountedExactly}
+use Rattle.driver_laws.specs.RemovalLaws.{IsUnregistered, IsUnregisteredExactly}
+use Rattle.client_registry.specs.declared.client.Client.{Client}
+use Rattle.command_codec.specs.declared.command.Body.{Body}
+use Rattle.command_codec.specs.declared.command.Body.TheVariants.{RemoveCounter as RemovesCounter, RemovePublication as Unpublishes}
+use Rattle.command_codec.specs.declared.removal.Removal.{Removal}
+use Rattle.counters.specs.Counters.{has}
+use Rattle.stream_registry.specs.Leaving.{has_registration}
+use Rattle.driver_core.proofs.EventCases.{at_request}
+use Rattle.driver_laws.proofs.RemovalLemmas.{told_first, unknown_change}
+use Rattle.driver_laws.proofs.RenewalLemmas.{ToldAsItIs, pairs_by, pairs_heard, unchanged}
+use Rattle.driver_laws.proofs.SubscribingLemmas.{found_number}
+
+-- a client's request comes to the rule of its body
+pub body_is_asked : (s : State) (now handle correlation : ℕ) (bytes : List ℕ) (client : Client) (body : Body) →
+    Asks s handle bytes client correlation body →
+    drafted s (Command now handle bytes) ≡ body_change (at_request s now handle) client correlation body
+unfolding drafted command asked requested at_moment
+body_is_asked s now handle correlation bytes client body asks =
+    rw (asks.command, eq-eqb handle handle refl, asks.attached) refl
+
+-- ---- registrations
+
+unregistered_change : (s : State) (now handle correlation number : ℕ) (inputs : Inputs) (client : Client) →
+    client.number ≡ handle →
+    IsUnregistered s now handle correlation number inputs (
+    renewed s inputs (unpublished (at_request s now handle) client correlation number))
+unfolding renewed unpublished replied told heard at_moment
+unregistered_change s now handle correlation number inputs client own =
+    let draft : Draft = unpublished (at_request s now handle) client correlation number in
+    record {
+      after_is = rw own refl;
+      told = told_first s inputs draft (record { client = handle; reply = OperationSuccess correlation }) (rw own refl) refl;
+      decided = refl;
+    }
+
+registration_goes : (s : State) (client : Client) (correlation : ℕ) (fields : Removal) →
+    has_registration s.streams client.number fields.registration ≡ true →
+    remove_publication s client correlation fields ≡ unpublished s client correlation fields.registration
+unfolding remove_publication
+registration_goes s client correlation fields known = rw known refl
+
+registration_is_unknown : (s : State) (client : Client) (correlation : ℕ) (fields : Removal) →
+    has_registration s.streams client.number fields.registration ≡ false →
+    remove_publication s client correlation fields ≡ refused s [] client.number correlation UnknownPublication
+unfolding remove_publication
+registration_is_unknown s client correlation fields unknown = rw unknown refl
+
+registrations_before : (s : State) (now handle number : ℕ) →
+    has_registration (at_request s now handle).streams handle number ≡ has_registration s.streams handle number
+unfolding heard at_moment
+registrations_before s now handle number = refl
+
+registration_by_number : (s : State) (now handle correlation : ℕ) (inputs : Inputs) (client : Client) (fields : Removal) →
+    client.number ≡ handle →
+    IsUnregisteredExactly s now handle correlation fields.registration inputs (
+    renewed s inputs (remove_publication (at_request s now handle) client correlation fields))
+registration_by_number s now handle correlation inputs client fields own =
+    let same = ap (λ (n : ℕ). has_registration (at_request s now handle).streams n fields.registration) own
+    ∙ registrations_before s now handle fields.registration in
+    record {
+      known = λ known.
+          rw (registration_goes (at_request s now handle) client correlation fields (same ∙ known))
+          (unregistered_change s now handle correlation fields.registration inputs client own);
+      unknown = λ unknown.
+          rw (registration_is_unknown (at_request s now handle) client correlation fields (same ∙ unknown))
+          (unknown_change s now handle client.number correlation inputs UnknownPublication own);
+    }
+
+pub unregistered_exactly : (s : State) (now handle correlation : ℕ) (bytes : List ℕ) (inputs : Inputs) (client : Client)
+    (fields : Removal) → Asks s handle bytes client correlation (Unpublishes fields) →
+    IsUnregisteredExactly s now handle correlation fields.registration inputs (
+    conduct s (Command now handle bytes) inputs)
+unfolding conduct
+unregistered_exactly s now handle correlation bytes inputs client fields asks =
+    rw (body_is_asked s now handle correlation bytes client (Unpublishes fields) asks)
+    (registration_by_number s now handle correlation inputs client fields
+    (found_number s.clients.rows handle client asks.attached))
+
+-- ---- counters
+
+-- no pair is by a counter
+uncounted_pairs : (s : State) (now handle correlation number : ℕ) (client : Client) →
+    pairs_of (uncounted (at_request s now handle) client correlation number).after ≡ pairs_of s
+unfolding uncounted told
+uncounted_pairs s now handle correlation number client =
+    pairs_by (uncounted (at_request s now handle) client correlation number).after (at_request s now handle) refl refl refl
+    (λ n. refl)
+    ∙ pairs_heard s now handle
+
+uncounted_change : (s : State) (now handle correlation number : ℕ) (inputs : Inputs) (client : Client) →
+    client.number ≡ handle →
+    IsUncounted s now handle correlation number (
+    renewed s inputs (uncounted (at_request s now handle) client correlation number))
+unfolding uncounted told heard at_moment
+uncounted_change s now handle correlation number inputs client own =
+    let draft : Draft = uncounted (at_request s now handle) client correlation number in
+    let as_it_is : ToldAsItIs draft (renewed s inputs draft) =
+    unchanged s inputs draft (uncounted_pairs s now handle correlation number client) in
+    record {
+      after_is = as_it_is.after ∙ rw own refl;
+      told = as_it_is.replies ∙ rw own refl;
+      decided = as_it_is.decisions;
+    }
+
+counter_goes : (s : State) (client : Client) (correlation : ℕ) (fields : Removal) →
+    has s.counters client.number fields.registration ≡ true →
+    remove_counter s client correlation fields ≡ uncounted s client correlation fields.registration
+unfolding remove_counter
+counter_goes s client correlation fields known = rw known refl
+
+counter_is_unknown : (s : State) (client : Client) (correlation : ℕ) (fields : Removal) →
+    has s.counters client.number fields.registration ≡ false →
+    remove_counter s client correlation fields ≡ refused s [] client.number correlation UnknownCounter
+unfolding remove_counter
+counter_is_unknown s client correlation fields unknown = rw unknown refl
+
+counters_before : (s : State) (now handle number : ℕ) →
+    has (at_request s now handle).counters handle number ≡ has s.counters handle number
+unfolding heard at_moment
+counters_before s now handle number = refl
+
+counter_by_number : (s : State) (now handle correlation : ℕ) (inputs : Inputs) (client : Client) (fields : Removal) →
+    client.number ≡ handle →
+    IsUncountedExactly s now handle correlation fields.registration (
+    renewed s inputs (remove_counter (at_request s now handle) client correlation fields))
+counter_by_number s now handle correlation inputs client fields own =
+    let same = ap (λ (n : ℕ). has (at_request s now handle).counters n fields.registration) own
+    ∙ counters_before s now handle fields.registration in
+    record {
+      known = λ known.
+          rw (counter_goes (at_request s now handle) client correlation fields (same ∙ known))
+          (uncounted_change s now handle correlation fields.registration inputs client own);
+      unknown = λ unknown.
+          rw (counter_is_unknown (at_request s now handle) client correlation fields (same ∙ unknown))
+          (unknown_change s now handle client.number correlation inputs UnknownCounter own);
+    }
+
+pub uncounted_exactly : (s : State) (now handle correlation : ℕ) (bytes : List ℕ) (inputs : Inputs) (client : Client)
+    (fields : Removal) → Asks s handle bytes client correlation (RemovesCounter fields) →
+    IsUncountedExactly s now handle correlation fields.registration (conduct s (Command now handle bytes) inputs)
+unfolding conduct
+uncounted_exactly s now handle correlation bytes inputs client fields asks =
+    rw (body_is_asked s now handle correlation bytes client (RemovesCounter fields) asks)
+    (counter_by_number s now handle correlation inputs client fields
+    (found_number s.clients.rows handle client asks.attached))

@@ -1,0 +1,78 @@
+-- Over every list of events: which counters go, and what sets their values.
+use Rattle.std.specs.Prelude.{◌≡◌, ℕ, true, false, List, [], ◌∷◌, Contains, ◌⊎◌}
+use Rattle.driver_core.specs.declared.change.Change.{Change}
+use Rattle.driver_core.specs.declared.event.Event.{Event}
+use Rattle.driver_core.specs.declared.event.Event.TheVariants.{Command}
+use Rattle.driver_core.specs.declared.event.Inputs.{Inputs}
+use Rattle.driver_core.specs.declared.refusal.Refusal.TheVariants.{UnknownCounter}
+use Rattle.driver_core.specs.declared.replies.Reply.TheVariants.{OperationSuccess, UnavailableCounter}
+use Rattle.driver_core.specs.Commands.{heard}
+use Rattle.driver_core.specs.Conduct.{conduct, state_after}
+use Rattle.driver_core.specs.Requests.{Asks}
+use Rattle.driver_core.specs.State.{State, at_moment}
+use Rattle.driver_laws.specs.Events.{AfterAnyEvents}
+use Rattle.driver_laws.specs.GrantLaws.{IsCounterMadeBy, StoodBefore}
+use Rattle.driver_laws.specs.LeavingLaws.{IsGoneBy}
+use Rattle.driver_laws.specs.RemovalLaws.{IsAskedBy, IsUnknown}
+use Rattle.client_registry.specs.declared.client.Client.{Client}
+use Rattle.command_codec.specs.declared.command.Body.TheVariants.{RemoveCounter as RemovesCounter, SetCounter as Sets}
+use Rattle.command_codec.specs.declared.removal.Removal.{Removal}
+use Rattle.counters.specs.declared.counter.Counter.{Counter}
+use Rattle.counters.specs.Counters.{has, without}
+
+-- ---- removed exactly
+
+-- the client's counter of that number goes, and it is told so; all else stays but for the moments
+pub record IsUncounted (s : State) (now handle correlation number : ℕ) (change : Change) : Type 0 where
+  pub after_is :
+      change.after
+      ≡ record (heard (at_moment s now) handle) {
+        counters = without s.counters handle number;
+      }
+  pub told :
+      change.outcome.replies
+      ≡ record { client = handle; reply = OperationSuccess correlation }
+      ∷ record { client = handle; reply = UnavailableCounter number } ∷ []
+  pub decided : change.outcome.decisions ≡ []
+
+pub record IsUncountedExactly (s : State) (now handle correlation number : ℕ) (change : Change) : Type 0 where
+  pub known : has s.counters handle number ≡ true → IsUncounted s now handle correlation number change
+  pub unknown : has s.counters handle number ≡ false → IsUnknown s now handle correlation UnknownCounter change
+
+abbrev pub CountersAreRemovedExactly : Type 0
+CountersAreRemovedExactly =
+    AfterAnyEvents (λ s.
+    (now handle correlation : ℕ) (bytes : List ℕ) (inputs : Inputs) (client : Client) (fields : Removal) →
+    Asks s handle bytes client correlation (RemovesCounter fields) →
+    IsUncountedExactly s now handle correlation fields.registration (conduct s (Command now handle bytes) inputs))
+
+-- ---- removed only
+
+-- the counter is there, whatever its value is now
+pub record IsStillThere (after : State) (counter : Counter) : Type 0 where
+  pub now : Counter
+  pub stands : Contains after.counters now
+  pub same : now ≡ record counter { value = now.value }
+
+abbrev pub CountersAreRemovedOnly : Type 0
+CountersAreRemovedOnly =
+    AfterAnyEvents (λ s.
+    (event : Event) (inputs : Inputs) (counter : Counter) → Contains s.counters counter →
+    IsStillThere (state_after s event inputs) counter
+    ⊎ (IsAskedBy s event counter.client (RemovesCounter (record { registration = counter.number }))
+    ⊎ IsGoneBy s event counter.client))
+
+-- ---- set only
+
+-- the counter was there, and its own client asks that it have this value
+pub record IsSetBy (s : State) (event : Event) (counter : Counter) : Type 0 where
+  pub stood : StoodBefore s counter
+  pub asked :
+      IsAskedBy s event counter.client (Sets (record { registration = counter.number; value = counter.value }))
+
+-- a counter has the value that it had, or the one to which its own client sets it, or it is new
+abbrev pub CountersAreSetOnly : Type 0
+CountersAreSetOnly =
+    AfterAnyEvents (λ s.
+    (event : Event) (inputs : Inputs) (counter : Counter) → Contains (state_after s event inputs).counters counter →
+    Contains s.counters counter ⊎ (IsSetBy s event counter ⊎ IsCounterMadeBy s event counter))

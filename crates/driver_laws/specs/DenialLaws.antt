@@ -1,0 +1,51 @@
+-- Over every list of events: a denial is told only of a request that the policy in force denies, and names its rule.
+use Rattle.std.specs.Prelude.{◌≡◌, ℕ, false, List, ◌++◌, Option, Some, None, codes}
+use Rattle.std.specs.Fmt.{decimal}
+use Rattle.std.specs.List.{AllByRecursion}
+use Rattle.driver_core.specs.declared.event.Event.{Event}
+use Rattle.driver_core.specs.declared.event.Event.TheVariants.{Command}
+use Rattle.driver_core.specs.declared.event.Inputs.{Inputs}
+use Rattle.driver_core.specs.declared.refusal.Refusal.{Refusal}
+use Rattle.driver_core.specs.declared.refusal.Refusal.TheVariants.{Denied}
+use Rattle.driver_core.specs.declared.replies.Reply.{Reply}
+use Rattle.driver_core.specs.declared.replies.Reply.TheVariants.{Error}
+use Rattle.driver_core.specs.Conduct.{outcome_of}
+use Rattle.driver_core.specs.Replies.{refusal_text}
+use Rattle.driver_core.specs.Requests.{IsAsked}
+use Rattle.driver_core.specs.State.{State}
+use Rattle.driver_core.specs.Verdicts.{IsByPolicy, verdict_on}
+use Rattle.driver_laws.specs.Events.{AfterAnyEvents}
+use Rattle.policy_core.specs.declared.verdict.Verdict.{Verdict}
+use Rattle.policy_core.specs.Question.{Question}
+use Rattle.policy_core.specs.Verdict.{verdict_text}
+
+-- the text of a denial names the rule by its number, or the default
+abbrev pub denial_text : Option ℕ → ℕ → List ℕ
+denial_text (Some rule) epoch = codes "denied by rule " ++ (decimal rule ++ (codes " in policy " ++ decimal epoch))
+denial_text None epoch = codes "denied by default in policy " ++ decimal epoch
+
+-- the event is a request that the policy in force denies by this verdict
+pub record IsDeniedOn (s : State) (event : Event) (client correlation : ℕ) (verdict : Verdict) : Type 0 where
+  pub moment : ℕ
+  pub bytes : List ℕ
+  pub question : Question
+  pub event_is : event ≡ Command moment client bytes
+  pub asks : IsAsked s client bytes correlation question
+  pub verdict_is : verdict ≡ verdict_on s question
+  pub by : IsByPolicy s question verdict
+  pub denies : verdict.allow ≡ false
+  pub words : refusal_text (Denied verdict) ≡ verdict_text verdict
+  pub text : refusal_text (Denied verdict) ≡ denial_text verdict.rule s.epoch
+
+abbrev pub IsNamedRefusal : State → Event → ℕ → ℕ → Refusal → Type 0
+IsNamedRefusal s event client correlation (Denied verdict) = IsDeniedOn s event client correlation verdict
+IsNamedRefusal s event client correlation refusal = Unit {0}
+
+abbrev pub IsDenialNamed : State → Event → ℕ → Reply → Type 0
+IsDenialNamed s event client (Error correlation refusal) = IsNamedRefusal s event client correlation refusal
+IsDenialNamed s event client reply = Unit {0}
+
+abbrev pub DenialsAreNamed : Type 0
+DenialsAreNamed =
+    AfterAnyEvents (λ s. (event : Event) (inputs : Inputs) →
+    AllByRecursion (λ message. IsDenialNamed s event message.client message.reply) (outcome_of s event inputs).replies)

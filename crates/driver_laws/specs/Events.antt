@@ -1,0 +1,15 @@
+-- Whatever happened.
+use Rattle.std.specs.Prelude.{List}
+use Rattle.driver_core.specs.declared.event.Event.{Event}
+use Rattle.driver_core.specs.declared.event.Inputs.{Inputs}
+use Rattle.driver_core.specs.declared.peer.Peer.{Peer}
+use Rattle.driver_core.specs.declared.settings.Settings.{Settings}
+use Rattle.driver_core.specs.Conduct.{state_of}
+use Rattle.driver_core.specs.State.{State, opened}
+use Rattle.policy_core.specs.RuleList.{Rules}
+
+-- whatever happened since the registry was opened
+abbrev pub AfterAnyEvents : (State → Type 0) → Type 0
+AfterAnyEvents P =
+    (settings : Settings) (policy : Rules) (peers : List Peer) (events : List (Event × Inputs)) →
+    P (state_of (opened settings policy peers) events)

@@ -1,0 +1,49 @@
+-- Over every list of events: which subscription reads which log.
+use Rattle.std.specs.Prelude.{◌≡◌, ℕ, true, Contains, Some}
+use Rattle.driver_core.specs.declared.event.Event.{Event}
+use Rattle.driver_core.specs.declared.event.Inputs.{Inputs}
+use Rattle.driver_core.specs.Conduct.{conduct}
+use Rattle.driver_core.specs.Pairs.{pairs_of}
+use Rattle.driver_core.specs.Renewal.{gone_from, come_to}
+use Rattle.driver_core.specs.State.{State}
+use Rattle.driver_core.specs.Verdicts.{IsByPolicy, verdict_on}
+use Rattle.driver_laws.specs.Events.{AfterAnyEvents}
+use Rattle.client_registry.specs.Clients.{principal_at}
+use Rattle.stream_registry.specs.declared.pairs.Pair.{Pair}
+use Rattle.stream_registry.specs.declared.rows.Publication.{Publication}
+use Rattle.stream_registry.specs.declared.rows.Subscription.{Subscription}
+use Rattle.stream_registry.specs.Pairs.{fits, image_question, pair_of}
+
+-- a live log and a subscription that fit, where the policy in force allows the image to the subscription's client, by the
+-- first rule that matches or the default
+pub record IsReadBy (s : State) (publication : Publication) (subscription : Subscription) : Type 0 where
+  pub principal : ℕ
+  pub is_live : Contains s.streams.publications publication
+  pub stands : Contains s.streams.subscriptions subscription
+  pub fitting : fits publication subscription ≡ true
+  pub attached : principal_at s.clients.rows subscription.client ≡ Some principal
+  pub by : IsByPolicy s (image_question principal subscription) (verdict_on s (image_question principal subscription))
+  pub allowed : (verdict_on s (image_question principal subscription)).allow ≡ true
+
+-- a pair is of such a log and such a subscription
+pub record IsOfReader (s : State) (pair : Pair) : Type 0 where
+  pub publication : Publication
+  pub subscription : Subscription
+  pub pair_is : pair ≡ pair_of publication subscription
+  pub reads : IsReadBy s publication subscription
+
+-- exactly these are the pairs; what an event takes away and brings is what they lose and gain by it
+pub record PairsExactly (s : State) : Type 0 where
+  pub only : (pair : Pair) → Contains (pairs_of s) pair → IsOfReader s pair
+  pub exactly :
+      (publication : Publication) (subscription : Subscription) → IsReadBy s publication subscription →
+      Contains (pairs_of s) (pair_of publication subscription)
+  pub gone :
+      (event : Event) (inputs : Inputs) →
+      (conduct s event inputs).outcome.gone ≡ gone_from s (conduct s event inputs).after
+  pub come :
+      (event : Event) (inputs : Inputs) →
+      (conduct s event inputs).outcome.come ≡ come_to s (conduct s event inputs).after
+
+abbrev pub ImagesAreGrantedExactly : Type 0
+ImagesAreGrantedExactly = AfterAnyEvents (λ s. PairsExactly s)

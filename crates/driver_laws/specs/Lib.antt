@@ -1,0 +1,14 @@
+pub mod ClosingLaws
+pub mod CounterLaws
+pub mod DenialLaws
+pub mod Events
+pub mod GrantLaws
+pub mod ImageLaws
+pub mod LeavingLaws
+pub mod ListingLaws
+pub mod PublishingLaws
+pub mod RefusalLaws
+pub mod ReloadLaws
+pub mod RemovalLaws
+pub mod SoundnessLaws
+pub mod SubscribingLaws

@@ -1,0 +1,89 @@
+-- Over every list of events: which counters a client is shown.
+use Rattle.std.specs.Prelude.{◌≡◌, ℕ, Bool, true, false, map, filter, Some, None}
+use Rattle.driver_core.specs.declared.listing.Listed.{Listed}
+use Rattle.driver_core.specs.declared.listing.Listed.TheVariants as listed_as
+use Rattle.driver_core.specs.declared.listing.Shown.{Shown}
+use Rattle.driver_core.specs.declared.listing.Shown.TheVariants as shown_as
+use Rattle.driver_core.specs.Listing.{row_of, registered_with, publication_row, publication_question, shows_publication, with_rows, list, value}
+use Rattle.driver_core.specs.Renewal.{publication_at}
+use Rattle.driver_core.specs.State.{State}
+use Rattle.driver_core.specs.Verdicts.{IsByPolicy, verdict_on}
+use Rattle.driver_laws.specs.DenialLaws.{denial_text}
+use Rattle.driver_laws.specs.Events.{AfterAnyEvents}
+use Rattle.client_registry.specs.declared.client.Client.{Client}
+use Rattle.client_registry.specs.Clients.{client_at}
+use Rattle.counters.specs.declared.counter.Counter.{Counter}
+use Rattle.counters.specs.Counters.{counter_at, question_for}
+use Rattle.policy_core.specs.Question.{Question}
+use Rattle.policy_core.specs.Verdict.{verdict_text}
+use Rattle.stream_registry.specs.declared.rows.Publication.{Publication}
+
+-- what the policy is asked before the client is shown the counter
+abbrev pub look_question : Client → Counter → Question
+look_question client counter = question_for client.principal counter
+
+-- the policy in force shows it
+abbrev pub is_shown_to : State → Client → Counter → Bool
+is_shown_to s client counter = (verdict_on s (look_question client counter)).allow
+
+-- what it is asked before the client is shown the publication
+abbrev pub publication_look : Client → Publication → Question
+publication_look client publication = publication_question client.principal publication
+
+-- the rows are those of the counters that the policy in force shows, and of the live publications, each by the first rule
+-- that matches or the default
+pub record ListsExactly (s : State) (client : Client) (answer : Listed) : Type 0 where
+  pub answer_is :
+      answer
+      ≡ listed_as.Counters (with_rows (map row_of (filter (is_shown_to s client) s.counters))
+      (map (publication_row s) (filter (shows_publication s client.principal) s.streams.publications)))
+  pub by :
+      (counter : Counter) → IsByPolicy s (look_question client counter) (verdict_on s (look_question client counter))
+  pub publications_by :
+      (publication : Publication) →
+      IsByPolicy s (publication_look client publication) (verdict_on s (publication_look client publication))
+
+-- the value where the policy in force shows it, else the denial, which names the rule or the default
+pub record ShowsExactly (s : State) (client : Client) (counter : Counter) (answer : Shown) : Type 0 where
+  pub by : IsByPolicy s (look_question client counter) (verdict_on s (look_question client counter))
+  pub shown : is_shown_to s client counter ≡ true → answer ≡ shown_as.Value counter.value
+  pub denied : is_shown_to s client counter ≡ false → answer ≡ shown_as.Denied (verdict_on s (look_question client counter))
+  pub text :
+      is_shown_to s client counter ≡ false →
+      verdict_text (verdict_on s (look_question client counter))
+      ≡ denial_text (verdict_on s (look_question client counter)).rule s.epoch
+
+-- how many are registered with the publication, where the policy in force shows it, else the denial
+pub record ShowsPublicationExactly (s : State) (client : Client) (publication : Publication) (answer : Shown) : Type 0 where
+  pub by : IsByPolicy s (publication_look client publication) (verdict_on s (publication_look client publication))
+  pub shown :
+      (verdict_on s (publication_look client publication)).allow ≡ true →
+      answer ≡ shown_as.Value (registered_with s publication.source)
+  pub denied :
+      (verdict_on s (publication_look client publication)).allow ≡ false →
+      answer ≡ shown_as.Denied (verdict_on s (publication_look client publication))
+  pub text :
+      (verdict_on s (publication_look client publication)).allow ≡ false →
+      verdict_text (verdict_on s (publication_look client publication))
+      ≡ denial_text (verdict_on s (publication_look client publication)).rule s.epoch
+
+-- what a look is told, whoever looks
+pub record LooksExactly (s : State) (handle : ℕ) : Type 0 where
+  pub listed :
+      (client : Client) → client_at s.clients.rows handle ≡ Some client → ListsExactly s client (list s handle)
+  pub valued :
+      (client : Client) (number : ℕ) (counter : Counter) → client_at s.clients.rows handle ≡ Some client →
+      counter_at s.counters number ≡ Some counter → ShowsExactly s client counter (value s handle number)
+  pub published :
+      (client : Client) (number : ℕ) (publication : Publication) → client_at s.clients.rows handle ≡ Some client →
+      counter_at s.counters number ≡ None → publication_at s.streams.publications number ≡ Some publication →
+      ShowsPublicationExactly s client publication (value s handle number)
+  pub unknown :
+      (client : Client) (number : ℕ) → client_at s.clients.rows handle ≡ Some client →
+      counter_at s.counters number ≡ None → publication_at s.streams.publications number ≡ None →
+      value s handle number ≡ shown_as.UnknownCounter
+  pub lists_nobody : client_at s.clients.rows handle ≡ None → list s handle ≡ listed_as.WrongClient
+  pub values_nobody : (number : ℕ) → client_at s.clients.rows handle ≡ None → value s handle number ≡ shown_as.WrongClient
+
+abbrev pub CountersAreShownExactly : Type 0
+CountersAreShownExactly = AfterAnyEvents (λ s. (handle : ℕ) → LooksExactly s handle)

@@ -1,0 +1,156 @@
+-- Over every list of events: publications are granted as the policy in force says, and not otherwise.
+use Rattle.std.specs.Prelude.{◌≡◌, ℕ, ◌+◌, ℤ, Bool, true, false, List, [], ◌∷◌, Contains, Ok, Err, unwrap_or, ◌⊎◌}
+use Rattle.std.specs.List.{AllByRecursion}
+use Rattle.driver_core.specs.declared.change.Change.{Change}
+use Rattle.driver_core.specs.declared.event.Event.{Event}
+use Rattle.driver_core.specs.declared.event.Event.TheVariants.{Command}
+use Rattle.driver_core.specs.declared.event.Inputs.{Inputs}
+use Rattle.driver_core.specs.declared.refusal.Refusal.TheVariants.{Denied, Full, NoRoom}
+use Rattle.driver_core.specs.declared.replies.Reply.{Reply}
+use Rattle.driver_core.specs.declared.replies.Reply.TheVariants.{PublicationReady, ExclusivePublicationReady}
+use Rattle.driver_core.specs.Commands.{heard}
+use Rattle.driver_core.specs.Conduct.{conduct}
+use Rattle.driver_core.specs.Publishing.{has_place, has_room_for_publication, opening_of, place_of_new, ready_for, refused_by_streams, session_of, with_publication}
+use Rattle.driver_core.specs.Renewal.{images_told, images_decided}
+use Rattle.driver_core.specs.Requests.{PublicationRequest, AsksToPublish, publication_question, wanted_by}
+use Rattle.driver_core.specs.State.{State, at_moment}
+use Rattle.driver_core.specs.Verdicts.{IsByPolicy, verdict_on}
+use Rattle.driver_laws.specs.Events.{AfterAnyEvents}
+use Rattle.driver_laws.specs.GrantLaws.{IsRefusedOn, decided_on}
+use Rattle.stream_registry.specs.declared.fault.StreamFault.{StreamFault}
+use Rattle.stream_registry.specs.declared.rows.Publication.{Publication}
+use Rattle.stream_registry.specs.declared.rows.Registration.{Registration}
+use Rattle.stream_registry.specs.declared.wanted.Adding.{Adding}
+use Rattle.stream_registry.specs.declared.wanted.Adding.TheVariants.{Join, Make}
+use Rattle.stream_registry.specs.Adding.{adding_of, log_of, registration_of}
+use Rattle.stream_registry.specs.Streams.{Streams}
+
+-- the policy in force allows it
+abbrev pub IsAllowed : State → PublicationRequest → Type 0
+IsAllowed s request = (verdict_on s (publication_question request)).allow ≡ true
+
+-- the client is registered under the next number with the log that it joins or that is made for it; its own reply names
+-- the two, before those of the images that come by it
+pub record IsPublished (s : State) (now handle : ℕ) (inputs : Inputs) (request : PublicationRequest) (adding : Adding) (change : Change) : Type 0 where
+  pub after_is :
+      change.after ≡ with_publication (heard (at_moment s now) handle) handle (wanted_by request) adding
+  pub told :
+      change.outcome.replies
+      ≡ record {
+        client = handle;
+        reply = ready_for (wanted_by request) request.correlation (s.last_number + 1) (session_of adding);
+      }
+      ∷ images_told change.after inputs change.outcome.gone change.outcome.come
+  pub decided :
+      change.outcome.decisions
+      ≡ decided_on s (publication_question request)
+      ∷ images_decided change.after change.outcome.gone change.outcome.come
+  pub opens : change.outcome.opens ≡ opening_of s (wanted_by request) adding
+  pub closes : change.outcome.closes ≡ []
+
+-- the verdict decides, which is the first matching rule's or the default's; then what is there, the limits, and the room
+-- for a log
+pub record IsPublishedExactly (s : State) (now handle : ℕ) (inputs : Inputs) (request : PublicationRequest) (change : Change) : Type 0 where
+  pub by : IsByPolicy s (publication_question request) (verdict_on s (publication_question request))
+  pub granted :
+      (adding : Adding) → IsAllowed s request → adding_of s.streams (wanted_by request) ≡ Ok adding →
+      has_room_for_publication s handle (wanted_by request) adding ≡ true → has_place s (wanted_by request) adding ≡ true →
+      IsPublished s now handle inputs request adding change
+  pub refused :
+      (fault : StreamFault) → IsAllowed s request → adding_of s.streams (wanted_by request) ≡ Err fault →
+      IsRefusedOn s now handle request.correlation (publication_question request) (refused_by_streams fault) change
+  pub full :
+      (adding : Adding) → IsAllowed s request → adding_of s.streams (wanted_by request) ≡ Ok adding →
+      has_room_for_publication s handle (wanted_by request) adding ≡ false →
+      IsRefusedOn s now handle request.correlation (publication_question request) Full change
+  pub no_room :
+      (adding : Adding) → IsAllowed s request → adding_of s.streams (wanted_by request) ≡ Ok adding →
+      has_room_for_publication s handle (wanted_by request) adding ≡ true → has_place s (wanted_by request) adding ≡ false →
+      IsRefusedOn s now handle request.correlation (publication_question request) NoRoom change
+  pub denied :
+      (verdict_on s (publication_question request)).allow ≡ false →
+      IsRefusedOn s now handle request.correlation (publication_question request)
+      (Denied (verdict_on s (publication_question request))) change
+
+abbrev pub PublicationsAreGrantedExactly : Type 0
+PublicationsAreGrantedExactly =
+    AfterAnyEvents (λ s.
+    (now handle : ℕ) (bytes : List ℕ) (inputs : Inputs) (request : PublicationRequest) →
+    AsksToPublish s handle bytes request →
+    IsPublishedExactly s now handle inputs request (conduct s (Command now handle bytes) inputs))
+
+-- ---- granted only
+
+-- the source number of the log that it joins, or of the one that is made
+abbrev pub source_of : State → Adding → ℕ
+source_of s (Join source session) = source
+source_of s (Make session) = s.last_number + 1
+
+-- the event is a request that the policy in force allows while there is room and a place for a log, and makes this
+-- registration
+pub record IsRegisteredBy (s : State) (event : Event) (registration : Registration) : Type 0 where
+  pub moment : ℕ
+  pub bytes : List ℕ
+  pub request : PublicationRequest
+  pub adding : Adding
+  pub event_is : event ≡ Command moment registration.client bytes
+  pub asks : AsksToPublish s registration.client bytes request
+  pub by : IsByPolicy s (publication_question request) (verdict_on s (publication_question request))
+  pub allowed : IsAllowed s request
+  pub adding_is : adding_of s.streams (wanted_by request) ≡ Ok adding
+  pub room : has_room_for_publication s registration.client (wanted_by request) adding ≡ true
+  pub placed : has_place s (wanted_by request) adding ≡ true
+  pub made_is :
+      registration ≡ registration_of (s.last_number + 1) registration.client (wanted_by request) (source_of s adding)
+
+-- the log was live before, but for the moment since when it lingers
+pub record WasLive (streams : Streams) (publication : Publication) : Type 0 where
+  pub before : Publication
+  pub stood : Contains streams.publications before
+  pub same : publication ≡ record before { lingering_since = publication.lingering_since }
+
+-- the event is such a request, joins no log, and makes this one
+pub record IsLogMadeBy (s : State) (event : Event) (publication : Publication) : Type 0 where
+  pub registration : Registration
+  pub registered : IsRegisteredBy s event registration
+  pub session : ℤ
+  pub makes : registered.adding ≡ Make session
+  pub made_is :
+      publication
+      ≡ log_of s.streams (s.last_number + 1) (wanted_by registered.request)
+      (unwrap_or (place_of_new s (wanted_by registered.request)) 0) session
+
+-- what is told names a registration that the event made, and that stands, with its log's session and stream
+pub record IsReadyBy (s : State) (event : Event) (after : State) (client correlation number : ℕ) (session stream : ℤ) (exclusive : Bool) : Type 0 where
+  pub made : Registration
+  pub registered : IsRegisteredBy s event made
+  pub stands : Contains after.streams.registrations made
+  pub client_is : client ≡ made.client
+  pub number_is : number ≡ made.number
+  pub correlation_is : correlation ≡ registered.request.correlation
+  pub session_is : session ≡ session_of registered.adding
+  pub stream_is : stream ≡ registered.request.fields.stream
+  pub exclusive_is : exclusive ≡ registered.request.exclusive
+
+abbrev pub IsPublicationTold : State → Event → State → ℕ → Reply → Type 0
+IsPublicationTold s event after client (PublicationReady correlation number session stream) =
+    IsReadyBy s event after client correlation number session stream false
+IsPublicationTold s event after client (ExclusivePublicationReady correlation number session stream) =
+    IsReadyBy s event after client correlation number session stream true
+IsPublicationTold s event after client reply = Unit {0}
+
+-- registrations and logs come, and are told of, only by such a request
+pub record PublishesOnly (s : State) (event : Event) (change : Change) : Type 0 where
+  pub registrations :
+      (registration : Registration) → Contains change.after.streams.registrations registration →
+      Contains s.streams.registrations registration ⊎ IsRegisteredBy s event registration
+  pub logs :
+      (publication : Publication) → Contains change.after.streams.publications publication →
+      WasLive s.streams publication ⊎ IsLogMadeBy s event publication
+  pub told :
+      AllByRecursion (λ message. IsPublicationTold s event change.after message.client message.reply)
+      change.outcome.replies
+
+abbrev pub PublicationsAreGrantedOnly : Type 0
+PublicationsAreGrantedOnly =
+    AfterAnyEvents (λ s. (event : Event) (inputs : Inputs) → PublishesOnly s event (conduct s event inputs))

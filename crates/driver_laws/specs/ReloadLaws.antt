@@ -1,0 +1,72 @@
+-- Over every list of events: which policy is in force, and what a reload closes.
+use Rattle.std.specs.Prelude.{◌≡◌, ℕ, ◌+◌, max, true, false, [], None, if◌then◌else◌}
+use Rattle.driver_core.specs.declared.change.Change.{Change}
+use Rattle.driver_core.specs.declared.event.Event.{Event}
+use Rattle.driver_core.specs.declared.event.Event.TheVariants.{Reload}
+use Rattle.driver_core.specs.declared.event.Inputs.{Inputs}
+use Rattle.driver_core.specs.declared.outcome.Response.TheVariants.{PolicyInForce, PolicyFull}
+use Rattle.driver_core.specs.Conduct.{conduct, state_after}
+use Rattle.driver_core.specs.Pairs.{pairs_of, lacking}
+use Rattle.driver_core.specs.Reloading.{has_room_for_policy}
+use Rattle.driver_core.specs.Renewal.{images_told, images_decided}
+use Rattle.driver_core.specs.State.{State}
+use Rattle.driver_laws.specs.Events.{AfterAnyEvents}
+use Rattle.policy_core.specs.RuleList.{Rules}
+
+-- ---- a reload closes exactly
+
+-- The policy is in force under the next number, and all lists are as they were. The pairs that go are those by the old
+-- policy that those by the new one lack, and the pairs that it gains come; this is told, and nothing else. No log opens or
+-- closes.
+pub record ClosesExactly (s : State) (now : ℕ) (policy : Rules) (inputs : Inputs) (change : Change) : Type 0 where
+  pub after_is : change.after ≡ record s { moment = max s.moment now; policy = policy; epoch = s.epoch + 1 }
+  pub told : change.outcome.response ≡ PolicyInForce (s.epoch + 1)
+  pub gone : change.outcome.gone ≡ lacking (pairs_of s) (pairs_of change.after)
+  pub come : change.outcome.come ≡ lacking (pairs_of change.after) (pairs_of s)
+  pub replies : change.outcome.replies ≡ images_told change.after inputs change.outcome.gone change.outcome.come
+  pub decisions : change.outcome.decisions ≡ images_decided change.after change.outcome.gone change.outcome.come
+  pub opens : change.outcome.opens ≡ None
+  pub closes : change.outcome.closes ≡ []
+
+-- a reload that is refused closes nothing
+pub record ClosesNothing (s : State) (now : ℕ) (change : Change) : Type 0 where
+  pub after_is : change.after ≡ record s { moment = max s.moment now }
+  pub told : change.outcome.response ≡ PolicyFull
+  pub gone : change.outcome.gone ≡ []
+  pub come : change.outcome.come ≡ []
+  pub replies : change.outcome.replies ≡ []
+  pub decisions : change.outcome.decisions ≡ []
+  pub opens : change.outcome.opens ≡ None
+  pub closes : change.outcome.closes ≡ []
+
+-- it is refused where a limit would be broken
+pub record IsReloadedExactly (s : State) (now : ℕ) (policy : Rules) (inputs : Inputs) (change : Change) : Type 0 where
+  pub granted : has_room_for_policy s policy ≡ true → ClosesExactly s now policy inputs change
+  pub refused : has_room_for_policy s policy ≡ false → ClosesNothing s now change
+
+abbrev pub ReloadsCloseExactly : Type 0
+ReloadsCloseExactly =
+    AfterAnyEvents (λ s.
+    (now : ℕ) (policy : Rules) (inputs : Inputs) →
+    IsReloadedExactly s now policy inputs (conduct s (Reload now policy) inputs))
+
+-- ---- the newest policy is in force
+
+-- a policy with its number
+pub record Numbered : Type 0 where
+  pub policy : Rules
+  pub epoch : ℕ
+
+abbrev pub in_force_at : State → Numbered
+in_force_at s = record { policy = s.policy; epoch = s.epoch }
+
+-- a reload that is not refused brings the next policy, and nothing else does
+abbrev pub newest_after : State → Event → Numbered
+newest_after s (Reload now policy) =
+    if has_room_for_policy s policy then record { policy = policy; epoch = s.epoch + 1 } else in_force_at s
+newest_after s event = in_force_at s
+
+abbrev pub NewestPolicyIsInForce : Type 0
+NewestPolicyIsInForce =
+    AfterAnyEvents (λ s.
+    (event : Event) (inputs : Inputs) → in_force_at (state_after s event inputs) ≡ newest_after s event)

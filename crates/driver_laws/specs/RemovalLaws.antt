@@ -1,0 +1,125 @@
+-- Over every list of events: which subscriptions and registrations go.
+use Rattle.std.specs.Prelude.{◌≡◌, ℕ, max, true, false, List, [], ◌∷◌, Contains, ◌⊎◌}
+use Rattle.driver_core.specs.declared.change.Change.{Change}
+use Rattle.driver_core.specs.declared.event.Event.{Event}
+use Rattle.driver_core.specs.declared.event.Event.TheVariants.{Command}
+use Rattle.driver_core.specs.declared.event.Inputs.{Inputs}
+use Rattle.driver_core.specs.declared.refusal.Refusal.{Refusal}
+use Rattle.driver_core.specs.declared.refusal.Refusal.TheVariants.{UnknownPublication, UnknownSubscription}
+use Rattle.driver_core.specs.declared.replies.Reply.TheVariants.{Error, OperationSuccess}
+use Rattle.driver_core.specs.Commands.{heard}
+use Rattle.driver_core.specs.Conduct.{conduct, state_after}
+use Rattle.driver_core.specs.Renewal.{images_told, images_decided}
+use Rattle.driver_core.specs.Requests.{Asks, RemovalRequest, AsksToRemove}
+use Rattle.driver_core.specs.State.{State, at_moment}
+use Rattle.driver_laws.specs.Events.{AfterAnyEvents}
+use Rattle.driver_laws.specs.LeavingLaws.{IsGoneBy}
+use Rattle.client_registry.specs.declared.client.Client.{Client}
+use Rattle.command_codec.specs.declared.command.Body.{Body}
+use Rattle.command_codec.specs.declared.command.Body.TheVariants.{RemovePublication as Unpublishes}
+use Rattle.command_codec.specs.declared.removal.Removal.{Removal}
+use Rattle.stream_registry.specs.declared.rows.Registration.{Registration}
+use Rattle.stream_registry.specs.declared.rows.Subscription.{Subscription}
+use Rattle.stream_registry.specs.Leaving.{has_registration, has_subscription, unregistered, unsubscribed}
+
+-- ---- subscriptions are removed exactly
+
+-- the client's subscription of that number goes, and all else stays but for the moments
+pub record IsRemoved (s : State) (now handle : ℕ) (inputs : Inputs) (request : RemovalRequest) (change : Change) : Type 0 where
+  pub after_is :
+      change.after
+      ≡ record (heard (at_moment s now) handle) {
+        streams = unsubscribed s.streams handle request.fields.registration;
+      }
+  pub told :
+      change.outcome.replies
+      ≡ record { client = handle; reply = OperationSuccess request.correlation }
+      ∷ images_told change.after inputs change.outcome.gone change.outcome.come
+  pub decided : change.outcome.decisions ≡ images_decided change.after change.outcome.gone change.outcome.come
+
+-- nothing goes, and the one reply says why
+pub record IsUnknown (s : State) (now handle correlation : ℕ) (refusal : Refusal) (change : Change) : Type 0 where
+  pub after_is : change.after ≡ heard (at_moment s now) handle
+  pub told : change.outcome.replies ≡ record { client = handle; reply = Error correlation refusal } ∷ []
+  pub decided : change.outcome.decisions ≡ []
+
+pub record IsRemovedExactly (s : State) (now handle : ℕ) (inputs : Inputs) (request : RemovalRequest) (change : Change) : Type 0 where
+  pub known : has_subscription s.streams handle request.fields.registration ≡ true → IsRemoved s now handle inputs request change
+  pub unknown : has_subscription s.streams handle request.fields.registration ≡ false → IsUnknown s now handle request.correlation UnknownSubscription change
+
+abbrev pub SubscriptionsAreRemovedExactly : Type 0
+SubscriptionsAreRemovedExactly =
+    AfterAnyEvents (λ s.
+    (now handle : ℕ) (bytes : List ℕ) (inputs : Inputs) (request : RemovalRequest) →
+    AsksToRemove s handle bytes request →
+    IsRemovedExactly s now handle inputs request (conduct s (Command now handle bytes) inputs))
+
+-- ---- subscriptions are removed only
+
+-- the event is the request of the subscription's own client that it go
+pub record IsRemovedBy (s : State) (event : Event) (subscription : Subscription) : Type 0 where
+  pub moment : ℕ
+  pub bytes : List ℕ
+  pub request : RemovalRequest
+  pub event_is : event ≡ Command moment subscription.client bytes
+  pub asks : AsksToRemove s subscription.client bytes request
+  pub number_is : subscription.number ≡ request.fields.registration
+
+-- or it takes the subscription's client away, and with it all that the client registered
+abbrev pub Goes : State → Event → Subscription → Type 0
+Goes s event subscription = IsRemovedBy s event subscription ⊎ IsGoneBy s event subscription.client
+
+abbrev pub SubscriptionsAreRemovedOnly : Type 0
+SubscriptionsAreRemovedOnly =
+    AfterAnyEvents (λ s.
+    (event : Event) (inputs : Inputs) (subscription : Subscription) → Contains s.streams.subscriptions subscription →
+    Contains (state_after s event inputs).streams.subscriptions subscription ⊎ Goes s event subscription)
+
+-- ---- registrations are removed exactly
+
+-- The client's registration of that number goes, and its log lingers from now on where nobody else is registered with it.
+-- All else stays but for the moments.
+pub record IsUnregistered (s : State) (now handle correlation number : ℕ) (inputs : Inputs) (change : Change) : Type 0 where
+  pub after_is :
+      change.after
+      ≡ record (heard (at_moment s now) handle) {
+        streams = unregistered s.streams handle number (max s.moment now);
+      }
+  pub told :
+      change.outcome.replies
+      ≡ record { client = handle; reply = OperationSuccess correlation }
+      ∷ images_told change.after inputs change.outcome.gone change.outcome.come
+  pub decided : change.outcome.decisions ≡ images_decided change.after change.outcome.gone change.outcome.come
+
+pub record IsUnregisteredExactly (s : State) (now handle correlation number : ℕ) (inputs : Inputs) (change : Change) : Type 0 where
+  pub known : has_registration s.streams handle number ≡ true → IsUnregistered s now handle correlation number inputs change
+  pub unknown :
+      has_registration s.streams handle number ≡ false → IsUnknown s now handle correlation UnknownPublication change
+
+abbrev pub RegistrationsAreRemovedExactly : Type 0
+RegistrationsAreRemovedExactly =
+    AfterAnyEvents (λ s.
+    (now handle correlation : ℕ) (bytes : List ℕ) (inputs : Inputs) (client : Client) (fields : Removal) →
+    Asks s handle bytes client correlation (Unpublishes fields) →
+    IsUnregisteredExactly s now handle correlation fields.registration inputs (
+    conduct s (Command now handle bytes) inputs))
+
+-- ---- registrations are removed only
+
+-- the event is this request, of this client
+pub record IsAskedBy (s : State) (event : Event) (client : ℕ) (body : Body) : Type 0 where
+  pub moment : ℕ
+  pub bytes : List ℕ
+  pub row : Client
+  pub correlation : ℕ
+  pub event_is : event ≡ Command moment client bytes
+  pub asks : Asks s client bytes row correlation body
+
+abbrev pub RegistrationsAreRemovedOnly : Type 0
+RegistrationsAreRemovedOnly =
+    AfterAnyEvents (λ s.
+    (event : Event) (inputs : Inputs) (registration : Registration) →
+    Contains s.streams.registrations registration →
+    Contains (state_after s event inputs).streams.registrations registration
+    ⊎ (IsAskedBy s event registration.client (Unpublishes (record { registration = registration.number }))
+    ⊎ IsGoneBy s event registration.client))

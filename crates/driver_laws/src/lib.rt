@@ -1,0 +1,135 @@
+//! What the registry of a driver promises over every list of events: each function does nothing, and its clause is the
+//! law. The laws speak of `outcome_of` and `state_after`, which `Registry::step` meets, and of words that this crate's
+//! `specs/` define by them.
+#![tactic(auto)]
+
+ghost use Rattle.driver_laws.specs.CounterLaws.{CountersAreRemovedExactly};
+ghost use Rattle.driver_laws.specs.DenialLaws.{DenialsAreNamed};
+ghost use Rattle.driver_laws.specs.GrantLaws.{CountersAreGrantedExactly, TerminationsAreGrantedExactly, CountersAndTerminationsAreGrantedOnly};
+ghost use Rattle.driver_laws.specs.ImageLaws.{ImagesAreGrantedExactly};
+ghost use Rattle.driver_laws.specs.LeavingLaws.{ClientsGoExactly, RowsGoWithTheirClient};
+ghost use Rattle.driver_laws.specs.ListingLaws.{CountersAreShownExactly};
+ghost use Rattle.driver_laws.specs.PublishingLaws.{PublicationsAreGrantedExactly, PublicationsAreGrantedOnly};
+ghost use Rattle.driver_laws.specs.RefusalLaws.{RefusalsChangeNoMoreThanMoments};
+ghost use Rattle.driver_laws.specs.ReloadLaws.{ReloadsCloseExactly, NewestPolicyIsInForce};
+ghost use Rattle.driver_laws.specs.RemovalLaws.{RegistrationsAreRemovedExactly, SubscriptionsAreRemovedExactly, SubscriptionsAreRemovedOnly};
+ghost use Rattle.driver_laws.specs.SoundnessLaws.{RegistriesAreSound};
+ghost use Rattle.driver_laws.specs.SubscribingLaws.{SubscriptionsAreGrantedExactly, SubscriptionsAreGrantedOnly};
+
+/// A client's well-formed request for a subscription is granted where the first rule that matches allows it, or where
+/// none matches and the default does, and there is room; else it is refused, by the verdict or as full.
+pub fn subscriptions_are_granted_exactly()
+    ensures { SubscriptionsAreGrantedExactly }
+{}
+
+/// A subscription comes, and is told of, only where a well-formed request was allowed by the policy in force.
+pub fn subscriptions_are_granted_only()
+    ensures { SubscriptionsAreGrantedOnly }
+{}
+
+/// A client's well-formed request for a publication, exclusive or not, is granted where the first rule that matches allows
+/// it, or where none matches and the default does, nothing of the same place or session contradicts it, and there is room
+/// and a place for its log; else it is refused by the first of these that fails.
+pub fn publications_are_granted_exactly()
+    ensures { PublicationsAreGrantedExactly }
+{}
+
+/// A registration with a publication, and its log, come, and are told of, only where a well-formed request was allowed by
+/// the policy in force.
+pub fn publications_are_granted_only()
+    ensures { PublicationsAreGrantedOnly }
+{}
+
+/// A subscription reads a log exactly where the two fit and the policy in force allows the image to the subscription's
+/// client; what an event opens and closes of these is the difference that it makes.
+pub fn images_are_granted_exactly()
+    ensures { ImagesAreGrantedExactly }
+{}
+
+/// A client's well-formed request for a counter is granted where the first rule that matches allows it, or where none
+/// matches and the default does, and there is room; else it is refused, by the verdict or as full.
+pub fn counters_are_granted_exactly()
+    ensures { CountersAreGrantedExactly }
+{}
+
+/// A client's well-formed request that the driver end is granted where the first rule that matches allows it, or where
+/// none matches and the default does; then all clients are gone, and all logs close. Else it is refused, by the verdict.
+pub fn terminations_are_granted_exactly()
+    ensures { TerminationsAreGrantedExactly }
+{}
+
+/// A counter comes, and the driver ends, only where a well-formed request for it was allowed by the policy in force.
+pub fn counters_and_terminations_are_granted_only()
+    ensures { CountersAndTerminationsAreGrantedOnly }
+{}
+
+/// A client is listed exactly the counters and publications that the policy in force shows it, and is told the value of
+/// one exactly where the policy shows that one; a denial names the least rule that matches, or the default where none does.
+pub fn counters_are_shown_exactly()
+    ensures { CountersAreShownExactly }
+{}
+
+/// A denial is told only of a request that the policy in force denies, and names the least rule that matches, or the
+/// default where none does.
+pub fn denials_are_named()
+    ensures { DenialsAreNamed }
+{}
+
+/// A client's request that a subscription go takes away the one of that number that is the client's own, and nothing
+/// else; where it has none, nothing goes, and the subscription is unknown.
+pub fn subscriptions_are_removed_exactly()
+    ensures { SubscriptionsAreRemovedExactly }
+{}
+
+/// A subscription goes only where its own client asks for it, or goes itself: it was silent for too long, it closed, or
+/// the driver was ended by a request that the policy in force allowed.
+pub fn subscriptions_are_removed_only()
+    ensures { SubscriptionsAreRemovedOnly }
+{}
+
+/// A client's request that its registration with a publication go takes away the one of that number that is the client's
+/// own, and nothing else; the log lingers from then on where nobody else is registered with it. Where the client has none,
+/// nothing goes, and the publication is unknown.
+pub fn registrations_are_removed_exactly()
+    ensures { RegistrationsAreRemovedExactly }
+{}
+
+/// A client's request that a counter go takes away the one of that number that is the client's own, and nothing else; where
+/// it has none, nothing goes, and the counter is unknown.
+pub fn counters_are_removed_exactly()
+    ensures { CountersAreRemovedExactly }
+{}
+
+/// A client is not there after a tick at which nothing was heard of it for longer than the liveness, after its own request
+/// that it close, and after a request that the driver end which the policy in force allowed.
+pub fn clients_go_exactly()
+    ensures { ClientsGoExactly }
+{}
+
+/// After an event that takes a client away no registration, subscription or counter of it is there.
+pub fn rows_go_with_their_client()
+    ensures { RowsGoWithTheirClient }
+{}
+
+/// A reload puts its policy in force under the next number and leaves all lists as they are: the pairs go that the old
+/// policy allowed and the new one does not, and those come that it gains. A reload that is refused closes nothing.
+pub fn reloads_close_exactly()
+    ensures { ReloadsCloseExactly }
+{}
+
+/// The policy in force is that of the newest reload that was not refused, or the first one; nothing else changes it.
+pub fn newest_policy_is_in_force()
+    ensures { NewestPolicyIsInForce }
+{}
+
+/// An event that grants nothing and closes no log sets the moment of the registry and of the client that was heard of,
+/// and no more.
+pub fn refusals_change_no_more_than_moments()
+    ensures { RefusalsChangeNoMoreThanMoments }
+{}
+
+/// In a registry that was opened with sound settings, all logs have sound sizes, are numbered in the order in which they
+/// came, and share no page, whatever happened.
+pub fn registries_are_sound()
+    ensures { RegistriesAreSound }
+{}
