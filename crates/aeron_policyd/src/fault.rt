@@ -1,5 +1,5 @@
 use driver_script::RunFault;
-use driver_script::deciding::DecideFault;
+use policy_query::DecideFault;
 use policy_text::PolicyFault;
 use std::alloc::AllocError;
 use thiserror::Error;

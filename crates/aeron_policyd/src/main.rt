@@ -1,7 +1,7 @@
 //! `aeron_policyd`: the shared part of an Aeron media driver under a channel policy, on the command line.
 //!
-//! The work is done in `driver_script`. Here are the words of the command line, the file, and what the program ends
-//! with: 0, or 1 after a fault or a bad line of a script, or 2 where the command line is at fault.
+//! The work is done in `driver_script` and `policy_query`. Here are the words of the command line, the file, and what
+//! the program ends with: 0, or 1 after a fault or a bad line of a script, or 2 where the command line is at fault.
 #![tactic(auto)]
 
 mod command_line;
@@ -11,9 +11,9 @@ use crate::command_line::{Task, command, task_in};
 use crate::fault::Fault;
 use clap::ArgMatches;
 use clap::error::ErrorKind;
-use driver_script::deciding::{check, decide};
 use driver_script::script::Ended;
 use driver_script::{MayFail, read_input, script};
+use policy_query::{check, decide};
 use std::process::ExitCode;
 use std::rt::{Env, Files};
 use std::{env, fs, io};

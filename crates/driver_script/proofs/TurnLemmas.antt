@@ -13,9 +13,9 @@ use Rattle.driver_script.specs.declared.fault.RunFault.{RunFault}
 use Rattle.driver_script.specs.declared.script.Head.{Head}
 use Rattle.driver_script.specs.declared.script.Preface.{Preface}
 use Rattle.driver_script.specs.declared.script.Head.TheVariants as head
-use Rattle.driver_script.specs.declared.statements.Said.{Said}
-use Rattle.driver_script.specs.declared.statements.Said.TheVariants.{Principal, Set, Policy, Does, Bad}
-use Rattle.driver_script.specs.declared.statements.Statement.{Statement}
+use Rattle.script_lines.specs.declared.statements.Said.{Said}
+use Rattle.script_lines.specs.declared.statements.Said.TheVariants.{Principal, Set, Policy, Does, Bad}
+use Rattle.script_lines.specs.declared.statements.Statement.{Statement}
 use Rattle.driver_script.specs.Output.{AppendsFront}
 use Rattle.policy_core.specs.RuleList.{Rules}
 use Rattle.policy_text.specs.declared.fault.PolicyFault.{PolicyFault}

@@ -29,9 +29,13 @@ hex_text (byte ∷ bytes) = flat_map byte_text (byte ∷ bytes)
 abbrev pub reply_text : ℕ → List ℕ → List ℕ
 reply_text client bytes = codes "reply " ++ (decimal client ++ (codes " " ++ (hex_text bytes ++ codes "\n")))
 
+-- a word and a number, and what stands between them
+abbrev pub numbered_line : List ℕ → ℕ → List ℕ
+numbered_line word number = word ++ (decimal number ++ codes "\n")
+
 -- a policy that is in force
 abbrev pub policy_line : ℕ → List ℕ
-policy_line epoch = codes "policy " ++ (decimal epoch ++ codes "\n")
+policy_line epoch = numbered_line (codes "policy ") epoch
 
 -- a policy whose text is refused
 abbrev pub refusal_line : PolicyFault → List ℕ
@@ -52,7 +56,7 @@ offer_line answer = codes "offer " ++ (offered_text answer ++ codes "\n")
 
 -- so many fragments
 abbrev pub poll_line : ℕ → List ℕ
-poll_line count = codes "poll " ++ (decimal count ++ codes "\n")
+poll_line count = numbered_line (codes "poll ") count
 
 -- a fragment that is polled: the position behind its frame, the byte of its flags, and its payload
 abbrev pub fragment_line : ℕ → Flags → List ℕ → List ℕ
@@ -63,7 +67,7 @@ fragment_line position flags payload =
 
 -- so many counters
 abbrev pub list_line : ℕ → List ℕ
-list_line count = codes "list " ++ (decimal count ++ codes "\n")
+list_line count = numbered_line (codes "list ") count
 
 -- a counter that is listed: its number, its type, its value and its label
 abbrev pub counter_line : ℕ → ℤ → ℤ → List ℕ → List ℕ
@@ -83,7 +87,7 @@ denial_line verdict = verdict_text verdict ++ codes "\n"
 
 -- each line with its line feed
 unfoldable pub line_text : AnswerLine → List ℕ
-line_text (Attached client) = codes "attached " ++ (decimal client ++ codes "\n")
+line_text (Attached client) = numbered_line (codes "attached ") client
 line_text Full = codes "full\n"
 line_text Stopped = codes "stopped\n"
 line_text (PolicyInForce epoch) = policy_line epoch

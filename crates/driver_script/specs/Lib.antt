@@ -1,15 +1,6 @@
 pub mod Answers
-pub mod Deciding
 pub mod Ends
 pub mod Fault
-pub mod Hex
-pub mod Left
-pub mod Line
-pub mod LineFault
-pub mod Number
 pub mod Output
-pub mod Pieces
-pub mod Settings
-pub mod Statements
 pub mod Script
 pub mod Turns

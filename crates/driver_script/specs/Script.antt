@@ -20,12 +20,12 @@ use Rattle.policy_text.specs.Document.{policy_of}
 use Rattle.policy_text.specs.Names.{Known, number_of}
 use Rattle.driver_script.specs.declared.script.Ended.{Ended}
 use Rattle.driver_script.specs.declared.script.Ended.TheVariants.{Done, BadLine}
-use Rattle.driver_script.specs.declared.statements.Said.{Said}
+use Rattle.script_lines.specs.declared.statements.Said.{Said}
 use Rattle.driver_script.specs.declared.script.Preface.{Preface}
-use Rattle.driver_script.specs.declared.statements.Said.TheVariants.{Principal, Set, Policy, Does, Bad}
-use Rattle.driver_script.specs.declared.statements.Statement.{Statement}
+use Rattle.script_lines.specs.declared.statements.Said.TheVariants.{Principal, Set, Policy, Does, Bad}
+use Rattle.script_lines.specs.declared.statements.Statement.{Statement}
 use Rattle.driver_script.specs.Answers.{policy_line, refusal_line, reply_text, offer_line, poll_line, fragment_line, list_line, counter_line, value_line, denial_line}
-use Rattle.driver_script.specs.Settings.{Chosen, no_choices, choose}
+use Rattle.script_lines.specs.Settings.{Chosen, no_choices, choose}
 
 -- ---- the head of a script: its principals, its settings and its policy
 

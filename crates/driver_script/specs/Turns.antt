@@ -16,9 +16,9 @@ use Rattle.driver_script.specs.declared.script.Head.TheVariants as head
 use Rattle.driver_script.specs.declared.script.Preface.{Preface}
 use Rattle.driver_script.specs.declared.fault.RunFault.{RunFault}
 use Rattle.driver_script.specs.declared.fault.RunFault.TheVariants as fault
-use Rattle.driver_script.specs.declared.statements.Said.{Said}
-use Rattle.driver_script.specs.declared.statements.Said.TheVariants.{Policy}
-use Rattle.driver_script.specs.declared.statements.Statement.{Statement}
+use Rattle.script_lines.specs.declared.statements.Said.{Said}
+use Rattle.script_lines.specs.declared.statements.Said.TheVariants.{Policy}
+use Rattle.script_lines.specs.declared.statements.Statement.{Statement}
 use Rattle.driver_script.specs.Output.{AppendsFront}
 use Rattle.driver_script.specs.Script.{Opening, Ends, Refuses, Opens, opening_of, Takes, deed_of, Told, Answered, Refused, Writes, IsScriptText}
 

@@ -5,6 +5,7 @@ use frame_codec::Flags;
 use policy_core::Verdict;
 use policy_text::PolicyFault;
 use std::fmt;
+use std::fmt::Display;
 
 /// Bytes in lower-case hexadecimal, two digits for each; `-` where there are none.
 #[derive(Clone, Copy)]
@@ -50,8 +51,88 @@ impl fmt::Display for OfferCode {
     }
 }
 
+/// A line of a word and a number; the word with what stands between them.
+#[derive(Clone, Copy)]
+struct Numbered<'a>(&'a str, u64);
+
+impl fmt::Display for Numbered<'_> {
+    ghost use Rattle.driver_script.specs.Answers.{numbered_line};
+
+    ghost output = { λ line. Some (numbered_line line.0.now line.1) };
+
+    fn fmt<W: fmt::Write>(&self, f: &mut fmt::Formatter<W>) -> fmt::Result {
+        let word = self.0;
+        let number = self.1;
+        writeln!(f, "{word}{number}")
+    }
+}
+
+/// The line of a reply.
+#[derive(Clone, Copy)]
+struct ReplyLine<'a> {
+    client: u64,
+    bytes: &'a [u8],
+}
+
+impl fmt::Display for ReplyLine<'_> {
+    ghost use Rattle.driver_script.specs.Answers.{reply_text};
+
+    ghost output = { λ line. Some (reply_text line.client line.bytes.now) };
+
+    fn fmt<W: fmt::Write>(&self, f: &mut fmt::Formatter<W>) -> fmt::Result {
+        let client = self.client;
+        let bytes = Hex(self.bytes);
+        writeln!(f, "reply {client} {bytes}")
+    }
+}
+
+/// The line of a fragment.
+#[derive(Clone, Copy)]
+struct FragmentLine<'a> {
+    position: u64,
+    flags: Flags,
+    payload: &'a [u8],
+}
+
+impl fmt::Display for FragmentLine<'_> {
+    ghost use Rattle.driver_script.specs.Answers.{fragment_line};
+
+    ghost output = { λ line. Some (fragment_line line.position line.flags line.payload.now) };
+
+    fn fmt<W: fmt::Write>(&self, f: &mut fmt::Formatter<W>) -> fmt::Result {
+        let position = self.position;
+        let flags = [self.flags.bits];
+        let flags = Hex(&flags);
+        let payload = Hex(self.payload);
+        writeln!(f, "fragment {position} {flags} {payload}")
+    }
+}
+
+/// The line of a counter.
+#[derive(Clone, Copy)]
+struct CounterLine<'a> {
+    number: u64,
+    type_id: i32,
+    value: i64,
+    label: &'a [u8],
+}
+
+impl fmt::Display for CounterLine<'_> {
+    ghost use Rattle.driver_script.specs.Answers.{counter_line};
+
+    ghost output = { λ line. Some (counter_line line.number line.type_id line.value line.label.now) };
+
+    fn fmt<W: fmt::Write>(&self, f: &mut fmt::Formatter<W>) -> fmt::Result {
+        let number = self.number;
+        let type_id = self.type_id;
+        let value = self.value;
+        let label = Hex(self.label);
+        writeln!(f, "counter {number} {type_id} {value} {label}")
+    }
+}
+
 /// One line of an answer.
-#[derive(Clone, Copy, Debug)]
+#[derive(Clone, Copy)]
 pub enum AnswerLine<'a> {
     /// A client of this id is attached.
     Attached(u64),
@@ -113,48 +194,48 @@ impl fmt::Display for AnswerLine<'_> {
 
     #[tactic(auto, unfolding(crate::specs::Answers::line_text))]
     fn fmt<W: fmt::Write>(&self, f: &mut fmt::Formatter<W>) -> fmt::Result {
-        match self {
-            AnswerLine::Attached(client) => writeln!(f, "attached {client}"),
-            AnswerLine::Full => writeln!(f, "full"),
-            AnswerLine::Stopped => writeln!(f, "stopped"),
-            AnswerLine::PolicyInForce(epoch) => writeln!(f, "policy {epoch}"),
-            AnswerLine::PolicyFull => writeln!(f, "policy refused: full"),
+        match *self {
+            AnswerLine::Attached(client) => Numbered("attached ", client).fmt(f),
+            AnswerLine::Full => f.write_str("full\n"),
+            AnswerLine::Stopped => f.write_str("stopped\n"),
+            AnswerLine::PolicyInForce(epoch) => Numbered("policy ", epoch).fmt(f),
+            AnswerLine::PolicyFull => f.write_str("policy refused: full\n"),
             AnswerLine::PolicyRefused(fault) => writeln!(f, "policy refused: {fault}"),
-            AnswerLine::Reply { client, bytes } => {
-                let bytes = Hex(bytes);
-                writeln!(f, "reply {client} {bytes}")
-            }
+            AnswerLine::Reply { client, bytes } => ReplyLine { client, bytes }.fmt(f),
             AnswerLine::Offer(offered) => {
-                let code = OfferCode(*offered);
+                let code = OfferCode(offered);
                 writeln!(f, "offer {code}")
             }
-            AnswerLine::Poll(count) => writeln!(f, "poll {count}"),
+            AnswerLine::Poll(count) => Numbered("poll ", count).fmt(f),
             AnswerLine::Fragment {
                 position,
                 flags,
                 payload,
-            } => {
-                let flags = [flags.bits];
-                let flags = Hex(&flags);
-                let payload = Hex(payload);
-                writeln!(f, "fragment {position} {flags} {payload}")
+            } => FragmentLine {
+                position,
+                flags,
+                payload,
             }
-            AnswerLine::Gone => writeln!(f, "gone"),
-            AnswerLine::List(count) => writeln!(f, "list {count}"),
+            .fmt(f),
+            AnswerLine::Gone => f.write_str("gone\n"),
+            AnswerLine::List(count) => Numbered("list ", count).fmt(f),
             AnswerLine::Counter {
                 number,
                 type_id,
                 value,
                 label,
-            } => {
-                let label = Hex(label);
-                writeln!(f, "counter {number} {type_id} {value} {label}")
+            } => CounterLine {
+                number,
+                type_id,
+                value,
+                label,
             }
+            .fmt(f),
             AnswerLine::Value(value) => writeln!(f, "value {value}"),
             AnswerLine::Denied(verdict) => writeln!(f, "{verdict}"),
-            AnswerLine::UnknownCounter => writeln!(f, "unknown counter"),
-            AnswerLine::WrongClient => writeln!(f, "wrong client"),
-            AnswerLine::NoMemory => writeln!(f, "no memory"),
+            AnswerLine::UnknownCounter => f.write_str("unknown counter\n"),
+            AnswerLine::WrongClient => f.write_str("wrong client\n"),
+            AnswerLine::NoMemory => f.write_str("no memory\n"),
             AnswerLine::BadLine(number) => writeln!(f, "line {number}: bad line"),
         }
     }

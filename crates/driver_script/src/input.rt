@@ -4,10 +4,8 @@ ghost use Rattle.std.specs.Prelude.{◌≡◌, ◌<◌, ◌≤◌, IfErr, IfOk, 
 
 use crate::ends::Source;
 use crate::fault::RunFault;
+use script_lines::statements::LIMIT;
 use std::alloc::Global;
-
-/// The most bytes that a script may have.
-pub const LIMIT: usize = 16_777_216;
 
 /// All that the reader gives.
 ///

@@ -7,11 +7,11 @@ ghost use Rattle.driver_script.specs.Script.{message_text, counter_text, fragmen
 ghost use Rattle.std.specs.Io.KnownBytes.{Appends};
 ghost use Rattle.std.specs.List.{flat_map};
 ghost use Rattle.driver_script.specs.declared.script.Ended.TheVariants.{BadLine};
-ghost use Rattle.driver_script.specs.declared.statements.Said.TheVariants.{Principal, Set, Policy};
+ghost use Rattle.script_lines.specs.declared.statements.Said.TheVariants.{Principal, Set, Policy};
 ghost use Rattle.driver_script.specs.declared.fault.RunFault.TheVariants.{TooLong};
-ghost use Rattle.driver_script.specs.declared.input.TheConstants.{LIMIT};
-ghost use Rattle.driver_script.specs.Statements.{statements_of};
-ghost use Rattle.driver_script.specs.Left.{left};
+ghost use Rattle.script_lines.specs.declared.statements.TheConstants.{LIMIT};
+ghost use Rattle.script_lines.specs.Statements.{statements_of};
+ghost use Rattle.script_lines.specs.Left.{left};
 ghost use Rattle.driver_script.specs.Script.{opening_of};
 ghost use Rattle.driver_script.specs.Turns.{TakesHead, IsHead, Steps, GivesUpStep, Puts, GivesUpPolicy, told_of_fault, TakesStep, GivesUp, WritesWhole, WritesFront, WritesScript, BeginsScript, IsBegun, IsUnread};
 ghost use Rattle.std.specs.Prelude.{◌≡◌, ◌<◌, ◌≤◌, ◌++◌, [], Some, None, Err, IfOk, IfErr, IfSome, OnOk, OnErr, length};
@@ -20,14 +20,14 @@ ghost use Rattle.std.specs.String.{string_bytes};
 use crate::answers::AnswerLine;
 use crate::ends::{Source, Target};
 use crate::fault::RunFault;
-use crate::input::{LIMIT, read_input};
+use crate::input::read_input;
 use crate::output::write_whole;
-use crate::settings::Choices;
-use crate::statements::{Said, Statement, Statements};
 use byte_strings::Text;
 use driver_core::{Event, ListedCounter, Message};
 use driver_world::{Answer, Fragment, Step, World};
 use policy_text::{Names, PolicyFault};
+use script_lines::settings::Choices;
+use script_lines::statements::{LIMIT, Said, Statement, Statements};
 use std::alloc::{AllocError, Global};
 
 /// How the run of a script ended.

@@ -1,5 +1,5 @@
 use crate::play::is_shown;
-use driver_script::deciding::{DecideFault, check, decide};
+use policy_query::{DecideFault, check, decide};
 use std::alloc::Global;
 
 const OPEN: &[u8] = b"version = 1\ndefault = \"allow\"\n";

@@ -1,4 +1,5 @@
-//! Tests of `driver_script`: of its readers, of the runs of scripts, and of questions to a policy.
+//! Tests of `script_lines`, `driver_script` and `policy_query`: of their readers, of the runs of scripts, and of questions
+//! to a policy.
 #![tactic(auto)]
 
 #[cfg(test)]

@@ -3,13 +3,13 @@ use crate::play::is_shown;
 use byte_strings::{Bytes, Text};
 use driver_core::Event;
 use driver_script::answers::AnswerLine;
-use driver_script::line::{Line, read_line};
 use driver_script::output::write_whole;
 use driver_script::{MayFail, RunFault, read_input};
 use driver_world::{Offered, Step};
 use frame_codec::Flags;
 use policy_core::Verdict;
 use policy_text::PolicyFault;
+use script_lines::line::{Line, read_line};
 use std::alloc::{AllocError, Global};
 use std::{fmt, io};
 

@@ -1,6 +1,6 @@
 use byte_strings::Text;
 use driver_core::{Address, Settings};
-use driver_script::settings::Choices;
+use script_lines::settings::Choices;
 use std::alloc::{AllocError, Global};
 
 /// Whether a setting was chosen, or is not the default one.

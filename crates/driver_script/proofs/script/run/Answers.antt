@@ -1,4 +1,4 @@
-use Rattle.driver_script.specs.Statements.{statements_of}
+use Rattle.script_lines.specs.Statements.{statements_of}
 use Rattle.driver_script.specs.Turns.{BeginsScript, IsBegun}
 use Rattle.std.proofs.Common.{List, ℕ, IfSome}
 use Rattle.driver_script.specs.declared.fault.RunFault.{RunFault}

@@ -1,5 +1,5 @@
-use Rattle.driver_script.specs.Left.{left}
-use Rattle.driver_script.specs.Statements.{statements_of}
+use Rattle.script_lines.specs.Left.{left}
+use Rattle.script_lines.specs.Statements.{statements_of}
 use Rattle.driver_script.specs.declared.script.Head.TheVariants as head
 use Rattle.driver_script.proofs.TurnLemmas.{on_err, begins_any, begins_refused, writes_opened, begins_opened, head_at}
 use Rattle.driver_script.proofs.script.run_script.Goals as goal

@@ -1,5 +1,5 @@
 use Rattle.std.proofs.Common.{◌≡◌, length}
-use Rattle.driver_script.specs.Left.{left}
+use Rattle.script_lines.specs.Left.{left}
 use Rattle.driver_script.specs.Script.{opening_of}
 use Rattle.driver_script.proofs.script.take_heads.Given as goal
 

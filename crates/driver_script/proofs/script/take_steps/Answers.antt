@@ -1,5 +1,5 @@
 use Rattle.std.proofs.Common.{[], ◌∷◌}
-use Rattle.driver_script.specs.Left.{left}
+use Rattle.script_lines.specs.Left.{left}
 use Rattle.driver_script.proofs.TurnLemmas.{on_err, so_far_at, so_far_more, so_far_done, so_far_stops, so_far_gives_up, so_far_front}
 use Rattle.driver_script.proofs.script.take_steps.Goals as goal
 

@@ -1,5 +1,5 @@
 use Rattle.std.proofs.Common.{length}
-use Rattle.driver_script.specs.Left.{left}
+use Rattle.script_lines.specs.Left.{left}
 use Rattle.driver_script.specs.Turns.{SoFar}
 use Rattle.driver_script.proofs.script.take_steps.Given as goal
 

@@ -1,0 +1,177 @@
+ghost use Rattle.policy_query.specs.Deciding.{principals, principals_to, policy_in, rules_in, subject_of, decided, sound, checked_text, fault_text, Gives};
+ghost use Rattle.policy_query.specs.declared.deciding.DecideFault.TheVariants.{NoMemory};
+ghost use Rattle.policy_text.specs.Fault.{Gives as GivesPolicy};
+ghost use Rattle.std.specs.Prelude.{◌≡◌, Some, None, IfOk, option_copied, if◌then◌else◌};
+ghost use Rattle.std.specs.Str.{is_utf8};
+
+use byte_strings::Text;
+use channel_uri::{Channel, UriError};
+use policy_core::{Act, Policy, Request, Verdict};
+use policy_text::{Names, PolicyFault};
+use std::alloc::{AllocError, Global};
+use std::error::Error;
+use std::fmt;
+
+/// What is said of a file that is a policy.
+#[derive(Clone, Copy, Debug, PartialEq, Eq)]
+pub struct Checked {
+    /// How many rules the policy has.
+    pub rules: usize,
+}
+
+impl fmt::Display for Checked {
+    ghost output = { λ checked. Some (checked_text checked.rules) };
+
+    fn fmt<W: fmt::Write>(&self, f: &mut fmt::Formatter<W>) -> fmt::Result {
+        let rules = self.rules;
+        write!(f, "ok: {rules} rules")
+    }
+}
+
+/// Why a policy's file decides nothing of a question. Of several faults the first one in this order is named.
+#[derive(Clone, Copy, Debug, PartialEq, Eq)]
+pub enum DecideFault {
+    /// The file is no policy.
+    Policy(PolicyFault),
+    /// There is no principal of that name.
+    UnknownPrincipal,
+    /// There is no act of that name.
+    UnknownAct,
+    /// The text is no channel.
+    InvalidChannel,
+    /// There is no memory for the policy, or for the channel.
+    NoMemory,
+}
+
+impl From<AllocError> for DecideFault {
+    ghost from_gives = { λ _ made. made ≡ NoMemory };
+
+    fn from(_error: AllocError) -> DecideFault {
+        DecideFault::NoMemory
+    }
+}
+
+impl fmt::Display for DecideFault {
+    ghost output = { λ fault. Some (fault_text fault) };
+
+    fn fmt<W: fmt::Write>(&self, f: &mut fmt::Formatter<W>) -> fmt::Result {
+        match self {
+            DecideFault::Policy(fault) => write!(f, "{fault}"),
+            DecideFault::UnknownPrincipal => f.write_str("unknown principal"),
+            DecideFault::UnknownAct => f.write_str("unknown act"),
+            DecideFault::InvalidChannel => f.write_str("invalid channel"),
+            DecideFault::NoMemory => f.write_str("no memory"),
+        }
+    }
+}
+
+impl Error for DecideFault {}
+
+/// The names that a policy's file may use for principals: `nobody`, which is 0, and `p1` to `p63`.
+#[tactic(auto, unfolding(crate::specs::Deciding::principals))]
+pub fn principals(alloc: Global) -> Result<Names, AllocError>
+    ensures { IfOk result (λ names. names ≡ principals) }
+{
+    let mut names = Names::new(alloc);
+    let mut count = 0;
+    'names: while count < 63 {
+        count += 1;
+        let name = format!(in alloc; "p{count}")?;
+        names.add(Text::from(name), count)?;
+    }
+    Ok(names)
+}
+
+/// The bytes as a text, where they are UTF-8.
+fn text_in(bytes: &[u8]) -> Option<&str>
+    ensures { option_copied result ≡ (if is_utf8 bytes.now then Some bytes.now else None) }
+{
+    match str::from_utf8(bytes) {
+        Ok(text) => Some(text),
+        Err(_) => None,
+    }
+}
+
+/// The policy that the bytes of a file are.
+#[tactic(auto, unfolding(crate::specs::Deciding::policy_in))]
+fn policy_in(alloc: Global, bytes: &[u8], names: &Names) -> Result<Policy, PolicyFault>
+    ensures { GivesPolicy (λ policy. policy) result (policy_in names.now bytes.now) }
+{
+    match text_in(bytes) {
+        Some(text) => policy_text::read(alloc, text, names),
+        None => Err(PolicyFault::NotToml),
+    }
+}
+
+/// The policy that the bytes of a file are, which has to be one.
+fn sound_policy(alloc: Global, bytes: &[u8], names: &Names) -> Result<Policy, DecideFault>
+    ensures { Gives (λ policy. policy) result (sound (policy_in names.now bytes.now)) }
+{
+    match policy_in(alloc, bytes, names) {
+        Ok(policy) => Ok(policy),
+        Err(PolicyFault::NoMemory) => Err(DecideFault::NoMemory),
+        Err(fault) => Err(DecideFault::Policy(fault)),
+    }
+}
+
+/// The channel that a word is. Rules on counters are asked about `aeron:counter`.
+#[tactic(auto, unfolding(crate::specs::Deciding::subject_of))]
+fn subject_of(alloc: Global, word: &str) -> Result<Channel, DecideFault>
+    ensures { Gives (λ channel. channel) result (subject_of word.now) }
+{
+    if word == "aeron:counter" {
+        return Ok(Channel::counter(alloc));
+    }
+    match Channel::parse(alloc, word) {
+        Ok(channel) => Ok(channel),
+        Err(UriError::NoMemory) => Err(DecideFault::NoMemory),
+        Err(_) => Err(DecideFault::InvalidChannel),
+    }
+}
+
+/// Whether the bytes of a file are a policy, and how many rules it has. Its principals are [`principals`].
+///
+/// # Errors
+/// The first fault of the text; bytes that are not UTF-8 are no TOML.
+#[tactic(auto, unfolding(crate::specs::Deciding::rules_in))]
+pub fn check(alloc: Global, policy: &[u8]) -> Result<Checked, PolicyFault>
+    ensures { GivesPolicy (λ checked. checked.rules) result (rules_in policy.now) }
+{
+    let names = principals(alloc)?;
+    let policy = policy_in(alloc, policy, &names)?;
+    Ok(Checked {
+        rules: policy.rules().len(),
+    })
+}
+
+/// What the policy in a file, whose number is 1, decides of a question: may this principal do this on this channel and
+/// stream? The channel is a channel's text, or `aeron:counter`; a spy is decided like the channel that it reads.
+///
+/// # Errors
+/// The first fault, in the order of [`DecideFault`].
+#[tactic(auto, unfolding(crate::specs::Deciding::decided))]
+pub fn decide(
+    alloc: Global,
+    policy: &[u8],
+    principal: &str,
+    act: &str,
+    channel: &str,
+    stream: i32,
+) -> Result<Verdict, DecideFault>
+    ensures { Gives (λ verdict. verdict) result (decided policy.now principal.now act.now channel.now stream) }
+{
+    let names = principals(alloc)?;
+    let policy = sound_policy(alloc, policy, &names)?;
+    let principal = names
+        .number_of(principal)
+        .ok_or(DecideFault::UnknownPrincipal)?;
+    let act = Act::from_name(act).ok_or(DecideFault::UnknownAct)?;
+    let channel = subject_of(alloc, channel)?;
+    let request = Request {
+        principal,
+        act,
+        channel: &channel,
+        stream,
+    };
+    Ok(policy.verdict(1, &request))
+}

@@ -1,0 +1,4 @@
+pub mod HexLemmas
+pub mod LineLemmas
+pub mod PiecesLemmas
+pub mod SettingsLemmas

@@ -1,0 +1,149 @@
+-- The settings that a script chooses are such as a driver may be opened with.
+use Rattle.std.proofs.Common.{◌≡◌, ℕ, ◌<◌, ◌≤◌, List, Option, Some, None, nat_le, refl, arith}
+use Rattle.std.specs.List.{list_any}
+use Rattle.std.specs.Str.{bytes_eq}
+use Rattle.std.proofs.lemmas.Bool.{cond_both, leb-true}
+use Rattle.channel_uri.specs.Quantity.{mtu_from, term_length_from}
+use Rattle.channel_uri.specs.Session.{session_id_of}
+use Rattle.driver_core.specs.declared.settings.Settings.{Settings}
+use Rattle.driver_core.specs.Settings.{default_settings}
+use Rattle.driver_core.specs.Soundness.{AreSettings}
+use Rattle.driver_core.proofs.SizeLemmas.{Holds, IsMtu, IsTermLength, mtu_sound, term_length_sound}
+use Rattle.script_lines.specs.declared.settings.Duration.{Duration as DurationKey}
+use Rattle.script_lines.specs.declared.settings.Duration.TheVariants.{ClientLiveness, ImageLiveness, Linger, ConnectionTimeout, ResendLinger, NakDelay, NakRepeat, SetupInterval, HeartbeatInterval, StatusInterval}
+use Rattle.script_lines.specs.declared.settings.Key.{Key}
+use Rattle.script_lines.specs.declared.settings.Key.TheVariants.{Duration, TermLength, Mtu, ArenaPages, FirstSession, InitialTerm, ReceiverId, SendAddress}
+use Rattle.script_lines.specs.Hex.{◌>>=◌}
+use Rattle.script_lines.specs.Number.{number_of}
+use Rattle.script_lines.specs.Settings.{Chosen, chosen, duration_in, key_of, mtu_in, pages_of, sender_of, term_length_in, with_duration, with_value}
+
+-- ---- what is read
+
+holds_next : {A B : Type 0} (P : B → Type 0) (read : Option A) (next : A → Option B) → ((x : A) → Holds P (next x)) →
+    Holds P (read >>= next)
+holds_next P None next each = tt
+holds_next P (Some x) next each = each x
+
+holds_then : {A B : Type 0} (Q : A → Type 0) (P : B → Type 0) (read : Option A) (next : A → Option B) → Holds Q read →
+    ((x : A) → Q x → Holds P (next x)) → Holds P (read >>= next)
+holds_then Q P None next held each = tt
+holds_then Q P (Some x) next held each = each x held
+
+abbrev ArePages : ℕ → Type 0
+ArePages n = (0 < n) × (n ≤ 65536)
+
+pages_sound : (value : List ℕ) → Holds ArePages (pages_of value)
+pages_sound value =
+    holds_next ArePages (number_of value) _ (λ pages.
+    cond_both (nat_le 1 pages) _ _ (Holds ArePages)
+    (λ low.
+    cond_both (nat_le pages 65536) _ _ (Holds ArePages)
+    (λ high. (leb-true 1 pages low, leb-true pages 65536 high))
+    (λ e. tt))
+    (λ e. tt))
+
+-- ---- the settings
+
+pub sound_default : AreSettings default_settings
+sound_default = record {
+  sizes = record {
+    term_low = omega arith;
+    term_high = omega arith;
+    term_whole = refl;
+    mtu_low = omega arith;
+    mtu_high = omega arith;
+    mtu_aligned = refl;
+  };
+  some_pages = omega arith;
+  few_pages = omega arith;
+}
+
+-- only the sizes and the pages count
+sound_by : (settings : Settings) → IsTermLength settings.term_length → IsMtu settings.mtu →
+    ArePages settings.arena_pages → AreSettings settings
+sound_by settings term mtu pages = record {
+  sizes = record {
+    term_low = term.0;
+    term_high = term.1;
+    term_whole = term.2;
+    mtu_low = mtu.0;
+    mtu_high = mtu.1;
+    mtu_aligned = mtu.2;
+  };
+  some_pages = pages.0;
+  few_pages = pages.1;
+}
+
+term_of : (settings : Settings) → AreSettings settings → IsTermLength settings.term_length
+term_of settings sound = (sound.sizes.term_low, sound.sizes.term_high, sound.sizes.term_whole)
+
+mtu_of : (settings : Settings) → AreSettings settings → IsMtu settings.mtu
+mtu_of settings sound = (sound.sizes.mtu_low, sound.sizes.mtu_high, sound.sizes.mtu_aligned)
+
+pages_in : (settings : Settings) → AreSettings settings → ArePages settings.arena_pages
+pages_in settings sound = (sound.some_pages, sound.few_pages)
+
+-- another setting may be what it likes
+sound_like : (settings new : Settings) → AreSettings settings → new.term_length ≡ settings.term_length →
+    new.mtu ≡ settings.mtu → new.arena_pages ≡ settings.arena_pages → AreSettings new
+sound_like settings new sound term mtu pages =
+    sound_by new (rw term (term_of settings sound)) (rw mtu (mtu_of settings sound))
+    (rw pages (pages_in settings sound))
+
+duration_sound : (settings : Settings) (key : DurationKey) (duration : ℕ) → AreSettings settings →
+    AreSettings (with_duration settings key duration)
+duration_sound settings ClientLiveness duration sound = sound_like settings _ sound refl refl refl
+duration_sound settings ImageLiveness duration sound = sound_like settings _ sound refl refl refl
+duration_sound settings Linger duration sound = sound_like settings _ sound refl refl refl
+duration_sound settings ConnectionTimeout duration sound = sound_like settings _ sound refl refl refl
+duration_sound settings ResendLinger duration sound = sound_like settings _ sound refl refl refl
+duration_sound settings NakDelay duration sound = sound_like settings _ sound refl refl refl
+duration_sound settings NakRepeat duration sound = sound_like settings _ sound refl refl refl
+duration_sound settings SetupInterval duration sound = sound_like settings _ sound refl refl refl
+duration_sound settings HeartbeatInterval duration sound = sound_like settings _ sound refl refl refl
+duration_sound settings StatusInterval duration sound = sound_like settings _ sound refl refl refl
+
+value_sound : (settings : Settings) (key : Key) (value : List ℕ) → AreSettings settings →
+    Holds AreSettings (with_value settings key value)
+value_sound settings (Duration key) value sound =
+    holds_next AreSettings (duration_in value) _ (λ duration. duration_sound settings key duration sound)
+value_sound settings TermLength value sound =
+    holds_then IsTermLength AreSettings (term_length_in value) _
+    (holds_next IsTermLength (number_of value) term_length_from term_length_sound)
+    (λ size is. sound_by _ is (mtu_of settings sound) (pages_in settings sound))
+value_sound settings Mtu value sound =
+    holds_then IsMtu AreSettings (mtu_in value) _
+    (holds_next IsMtu (number_of value) mtu_from mtu_sound)
+    (λ size is. sound_by _ (term_of settings sound) is (pages_in settings sound))
+value_sound settings ArenaPages value sound =
+    holds_then ArePages AreSettings (pages_of value) _ (pages_sound value)
+    (λ pages is. sound_by _ (term_of settings sound) (mtu_of settings sound) is)
+value_sound settings FirstSession value sound =
+    holds_next AreSettings (session_id_of value) _
+    (λ id. sound_like settings _ sound refl refl refl)
+value_sound settings InitialTerm value sound =
+    holds_next AreSettings (session_id_of value) _
+    (λ id. sound_like settings _ sound refl refl refl)
+value_sound settings ReceiverId value sound =
+    holds_next AreSettings (number_of value) _
+    (λ id. sound_like settings _ sound refl refl refl)
+value_sound settings SendAddress value sound =
+    holds_next AreSettings (sender_of value) _
+    (λ address. sound_like settings _ sound refl refl refl)
+
+-- one choice more
+chosen_holds : (choices : Chosen) (name value : List ℕ) → AreSettings choices.settings →
+    Holds AreSettings (chosen choices name value)
+chosen_holds choices name value sound =
+    cond_both (list_any (λ given. bytes_eq given name) choices.given) _ _ (Holds AreSettings)
+    (λ given. tt)
+    (λ new. holds_next AreSettings (key_of name) _ (λ key. value_sound choices.settings key value sound))
+
+held : {A : Type 0} (P : A → Type 0) (read : Option A) (x : A) → read ≡ Some x → Holds P read → P x
+held P None x is h = cc
+held P (Some y) x is h = let same : y ≡ x = cc in rw (← same) h
+
+pub chosen_sound : (choices : Chosen) (name value : List ℕ) (settings : Settings) → AreSettings choices.settings →
+    chosen choices name value ≡ Some settings → AreSettings settings
+chosen_sound choices name value settings sound is =
+    held AreSettings (chosen choices name value) settings is (chosen_holds choices name value sound)

@@ -1,0 +1,346 @@
+ghost use Rattle.script_lines.specs.Line.{is_plain, line_of, or_bad, said_by, step_by, plain_step_by, one, two, three, four, five, name_of, principal_of, set_of, policy_of, attach_of, command_of, offer_of, tick_of, poll_of, list_of, value_of, keeps_fields};
+ghost use Rattle.script_lines.specs.LineFault.{Gives, HasMemory};
+ghost use Rattle.script_lines.specs.Pieces.{pieces, pieces_behind};
+ghost use Rattle.script_lines.specs.declared.line.LineFault.TheVariants.{NoMemory};
+ghost use Rattle.std.specs.Option.{option_map};
+ghost use Rattle.std.specs.Prelude.{◌≡◌, Some, None, [], ◌∷◌, false, IfOk, IsOk, option_copied, if◌then◌else◌};
+
+use crate::hex;
+use crate::number::{number, small_number};
+use crate::pieces::first_piece;
+use byte_strings::Text;
+use driver_core::Event;
+use driver_world::Step;
+use std::alloc::{AllocError, AllocFailed, Global};
+
+/// What a line of a script says.
+#[derive(Debug, Drop)]
+pub enum Line {
+    /// Nothing: it is empty, or a comment.
+    Skipped,
+    /// `principal NAME NUMBER`: rules of the policy may name this principal.
+    Principal { name: Text, number: u32 },
+    /// `set KEY VALUE`: the driver has this setting, if the key is one and the value is in its range.
+    Set { key: Text, value: Text },
+    /// `policy`: the lines up to one that is `.` are the text of a policy.
+    Policy,
+    /// A step of the run.
+    Does(Step),
+    /// It is no line of a script.
+    Bad,
+}
+
+/// Why words are no line.
+#[derive(Clone, Copy, Debug, PartialEq, Eq)]
+pub(crate) enum LineFault {
+    Bad,
+    NoMemory,
+}
+
+impl From<AllocError> for LineFault {
+    ghost from_gives = { λ _ fault. fault ≡ NoMemory };
+
+    fn from(_error: AllocError) -> LineFault {
+        LineFault::NoMemory
+    }
+}
+
+impl<T: Drop> From<AllocFailed<T>> for LineFault {
+    ghost from_gives = { λ _ fault. fault ≡ NoMemory };
+
+    fn from(_error: AllocFailed<T>) -> LineFault {
+        LineFault::NoMemory
+    }
+}
+
+/// Whether all bytes are ASCII.
+fn is_plain(line: &[u8]) -> bool
+    ensures { result ≡ is_plain line.now }
+{
+    line.iter().all(|b| b.is_ascii())
+}
+
+/// The line as a text, where all its bytes are ASCII.
+pub(crate) fn plain_text(line: &[u8]) -> Option<&str>
+    ensures { option_copied result ≡ (if is_plain line.now then Some line.now else None) }
+{
+    if !is_plain(line) {
+        return None;
+    }
+    match str::from_utf8(line) {
+        Ok(text) => Some(text),
+        Err(_) => None,
+    }
+}
+
+/// The one word behind the first one.
+fn one_word(fields: Option<&str>) -> Option<&str>
+    ensures { option_copied result ≡ one (pieces_behind 32 (option_copied fields.entry)) }
+{
+    let (first, fields) = first_piece(fields?, ' ');
+    match fields {
+        None => Some(first),
+        Some(_) => None,
+    }
+}
+
+/// The two words behind the first one.
+fn two_words(fields: Option<&str>) -> Option<(&str, &str)>
+    ensures { option_map (λ words. (words.0.now, words.1.now)) result ≡ two (pieces_behind 32 (option_copied fields.entry)) }
+{
+    let (first, fields) = first_piece(fields?, ' ');
+    let (second, fields) = first_piece(fields?, ' ');
+    match fields {
+        None => Some((first, second)),
+        Some(_) => None,
+    }
+}
+
+/// The three words behind the first one.
+fn three_words(fields: Option<&str>) -> Option<(&str, &str, &str)>
+    ensures { option_map (λ words. (words.0.now, words.1.now, words.2.now)) result ≡ three (pieces_behind 32 (option_copied fields.entry)) }
+{
+    let (first, fields) = first_piece(fields?, ' ');
+    let (second, fields) = first_piece(fields?, ' ');
+    let (third, fields) = first_piece(fields?, ' ');
+    match fields {
+        None => Some((first, second, third)),
+        Some(_) => None,
+    }
+}
+
+/// The four words behind the first one.
+fn four_words(fields: Option<&str>) -> Option<(&str, &str, &str, &str)>
+    ensures { option_map (λ words. (words.0.now, words.1.now, words.2.now, words.3.now)) result ≡ four (pieces_behind 32 (option_copied fields.entry)) }
+{
+    let (first, fields) = first_piece(fields?, ' ');
+    let (second, fields) = first_piece(fields?, ' ');
+    let (third, fields) = first_piece(fields?, ' ');
+    let (fourth, fields) = first_piece(fields?, ' ');
+    match fields {
+        None => Some((first, second, third, fourth)),
+        Some(_) => None,
+    }
+}
+
+/// The five words behind the first one.
+fn five_words(fields: Option<&str>) -> Option<(&str, &str, &str, &str, &str)>
+    ensures { option_map (λ words. (words.0.now, words.1.now, words.2.now, words.3.now, words.4.now)) result ≡ five (pieces_behind 32 (option_copied fields.entry)) }
+{
+    let (first, fields) = first_piece(fields?, ' ');
+    let (second, fields) = first_piece(fields?, ' ');
+    let (third, fields) = first_piece(fields?, ' ');
+    let (fourth, fields) = first_piece(fields?, ' ');
+    let (fifth, fields) = first_piece(fields?, ' ');
+    match fields {
+        None => Some((first, second, third, fourth, fifth)),
+        Some(_) => None,
+    }
+}
+
+/// A word as a name.
+fn name_of(alloc: Global, word: &str) -> Result<Text, LineFault>
+    ensures { Gives result (name_of word.now) }
+{
+    if word.is_empty() {
+        return Err(LineFault::Bad);
+    }
+    Ok(Text::new(alloc, word)?)
+}
+
+#[tactic(auto, unfolding(crate::specs::Line::principal_of))]
+fn principal_of(alloc: Global, fields: Option<&str>) -> Result<Line, LineFault>
+    ensures { Gives result (principal_of (pieces_behind 32 (option_copied fields.entry))) }
+{
+    let (name, number) = two_words(fields).ok_or(LineFault::Bad)?;
+    let name = name_of(alloc, name)?;
+    let number = small_number(number).ok_or(LineFault::Bad)?;
+    Ok(Line::Principal { name, number })
+}
+
+fn set_of(alloc: Global, fields: Option<&str>) -> Result<Line, LineFault>
+    ensures { Gives result (set_of (pieces_behind 32 (option_copied fields.entry))) }
+{
+    let (key, value) = two_words(fields).ok_or(LineFault::Bad)?;
+    let key = Text::new(alloc, key)?;
+    let value = Text::new(alloc, value)?;
+    Ok(Line::Set { key, value })
+}
+
+fn policy_of(fields: Option<&str>) -> Option<Line>
+    ensures { result ≡ policy_of (pieces_behind 32 (option_copied fields.entry)) }
+{
+    match fields {
+        None => Some(Line::Policy),
+        Some(_) => None,
+    }
+}
+
+#[tactic(auto, unfolding(crate::specs::Line::attach_of))]
+fn attach_of(fields: Option<&str>) -> Option<Step>
+    ensures { result ≡ attach_of (pieces_behind 32 (option_copied fields.entry)) }
+{
+    let (now, principal) = two_words(fields)?;
+    let now = number(now)?;
+    let principal = small_number(principal)?;
+    Some(Step::Conductor(Event::Attach { now, principal }))
+}
+
+#[tactic(auto, unfolding(crate::specs::Line::command_of))]
+fn command_of(alloc: Global, fields: Option<&str>) -> Result<Step, LineFault>
+    ensures { Gives result (command_of (pieces_behind 32 (option_copied fields.entry))) }
+{
+    let (now, client, bytes) = three_words(fields).ok_or(LineFault::Bad)?;
+    let now = number(now).ok_or(LineFault::Bad)?;
+    let client = number(client).ok_or(LineFault::Bad)?;
+    let bytes = hex::read_hex(alloc, bytes)?;
+    Ok(Step::Conductor(Event::Command { now, client, bytes }))
+}
+
+#[tactic(auto, unfolding(crate::specs::Line::offer_of))]
+fn offer_of(alloc: Global, fields: Option<&str>) -> Result<Step, LineFault>
+    ensures { Gives result (offer_of (pieces_behind 32 (option_copied fields.entry))) }
+{
+    let (now, client, registration, message) = four_words(fields).ok_or(LineFault::Bad)?;
+    let now = number(now).ok_or(LineFault::Bad)?;
+    let client = number(client).ok_or(LineFault::Bad)?;
+    let registration = number(registration).ok_or(LineFault::Bad)?;
+    let message = hex::read_hex(alloc, message)?;
+    Ok(Step::Offer {
+        now,
+        client,
+        registration,
+        message,
+    })
+}
+
+#[tactic(auto, unfolding(crate::specs::Line::poll_of))]
+fn poll_of(fields: Option<&str>) -> Option<Step>
+    ensures { result ≡ poll_of (pieces_behind 32 (option_copied fields.entry)) }
+{
+    let (now, client, subscription, source, limit) = five_words(fields)?;
+    let now = number(now)?;
+    let client = number(client)?;
+    let subscription = number(subscription)?;
+    let source = number(source)?;
+    let limit = small_number(limit)?;
+    Some(Step::Poll {
+        now,
+        client,
+        subscription,
+        source,
+        limit,
+    })
+}
+
+#[tactic(auto, unfolding(crate::specs::Line::tick_of))]
+fn tick_of(fields: Option<&str>) -> Option<Step>
+    ensures { result ≡ tick_of (pieces_behind 32 (option_copied fields.entry)) }
+{
+    let now = number(one_word(fields)?)?;
+    Some(Step::Conductor(Event::Tick { now }))
+}
+
+#[tactic(auto, unfolding(crate::specs::Line::list_of))]
+fn list_of(fields: Option<&str>) -> Option<Step>
+    ensures { result ≡ list_of (pieces_behind 32 (option_copied fields.entry)) }
+{
+    let (now, client) = two_words(fields)?;
+    let now = number(now)?;
+    let client = number(client)?;
+    Some(Step::List { now, client })
+}
+
+#[tactic(auto, unfolding(crate::specs::Line::value_of))]
+fn value_of(fields: Option<&str>) -> Option<Step>
+    ensures { result ≡ value_of (pieces_behind 32 (option_copied fields.entry)) }
+{
+    let (now, client, number_word) = three_words(fields)?;
+    let now = number(now)?;
+    let client = number(client)?;
+    let number = number(number_word)?;
+    Some(Step::Value {
+        now,
+        client,
+        number,
+    })
+}
+
+/// What the words of a step say that keeps no bytes.
+#[tactic(auto, unfolding(crate::specs::Line::plain_step_by))]
+fn plain_step_by(word: &str, fields: Option<&str>) -> Option<Step>
+    ensures { result ≡ plain_step_by word.now (pieces_behind 32 (option_copied fields.entry)) }
+{
+    if word == "attach" {
+        return attach_of(fields);
+    }
+    if word == "tick" {
+        return tick_of(fields);
+    }
+    if word == "poll" {
+        return poll_of(fields);
+    }
+    if word == "list" {
+        return list_of(fields);
+    }
+    if word == "value" {
+        return value_of(fields);
+    }
+    None
+}
+
+/// What the words of a step say.
+#[tactic(auto, unfolding(crate::specs::Line::step_by))]
+fn step_by(alloc: Global, word: &str, fields: Option<&str>) -> Result<Step, LineFault>
+    ensures exact { Gives result (step_by word.now (pieces_behind 32 (option_copied fields.entry))) }
+    ensures without_memory { keeps_fields (word.now ∷ []) ≡ false → HasMemory result }
+{
+    if word == "cmd" {
+        return command_of(alloc, fields);
+    }
+    if word == "offer" {
+        return offer_of(alloc, fields);
+    }
+    plain_step_by(word, fields).ok_or(LineFault::Bad)
+}
+
+#[tactic(auto, unfolding(crate::specs::Line::said_by))]
+fn said_by(alloc: Global, word: &str, fields: Option<&str>) -> Result<Line, LineFault>
+    ensures exact { Gives result (said_by word.now (pieces_behind 32 (option_copied fields.entry))) }
+    ensures without_memory { keeps_fields (word.now ∷ []) ≡ false → HasMemory result }
+{
+    if word == "principal" {
+        return principal_of(alloc, fields);
+    }
+    if word == "set" {
+        return set_of(alloc, fields);
+    }
+    if word == "policy" {
+        return policy_of(fields).ok_or(LineFault::Bad);
+    }
+    let step = step_by(alloc, word, fields)?;
+    Ok(Line::Does(step))
+}
+
+/// Reads a line, without the line feed at its end.
+#[tactic(auto, unfolding(crate::specs::Line::line_of))]
+pub fn read_line(alloc: Global, line: &[u8]) -> Result<Line, AllocError>
+    ensures exact { IfOk result (λ said. said ≡ line_of line.now) }
+    ensures without_memory { keeps_fields (pieces 32 line.now) ≡ false → IsOk result }
+{
+    let Some(text) = plain_text(line) else {
+        return Ok(Line::Bad);
+    };
+    if line.is_empty() {
+        return Ok(Line::Skipped);
+    }
+    if line[0] == b'#' {
+        return Ok(Line::Skipped);
+    }
+    let (word, fields) = first_piece(text, ' ');
+    match said_by(alloc, word, fields) {
+        Ok(said) => Ok(said),
+        Err(LineFault::Bad) => Ok(Line::Bad),
+        Err(LineFault::NoMemory) => Err(AllocError),
+    }
+}
