@@ -16,7 +16,7 @@ use Rattle.policy_core.specs.declared.act.Act.TheVariants.{List as SeeCounter}
 use Rattle.policy_core.specs.declared.verdict.Verdict.{Verdict}
 use Rattle.policy_core.specs.Question.{Question}
 use Rattle.policy_core.specs.Rules.{verdict_of}
-use Rattle.stream_registry.specs.declared.rows.Publication.{Publication}
+use Rattle.stream_registry.specs.declared.row.Publication.{Publication}
 use Rattle.stream_registry.specs.Lingering.{registrations_of}
 
 -- ---- what is listed

@@ -12,9 +12,9 @@ use Rattle.policy_core.specs.declared.act.Act.{Act}
 use Rattle.policy_core.specs.declared.act.Act.TheVariants.{Offer, Receive}
 use Rattle.policy_core.specs.declared.decision.Decision.{Decision}
 use Rattle.policy_core.specs.Rules.{verdict_of}
-use Rattle.stream_registry.specs.declared.rows.Publication.{Publication}
-use Rattle.stream_registry.specs.declared.rows.Registration.{Registration}
-use Rattle.stream_registry.specs.declared.rows.Subscription.{Subscription}
+use Rattle.stream_registry.specs.declared.row.Publication.{Publication}
+use Rattle.stream_registry.specs.declared.row.Registration.{Registration}
+use Rattle.stream_registry.specs.declared.row.Subscription.{Subscription}
 use Rattle.stream_registry.specs.Pairs.{is_of}
 
 -- what the policy in force decides on the act of a client, where the decision is on the row of this number

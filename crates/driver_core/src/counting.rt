@@ -1,5 +1,5 @@
 ghost use Rattle.driver_core.specs.Counting.{counter_decision, has_room_for_counter, with_counter, add_counter, set_counter, remove_counter};
-ghost use Rattle.std.specs.Prelude.{◌≡◌, ◌+◌, true, IfOk, OnOk};
+ghost use Rattle.std.specs.Prelude.{◌≡◌, ◌+◌, true, IfOk};
 
 use crate::deciding;
 use crate::draft::Draft;
@@ -21,41 +21,24 @@ fn has_room(registry: &Registry) -> bool
 
 /// A client's counter comes, under the next number, which is given back.
 #[tactic(auto, unfolding(crate::specs::Counting::with_counter))]
-fn put_counter(
-    registry: &mut Registry,
-    alloc: Global,
-    client: u64,
-    fields: &AddCounter,
-) -> Result<u64, AllocError>
+fn put_counter(registry: &mut Registry, client: u64, fields: &AddCounter) -> u64
     requires { has_room_for_counter registry.now ≡ true }
-    ensures number { IfOk result (λ number. number ≡ registry.old.last_number + 1) }
-    ensures stands { OnOk result (registry.new ≡ with_counter registry.old client fields.now) }
+    ensures number { result ≡ registry.old.last_number + 1 }
+    ensures stands { registry.new ≡ with_counter registry.old client fields.now }
 {
     let number = registry.last_number + 1;
-    let key = fields.key.copy(alloc)?;
-    let label = fields.label.copy(alloc)?;
-    match registry
+    registry
         .counters
-        .add(number, client, fields.type_id, key, label)
-    {
-        Ok(()) => {
-            registry.last_number = number;
-            Ok(number)
-        }
-        Err(_) => Err(AllocError),
-    }
+        .add(number, client, fields.type_id, &fields.key, &fields.label);
+    registry.last_number = number;
+    number
 }
 
 /// What the policy in force decides: a counter's stream is its type id.
-fn counter_decision(
-    registry: &Registry,
-    alloc: Global,
-    client: Client,
-    fields: &AddCounter,
-) -> Decision
+fn counter_decision(registry: &Registry, client: Client, fields: &AddCounter) -> Decision
     ensures { result ≡ counter_decision registry.now client fields.now }
 {
-    let channel = Channel::counter(alloc);
+    let channel = Channel::counter();
     deciding::decide(registry, client, Act::Counter, &channel, fields.type_id)
 }
 
@@ -70,7 +53,7 @@ pub(crate) fn add_counter(
 ) -> Result<Draft, AllocError>
     ensures { IfOk result (λ draft. draft ≡ add_counter registry client correlation fields.now) }
 {
-    let decision = counter_decision(&registry, alloc, client, fields);
+    let decision = counter_decision(&registry, client, fields);
     if !decision.verdict.allow {
         let refusal = Refusal::Denied(decision.verdict);
         return Draft::refused_on(
@@ -94,7 +77,7 @@ pub(crate) fn add_counter(
         );
     }
     let mut registry = registry;
-    let number = put_counter(&mut registry, alloc, client.number, fields)?;
+    let number = put_counter(&mut registry, client.number, fields);
     let reply = Reply::CounterReady {
         correlation,
         registration: number,

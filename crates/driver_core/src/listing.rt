@@ -56,7 +56,7 @@ fn row_of(alloc: Global, counter: &Counter) -> Result<ListedCounter, AllocError>
         number: counter.number,
         type_id: counter.type_id,
         value: counter.value,
-        label: counter.label.copy(alloc)?,
+        label: Text::new(alloc, counter.label.as_str())?,
     })
 }
 
@@ -191,7 +191,7 @@ impl Registry {
         let Some(counter) = self.counters.get(number) else {
             return publication_value(self, client.principal, number);
         };
-        let channel = Channel::counter(alloc);
+        let channel = Channel::counter();
         let request = Request {
             principal: client.principal,
             act: Act::List,

@@ -9,7 +9,7 @@ use crate::draft::Draft;
 use crate::refusal::Refusal;
 use crate::registry::Registry;
 use crate::replies::Reply;
-use channel_uri::{Channel, UriError};
+use channel_uri::Channel;
 use client_registry::Client;
 use command_codec::AddPublication;
 use policy_core::{Act, Decision};
@@ -118,31 +118,18 @@ impl Registry {
         }
     }
 
-    /// A copy in which the client is registered under the next number.
+    /// The client is registered under the next number. It takes no memory.
     #[tactic(auto, unfolding(crate::specs::Publishing::with_publication))]
-    fn with_publication(
-        &self,
-        alloc: Global,
-        client: u64,
-        wanted: Wanted,
-        adding: Adding,
-    ) -> Result<Registry, AllocError>
-        requires number { has_number self.now ≡ true }
-        requires taken { adding_of self.now.streams wanted ≡ Ok adding }
-        ensures { IfOk result (λ after. after ≡ with_publication self.now client wanted adding) }
+    fn put_publication(&mut self, client: u64, wanted: &Wanted, adding: Adding)
+        requires number { has_number self.old ≡ true }
+        requires taken { adding_of self.old.streams wanted.now ≡ Ok adding }
+        ensures { self.new ≡ with_publication self.old client wanted.now adding }
     {
-        let mut after = self.copy(alloc)?;
         let number = self.next_number();
-        let place = self.streams.place_for(self.settings.arena_pages, &wanted);
-        match after
-            .streams
-            .add_publication(number, client, wanted, place.unwrap_or(0))
-        {
-            Ok(_) => {}
-            Err(_) => return Err(AllocError),
-        }
-        after.last_number = number;
-        Ok(after)
+        let place = self.streams.place_for(self.settings.arena_pages, wanted);
+        self.streams
+            .add_publication(number, client, wanted, place.unwrap_or(0), adding);
+        self.last_number = number;
     }
 
     /// The copy with the registration, or why there is none: there are too many pairs, or no place for the log.
@@ -150,15 +137,16 @@ impl Registry {
         &self,
         alloc: Global,
         client: u64,
-        wanted: Wanted,
+        wanted: &Wanted,
         adding: Adding,
     ) -> Result<Result<Registry, Refusal>, AllocError>
         requires number { has_number self.now ≡ true }
-        requires taken { adding_of self.now.streams wanted ≡ Ok adding }
-        ensures { IfOk result (λ made. made ≡ (if not (has_room_for_publication self.now client wanted adding) then Err IsFull else (if has_place self.now wanted adding then Ok (with_publication self.now client wanted adding) else Err HasNoRoom))) }
+        requires taken { adding_of self.now.streams wanted.now ≡ Ok adding }
+        ensures { IfOk result (λ made. made ≡ (if not (has_room_for_publication self.now client wanted.now adding) then Err IsFull else (if has_place self.now wanted.now adding then Ok (with_publication self.now client wanted.now adding) else Err HasNoRoom))) }
     {
-        let has_place = self.has_place(&wanted, adding);
-        let after = self.with_publication(alloc, client, wanted, adding)?;
+        let has_place = self.has_place(wanted, adding);
+        let mut after = self.copy(alloc)?;
+        after.put_publication(client, wanted, adding);
         match after.if_within_pairs(alloc)? {
             Some(after) => {
                 if has_place {
@@ -179,13 +167,13 @@ fn publish_under(
     alloc: Global,
     client: Client,
     correlation: u64,
-    wanted: Wanted,
+    wanted: &Wanted,
     adding: Adding,
     decision: Decision,
 ) -> Result<Draft, AllocError>
-    requires taken { adding_of registry.streams wanted ≡ Ok adding }
-    requires decided { decision ≡ publication_decision registry client wanted }
-    ensures { IfOk result (λ draft. draft ≡ publish_under registry client correlation wanted adding) }
+    requires taken { adding_of registry.streams wanted.now ≡ Ok adding }
+    requires decided { decision ≡ publication_decision registry client wanted.now }
+    ensures { IfOk result (λ draft. draft ≡ publish_under registry client correlation wanted.now adding) }
 {
     let handle = client.number;
     if !registry.has_number() {
@@ -193,8 +181,8 @@ fn publish_under(
         return Draft::refused_on(alloc, registry, decision, handle, correlation, full);
     }
     let number = registry.next_number();
-    let reply = ready_for(&wanted, correlation, number, session_of(adding));
-    let opens = registry.opening(&wanted, adding);
+    let reply = ready_for(wanted, correlation, number, session_of(adding));
+    let opens = registry.opening(wanted, adding);
     match registry.made(alloc, handle, wanted, adding)? {
         Ok(after) => Draft::replied_opening(alloc, after, decision, handle, reply, opens),
         Err(refusal) => {
@@ -210,9 +198,9 @@ fn publish(
     alloc: Global,
     client: Client,
     correlation: u64,
-    wanted: Wanted,
+    wanted: &Wanted,
 ) -> Result<Draft, AllocError>
-    ensures { IfOk result (λ draft. draft ≡ publish registry client correlation wanted) }
+    ensures { IfOk result (λ draft. draft ≡ publish registry client correlation wanted.now) }
 {
     let act = publishing_act(wanted.exclusive);
     let decision = deciding::decide(&registry, client, act, &wanted.channel, wanted.stream);
@@ -227,7 +215,7 @@ fn publish(
             refusal,
         );
     }
-    match registry.adding(&wanted) {
+    match registry.adding(wanted) {
         Ok(adding) => {
             publish_under(
                 registry,
@@ -265,25 +253,21 @@ pub(crate) fn add_publication(
 ) -> Result<Draft, AllocError>
     ensures { IfOk result (λ draft. draft ≡ add_publication registry client correlation fields.now exclusive) }
 {
-    match Channel::parse(alloc, fields.channel.as_str()) {
-        Ok(channel) => {
-            if is_publishable(&channel) {
-                let wanted = Wanted {
-                    channel,
-                    stream: fields.stream,
-                    exclusive,
-                };
-                return publish(registry, alloc, client, correlation, wanted);
-            }
+    match Channel::parse(fields.channel.as_str()) {
+        Ok(channel) if is_publishable(&channel) => {
+            let wanted = Wanted {
+                channel,
+                stream: fields.stream,
+                exclusive,
+            };
+            publish(registry, alloc, client, correlation, &wanted)
         }
-        Err(UriError::NoMemory) => return Err(AllocError),
-        Err(_) => {}
+        _ => Draft::refused(
+            alloc,
+            registry,
+            client.number,
+            correlation,
+            Refusal::InvalidChannel,
+        ),
     }
-    Draft::refused(
-        alloc,
-        registry,
-        client.number,
-        correlation,
-        Refusal::InvalidChannel,
-    )
 }

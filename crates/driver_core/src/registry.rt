@@ -75,9 +75,9 @@ impl Registry {
             policy,
             epoch: 1,
             moment: 0,
-            clients: Clients::new(alloc, settings.client_liveness),
-            streams: Streams::new(alloc, measures, settings.first_session),
-            counters: Counters::new(alloc),
+            clients: Clients::new(alloc, settings.client_liveness)?,
+            streams: Streams::new(alloc, measures, settings.first_session)?,
+            counters: Counters::new(alloc)?,
             last_number: 0,
             stopped: false,
         })
@@ -143,7 +143,7 @@ impl Registry {
         match event {
             Event::Attach { now, principal } => {
                 let registry = self.at_moment(alloc, *now)?;
-                attaching::attach(registry, alloc, *principal)
+                Ok(attaching::attach(registry, alloc, *principal))
             }
             Event::Command { now, client, bytes } => {
                 let registry = self.at_moment(alloc, *now)?;

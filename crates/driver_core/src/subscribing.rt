@@ -1,20 +1,18 @@
 ghost use Rattle.driver_core.specs.Subscribing.{is_subscribable, act_of, decision_of, subscribe, add_subscription, has_room_for_subscription, with_subscription};
-ghost use Rattle.std.specs.Prelude.{◌≡◌, true, false, Some, None, if◌then◌else◌, IfOk, IfErr};
+ghost use Rattle.std.specs.Prelude.{◌≡◌, true, Some, None, if◌then◌else◌, IfOk};
 ghost use Rattle.driver_core.specs.State.{has_number};
 ghost use Rattle.stream_registry.specs.Adding.{has_room_for_subscription as has_room_in};
-ghost use Rattle.stream_registry.specs.declared.fault.StreamFault.TheVariants.{Full as IsFull};
 
 use crate::deciding;
 use crate::draft::Draft;
 use crate::refusal::Refusal;
 use crate::registry::Registry;
 use crate::replies::Reply;
-use channel_uri::{Channel, Media, UriError};
+use channel_uri::{Channel, Media};
 use client_registry::Client;
 use command_codec::AddSubscription;
 use policy_core::{Act, Decision};
 use std::alloc::{AllocError, Global};
-use stream_registry::StreamFault;
 
 /// Whether a subscription takes such a channel: a spy needs a place, and `udp` an endpoint and no control mode.
 #[tactic(auto, unfolding(crate::specs::Subscribing::is_subscribable))]
@@ -42,26 +40,18 @@ fn act_of(channel: &Channel) -> Act
     }
 }
 
-/// A copy in which the client subscribes under the next number.
+/// The client subscribes under the next number. It takes no memory.
 #[tactic(auto, unfolding(crate::specs::Subscribing::with_subscription))]
-fn with_subscription(
-    registry: &Registry,
-    alloc: Global,
-    client: u64,
-    channel: Channel,
-    stream: i32,
-) -> Result<Registry, StreamFault>
-    requires { has_number registry.now ≡ true }
-    ensures full { IfErr result (λ fault. fault ≡ IsFull → has_room_in registry.now.streams ≡ false) }
-    ensures added { IfOk result (λ after. (has_room_in registry.now.streams ≡ true) × (after ≡ with_subscription registry.now client channel stream)) }
+fn put_subscription(registry: &mut Registry, client: u64, channel: &Channel, stream: i32)
+    requires number { has_number registry.now ≡ true }
+    requires room { has_room_in registry.now.streams ≡ true }
+    ensures { registry.new ≡ with_subscription registry.old client channel.now stream }
 {
     let number = registry.next_number();
-    let mut after = registry.copy(alloc)?;
-    after
+    registry
         .streams
-        .add_subscription(number, client, channel, stream)?;
-    after.last_number = number;
-    Ok(after)
+        .add_subscription(number, client, channel, stream);
+    registry.last_number = number;
 }
 
 /// The copy with the subscription, if there is a number for it, and room for it and its pairs.
@@ -70,19 +60,17 @@ fn with_subscription_if_room(
     registry: &Registry,
     alloc: Global,
     client: u64,
-    channel: Channel,
+    channel: &Channel,
     stream: i32,
 ) -> Result<Option<Registry>, AllocError>
-    ensures { IfOk result (λ made. made ≡ (if has_room_for_subscription registry.now client channel stream then Some (with_subscription registry.now client channel stream) else None)) }
+    ensures { IfOk result (λ made. made ≡ (if has_room_for_subscription registry.now client channel.now stream then Some (with_subscription registry.now client channel.now stream) else None)) }
 {
-    if !registry.has_number() {
+    if !registry.has_number() || !registry.streams.has_room_for_subscription() {
         return Ok(None);
     }
-    match with_subscription(registry, alloc, client, channel, stream) {
-        Ok(after) => after.if_within_pairs(alloc),
-        Err(StreamFault::Full) => Ok(None),
-        Err(_) => Err(AllocError),
-    }
+    let mut after = registry.copy(alloc)?;
+    put_subscription(&mut after, client, channel, stream);
+    after.if_within_pairs(alloc)
 }
 
 /// A subscription that the policy allows.
@@ -92,13 +80,13 @@ fn subscribe_allowed(
     alloc: Global,
     client: Client,
     correlation: u64,
-    channel: Channel,
+    channel: &Channel,
     stream: i32,
     decision: Decision,
 ) -> Result<Draft, AllocError>
-    requires decided { decision ≡ decision_of registry client channel stream }
+    requires decided { decision ≡ decision_of registry client channel.now stream }
     requires allowed { decision.verdict.allow ≡ true }
-    ensures { IfOk result (λ draft. draft ≡ subscribe registry client correlation channel stream) }
+    ensures { IfOk result (λ draft. draft ≡ subscribe registry client correlation channel.now stream) }
 {
     let handle = client.number;
     match with_subscription_if_room(&registry, alloc, handle, channel, stream)? {
@@ -123,12 +111,12 @@ fn subscribe(
     alloc: Global,
     client: Client,
     correlation: u64,
-    channel: Channel,
+    channel: &Channel,
     stream: i32,
 ) -> Result<Draft, AllocError>
-    ensures { IfOk result (λ draft. draft ≡ subscribe registry client correlation channel stream) }
+    ensures { IfOk result (λ draft. draft ≡ subscribe registry client correlation channel.now stream) }
 {
-    let decision = deciding::decide(&registry, client, act_of(&channel), &channel, stream);
+    let decision = deciding::decide(&registry, client, act_of(channel), channel, stream);
     if !decision.verdict.allow {
         return Draft::refused_on(
             alloc,
@@ -161,27 +149,23 @@ pub(crate) fn add_subscription(
 ) -> Result<Draft, AllocError>
     ensures { IfOk result (λ draft. draft ≡ add_subscription registry client correlation fields.now) }
 {
-    let channel = match Channel::parse(alloc, fields.channel.as_str()) {
-        Ok(channel) => channel,
-        Err(UriError::NoMemory) => return Err(AllocError),
-        Err(_) => {
-            return Draft::refused(
-                alloc,
+    match Channel::parse(fields.channel.as_str()) {
+        Ok(channel) if is_subscribable(&channel) => {
+            subscribe(
                 registry,
-                client.number,
+                alloc,
+                client,
                 correlation,
-                Refusal::InvalidChannel,
-            );
+                &channel,
+                fields.stream,
+            )
         }
-    };
-    if !is_subscribable(&channel) {
-        return Draft::refused(
+        _ => Draft::refused(
             alloc,
             registry,
             client.number,
             correlation,
             Refusal::InvalidChannel,
-        );
+        ),
     }
-    subscribe(registry, alloc, client, correlation, channel, fields.stream)
 }

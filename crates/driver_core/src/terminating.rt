@@ -10,7 +10,6 @@ use crate::replies::Reply;
 use byte_strings::Items;
 use channel_uri::Channel;
 use client_registry::Client;
-use counters::Counters;
 use policy_core::{Act, Decision};
 use std::alloc::{AllocError, Global};
 use stream_registry::{LogPlace, Publication};
@@ -31,20 +30,20 @@ fn places_of(alloc: Global, publications: &[Publication]) -> Result<Items<LogPla
 
 /// All clients go, with all that they registered, and nobody comes any more. It takes no memory.
 #[tactic(auto, unfolding(crate::specs::Terminating::stopped_for_good))]
-fn stop(registry: &mut Registry, alloc: Global)
+fn stop(registry: &mut Registry)
     ensures { registry.new ≡ stopped_for_good registry.old }
 {
     registry.clients.clear();
     registry.streams.close_all();
-    registry.counters = Counters::new(alloc);
+    registry.counters.clear();
     registry.stopped = true;
 }
 
 /// What the policy in force decides: the driver goes by shared memory and stream 0.
-fn termination_decision(registry: &Registry, alloc: Global, client: Client) -> Decision
+fn termination_decision(registry: &Registry, client: Client) -> Decision
     ensures { result ≡ termination_decision registry.now client }
 {
-    let channel = Channel::ipc(alloc);
+    let channel = Channel::ipc();
     deciding::decide(registry, client, Act::Terminate, &channel, 0)
 }
 
@@ -58,7 +57,7 @@ pub(crate) fn terminate(
 ) -> Result<Draft, AllocError>
     ensures { IfOk result (λ draft. draft ≡ terminate registry client correlation) }
 {
-    let decision = termination_decision(&registry, alloc, client);
+    let decision = termination_decision(&registry, client);
     if !decision.verdict.allow {
         let refusal = Refusal::Denied(decision.verdict);
         return Draft::refused_on(
@@ -72,7 +71,7 @@ pub(crate) fn terminate(
     }
     let closes = places_of(alloc, registry.streams.publications())?;
     let mut registry = registry;
-    stop(&mut registry, alloc);
+    stop(&mut registry);
     let reply = Reply::OperationSuccess { correlation };
     let mut draft = Draft::replied_on(alloc, registry, decision, client.number, reply)?;
     draft.closes = closes;

@@ -44,7 +44,8 @@ pub(crate) fn tick(registry: Registry, alloc: Global) -> Result<Draft, AllocErro
     let mut registry = registry;
     let later = leave_late(&mut registry, alloc)?;
     let now = registry.moment;
-    let closes = registry.streams.close_lingering(alloc, now)?;
+    let closes = registry.streams.closing(alloc, now)?;
+    registry.streams.close(now);
     Ok(Draft {
         after: registry,
         response: Response::Nothing,

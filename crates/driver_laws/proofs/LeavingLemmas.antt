@@ -9,7 +9,7 @@ use Rattle.driver_core.specs.Leaving.{left, all_left}
 use Rattle.driver_core.specs.State.{State}
 use Rattle.driver_core.specs.Ticking.{timeout_of}
 use Rattle.driver_laws.specs.ReloadLaws.{in_force_at}
-use Rattle.stream_registry.specs.declared.rows.Subscription.{Subscription}
+use Rattle.stream_registry.specs.declared.row.Subscription.{Subscription}
 use Rattle.stream_registry.specs.Leaving.{left as left_in, is_subscription_of_another}
 use Rattle.stream_registry.specs.Lingering.{settled}
 use Rattle.driver_core.proofs.ListLemmas.{left_was_there, passes_are_left}

@@ -12,7 +12,7 @@ use Rattle.client_registry.specs.declared.client.Client.{Client}
 use Rattle.client_registry.specs.Clients.{client_at}
 use Rattle.counters.specs.declared.counter.Counter.{Counter}
 use Rattle.counters.specs.Counters.{counter_at, is_visible, visible_of}
-use Rattle.stream_registry.specs.declared.rows.Publication.{Publication}
+use Rattle.stream_registry.specs.declared.row.Publication.{Publication}
 use Rattle.counters.proofs.VisibleLemmas.{any_number}
 use Rattle.driver_core.proofs.VerdictLemmas.{by_policy}
 use Rattle.driver_laws.proofs.DenialTextLemmas.{epoch_of, denial_words, denial_is_named}

@@ -31,7 +31,7 @@ use Rattle.command_codec.specs.declared.add_counter.AddCounter.{AddCounter}
 use Rattle.command_codec.specs.declared.set_counter.SetCounter.{SetCounter}
 use Rattle.policy_core.specs.declared.decision.Decision.{Decision}
 use Rattle.policy_core.specs.RuleList.{Rules}
-use Rattle.stream_registry.specs.declared.rows.Publication.{Publication}
+use Rattle.stream_registry.specs.declared.row.Publication.{Publication}
 use Rattle.stream_registry.specs.declared.wanted.Adding.{Adding}
 use Rattle.stream_registry.specs.Lingering.{closed, closing_of, is_past, is_not_past, place_of}
 use Rattle.stream_registry.specs.Streams.{Streams}

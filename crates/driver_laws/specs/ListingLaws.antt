@@ -16,7 +16,7 @@ use Rattle.counters.specs.declared.counter.Counter.{Counter}
 use Rattle.counters.specs.Counters.{counter_at, question_for}
 use Rattle.policy_core.specs.Question.{Question}
 use Rattle.policy_core.specs.Verdict.{verdict_text}
-use Rattle.stream_registry.specs.declared.rows.Publication.{Publication}
+use Rattle.stream_registry.specs.declared.row.Publication.{Publication}
 
 -- what the policy is asked before the client is shown the counter
 abbrev pub look_question : Client → Counter → Question

@@ -18,8 +18,8 @@ use Rattle.driver_core.specs.Verdicts.{IsByPolicy, verdict_on}
 use Rattle.driver_laws.specs.Events.{AfterAnyEvents}
 use Rattle.driver_laws.specs.GrantLaws.{IsRefusedOn, decided_on}
 use Rattle.stream_registry.specs.declared.fault.StreamFault.{StreamFault}
-use Rattle.stream_registry.specs.declared.rows.Publication.{Publication}
-use Rattle.stream_registry.specs.declared.rows.Registration.{Registration}
+use Rattle.stream_registry.specs.declared.row.Publication.{Publication}
+use Rattle.stream_registry.specs.declared.row.Registration.{Registration}
 use Rattle.stream_registry.specs.declared.wanted.Adding.{Adding}
 use Rattle.stream_registry.specs.declared.wanted.Adding.TheVariants.{Join, Make}
 use Rattle.stream_registry.specs.Adding.{adding_of, log_of, registration_of}

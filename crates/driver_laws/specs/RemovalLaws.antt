@@ -18,8 +18,8 @@ use Rattle.client_registry.specs.declared.client.Client.{Client}
 use Rattle.command_codec.specs.declared.command.Body.{Body}
 use Rattle.command_codec.specs.declared.command.Body.TheVariants.{RemovePublication as Unpublishes}
 use Rattle.command_codec.specs.declared.removal.Removal.{Removal}
-use Rattle.stream_registry.specs.declared.rows.Registration.{Registration}
-use Rattle.stream_registry.specs.declared.rows.Subscription.{Subscription}
+use Rattle.stream_registry.specs.declared.row.Registration.{Registration}
+use Rattle.stream_registry.specs.declared.row.Subscription.{Subscription}
 use Rattle.stream_registry.specs.Leaving.{has_registration, has_subscription, unregistered, unsubscribed}
 
 -- ---- subscriptions are removed exactly

@@ -18,7 +18,7 @@ use Rattle.driver_core.specs.Subscribing.{act_of, subscribed, has_room_for_subsc
 use Rattle.driver_core.specs.Verdicts.{IsByPolicy, verdict_on}
 use Rattle.driver_laws.specs.Events.{AfterAnyEvents}
 use Rattle.policy_core.specs.declared.decision.Decision.{Decision}
-use Rattle.stream_registry.specs.declared.rows.Subscription.{Subscription}
+use Rattle.stream_registry.specs.declared.row.Subscription.{Subscription}
 
 -- ---- a request for a subscription
 

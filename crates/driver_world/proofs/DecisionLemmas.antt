@@ -22,7 +22,7 @@ use Rattle.driver_world.proofs.FoundLemmas.{found_holds, found_source, with_same
 use Rattle.driver_world.proofs.FollowLemmas.{logs_follow}
 use Rattle.policy_core.specs.declared.act.Act.TheVariants.{Offer as ToOffer, Receive}
 use Rattle.stream_registry.specs.declared.pairs.Pair.{Pair}
-use Rattle.stream_registry.specs.declared.rows.Subscription.{Subscription}
+use Rattle.stream_registry.specs.declared.row.Subscription.{Subscription}
 use Rattle.stream_registry.specs.Pairs.{is_of}
 use Rattle.term_log.specs.declared.pair.Pair.{Pair as Reader}
 use Rattle.term_log.specs.Log.{greatest_message}

@@ -31,7 +31,7 @@ use Rattle.driver_world.proofs.MatchLemmas.{kept_mapped, opened_found}
 use Rattle.policy_core.specs.RuleList.{Rules}
 use Rattle.stream_registry.specs.declared.lingering.LogPlace.{LogPlace}
 use Rattle.stream_registry.specs.declared.pairs.Pair.{Pair}
-use Rattle.stream_registry.specs.declared.rows.Publication.{Publication}
+use Rattle.stream_registry.specs.declared.row.Publication.{Publication}
 use Rattle.term_log.specs.declared.ident.Ident.{Ident}
 use Rattle.term_log.specs.declared.pair.Pair.{Pair as Reader}
 use Rattle.term_log.specs.Log.{greatest_message}

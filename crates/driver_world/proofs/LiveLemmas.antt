@@ -31,7 +31,7 @@ use Rattle.frame_codec.specs.declared.flags.Flags.{Flags}
 use Rattle.policy_core.specs.RuleList.{Rules}
 use Rattle.stream_registry.specs.declared.lingering.LogPlace.{LogPlace}
 use Rattle.stream_registry.specs.declared.pairs.Pair.{Pair}
-use Rattle.stream_registry.specs.declared.rows.Publication.{Publication}
+use Rattle.stream_registry.specs.declared.row.Publication.{Publication}
 use Rattle.term_log.specs.declared.ident.Ident.{Ident}
 use Rattle.term_log.specs.declared.offer.Offer.{Offer}
 use Rattle.term_log.specs.declared.offer.Offer.TheVariants.{At, TooLong as IsTooLong, MaxPosition, BackPressured, AdminAction}

@@ -15,7 +15,7 @@ use Rattle.driver_world.specs.Standing.{LogRow, Match, row_for, row_held}
 use Rattle.driver_world.proofs.VacancyLemmas.{least_held}
 use Rattle.stream_registry.specs.declared.lingering.LogPlace.{LogPlace}
 use Rattle.stream_registry.specs.declared.pairs.Pair.{Pair}
-use Rattle.stream_registry.specs.declared.rows.Publication.{Publication}
+use Rattle.stream_registry.specs.declared.row.Publication.{Publication}
 use Rattle.stream_registry.specs.LogPages.{log_pages}
 use Rattle.stream_registry.specs.Lingering.{place_of}
 use Rattle.term_log.specs.Log.{Log}

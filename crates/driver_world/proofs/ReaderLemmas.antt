@@ -12,8 +12,8 @@ use Rattle.driver_core.specs.State.{State}
 use Rattle.driver_world.specs.Held.{readers_of}
 use Rattle.policy_core.specs.RuleList.{Rules}
 use Rattle.stream_registry.specs.declared.pairs.Pair.{Pair}
-use Rattle.stream_registry.specs.declared.rows.Publication.{Publication}
-use Rattle.stream_registry.specs.declared.rows.Subscription.{Subscription}
+use Rattle.stream_registry.specs.declared.row.Publication.{Publication}
+use Rattle.stream_registry.specs.declared.row.Subscription.{Subscription}
 use Rattle.stream_registry.specs.Pairs.{is_pair, pair_of, pairs_at, pairs_of as pairs_on}
 
 abbrev is_of : ℕ → Pair → Bool

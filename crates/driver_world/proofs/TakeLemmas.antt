@@ -16,7 +16,7 @@ use Rattle.driver_world.specs.Standing.{StandAll, StandsForEnd, Takes}
 use Rattle.driver_world.proofs.MatchLemmas.{left_held}
 use Rattle.stream_registry.specs.declared.lingering.LogPlace.{LogPlace}
 use Rattle.stream_registry.specs.declared.pairs.Pair.{Pair}
-use Rattle.stream_registry.specs.declared.rows.Publication.{Publication}
+use Rattle.stream_registry.specs.declared.row.Publication.{Publication}
 use Rattle.term_log.specs.Whole.{Stands, rejoined, rejoined_kept}
 use Rattle.term_log.proofs.Standing.{rejoin_stands, tail_stands}
 

@@ -8,7 +8,7 @@ use Rattle.driver_core.specs.declared.settings.Settings.{Settings}
 use Rattle.driver_core.specs.State.{State}
 use Rattle.driver_world.specs.Held.{HeldLogs, is_taken, IsVacant as IsVacantHeld, IsLeastVacant}
 use Rattle.driver_world.specs.Standing.{LogRow, row_held, row_for, Match}
-use Rattle.stream_registry.specs.declared.rows.Publication.{Publication}
+use Rattle.stream_registry.specs.declared.row.Publication.{Publication}
 use Rattle.stream_registry.specs.LogPages.{holds, log_pages, pages_of}
 use Rattle.stream_registry.specs.PageLaws.{HasPage, IsVacant}
 

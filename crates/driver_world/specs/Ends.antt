@@ -25,7 +25,7 @@ use Rattle.driver_world.specs.Moves.{WholeLog, Move, offer_move, poll_move}
 use Rattle.policy_core.specs.RuleList.{Rules}
 use Rattle.stream_registry.specs.declared.lingering.LogPlace.{LogPlace}
 use Rattle.stream_registry.specs.declared.pairs.Pair.{Pair}
-use Rattle.stream_registry.specs.declared.rows.Publication.{Publication}
+use Rattle.stream_registry.specs.declared.row.Publication.{Publication}
 use Rattle.term_log.specs.Whole.{fresh, rejoined, tail_of}
 
 -- the registry, and the open logs in the order in which they were opened

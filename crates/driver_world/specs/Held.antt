@@ -10,7 +10,7 @@ use Rattle.log_arena.specs.Homes.{Home}
 use Rattle.log_arena.specs.Pages.{Region, has_lease}
 use Rattle.stream_registry.specs.declared.lingering.LogPlace.{LogPlace}
 use Rattle.stream_registry.specs.declared.pairs.Pair.{Pair}
-use Rattle.stream_registry.specs.declared.rows.Publication.{Publication}
+use Rattle.stream_registry.specs.declared.row.Publication.{Publication}
 use Rattle.stream_registry.specs.LogPages.{pages_of, log_pages}
 use Rattle.term_log.specs.declared.ident.Ident.{Ident}
 use Rattle.term_log.specs.Log.{Log}

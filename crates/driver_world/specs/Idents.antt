@@ -2,7 +2,7 @@
 use Rattle.driver_core.specs.declared.settings.Settings.{Settings}
 use Rattle.channel_uri.specs.declared.media.Media.{Media}
 use Rattle.channel_uri.specs.declared.media.Media.TheVariants.{Udp, Ipc, Counter}
-use Rattle.stream_registry.specs.declared.rows.Publication.{Publication}
+use Rattle.stream_registry.specs.declared.row.Publication.{Publication}
 use Rattle.term_log.specs.declared.ident.Ident.{Ident}
 use Rattle.term_log.specs.declared.ident.LogKind.{LogKind}
 use Rattle.term_log.specs.declared.ident.LogKind.TheVariants as kind

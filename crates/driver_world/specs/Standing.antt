@@ -17,7 +17,7 @@ use Rattle.driver_world.specs.Idents.{ident_of}
 use Rattle.driver_world.specs.Memory.{HasMemory, HaveMemory}
 use Rattle.driver_world.specs.Moves.{WholeLog, StandsForLog}
 use Rattle.policy_core.specs.RuleList.{Rules}
-use Rattle.stream_registry.specs.declared.rows.Publication.{Publication}
+use Rattle.stream_registry.specs.declared.row.Publication.{Publication}
 use Rattle.stream_registry.specs.LogPages.{holds}
 use Rattle.term_log.specs.declared.ident.Ident.{Ident}
 

@@ -2,8 +2,8 @@
 use Rattle.std.proofs.Common.{◌≡◌, ℕ, Bool, true, false, ◌==◌, ◌&&◌, ◌||◌, List, [], ◌∷◌, ◌++◌, map, filter, if◌then◌else◌, refl, sym, ap, ◌∙◌}
 use Rattle.std.specs.List.{list_any, flat_map}
 use Rattle.std.proofs.lemmas.List.Folds.{list_any-append}
-use Rattle.stream_registry.specs.declared.rows.Publication.{Publication}
-use Rattle.stream_registry.specs.declared.rows.Subscription.{Subscription}
+use Rattle.stream_registry.specs.declared.row.Publication.{Publication}
+use Rattle.stream_registry.specs.declared.row.Subscription.{Subscription}
 use Rattle.stream_registry.specs.Pairs.{is_of, is_pair, is_read, pair_of, pairs_at, reads_as}
 use Rattle.client_registry.specs.declared.client.Client.{Client}
 use Rattle.policy_core.specs.RuleList.{Rules}

@@ -6,7 +6,7 @@ use Rattle.std.proofs.lemmas.Bool.Decides.{Decides-int_eq, nat_tests}
 use Rattle.std.proofs.lemmas.Int.{of_z-to_z, to_z-of_z}
 use Rattle.std.proofs.lemmas.List.Filters.{length-filter_both}
 use Rattle.std.proofs.Math.Facts.{Fits-of_z}
-use Rattle.stream_registry.specs.declared.rows.Publication.{Publication}
+use Rattle.stream_registry.specs.declared.row.Publication.{Publication}
 use Rattle.stream_registry.specs.Sessions.{after, has_session, is_taken, free_from, free_session}
 use Rattle.stream_registry.specs.SessionLaws.{nth_after, SessionsAreFree}
 

@@ -2,8 +2,8 @@
 use Rattle.std.specs.Prelude.{ℕ, ℤ, Bool, ◌&&◌, nat_lt, [], ◌∷◌, ◌++◌, length, Option, Some, None, Result, Ok, Err, is_some, unwrap_or, if◌then◌else◌}
 use Rattle.stream_registry.specs.declared.fault.StreamFault.{StreamFault}
 use Rattle.stream_registry.specs.declared.fault.StreamFault.TheVariants.{Conflict, Full}
-use Rattle.stream_registry.specs.declared.rows.Publication.{Publication}
-use Rattle.stream_registry.specs.declared.rows.Registration.{Registration}
+use Rattle.stream_registry.specs.declared.row.Publication.{Publication}
+use Rattle.stream_registry.specs.declared.row.Registration.{Registration}
 use Rattle.stream_registry.specs.declared.wanted.Adding.{Adding}
 use Rattle.stream_registry.specs.declared.wanted.Adding.TheVariants.{Join, Make}
 use Rattle.stream_registry.specs.declared.wanted.Wanted.{Wanted}

@@ -2,7 +2,7 @@
 use Rattle.std.specs.Prelude.{ℤ, Bool, not, ◌&&◌, ◌||◌, List, Option, find, is_none}
 use Rattle.std.specs.Ordering.{int_eq}
 use Rattle.stream_registry.specs.declared.measures.Measures.{Measures}
-use Rattle.stream_registry.specs.declared.rows.Publication.{Publication}
+use Rattle.stream_registry.specs.declared.row.Publication.{Publication}
 use Rattle.stream_registry.specs.Measures.{measures_of, is_same}
 use Rattle.stream_registry.specs.Places.{is_same_place, is_manual}
 use Rattle.stream_registry.specs.Sessions.{agrees_with}

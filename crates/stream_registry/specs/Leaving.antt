@@ -1,8 +1,8 @@
 -- What goes where a registration, a subscription or a client goes.
 use Rattle.std.specs.Prelude.{ℕ, Bool, not, ◌==◌, ◌&&◌, filter}
 use Rattle.std.specs.List.{list_any}
-use Rattle.stream_registry.specs.declared.rows.Registration.{Registration}
-use Rattle.stream_registry.specs.declared.rows.Subscription.{Subscription}
+use Rattle.stream_registry.specs.declared.row.Registration.{Registration}
+use Rattle.stream_registry.specs.declared.row.Subscription.{Subscription}
 use Rattle.stream_registry.specs.Lingering.{settled}
 use Rattle.stream_registry.specs.Streams.{Streams}
 

@@ -1,7 +1,7 @@
 -- Which pages of the arena live logs hold, and where a new log goes. A page has 4,096 bytes. Own rules.
 use Rattle.std.specs.Prelude.{ℕ, ◌+◌, ◌*◌, ◌/◌, Bool, true, not, ◌&&◌, nat_le, nat_lt, List, Option, Some, None, find}
 use Rattle.std.specs.List.{list_any, range_with_len}
-use Rattle.stream_registry.specs.declared.rows.Publication.{Publication}
+use Rattle.stream_registry.specs.declared.row.Publication.{Publication}
 use Rattle.stream_registry.specs.declared.wanted.Wanted.{Wanted}
 use Rattle.stream_registry.specs.Measures.{measures_of}
 use Rattle.stream_registry.specs.Streams.{Streams}

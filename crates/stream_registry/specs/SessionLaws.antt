@@ -1,7 +1,7 @@
 -- What holds of the sessions that logs are given.
 use Rattle.std.specs.Prelude.{◌≡◌, ℕ, zero, suc, ◌<◌, ◌^◌, ℤ, true, false, List, length, FitsSigned}
 use Rattle.std.specs.Int.{w32}
-use Rattle.stream_registry.specs.declared.rows.Publication.{Publication}
+use Rattle.stream_registry.specs.declared.row.Publication.{Publication}
 use Rattle.stream_registry.specs.Sessions.{after, is_taken, free_session}
 
 -- the session that comes so many after this one

@@ -1,9 +1,9 @@
 -- What is published and what is subscribed to, as plain lists.
 use Rattle.std.specs.Prelude.{ℤ, List, []}
 use Rattle.stream_registry.specs.declared.measures.Measures.{Measures}
-use Rattle.stream_registry.specs.declared.rows.Publication.{Publication}
-use Rattle.stream_registry.specs.declared.rows.Registration.{Registration}
-use Rattle.stream_registry.specs.declared.rows.Subscription.{Subscription}
+use Rattle.stream_registry.specs.declared.row.Publication.{Publication}
+use Rattle.stream_registry.specs.declared.row.Registration.{Registration}
+use Rattle.stream_registry.specs.declared.row.Subscription.{Subscription}
 
 -- what a log is made by where its channel says nothing, the number from which on the next session is looked for, the live
 -- publications, who is registered with them, and the subscriptions, each list in the order in which its rows came

@@ -1,5 +1,5 @@
 -- A subscription that is asked about, as a row.
-use Rattle.stream_registry.specs.declared.rows.Subscription.{Subscription}
+use Rattle.stream_registry.specs.declared.row.Subscription.{Subscription}
 use Rattle.stream_registry.specs.declared.wish.Wish.{Wish}
 
 abbrev pub row_of : Wish → Subscription

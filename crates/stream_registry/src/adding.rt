@@ -3,7 +3,7 @@ ghost use Rattle.std.specs.Prelude.{◌≡◌, Ok, true};
 
 use crate::fault::StreamFault;
 use crate::joining::{contradicts, joined_at};
-use crate::rows::{Publication, Registration, Subscription};
+use crate::row::{Publication, Registration, Subscription};
 use crate::sessions::{after, free_session, is_stated_again};
 use crate::streams::Streams;
 use crate::wanted::{Adding, Wanted};

@@ -4,7 +4,7 @@ ghost use Rattle.std.specs.Prelude.{◌≡◌};
 
 use crate::measures::Measures;
 use crate::places::{is_manual, is_same_place};
-use crate::rows::Publication;
+use crate::row::Publication;
 use crate::sessions::agrees_with;
 use channel_uri::Channel;
 

@@ -3,7 +3,7 @@ ghost use Rattle.stream_registry.specs.declared.fault.StreamFault.TheVariants.{U
 ghost use Rattle.std.specs.Prelude.{◌≡◌, ◌↔◌, IfErr, IsOk, OnOk, OnErr, true};
 
 use crate::fault::StreamFault;
-use crate::rows::{Registration, Subscription};
+use crate::row::{Registration, Subscription};
 use crate::streams::Streams;
 use rows::Test;
 

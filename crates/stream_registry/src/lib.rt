@@ -17,7 +17,7 @@ mod log_pages;
 mod measures;
 mod pairs;
 mod places;
-mod rows;
+mod row;
 mod sessions;
 mod streams;
 mod wanted;
@@ -28,7 +28,7 @@ pub use laws::{limits_are_kept, places_are_least, places_share_nothing, sessions
 pub use lingering::LogPlace;
 pub use measures::Measures;
 pub use pairs::{Pair, reads};
-pub use self::rows::{Publication, Registration, Subscription};
+pub use row::{Publication, Registration, Subscription};
 pub use streams::Streams;
 pub use wanted::{Adding, Wanted};
 pub use wish::Wish;

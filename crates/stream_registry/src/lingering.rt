@@ -1,7 +1,7 @@
 ghost use Rattle.stream_registry.specs.Lingering.{closed, closing_of, is_not_past, is_past, is_used, registrations_of, settled, settled_one};
 ghost use Rattle.std.specs.Prelude.{◌≡◌, IfOk};
 
-use crate::rows::{Publication, Registration};
+use crate::row::{Publication, Registration};
 use crate::streams::Streams;
 use byte_strings::Items;
 use rows::{Change, Test};

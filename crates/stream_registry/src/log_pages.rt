@@ -4,7 +4,7 @@ ghost use Rattle.stream_registry.specs.LogPages.{fits, free_place, holds_some, i
 ghost use Rattle.std.specs.List.{list_any};
 ghost use Rattle.std.specs.Prelude.{◌≡◌, ◌+◌, ◌-◌, ◌^◌, min, nat_le, not};
 
-use crate::rows::Publication;
+use crate::row::Publication;
 use crate::streams::Streams;
 use crate::wanted::Wanted;
 

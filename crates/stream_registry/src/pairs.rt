@@ -4,7 +4,7 @@ ghost use Rattle.std.specs.List.{list_any};
 ghost use Rattle.std.specs.Prelude.{◌≡◌, ◌++◌, IfOk, OnOk};
 
 use crate::places::is_ipc;
-use crate::rows::{Publication, Subscription};
+use crate::row::{Publication, Subscription};
 use crate::sessions::agrees_with;
 use crate::streams::Streams;
 use crate::wish::Wish;

@@ -3,7 +3,7 @@ ghost use Rattle.std.specs.List.{list_any};
 ghost use Rattle.std.specs.Prelude.{◌≡◌};
 
 use crate::places::is_same_media;
-use crate::rows::Publication;
+use crate::row::Publication;
 use channel_uri::Media;
 
 /// The session id after this one; the least comes after the greatest.

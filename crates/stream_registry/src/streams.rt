@@ -1,7 +1,7 @@
 ghost use Rattle.std.specs.Prelude.{◌≡◌, IfOk};
 
 use crate::measures::Measures;
-use crate::rows::{Publication, Registration, Subscription};
+use crate::row::{Publication, Registration, Subscription};
 use rows::Rows;
 use std::alloc::{AllocError, Global};
 use std::marker::Model;

@@ -1,7 +1,7 @@
 ghost use Rattle.stream_registry.specs.Wish.{row_of};
 ghost use Rattle.std.specs.Prelude.{◌≡◌};
 
-use crate::rows::Subscription;
+use crate::row::Subscription;
 use channel_uri::Channel;
 
 /// A subscription that is asked about, whether it is there or not.

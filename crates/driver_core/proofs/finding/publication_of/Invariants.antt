@@ -1,6 +1,6 @@
 use Rattle.std.proofs.Common.{◌≡◌, drop}
 use Rattle.driver_core.specs.Renewal.{publication_at}
-use Rattle.driver_core.proofs.rows.publication_of.Given as goal
+use Rattle.driver_core.proofs.finding.publication_of.Given as goal
 
 -- the publications that are left decide
 abbrev pub invariant-loop-publication : goal.invariant-loop-publication

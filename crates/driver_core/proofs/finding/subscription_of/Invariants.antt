@@ -1,6 +1,6 @@
 use Rattle.std.proofs.Common.{◌≡◌, drop}
 use Rattle.driver_core.specs.Renewal.{subscription_at}
-use Rattle.driver_core.proofs.rows.subscription_of.Given as goal
+use Rattle.driver_core.proofs.finding.subscription_of.Given as goal
 
 -- the subscriptions that are left decide
 abbrev pub invariant-loop-subscription : goal.invariant-loop-subscription
