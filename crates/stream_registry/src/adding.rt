@@ -172,8 +172,7 @@ impl Streams {
         }
     }
 
-    /// A client subscribes, under this number. It takes no memory. Where there is no room is asked before
-    /// ([`Streams::has_room_for_subscription`]).
+    /// A client subscribes, under this number. It takes no memory; [`Streams::has_room_for_subscription`] is asked before.
     #[tactic(auto, unfolding(crate::specs::Adding::subscribed))]
     pub fn add_subscription(&mut self, number: u64, client: u64, channel: &Channel, stream: i32)
         requires { has_room_for_subscription self.old ≡ true }

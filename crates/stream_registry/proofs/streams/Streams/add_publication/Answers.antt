@@ -1,4 +1,4 @@
-use Rattle.std.proofs.Common.{◌≡◌, ◌∙◌, ap, sym}
+use Rattle.std.proofs.Common.{◌∙◌, ap}
 use Rattle.std.specs.Prelude.{Ok}
 use Rattle.stream_registry.specs.Adding.{has_room_for_registration}
 use Rattle.stream_registry.proofs.LimitLemmas.{join_has_room, make_has_room}
