@@ -152,6 +152,7 @@ impl Streams {
     /// A client publishes: it is registered, under this number, with the publication that [`Streams::adding`] names, or
     /// with a new one, whose source number this is and whose log lies at `place`. `adding` is the answer of
     /// [`Streams::adding`]. It takes no memory.
+    #[tactic(auto, using(crate::proofs::LimitLemmas::join_has_room, crate::proofs::LimitLemmas::make_has_room_for_log, crate::proofs::LimitLemmas::make_has_room))]
     pub fn add_publication(
         &mut self,
         number: u64,
