@@ -74,11 +74,15 @@ pub join_has_room : (s : Streams) (wanted : Wanted) (source : ℕ) (session : �
     has_room_for_registration s ≡ true
 join_has_room s wanted source session is = granted_room s wanted (Join source session) is
 
+pub make_has_room_for_log : (s : Streams) (wanted : Wanted) (session : ℤ) → adding_of s wanted ≡ Ok (Make session) →
+    has_room_for_log s ≡ true
+make_has_room_for_log s wanted session is =
+    second_of (has_room_for_registration s) (has_room_for_log s) (granted_room s wanted (Make session) is)
+
 pub make_has_room : (s : Streams) (wanted : Wanted) (session : ℤ) → adding_of s wanted ≡ Ok (Make session) →
-    (has_room_for_registration s ≡ true) × (has_room_for_log s ≡ true)
+    has_room_for_registration s ≡ true
 make_has_room s wanted session is =
-    let both = granted_room s wanted (Make session) is in
-    (first_of (has_room_for_registration s) (has_room_for_log s) both, second_of (has_room_for_registration s) (has_room_for_log s) both)
+    first_of (has_room_for_registration s) (has_room_for_log s) (granted_room s wanted (Make session) is)
 
 -- ---- the lists
 

@@ -152,6 +152,7 @@ impl Streams {
     /// A client publishes: it is registered, under this number, with the publication that [`Streams::adding`] names, or
     /// with a new one, whose source number this is and whose log lies at `place`. `adding` is the answer of
     /// [`Streams::adding`]. It takes no memory.
+    #[tactic(auto, using(crate::proofs::LimitLemmas::join_has_room, crate::proofs::LimitLemmas::make_has_room_for_log, crate::proofs::LimitLemmas::make_has_room))]
     pub fn add_publication(
         &mut self,
         number: u64,
@@ -172,8 +173,7 @@ impl Streams {
         }
     }
 
-    /// A client subscribes, under this number. It takes no memory. Where there is no room is asked before
-    /// ([`Streams::has_room_for_subscription`]).
+    /// A client subscribes, under this number. It takes no memory; [`Streams::has_room_for_subscription`] is asked before.
     #[tactic(auto, unfolding(crate::specs::Adding::subscribed))]
     pub fn add_subscription(&mut self, number: u64, client: u64, channel: &Channel, stream: i32)
         requires { has_room_for_subscription self.old ≡ true }

@@ -7,6 +7,6 @@ pub enum StreamFault {
     UnknownSubscription,
     /// The channel says something else than the publication that it would join, or states the session of another one.
     Conflict,
-    /// There would be too many publications, registrations or subscriptions.
+    /// There would be too many logs or registrations.
     Full,
 }

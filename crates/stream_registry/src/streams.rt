@@ -38,11 +38,7 @@ impl Streams {
 
     /// Nothing is published and nothing is subscribed to. A log is made by `defaults` where its channel says nothing, and
     /// the first session that no channel states is `first_session`.
-    pub fn new(
-        alloc: Global,
-        defaults: Measures,
-        first_session: i32,
-    ) -> Result<Streams, AllocError>
+    pub fn new(alloc: Global, defaults: Measures, first_session: i32) -> Result<Streams, AllocError>
         ensures { IfOk result (λ streams. streams ≡ opened defaults first_session) }
     {
         Ok(Streams {
