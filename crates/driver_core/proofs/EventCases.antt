@@ -151,7 +151,6 @@ plain_refusal fault.UnknownPublication = tt
 plain_refusal fault.UnknownSubscription = tt
 plain_refusal fault.Conflict = tt
 plain_refusal fault.Full = tt
-plain_refusal fault.NoMemory = tt
 
 -- what has to be shown of each draft that an allowed request for a publication may make
 pub record PublishCases (P : Draft → Type 0) (s : State) (client : Client) (correlation : ℕ) (wanted : Wanted) : Type 0 where

@@ -5,7 +5,7 @@ ghost use Rattle.std.specs.Prelude.{◌≡◌, Some, None, IfOk, option_copied, 
 ghost use Rattle.std.specs.Str.{is_utf8};
 
 use byte_strings::Text;
-use channel_uri::{Channel, UriError};
+use channel_uri::Channel;
 use policy_core::{Act, Policy, Request, Verdict};
 use policy_text::{Names, PolicyFault};
 use std::alloc::{AllocError, Global};
@@ -39,7 +39,7 @@ pub enum DecideFault {
     UnknownAct,
     /// The text is no channel.
     InvalidChannel,
-    /// There is no memory for the policy, or for the channel.
+    /// There is no memory for the policy.
     NoMemory,
 }
 
@@ -116,15 +116,14 @@ fn sound_policy(alloc: Global, bytes: &[u8], names: &Names) -> Result<Policy, De
 
 /// The channel that a word is. Rules on counters are asked about `aeron:counter`.
 #[tactic(auto, unfolding(crate::specs::Deciding::subject_of))]
-fn subject_of(alloc: Global, word: &str) -> Result<Channel, DecideFault>
+fn subject_of(word: &str) -> Result<Channel, DecideFault>
     ensures { Gives (λ channel. channel) result (subject_of word.now) }
 {
     if word == "aeron:counter" {
-        return Ok(Channel::counter(alloc));
+        return Ok(Channel::counter());
     }
-    match Channel::parse(alloc, word) {
+    match Channel::parse(word) {
         Ok(channel) => Ok(channel),
-        Err(UriError::NoMemory) => Err(DecideFault::NoMemory),
         Err(_) => Err(DecideFault::InvalidChannel),
     }
 }
@@ -166,7 +165,7 @@ pub fn decide(
         .number_of(principal)
         .ok_or(DecideFault::UnknownPrincipal)?;
     let act = Act::from_name(act).ok_or(DecideFault::UnknownAct)?;
-    let channel = subject_of(alloc, channel)?;
+    let channel = subject_of(channel)?;
     let request = Request {
         principal,
         act,
