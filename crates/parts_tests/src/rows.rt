@@ -1,0 +1,5 @@
+//! Tests of `rows`.
+
+ghost use Rattle.std.specs.Prelude.{◌+◌, ◌%◌, ◌==◌, ◌^◌, nat_eq};
+
+use std::alloc::{AllocError, Global};
