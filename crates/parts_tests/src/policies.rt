@@ -287,12 +287,7 @@ fn decides(policy: &Policy, count: usize, principal: u32, by: Option<u32>) -> bo
 }
 
 /// Whether a copy of that policy decides so, and another that became equal to it.
-fn policy_is_copied(
-    alloc: Global,
-    count: usize,
-    principal: u32,
-    by: Option<u32>,
-) -> Option<bool> {
+fn policy_is_copied(alloc: Global, count: usize, principal: u32, by: Option<u32>) -> Option<bool> {
     let policy = of_ipc(alloc)?;
     let copy = policy.copy(alloc).ok()?;
     let mut other = of_one(alloc)?;
