@@ -18,11 +18,20 @@ const REWRITTEN: [(&str, &str); 3] = [
     ),
 ];
 
-/// Whether a copy of the channel of the text is written so.
+/// Whether the channel is written so.
+fn is_written(alloc: Global, channel: &Channel, wanted: &str) -> bool {
+    match channel.canonical(alloc) {
+        Ok(text) => text.as_str() == wanted,
+        Err(_) => false,
+    }
+}
+
+/// Whether a copy of the channel of the text is written so, and another that became equal to it.
 fn is_rewritten(alloc: Global, text: &str, wanted: &str) -> Result<bool, UriError> {
-    let channel = Channel::parse(alloc, text)?;
-    let copy = channel.copy()?;
-    Ok(copy.canonical(alloc)?.as_str() == wanted)
+    let channel = Channel::parse(text)?;
+    let mut other = Channel::parse("aeron:ipc?z=1")?;
+    other.set_from(&channel);
+    Ok(is_written(alloc, &channel.copy(), wanted) && is_written(alloc, &other, wanted))
 }
 
 fn are_rewritten(alloc: Global, rows: &[(&str, &str)]) -> bool {
@@ -36,10 +45,7 @@ fn are_rewritten(alloc: Global, rows: &[(&str, &str)]) -> bool {
 
 /// Whether shared memory is written so.
 fn ipc_is(alloc: Global, wanted: &str) -> bool {
-    match Channel::ipc(alloc).canonical(alloc) {
-        Ok(text) => text.as_str() == wanted,
-        Err(_) => false,
-    }
+    is_written(alloc, &Channel::ipc(), wanted)
 }
 
 #[test]
@@ -51,8 +57,8 @@ fn channels_have_one_text(rt: HostRuntime) {
 }
 
 /// Whether the channel of the text has each of these values.
-fn keeps(alloc: Global, text: &str, values: &[(&str, Option<&str>)]) -> Result<bool, UriError> {
-    let channel = Channel::parse(alloc, text)?;
+fn keeps(text: &str, values: &[(&str, Option<&str>)]) -> Result<bool, UriError> {
+    let channel = Channel::parse(text)?;
     for &(key, value) in values {
         if channel.get(key) != value {
             return Ok(false);
@@ -62,8 +68,8 @@ fn keeps(alloc: Global, text: &str, values: &[(&str, Option<&str>)]) -> Result<b
 }
 
 /// Whether the channel of the text is a spy's, of `udp`.
-fn is_spy_of_udp(alloc: Global, text: &str) -> Result<bool, UriError> {
-    let channel = Channel::parse(alloc, text)?;
+fn is_spy_of_udp(text: &str) -> Result<bool, UriError> {
+    let channel = Channel::parse(text)?;
     Ok(channel.is_spy() && channel.media() == Media::Udp)
 }
 
@@ -76,10 +82,10 @@ const LAST: [(&str, Option<&str>); 4] = [
 
 #[test]
 fn the_last_value_of_a_key_stands(rt: HostRuntime) {
-    assert!(rt; is_so(is_spy_of_udp(rt.alloc(), TWICE)));
-    assert!(rt; !is_so(is_spy_of_udp(rt.alloc(), "aeron:udp?a=1")));
-    assert!(rt; is_so(keeps(rt.alloc(), TWICE, &LAST)));
-    assert!(rt; !is_so(keeps(rt.alloc(), TWICE, &[("a", Some("1"))])));
+    assert!(rt; is_so(is_spy_of_udp(TWICE)));
+    assert!(rt; !is_so(is_spy_of_udp("aeron:udp?a=1")));
+    assert!(rt; is_so(keeps(TWICE, &LAST)));
+    assert!(rt; !is_so(keeps(TWICE, &[("a", Some("1"))])));
 }
 
 const STATED: &str =
@@ -97,8 +103,8 @@ type Stated = (
     bool,
 );
 
-fn is_stated(alloc: Global, text: &str, wanted: Stated) -> Result<bool, UriError> {
-    let channel = Channel::parse(alloc, text)?;
+fn is_stated(text: &str, wanted: Stated) -> Result<bool, UriError> {
+    let channel = Channel::parse(text)?;
     let (endpoint, control, session, mtu, term_length, linger, manual) = wanted;
     Ok(
         channel.endpoint() == endpoint
@@ -130,13 +136,13 @@ fn stated(linger: u64) -> Stated {
 
 #[test]
 fn what_a_channel_states_is_read(rt: HostRuntime) {
-    assert!(rt; is_so(is_stated(rt.alloc(), STATED, stated(2_000_000))));
-    assert!(rt; !is_so(is_stated(rt.alloc(), STATED, stated(2_000_001))));
+    assert!(rt; is_so(is_stated(STATED, stated(2_000_000))));
+    assert!(rt; !is_so(is_stated(STATED, stated(2_000_001))));
     // Only the value that is kept is checked.
     let mtu = (None, None, None, Some(1408), None, None, false);
-    assert!(rt; is_so(is_stated(rt.alloc(), "aeron:udp?mtu=1|mtu=1408", mtu)));
+    assert!(rt; is_so(is_stated("aeron:udp?mtu=1|mtu=1408", mtu)));
     let nothing = (None, None, None, None, None, None, false);
-    assert!(rt; is_so(is_stated(rt.alloc(), "aeron:udp?a=1", nothing)));
+    assert!(rt; is_so(is_stated("aeron:udp?a=1", nothing)));
 }
 
 /// The address of the endpoint, or a word for another place.
@@ -163,14 +169,14 @@ const PLACES: [(&str, Option<&str>); 4] = [
 ];
 
 /// Whether the channel of the text is there.
-fn is_at(alloc: Global, text: &str, wanted: Option<&str>) -> Result<bool, UriError> {
-    let channel = Channel::parse(alloc, text)?;
+fn is_at(text: &str, wanted: Option<&str>) -> Result<bool, UriError> {
+    let channel = Channel::parse(text)?;
     Ok(word_of(channel.place()) == wanted)
 }
 
-fn are_at(alloc: Global, rows: &[(&str, Option<&str>)]) -> bool {
+fn are_at(rows: &[(&str, Option<&str>)]) -> bool {
     for &(text, wanted) in rows {
-        if !is_so(is_at(alloc, text, wanted)) {
+        if !is_so(is_at(text, wanted)) {
             return false;
         }
     }
@@ -179,12 +185,7 @@ fn are_at(alloc: Global, rows: &[(&str, Option<&str>)]) -> bool {
 
 #[test]
 fn a_place_is_the_first_that_fits(rt: HostRuntime) {
-    assert!(rt; are_at(rt.alloc(), &PLACES));
-    assert!(rt;
-        !are_at(
-            rt.alloc(),
-            &[("aeron:ipc?control-mode=manual", Some("manual"))]
-        )
-    );
-    assert!(rt; Channel::counter(rt.alloc()).place().is_none());
+    assert!(rt; are_at(&PLACES));
+    assert!(rt; !are_at(&[("aeron:ipc?control-mode=manual", Some("manual"))]));
+    assert!(rt; Channel::counter().place().is_none());
 }

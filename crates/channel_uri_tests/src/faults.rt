@@ -3,23 +3,23 @@ use std::alloc::{AllocError, Global};
 use std::fmt;
 
 /// Why the text is no channel; none where it is one.
-pub(crate) fn channel_fault(alloc: Global, text: &str) -> Option<UriError> {
-    match Channel::parse(alloc, text) {
+pub(crate) fn channel_fault(text: &str) -> Option<UriError> {
+    match Channel::parse(text) {
         Ok(_) => None,
         Err(fault) => Some(fault),
     }
 }
 
 /// Why the text is no pattern; none where it is one.
-pub(crate) fn pattern_fault(alloc: Global, text: &str) -> Option<UriError> {
-    match Pattern::parse(alloc, text) {
+pub(crate) fn pattern_fault(text: &str) -> Option<UriError> {
+    match Pattern::parse(text) {
         Ok(_) => None,
         Err(fault) => Some(fault),
     }
 }
 
-/// Whether it came about; without memory nothing does.
-pub(crate) fn is_so(answered: Result<bool, UriError>) -> bool {
+/// Whether it came about; where there is a fault nothing does.
+pub(crate) fn is_so<E: Drop>(answered: Result<bool, E>) -> bool {
     match answered {
         Ok(so) => so,
         Err(_) => false,
@@ -27,9 +27,9 @@ pub(crate) fn is_so(answered: Result<bool, UriError>) -> bool {
 }
 
 /// Whether each text has the fault behind it.
-fn are_faulty(alloc: Global, rows: &[(&str, UriError)]) -> bool {
+fn are_faulty(rows: &[(&str, UriError)]) -> bool {
     for &(text, fault) in rows {
-        if channel_fault(alloc, text) != Some(fault) {
+        if channel_fault(text) != Some(fault) {
             return false;
         }
     }
@@ -51,13 +51,12 @@ const FAULTS: [(&str, UriError); 7] = [
 
 /// Whether the channel of the text has this value of a key, and this term length.
 fn states(
-    alloc: Global,
     text: &str,
     key: &str,
     value: Option<&str>,
     length: Option<u32>,
 ) -> Result<bool, UriError> {
-    let channel = Channel::parse(alloc, text)?;
+    let channel = Channel::parse(text)?;
     Ok(channel.get(key) == value && channel.term_length() == length)
 }
 
@@ -65,12 +64,12 @@ const SIZED: &str = "aeron:ipc?term-length=64K";
 
 #[test]
 fn channel_faults(rt: HostRuntime) {
-    assert!(rt; are_faulty(rt.alloc(), &FAULTS));
-    assert!(rt; !are_faulty(rt.alloc(), &[("aeron:udp?=x", UriError::KeyWithoutValue)]));
-    assert!(rt; is_so(states(rt.alloc(), "aeron:udp?a=1|a=2", "a", Some("2"), None)));
-    assert!(rt; !is_so(states(rt.alloc(), "aeron:udp?a=1|a=2", "a", Some("1"), None)));
-    assert!(rt; is_so(states(rt.alloc(), SIZED, "a", None, Some(65536))));
-    assert!(rt; !is_so(states(rt.alloc(), SIZED, "a", None, Some(65535))));
+    assert!(rt; are_faulty(&FAULTS));
+    assert!(rt; !are_faulty(&[("aeron:udp?=x", UriError::KeyWithoutValue)]));
+    assert!(rt; is_so(states("aeron:udp?a=1|a=2", "a", Some("2"), None)));
+    assert!(rt; !is_so(states("aeron:udp?a=1|a=2", "a", Some("1"), None)));
+    assert!(rt; is_so(states(SIZED, "a", None, Some(65536))));
+    assert!(rt; !is_so(states(SIZED, "a", None, Some(65535))));
 }
 
 /// The syntax is read from the left; of the values that are kept, the bad one whose key is first in byte order is named.
@@ -143,7 +142,7 @@ const FIRST_FAULTS: [(&str, UriError); 28] = [
 
 #[test]
 fn the_first_fault_is_named(rt: HostRuntime) {
-    assert!(rt; are_faulty(rt.alloc(), &FIRST_FAULTS));
+    assert!(rt; are_faulty(&FIRST_FAULTS));
 }
 
 /// The head, and letters behind it up to so many bytes.
@@ -204,13 +203,10 @@ const LENGTHS: [Length; 8] = [
     ),
 ];
 
-fn is_found(alloc: Global, row: Length) -> Result<bool, UriError> {
+fn is_found(alloc: Global, row: Length) -> Result<bool, AllocError> {
     let (head, len, channel, pattern) = row;
     let text = filled(alloc, head, len)?;
-    Ok(
-        channel_fault(alloc, text.as_str()) == channel
-            && pattern_fault(alloc, text.as_str()) == pattern,
-    )
+    Ok(channel_fault(text.as_str()) == channel && pattern_fault(text.as_str()) == pattern)
 }
 
 fn are_found(alloc: Global, rows: &[Length]) -> bool {
@@ -247,7 +243,7 @@ fn is_shown<T: fmt::Display>(alloc: Global, value: &T, text: &str) -> bool {
     }
 }
 
-const FAULT_TEXTS: [(UriError, &str); 8] = [
+const FAULT_TEXTS: [(UriError, &str); 7] = [
     (UriError::TooLong, "longer than 1,024 bytes"),
     (UriError::NoScheme, "no scheme aeron:"),
     (UriError::BadMedia, "bad media"),
@@ -261,7 +257,6 @@ const FAULT_TEXTS: [(UriError, &str); 8] = [
         UriError::NotServed(Key::ControlMode),
         "not served: control-mode",
     ),
-    (UriError::NoMemory, "no memory"),
 ];
 
 /// Whether each fault has the text behind it.
@@ -277,7 +272,7 @@ fn are_shown(alloc: Global, rows: &[(UriError, &str)]) -> bool {
 #[test]
 fn faults_have_texts(rt: HostRuntime) {
     assert!(rt; are_shown(rt.alloc(), &FAULT_TEXTS));
-    assert!(rt; !are_shown(rt.alloc(), &[(UriError::NoMemory, "no memoir")]));
+    assert!(rt; !are_shown(rt.alloc(), &[(UriError::BadMedia, "bad medium")]));
 }
 
 const KEY_TEXTS: [(Key, &str); 9] = [

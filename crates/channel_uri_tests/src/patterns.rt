@@ -1,11 +1,10 @@
 use crate::faults::{is_so, pattern_fault};
 use channel_uri::{Channel, Pattern, UriError};
-use std::alloc::Global;
 
 /// Whether the pattern of the text covers the channel of the other.
-fn covers(alloc: Global, pattern: &str, channel: &str) -> Result<bool, UriError> {
-    let pattern = Pattern::parse(alloc, pattern)?;
-    let channel = Channel::parse(alloc, channel)?;
+fn covers(pattern: &str, channel: &str) -> Result<bool, UriError> {
+    let pattern = Pattern::parse(pattern)?;
+    let channel = Channel::parse(channel)?;
     Ok(pattern.covers(&channel))
 }
 
@@ -39,9 +38,9 @@ const COVERED: [(&str, &str, bool); 17] = [
     ("aeron:udp?endpoint=localhost*", LOCAL, false),
 ];
 
-fn are_covered(alloc: Global, rows: &[(&str, &str, bool)]) -> bool {
+fn are_covered(rows: &[(&str, &str, bool)]) -> bool {
     for &(pattern, channel, covered) in rows {
-        if covers(alloc, pattern, channel) != Ok(covered) {
+        if covers(pattern, channel) != Ok(covered) {
             return false;
         }
     }
@@ -50,22 +49,24 @@ fn are_covered(alloc: Global, rows: &[(&str, &str, bool)]) -> bool {
 
 #[test]
 fn pattern_covers(rt: HostRuntime) {
-    assert!(rt; are_covered(rt.alloc(), &COVERED));
-    assert!(rt; !are_covered(rt.alloc(), &[(PORTS, "aeron:ipc", true)]));
-    assert!(rt; !are_covered(rt.alloc(), &[("*", "aeron:ipc", false)]));
+    assert!(rt; are_covered(&COVERED));
+    assert!(rt; !are_covered(&[(PORTS, "aeron:ipc", true)]));
+    assert!(rt; !are_covered(&[("*", "aeron:ipc", false)]));
 }
 
-/// Whether a copy of the pattern of the text covers counters.
-fn copy_covers_counters(alloc: Global, text: &str) -> Result<bool, UriError> {
-    let pattern = Pattern::parse(alloc, text)?;
-    let copy = pattern.copy()?;
-    Ok(copy.covers(&Channel::counter(alloc)))
+/// Whether a copy of the pattern of the text covers counters, and another that became equal to it.
+fn copies_cover_counters(text: &str) -> Result<bool, UriError> {
+    let pattern = Pattern::parse(text)?;
+    let mut other = Pattern::parse("aeron:udp?a=1")?;
+    other.set_from(&pattern);
+    let counter = Channel::counter();
+    Ok(pattern.copy().covers(&counter) && other.covers(&counter))
 }
 
 #[test]
 fn only_patterns_of_counters_cover_counters(rt: HostRuntime) {
-    assert!(rt; is_so(copy_covers_counters(rt.alloc(), "aeron:counter")));
-    assert!(rt; !is_so(copy_covers_counters(rt.alloc(), "aeron:ipc")));
+    assert!(rt; is_so(copies_cover_counters("aeron:counter")));
+    assert!(rt; !is_so(copies_cover_counters("aeron:ipc")));
 }
 
 /// Texts, and why each is no pattern, if it is none. Values are not checked.
@@ -82,9 +83,9 @@ const PATTERNS: [(&str, Option<UriError>); 10] = [
     ("**", Some(UriError::NoScheme)),
 ];
 
-fn are_found(alloc: Global, rows: &[(&str, Option<UriError>)]) -> bool {
+fn are_found(rows: &[(&str, Option<UriError>)]) -> bool {
     for &(text, fault) in rows {
-        if pattern_fault(alloc, text) != fault {
+        if pattern_fault(text) != fault {
             return false;
         }
     }
@@ -93,7 +94,7 @@ fn are_found(alloc: Global, rows: &[(&str, Option<UriError>)]) -> bool {
 
 #[test]
 fn values_of_patterns_are_not_checked(rt: HostRuntime) {
-    assert!(rt; are_found(rt.alloc(), &PATTERNS));
-    assert!(rt; !are_found(rt.alloc(), &[("**", None)]));
-    assert!(rt; !are_found(rt.alloc(), &[("*", Some(UriError::NoScheme))]));
+    assert!(rt; are_found(&PATTERNS));
+    assert!(rt; !are_found(&[("**", None)]));
+    assert!(rt; !are_found(&[("*", Some(UriError::NoScheme))]));
 }

@@ -1,6 +1,6 @@
 use crate::faults::{channel_fault, is_so};
 use channel_uri::{Channel, Key, UriError};
-use std::alloc::Global;
+use std::alloc::{AllocError, Global};
 
 const ADDRESSES: [&str; 7] = [
     "0.0.0.0:1",
@@ -211,9 +211,9 @@ const VALUES: [Row; 10] = [
 ];
 
 /// What is wrong with this value of the key, if anything is.
-fn fault_of(alloc: Global, key: Key, value: &str) -> Result<Option<UriError>, UriError> {
+fn fault_of(alloc: Global, key: Key, value: &str) -> Result<Option<UriError>, AllocError> {
     let text = format!(in alloc; "aeron:udp?{key}={value}")?;
-    Ok(channel_fault(alloc, text.as_str()))
+    Ok(channel_fault(text.as_str()))
 }
 
 /// Whether each of these values of the key has this fault, or none.
@@ -222,7 +222,7 @@ fn are_found(
     key: Key,
     values: &[&str],
     fault: Option<UriError>,
-) -> Result<bool, UriError> {
+) -> Result<bool, AllocError> {
     for &value in values {
         if fault_of(alloc, key, value)? != fault {
             return Ok(false);
@@ -231,7 +231,7 @@ fn are_found(
     Ok(true)
 }
 
-fn follow_rules(alloc: Global, rows: &[Row]) -> Result<bool, UriError> {
+fn follow_rules(alloc: Global, rows: &[Row]) -> Result<bool, AllocError> {
     for &(key, taken, bad, others) in rows {
         if !are_found(alloc, key, taken, None)?
             || !are_found(alloc, key, bad, Some(UriError::BadValue(key)))?
@@ -264,28 +264,23 @@ const SESSIONS: [(&str, i32); 4] = [
 ];
 
 /// Whether the channel of the text has this session and this linger.
-fn has(
-    alloc: Global,
-    text: &str,
-    session: Option<i32>,
-    linger: Option<u64>,
-) -> Result<bool, UriError> {
-    let channel = Channel::parse(alloc, text)?;
+fn has(text: &str, session: Option<i32>, linger: Option<u64>) -> Result<bool, UriError> {
+    let channel = Channel::parse(text)?;
     Ok(channel.session_id() == session && channel.linger() == linger)
 }
 
-fn have_sessions(alloc: Global, rows: &[(&str, i32)]) -> bool {
+fn have_sessions(rows: &[(&str, i32)]) -> bool {
     for &(text, id) in rows {
-        if !is_so(has(alloc, text, Some(id), None)) {
+        if !is_so(has(text, Some(id), None)) {
             return false;
         }
     }
     true
 }
 
-fn have_lingers(alloc: Global, rows: &[(&str, u64)]) -> bool {
+fn have_lingers(rows: &[(&str, u64)]) -> bool {
     for &(text, nanoseconds) in rows {
-        if !is_so(has(alloc, text, None, Some(nanoseconds))) {
+        if !is_so(has(text, None, Some(nanoseconds))) {
             return false;
         }
     }
@@ -312,8 +307,8 @@ const LINGERS: [(&str, u64); 12] = [
 
 #[test]
 fn numbers_are_read(rt: HostRuntime) {
-    assert!(rt; have_sessions(rt.alloc(), &SESSIONS));
-    assert!(rt; !have_sessions(rt.alloc(), &[("aeron:ipc?session-id=-007", 7)]));
-    assert!(rt; have_lingers(rt.alloc(), &LINGERS));
-    assert!(rt; !have_lingers(rt.alloc(), &[("aeron:ipc?linger=7us", 7_001)]));
+    assert!(rt; have_sessions(&SESSIONS));
+    assert!(rt; !have_sessions(&[("aeron:ipc?session-id=-007", 7)]));
+    assert!(rt; have_lingers(&LINGERS));
+    assert!(rt; !have_lingers(&[("aeron:ipc?linger=7us", 7_001)]));
 }

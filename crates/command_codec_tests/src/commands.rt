@@ -1,5 +1,5 @@
 use crate::layouts::{changed, command_fault, each_front_is_malformed, is_so, longer};
-use byte_strings::{Bytes, Text};
+use byte_strings::{Bytes, ShortBytes, ShortText, Text};
 use command_codec::{
     AddCounter, AddPublication, AddSubscription, Body, Command, CommandFault, Removal, SetCounter,
     TerminateDriver,
@@ -167,17 +167,18 @@ fn subscription(
     })
 }
 
-fn counter(alloc: Global, type_id: i32, key: &[u8], label: &str) -> Result<AddCounter, AllocError> {
-    let key = Bytes::new(alloc, key)?;
-    let label = Text::new(alloc, label)?;
+fn counter(type_id: i32, key: &[u8], label: &str) -> Result<AddCounter, CommandFault> {
+    if key.len() > 112 || label.len() > 380 {
+        return Err(CommandFault::Malformed);
+    }
     Ok(AddCounter {
         type_id,
-        key,
-        label,
+        key: ShortBytes::new(key),
+        label: ShortText::new(label),
     })
 }
 
-fn body(alloc: Global, plain: Plain) -> Result<Body, AllocError> {
+fn body(alloc: Global, plain: Plain) -> Result<Body, CommandFault> {
     Ok(match plain {
         Plain::AddPublication(stream, channel) => {
             Body::AddPublication(publication(alloc, stream, channel)?)
@@ -194,7 +195,7 @@ fn body(alloc: Global, plain: Plain) -> Result<Body, AllocError> {
         }
         Plain::ClientKeepalive => Body::ClientKeepalive,
         Plain::AddCounter(type_id, key, label) => {
-            Body::AddCounter(counter(alloc, type_id, key, label)?)
+            Body::AddCounter(counter(type_id, key, label)?)
         }
         Plain::RemoveCounter(registration) => Body::RemoveCounter(Removal { registration }),
         Plain::ClientClose => Body::ClientClose,

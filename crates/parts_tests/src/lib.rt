@@ -14,4 +14,6 @@ mod policies;
 #[cfg(test)]
 mod resends;
 #[cfg(test)]
+mod rooms;
+#[cfg(test)]
 mod texts;

@@ -1,26 +1,25 @@
 //! Tests of `policy_core`.
 
 use crate::answers::is_so;
-use byte_strings::Text;
+use byte_strings::ShortText;
 use channel_uri::{Channel, Pattern, UriError};
 use policy_core::{Act, Acts, Policy, Principals, Request, Rule, Verdict};
+use rows::Twin;
 use std::alloc::Global;
 
 /// A rule on these streams of a channel, about every act.
 fn rule(
-    alloc: Global,
     principals: Principals,
     channel: &str,
     low: i32,
     high: i32,
     allow: bool,
 ) -> Result<Rule, UriError> {
-    let name = Text::new(alloc, "a rule")?;
     Ok(Rule {
-        name,
+        name: ShortText::new("a rule"),
         principals,
         acts: Acts::every(),
-        channel: Pattern::parse(alloc, channel)?,
+        channel: Pattern::parse(channel)?,
         low,
         high,
         allow,
@@ -39,10 +38,10 @@ fn answer(policy: &Policy, principal: u32, act: Act, channel: &Channel, stream: 
 }
 
 /// Denies the streams from 10 to 20 and then allows each.
-fn of_streams(alloc: Global) -> Result<Policy, UriError> {
-    let denied = rule(alloc, Principals::Any, "*", 10, 20, false)?;
-    let allowed = rule(alloc, Principals::Any, "*", i32::MIN, i32::MAX, true)?;
-    Ok(Policy::new(vec![in alloc; denied, allowed]?, false))
+fn of_streams(alloc: Global) -> Option<Policy> {
+    let denied = rule(Principals::Any, "*", 10, 20, false).ok()?;
+    let allowed = rule(Principals::Any, "*", i32::MIN, i32::MAX, true).ok()?;
+    Policy::new(vec![in alloc; denied, allowed].ok()?, false).ok()
 }
 
 /// A stream, whether it is allowed, and by which rule.
@@ -57,9 +56,10 @@ const STREAMS: [(i32, bool, u32); 8] = [
     (2147483647, true, 2),
 ];
 
-fn are_decided(alloc: Global, rows: &[(i32, bool, u32)]) -> Result<bool, UriError> {
+/// Whether the policy decides each stream so; without memory there is no policy.
+fn are_decided(alloc: Global, rows: &[(i32, bool, u32)]) -> Option<bool> {
     let policy = of_streams(alloc)?;
-    let channel = Channel::ipc(alloc);
+    let channel = Channel::ipc();
     for &(stream, allow, rule) in rows {
         let wanted = Verdict {
             allow,
@@ -67,53 +67,48 @@ fn are_decided(alloc: Global, rows: &[(i32, bool, u32)]) -> Result<bool, UriErro
             epoch: 3,
         };
         if answer(&policy, 1, Act::Subscribe, &channel, stream) != wanted {
-            return Ok(false);
+            return Some(false);
         }
     }
-    Ok(true)
+    Some(true)
 }
 
 #[test]
 fn first_match_wins(rt: HostRuntime) {
-    assert!(rt; is_so(are_decided(rt.alloc(), &STREAMS)));
-    assert!(rt; !is_so(are_decided(rt.alloc(), &[(10, false, 2)])));
-    assert!(rt; !is_so(are_decided(rt.alloc(), &[(10, true, 1)])));
+    assert!(rt; are_decided(rt.alloc(), &STREAMS) == Some(true));
+    assert!(rt; are_decided(rt.alloc(), &[(10, false, 2)]) == Some(false));
+    assert!(rt; are_decided(rt.alloc(), &[(10, true, 1)]) == Some(false));
 }
 
 /// Allows the streams from 0 to 9 of some addresses and of counters.
-fn of_channels(alloc: Global) -> Result<Policy, UriError> {
+fn of_channels(alloc: Global) -> Option<Policy> {
     let any = Principals::Any;
-    let udp = rule(alloc, any, "aeron:udp?endpoint=127.0.0.1:4*", 0, 9, true)?;
-    let counter = rule(alloc, any, "aeron:counter", 0, 9, true)?;
-    Ok(Policy::new(vec![in alloc; udp, counter]?, false))
+    let udp = rule(any, "aeron:udp?endpoint=127.0.0.1:4*", 0, 9, true).ok()?;
+    let counter = rule(any, "aeron:counter", 0, 9, true).ok()?;
+    Policy::new(vec![in alloc; udp, counter].ok()?, false).ok()
 }
 
 /// Whether this rule of the policy decides on the channel of the text, or none.
-fn is_covered(
-    alloc: Global,
-    policy: &Policy,
-    text: &str,
-    by: Option<u32>,
-) -> Result<bool, UriError> {
-    let channel = Channel::parse(alloc, text)?;
+fn is_covered(policy: &Policy, text: &str, by: Option<u32>) -> Result<bool, UriError> {
+    let channel = Channel::parse(text)?;
     Ok(answer(policy, 1, Act::Spy, &channel, 5).rule == by)
 }
 
-fn are_covered(alloc: Global, rows: &[(&str, Option<u32>)]) -> Result<bool, UriError> {
+fn are_covered(alloc: Global, rows: &[(&str, Option<u32>)]) -> Option<bool> {
     let policy = of_channels(alloc)?;
     for &(text, by) in rows {
-        if !is_so(is_covered(alloc, &policy, text, by)) {
-            return Ok(false);
+        if !is_so(is_covered(&policy, text, by)) {
+            return Some(false);
         }
     }
-    Ok(true)
+    Some(true)
 }
 
 /// Whether this rule decides on counters.
-fn counters_are_covered(alloc: Global, by: Option<u32>) -> Result<bool, UriError> {
+fn counters_are_covered(alloc: Global, by: Option<u32>) -> Option<bool> {
     let policy = of_channels(alloc)?;
-    let channel = Channel::counter(alloc);
-    Ok(answer(&policy, 1, Act::Counter, &channel, 5).rule == by)
+    let channel = Channel::counter();
+    Some(answer(&policy, 1, Act::Counter, &channel, 5).rule == by)
 }
 
 const COVERED: [(&str, Option<u32>); 4] = [
@@ -125,29 +120,29 @@ const COVERED: [(&str, Option<u32>); 4] = [
 
 #[test]
 fn pattern_covers(rt: HostRuntime) {
-    assert!(rt; is_so(are_covered(rt.alloc(), &COVERED)));
-    assert!(rt; !is_so(are_covered(rt.alloc(), &[("aeron:ipc", Some(1))])));
-    assert!(rt; is_so(counters_are_covered(rt.alloc(), Some(2))));
-    assert!(rt; !is_so(counters_are_covered(rt.alloc(), Some(1))));
+    assert!(rt; are_covered(rt.alloc(), &COVERED) == Some(true));
+    assert!(rt; are_covered(rt.alloc(), &[("aeron:ipc", Some(1))]) == Some(false));
+    assert!(rt; counters_are_covered(rt.alloc(), Some(2)) == Some(true));
+    assert!(rt; counters_are_covered(rt.alloc(), Some(1)) == Some(false));
 }
 
 /// Allows principal 7 to receive and to list.
-fn of_one(alloc: Global) -> Result<Policy, UriError> {
-    let mut named = rule(alloc, Principals::One(7), "*", 0, 9, true)?;
+fn of_one(alloc: Global) -> Option<Policy> {
+    let mut named = rule(Principals::One(7), "*", 0, 9, true).ok()?;
     named.acts = Acts::none().with(Act::Receive).with(Act::List);
-    Ok(Policy::new(vec![in alloc; named]?, false))
+    Policy::new(vec![in alloc; named].ok()?, false).ok()
 }
 
 /// Whether the act of the principal is decided by this rule, or by none.
-fn are_ruled(alloc: Global, rows: &[(u32, Act, Option<u32>)]) -> Result<bool, UriError> {
+fn are_ruled(alloc: Global, rows: &[(u32, Act, Option<u32>)]) -> Option<bool> {
     let policy = of_one(alloc)?;
-    let channel = Channel::ipc(alloc);
+    let channel = Channel::ipc();
     for &(principal, act, by) in rows {
         if answer(&policy, principal, act, &channel, 9).rule != by {
-            return Ok(false);
+            return Some(false);
         }
     }
-    Ok(true)
+    Some(true)
 }
 
 const RULED: [(u32, Act, Option<u32>); 4] = [
@@ -159,8 +154,8 @@ const RULED: [(u32, Act, Option<u32>); 4] = [
 
 #[test]
 fn only_the_named_principal_and_acts(rt: HostRuntime) {
-    assert!(rt; is_so(are_ruled(rt.alloc(), &RULED)));
-    assert!(rt; !is_so(are_ruled(rt.alloc(), &[(7, Act::Send, Some(1))])));
+    assert!(rt; are_ruled(rt.alloc(), &RULED) == Some(true));
+    assert!(rt; are_ruled(rt.alloc(), &[(7, Act::Send, Some(1))]) == Some(false));
 }
 
 /// Whether the verdict is told so.
@@ -250,14 +245,14 @@ fn names_of_acts(rt: HostRuntime) {
 }
 
 /// Denies principal 2 the streams 3 and 4 of shared memory.
-fn of_ipc(alloc: Global) -> Result<Policy, UriError> {
-    let denied = rule(alloc, Principals::One(2), "aeron:ipc", 3, 4, false)?;
-    Ok(Policy::new(vec![in alloc; denied]?, true))
+fn of_ipc(alloc: Global) -> Option<Policy> {
+    let denied = rule(Principals::One(2), "aeron:ipc", 3, 4, false).ok()?;
+    Policy::new(vec![in alloc; denied].ok()?, true).ok()
 }
 
 /// Whether the rule matches what the principal asks for on a stream of shared memory.
-fn matches(alloc: Global, rule: &Rule, principal: u32, stream: i32) -> bool {
-    let channel = Channel::ipc(alloc);
+fn matches(rule: &Rule, principal: u32, stream: i32) -> bool {
+    let channel = Channel::ipc();
     let request = Request {
         principal,
         act: Act::Image,
@@ -267,45 +262,53 @@ fn matches(alloc: Global, rule: &Rule, principal: u32, stream: i32) -> bool {
     rule.matches(&request)
 }
 
-/// Whether a copy of that rule has this name and these streams, and matches these requests alone.
-fn rule_is_copied(alloc: Global, name: &str, low: i32, high: i32) -> Result<bool, UriError> {
-    let rule = rule(alloc, Principals::One(2), "aeron:ipc", 3, 4, false)?;
-    let copy = rule.copy(alloc)?;
+/// Whether a twin of that rule has this name and these streams, and matches these requests alone.
+fn rule_is_twinned(name: &str, low: i32, high: i32) -> Result<bool, UriError> {
+    let rule = rule(Principals::One(2), "aeron:ipc", 3, 4, false)?;
+    let twin = rule.twin();
     Ok(
-        copy.name.as_str() == name
-            && copy.low == low
-            && copy.high == high
-            && !copy.allow
-            && copy.acts.hold(Act::Image)
-            && matches(alloc, &copy, 2, high)
-            && !matches(alloc, &copy, 3, high)
-            && !matches(alloc, &copy, 2, 5),
+        twin.name.as_str() == name
+            && twin.low == low
+            && twin.high == high
+            && !twin.allow
+            && twin.acts.hold(Act::Image)
+            && matches(&twin, 2, high)
+            && !matches(&twin, 3, high)
+            && !matches(&twin, 2, 5),
     )
 }
 
-/// Whether a copy of that policy has so many rules, of which this one decides what the principal asks for.
-fn policy_is_copied(
-    alloc: Global,
-    count: usize,
-    principal: u32,
-    by: Option<u32>,
-) -> Result<bool, UriError> {
+/// Whether the policy allows by default and has so many rules, of which this one decides what the principal asks for.
+fn decides(policy: &Policy, count: usize, principal: u32, by: Option<u32>) -> bool {
+    let channel = Channel::ipc();
+    policy.default_allows()
+        && policy.rules().len() == count
+        && answer(policy, principal, Act::Image, &channel, 3).rule == by
+}
+
+/// Whether a copy of that policy decides so, and another that became equal to it.
+fn policy_is_copied(alloc: Global, count: usize, principal: u32, by: Option<u32>) -> Option<bool> {
     let policy = of_ipc(alloc)?;
-    let copy = policy.copy(alloc)?;
-    let channel = Channel::ipc(alloc);
-    Ok(
-        copy.default_allows()
-            && copy.rules().len() == count
-            && answer(&copy, principal, Act::Image, &channel, 3).rule == by,
-    )
+    let copy = policy.copy(alloc).ok()?;
+    let mut other = of_one(alloc)?;
+    other.set_from(&policy);
+    Some(decides(&copy, count, principal, by) && decides(&other, count, principal, by))
+}
+
+/// Whether a policy with nothing but room has so many rules and denies.
+fn room_denies(alloc: Global, count: usize) -> Option<bool> {
+    let room = Policy::room(alloc).ok()?;
+    Some(room.rules().len() == count && !room.default_allows())
 }
 
 #[test]
 fn ample_memory(rt: HostRuntime) {
-    assert!(rt; is_so(rule_is_copied(rt.alloc(), "a rule", 3, 4)));
-    assert!(rt; !is_so(rule_is_copied(rt.alloc(), "a role", 3, 4)));
-    assert!(rt; is_so(policy_is_copied(rt.alloc(), 1, 2, Some(1))));
-    assert!(rt; is_so(policy_is_copied(rt.alloc(), 1, 3, None)));
-    assert!(rt; !is_so(policy_is_copied(rt.alloc(), 1, 3, Some(1))));
-    assert!(rt; !is_so(policy_is_copied(rt.alloc(), 2, 2, Some(1))));
+    assert!(rt; is_so(rule_is_twinned("a rule", 3, 4)));
+    assert!(rt; !is_so(rule_is_twinned("a role", 3, 4)));
+    assert!(rt; policy_is_copied(rt.alloc(), 1, 2, Some(1)) == Some(true));
+    assert!(rt; policy_is_copied(rt.alloc(), 1, 3, None) == Some(true));
+    assert!(rt; policy_is_copied(rt.alloc(), 1, 3, Some(1)) == Some(false));
+    assert!(rt; policy_is_copied(rt.alloc(), 2, 2, Some(1)) == Some(false));
+    assert!(rt; room_denies(rt.alloc(), 0) == Some(true));
+    assert!(rt; room_denies(rt.alloc(), 1) == Some(false));
 }
