@@ -1,26 +1,25 @@
 //! Tests of `policy_core`.
 
-use crate::answers::is_so;
-use byte_strings::Text;
-use channel_uri::{Channel, Pattern, UriError};
+use crate::answers::{Refused, is_so};
+use byte_strings::ShortText;
+use channel_uri::{Channel, Pattern};
 use policy_core::{Act, Acts, Policy, Principals, Request, Rule, Verdict};
+use rows::Twin;
 use std::alloc::Global;
 
 /// A rule on these streams of a channel, about every act.
 fn rule(
-    alloc: Global,
     principals: Principals,
     channel: &str,
     low: i32,
     high: i32,
     allow: bool,
-) -> Result<Rule, UriError> {
-    let name = Text::new(alloc, "a rule")?;
+) -> Result<Rule, Refused> {
     Ok(Rule {
-        name,
+        name: ShortText::new("a rule"),
         principals,
         acts: Acts::every(),
-        channel: Pattern::parse(alloc, channel)?,
+        channel: Pattern::parse(channel)?,
         low,
         high,
         allow,
@@ -39,10 +38,10 @@ fn answer(policy: &Policy, principal: u32, act: Act, channel: &Channel, stream: 
 }
 
 /// Denies the streams from 10 to 20 and then allows each.
-fn of_streams(alloc: Global) -> Result<Policy, UriError> {
-    let denied = rule(alloc, Principals::Any, "*", 10, 20, false)?;
-    let allowed = rule(alloc, Principals::Any, "*", i32::MIN, i32::MAX, true)?;
-    Ok(Policy::new(vec![in alloc; denied, allowed]?, false))
+fn of_streams(alloc: Global) -> Result<Policy, Refused> {
+    let denied = rule(Principals::Any, "*", 10, 20, false)?;
+    let allowed = rule(Principals::Any, "*", i32::MIN, i32::MAX, true)?;
+    Ok(Policy::new(vec![in alloc; denied, allowed]?, false)?)
 }
 
 /// A stream, whether it is allowed, and by which rule.
@@ -57,9 +56,9 @@ const STREAMS: [(i32, bool, u32); 8] = [
     (2147483647, true, 2),
 ];
 
-fn are_decided(alloc: Global, rows: &[(i32, bool, u32)]) -> Result<bool, UriError> {
+fn are_decided(alloc: Global, rows: &[(i32, bool, u32)]) -> Result<bool, Refused> {
     let policy = of_streams(alloc)?;
-    let channel = Channel::ipc(alloc);
+    let channel = Channel::ipc();
     for &(stream, allow, rule) in rows {
         let wanted = Verdict {
             allow,
@@ -81,28 +80,23 @@ fn first_match_wins(rt: HostRuntime) {
 }
 
 /// Allows the streams from 0 to 9 of some addresses and of counters.
-fn of_channels(alloc: Global) -> Result<Policy, UriError> {
+fn of_channels(alloc: Global) -> Result<Policy, Refused> {
     let any = Principals::Any;
-    let udp = rule(alloc, any, "aeron:udp?endpoint=127.0.0.1:4*", 0, 9, true)?;
-    let counter = rule(alloc, any, "aeron:counter", 0, 9, true)?;
-    Ok(Policy::new(vec![in alloc; udp, counter]?, false))
+    let udp = rule(any, "aeron:udp?endpoint=127.0.0.1:4*", 0, 9, true)?;
+    let counter = rule(any, "aeron:counter", 0, 9, true)?;
+    Ok(Policy::new(vec![in alloc; udp, counter]?, false)?)
 }
 
 /// Whether this rule of the policy decides on the channel of the text, or none.
-fn is_covered(
-    alloc: Global,
-    policy: &Policy,
-    text: &str,
-    by: Option<u32>,
-) -> Result<bool, UriError> {
-    let channel = Channel::parse(alloc, text)?;
+fn is_covered(policy: &Policy, text: &str, by: Option<u32>) -> Result<bool, Refused> {
+    let channel = Channel::parse(text)?;
     Ok(answer(policy, 1, Act::Spy, &channel, 5).rule == by)
 }
 
-fn are_covered(alloc: Global, rows: &[(&str, Option<u32>)]) -> Result<bool, UriError> {
+fn are_covered(alloc: Global, rows: &[(&str, Option<u32>)]) -> Result<bool, Refused> {
     let policy = of_channels(alloc)?;
     for &(text, by) in rows {
-        if !is_so(is_covered(alloc, &policy, text, by)) {
+        if !is_so(is_covered(&policy, text, by)) {
             return Ok(false);
         }
     }
@@ -110,9 +104,9 @@ fn are_covered(alloc: Global, rows: &[(&str, Option<u32>)]) -> Result<bool, UriE
 }
 
 /// Whether this rule decides on counters.
-fn counters_are_covered(alloc: Global, by: Option<u32>) -> Result<bool, UriError> {
+fn counters_are_covered(alloc: Global, by: Option<u32>) -> Result<bool, Refused> {
     let policy = of_channels(alloc)?;
-    let channel = Channel::counter(alloc);
+    let channel = Channel::counter();
     Ok(answer(&policy, 1, Act::Counter, &channel, 5).rule == by)
 }
 
@@ -132,16 +126,16 @@ fn pattern_covers(rt: HostRuntime) {
 }
 
 /// Allows principal 7 to receive and to list.
-fn of_one(alloc: Global) -> Result<Policy, UriError> {
-    let mut named = rule(alloc, Principals::One(7), "*", 0, 9, true)?;
+fn of_one(alloc: Global) -> Result<Policy, Refused> {
+    let mut named = rule(Principals::One(7), "*", 0, 9, true)?;
     named.acts = Acts::none().with(Act::Receive).with(Act::List);
-    Ok(Policy::new(vec![in alloc; named]?, false))
+    Ok(Policy::new(vec![in alloc; named]?, false)?)
 }
 
 /// Whether the act of the principal is decided by this rule, or by none.
-fn are_ruled(alloc: Global, rows: &[(u32, Act, Option<u32>)]) -> Result<bool, UriError> {
+fn are_ruled(alloc: Global, rows: &[(u32, Act, Option<u32>)]) -> Result<bool, Refused> {
     let policy = of_one(alloc)?;
-    let channel = Channel::ipc(alloc);
+    let channel = Channel::ipc();
     for &(principal, act, by) in rows {
         if answer(&policy, principal, act, &channel, 9).rule != by {
             return Ok(false);
@@ -250,14 +244,14 @@ fn names_of_acts(rt: HostRuntime) {
 }
 
 /// Denies principal 2 the streams 3 and 4 of shared memory.
-fn of_ipc(alloc: Global) -> Result<Policy, UriError> {
-    let denied = rule(alloc, Principals::One(2), "aeron:ipc", 3, 4, false)?;
-    Ok(Policy::new(vec![in alloc; denied]?, true))
+fn of_ipc(alloc: Global) -> Result<Policy, Refused> {
+    let denied = rule(Principals::One(2), "aeron:ipc", 3, 4, false)?;
+    Ok(Policy::new(vec![in alloc; denied]?, true)?)
 }
 
 /// Whether the rule matches what the principal asks for on a stream of shared memory.
-fn matches(alloc: Global, rule: &Rule, principal: u32, stream: i32) -> bool {
-    let channel = Channel::ipc(alloc);
+fn matches(rule: &Rule, principal: u32, stream: i32) -> bool {
+    let channel = Channel::ipc();
     let request = Request {
         principal,
         act: Act::Image,
@@ -268,18 +262,18 @@ fn matches(alloc: Global, rule: &Rule, principal: u32, stream: i32) -> bool {
 }
 
 /// Whether a copy of that rule has this name and these streams, and matches these requests alone.
-fn rule_is_copied(alloc: Global, name: &str, low: i32, high: i32) -> Result<bool, UriError> {
-    let rule = rule(alloc, Principals::One(2), "aeron:ipc", 3, 4, false)?;
-    let copy = rule.copy(alloc)?;
+fn rule_is_copied(name: &str, low: i32, high: i32) -> Result<bool, Refused> {
+    let rule = rule(Principals::One(2), "aeron:ipc", 3, 4, false)?;
+    let copy = rule.twin();
     Ok(
         copy.name.as_str() == name
             && copy.low == low
             && copy.high == high
             && !copy.allow
             && copy.acts.hold(Act::Image)
-            && matches(alloc, &copy, 2, high)
-            && !matches(alloc, &copy, 3, high)
-            && !matches(alloc, &copy, 2, 5),
+            && matches(&copy, 2, high)
+            && !matches(&copy, 3, high)
+            && !matches(&copy, 2, 5),
     )
 }
 
@@ -289,10 +283,10 @@ fn policy_is_copied(
     count: usize,
     principal: u32,
     by: Option<u32>,
-) -> Result<bool, UriError> {
+) -> Result<bool, Refused> {
     let policy = of_ipc(alloc)?;
     let copy = policy.copy(alloc)?;
-    let channel = Channel::ipc(alloc);
+    let channel = Channel::ipc();
     Ok(
         copy.default_allows()
             && copy.rules().len() == count
@@ -302,8 +296,8 @@ fn policy_is_copied(
 
 #[test]
 fn ample_memory(rt: HostRuntime) {
-    assert!(rt; is_so(rule_is_copied(rt.alloc(), "a rule", 3, 4)));
-    assert!(rt; !is_so(rule_is_copied(rt.alloc(), "a role", 3, 4)));
+    assert!(rt; is_so(rule_is_copied("a rule", 3, 4)));
+    assert!(rt; !is_so(rule_is_copied("a role", 3, 4)));
     assert!(rt; is_so(policy_is_copied(rt.alloc(), 1, 2, Some(1))));
     assert!(rt; is_so(policy_is_copied(rt.alloc(), 1, 3, None)));
     assert!(rt; !is_so(policy_is_copied(rt.alloc(), 1, 3, Some(1))));
