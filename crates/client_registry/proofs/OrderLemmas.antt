@@ -1,9 +1,11 @@
 -- Ids rise, whatever is done.
-use Rattle.std.proofs.Common.{◌≡◌, ℕ, zero, suc, ◌+◌, ◌<◌, ◌≤◌, Bool, true, false, cond, List, [], ◌∷◌, ◌++◌, Some, map, refl, sym, ap, subst, ◌∙◌, arith, max}
+use Rattle.std.proofs.Common.{◌≡◌, ℕ, zero, suc, ◌+◌, ◌<◌, ◌≤◌, Bool, true, false, cond, List, [], ◌∷◌, ◌++◌, Some, Result, Ok, Err, map, refl, sym, ap, subst, ◌∙◌, arith, max}
 use Rattle.std.proofs.lemmas.Bool.Decides.{nat_tests}
-use Rattle.std.specs.Prelude.{filter, find, ◌==◌, slice_get}
+use Rattle.std.specs.Prelude.{filter, ◌==◌, slice_get}
 use Rattle.client_registry.specs.declared.client.Client.{Client}
-use Rattle.client_registry.specs.Clients.{ClientList, opened, admitted, heard_one, touched, is_other, without, cleared, client_at}
+use Rattle.client_registry.specs.declared.error.AdmitError.{AdmitError}
+use Rattle.client_registry.specs.declared.error.AdmitError.TheVariants.{Full}
+use Rattle.client_registry.specs.Clients.{ClientList, has_room, admission, admitted, heard_one, touched, is_other, without, client_at}
 use Rattle.client_registry.specs.Laws.{Rises, IsOrderly, StaysOrderly, AllAreFound}
 
 -- ---- the list stays orderly
@@ -21,6 +23,20 @@ rises_more : (low last : ℕ) (rows : List Client) (client : Client) → client.
 rises_more low last [] client next rises = (omega (arith, rises, next), omega (arith, next))
 rises_more low last (row ∷ rows) client next rises = (rises.0, rises_more row.number last rows client next rises.1)
 
+given : (b : Bool) (next number : ℕ) (answer : Result ℕ AdmitError) → answer ≡ cond b (Ok next) (Err Full) → answer ≡ Ok number → number ≡ next
+given true next number answer is was = cc
+given false next number answer is was = absurd (cc)
+
+-- the id that a client is given is the next one
+pub given_next : (clients : ClientList) (number : ℕ) (answer : Result ℕ AdmitError) → answer ≡ admission clients → answer ≡ Ok number → number ≡ clients.last + 1
+unfolding admission
+given_next clients number answer is was = given (has_room clients) (clients.last + 1) number answer is was
+
+pub rises_next : (last number : ℕ) (rows : List Client) (client : Client) → number ≡ last + 1 → client.number ≡ number → Rises 0 last rows →
+    Rises 0 number (rows ++ client ∷ [])
+rises_next last number rows client next same rises =
+    subst (λ (n : ℕ). Rises 0 n (rows ++ client ∷ [])) (sym next) (rises_more 0 last rows client (same ∙ next) rises)
+
 heard_number : (number now : ℕ) (client : Client) → (heard_one number now client).number ≡ client.number
 heard_number number now client =
     elim (client.number == number) as (λ b. (cond b (record client { heard = max client.heard now }) client).number ≡ client.number) [
@@ -28,7 +44,7 @@ heard_number number now client =
       | false ↦ refl
     ]
 
-rises_heard : (number now low last : ℕ) (rows : List Client) → Rises low last rows →
+pub rises_heard : (number now low last : ℕ) (rows : List Client) → Rises low last rows →
     Rises low last (map (heard_one number now) rows)
 rises_heard number now low last [] rises = rises
 rises_heard number now low last (row ∷ rows) rises =
@@ -38,7 +54,7 @@ rises_heard number now low last (row ∷ rows) rises =
     subst (λ n. Rises n last (map (heard_one number now) rows)) (sym same) (rises_heard number now row.number last rows rises.1) in
     (first, rest)
 
-rises_without : (number low last : ℕ) (rows : List Client) → Rises low last rows → Rises low last (filter (is_other number) rows)
+pub rises_without : (number low last : ℕ) (rows : List Client) → Rises low last rows → Rises low last (filter (is_other number) rows)
 rises_without number low last [] rises = rises
 rises_without number low last (row ∷ rows) rises =
     let rest = rises_without number row.number last rows rises.1 in
@@ -70,7 +86,7 @@ stays_orderly = record {
 
 -- ---- each client is found
 
-above : (low last : ℕ) (rows : List Client) (index : ℕ) (client : Client) → Rises low last rows →
+pub above : (low last : ℕ) (rows : List Client) (index : ℕ) (client : Client) → Rises low last rows →
     slice_get rows index ≡ Some client → low < client.number
 above low last [] index client rises stands = absurd (cc)
 above low last (row ∷ rows) zero client rises stands =

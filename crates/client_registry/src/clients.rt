@@ -1,10 +1,11 @@
-ghost use Rattle.client_registry.specs.Clients.{client_at, heard_one, is_other};
-ghost use Rattle.std.specs.Prelude.{◌≡◌, IfOk, OnOk, OnErr};
+ghost use Rattle.client_registry.specs.Clients.{client_at, is_other};
+ghost use Rattle.client_registry.specs.Place.{place_of};
+ghost use Rattle.std.specs.Prelude.{◌≡◌, ◌<◌, IfOk, IfSome, OnOk, OnErr, length};
 
 use crate::client::Client;
 use crate::error::AdmitError;
 use byte_strings::Items;
-use rows::{Change, Rows, Test};
+use rows::{Rows, Test};
 use std::alloc::{AllocError, Global};
 use std::marker::Model;
 
@@ -23,27 +24,13 @@ pub struct Clients {
 
 impl Model for Clients {
     ghost use Rattle.client_registry.specs.Clients.{ClientList};
+    ghost use Rattle.client_registry.specs.Laws.{Rises};
 
     ghost Value = { ClientList };
 
     ghost view = { λ clients. record { liveness = clients.liveness; rows = clients.rows; last = clients.last } };
-}
 
-/// The client of this id is heard of at this moment.
-#[derive(Clone, Copy)]
-struct Heard {
-    number: u64,
-    now: u64,
-}
-
-impl Change<Client> for Heard {
-    ghost changed = { λ heard client. heard_one heard.number heard.now client };
-
-    fn change(&self, client: &mut Client) {
-        if client.number == self.number {
-            client.heard = client.heard.max(self.now);
-        }
-    }
+    ghost invariant = { λ clients. Rises 0 clients.last clients.rows };
 }
 
 /// Whether a client has another id.
@@ -127,16 +114,26 @@ impl Clients {
         Ok(number)
     }
 
+    /// Where the client of this id stands.
+    fn place(&self, number: u64) -> Option<usize>
+        ensures place { result ≡ place_of number self.now.rows }
+        ensures within { IfSome result (λ at. at < length self.now.rows) }
+    {
+        let rows = self.rows.as_slice();
+        match rows.binary_search_by_key(&number, |client| client.number) {
+            Ok(at) => Some(at),
+            Err(_) => None,
+        }
+    }
+
     /// The client of this id.
     pub fn get(&self, number: u64) -> Option<Client>
         ensures { result ≡ client_at self.now.rows number }
     {
-        for client in self.rows.as_slice() {
-            if client.number == number {
-                return Some(*client);
-            }
+        match self.place(number) {
+            Some(at) => Some(self.rows.as_slice()[at]),
+            None => None,
         }
-        None
     }
 
     /// Whom the client of this id acts for.
@@ -154,7 +151,14 @@ impl Clients {
     pub fn touch(&mut self, number: u64, now: u64)
         ensures { self.new ≡ touched self.old number now }
     {
-        self.rows.change(&Heard { number, now });
+        match self.place(number) {
+            Some(at) => {
+                let client = self.rows.as_slice()[at];
+                let heard = client.heard.max(now);
+                self.rows.set(at, Client { heard, ..client });
+            }
+            None => {}
+        }
     }
 
     /// The ids of the clients of which nothing was heard for longer than the liveness, in their order.

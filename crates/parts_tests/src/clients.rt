@@ -1,19 +1,19 @@
 //! Tests of `client_registry`.
 
-use crate::answers::is_so;
+use crate::answers::{Refused, is_so};
 use client_registry::{AdmitError, Client, Clients};
 use std::alloc::Global;
 
 /// Clients of which nothing may be heard for 10 ns: 1, of principal 7, at 100, and 2, of principal 9, at 105.
-fn two(alloc: Global) -> Result<Clients, AdmitError> {
-    let mut clients = Clients::new(alloc, 10);
+fn two(alloc: Global) -> Result<Clients, Refused> {
+    let mut clients = Clients::new(alloc, 10)?;
     clients.admit(7, 100)?;
     clients.admit(9, 105)?;
     Ok(clients)
 }
 
 /// Whether each client acts for the principal behind its id.
-fn act_for(alloc: Global, rows: &[(u64, Option<u32>)]) -> Result<bool, AdmitError> {
+fn act_for(alloc: Global, rows: &[(u64, Option<u32>)]) -> Result<bool, Refused> {
     let clients = two(alloc)?;
     for &(number, principal) in rows {
         if clients.principal_of(number) != principal {
@@ -32,7 +32,7 @@ fn are_copied(alloc: Global, clients: &Clients, count: usize) -> bool {
 }
 
 /// Whether client 2, once heard of at 108 and then at 104, is left with this moment when 1 goes.
-fn is_left(alloc: Global, heard: u64) -> Result<bool, AdmitError> {
+fn is_left(alloc: Global, heard: u64) -> Result<bool, Refused> {
     let mut clients = two(alloc)?;
     clients.touch(2, 108);
     clients.touch(2, 104);
@@ -47,7 +47,7 @@ fn is_left(alloc: Global, heard: u64) -> Result<bool, AdmitError> {
 }
 
 /// Whether these ids are given when client 1 went, and when all went.
-fn are_given(alloc: Global, third: u64, fourth: u64) -> Result<bool, AdmitError> {
+fn are_given(alloc: Global, third: u64, fourth: u64) -> Result<bool, Refused> {
     let mut clients = two(alloc)?;
     clients.remove(1);
     let next = clients.admit(7, 200)?;
@@ -74,7 +74,7 @@ fn are_expired(alloc: Global, clients: &Clients, now: u64, numbers: &[u64]) -> b
     }
 }
 
-fn expire(alloc: Global, rows: &[(u64, &[u64])]) -> Result<bool, AdmitError> {
+fn expire(alloc: Global, rows: &[(u64, &[u64])]) -> Result<bool, Refused> {
     let clients = two(alloc)?;
     for &(now, numbers) in rows {
         if !are_expired(alloc, &clients, now, numbers) {
@@ -98,17 +98,25 @@ fn a_client_is_past_its_liveness_and_not_at_it(rt: HostRuntime) {
     assert!(rt; !is_so(expire(rt.alloc(), &[(110, &[1])])));
 }
 
-/// Whether this id is given when one of 64 clients went, and none before.
-fn is_given(alloc: Global, wanted: u64) -> Result<bool, AdmitError> {
-    let mut clients = Clients::new(alloc, 10);
+/// Whether no client comes any more, and those that are there stay.
+fn is_full(clients: &mut Clients) -> bool {
+    let count = clients.rows().len();
+    let foretold = clients.admission() == Err(AdmitError::Full);
+    foretold && clients.admit(7, 0) == Err(AdmitError::Full) && clients.rows().len() == count
+}
+
+/// Whether this id is foretold and given when one of 64 clients went, and none before.
+fn is_given(alloc: Global, wanted: u64) -> Result<bool, Refused> {
+    let mut clients = Clients::new(alloc, 10)?;
     for number in 1..65u64 {
         if clients.admit(7, 0)? != number {
             return Ok(false);
         }
     }
-    let full = clients.admit(7, 0) == Err(AdmitError::Full);
+    let full = is_full(&mut clients);
     clients.remove(30);
-    Ok(full && clients.admit(7, 0)? == wanted)
+    let next = clients.admission()?;
+    Ok(full && next == wanted && clients.admit(7, 0)? == wanted && is_full(&mut clients))
 }
 
 #[test]

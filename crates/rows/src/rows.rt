@@ -1,4 +1,4 @@
-ghost use Rattle.std.specs.Prelude.{◌≡◌, ◌≤◌, ◌<◌, ◌++◌, ◌∷◌, [], length, filter, map, IfOk};
+ghost use Rattle.std.specs.Prelude.{◌≡◌, ◌≤◌, ◌<◌, ◌++◌, ◌∷◌, [], length, filter, map, IfOk, slice_set};
 ghost use Rattle.std.specs.Vec.{vec_capacity};
 
 use crate::change::Change;
@@ -92,6 +92,14 @@ impl<T: Drop, const N: usize> Rows<T, N> {
             Ok(()) => {}
             Err(_) => unreachable!(),
         }
+    }
+
+    /// Puts a row in the place of the one that stands there.
+    pub fn set(&mut self, at: usize, row: T)
+        requires { at < length self.old }
+        ensures { self.new ≡ slice_set self.old at row }
+    {
+        self.items[at] = row;
     }
 
     /// Takes away the rows that fail the test.
