@@ -177,7 +177,7 @@ tick_only s now = record {
 
 -- ---- a counter that is set
 
-set_keeps : (b : Bool) (value : ℤ) (counter : Counter) →
+pub set_keeps : (b : Bool) (value : ℤ) (counter : Counter) →
     cond b (record counter { value = value }) counter
     ≡ record counter { value = (cond b (record counter { value = value }) counter).value }
 set_keeps true value counter = refl
@@ -206,7 +206,7 @@ value_only s event left' client correlation fields same =
 
 -- ---- a counter that comes
 
-made_by : (s : State) (now handle : ℕ) (bytes : List ℕ) (client : Client) (correlation : ℕ) (fields : AddCounter) →
+pub made_by : (s : State) (now handle : ℕ) (bytes : List ℕ) (client : Client) (correlation : ℕ) (fields : AddCounter) →
     Asks s handle bytes client correlation (AddsCounter fields) →
     (verdict_on s (counter_question client fields)).allow ≡ true → has_room_for_counter s ≡ true →
     IsCounterMadeBy s (Command now handle bytes) (

@@ -1,10 +1,13 @@
+pub mod ClosingLemmas
 pub mod DenialLemmas
 pub mod DenialTextLemmas
+pub mod GoingLemmas
 pub mod GoneLemmas
 pub mod GrantLemmas
 pub mod GrantOnlyLemmas
 pub mod ImageLemmas
 pub mod LeavingLemmas
+pub mod LeftLemmas
 pub mod ListingLemmas
 pub mod PublishingLemmas
 pub mod PublishingOnlyLemmas

@@ -278,7 +278,7 @@ unfolding at_moment
 asks_the_same s now handle bytes client correlation body asks =
     record { command = asks.command; attached = asks.attached }
 
-closed_by : (s : State) (now handle : ℕ) (bytes : List ℕ) (client : Client) (correlation number : ℕ) →
+pub closed_by : (s : State) (now handle : ℕ) (bytes : List ℕ) (client : Client) (correlation number : ℕ) →
     Asks s handle bytes client correlation Closes → number ≡ handle → IsClosedBy s (Command now handle bytes) number
 closed_by s now handle bytes client correlation number asks own = record {
   moment = now;

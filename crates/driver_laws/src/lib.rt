@@ -3,16 +3,17 @@
 //! `specs/` define by them.
 #![tactic(auto)]
 
-ghost use Rattle.driver_laws.specs.CounterLaws.{CountersAreRemovedExactly};
+ghost use Rattle.driver_laws.specs.ClosingLaws.{LogsCloseExactly, LogsCloseOnly};
+ghost use Rattle.driver_laws.specs.CounterLaws.{CountersAreRemovedExactly, CountersAreRemovedOnly, CountersAreSetOnly};
 ghost use Rattle.driver_laws.specs.DenialLaws.{DenialsAreNamed};
 ghost use Rattle.driver_laws.specs.GrantLaws.{CountersAreGrantedExactly, TerminationsAreGrantedExactly, CountersAndTerminationsAreGrantedOnly};
 ghost use Rattle.driver_laws.specs.ImageLaws.{ImagesAreGrantedExactly};
-ghost use Rattle.driver_laws.specs.LeavingLaws.{ClientsGoExactly, RowsGoWithTheirClient};
+ghost use Rattle.driver_laws.specs.LeavingLaws.{ClientsGoExactly, ClientsGoOnly, RowsGoWithTheirClient};
 ghost use Rattle.driver_laws.specs.ListingLaws.{CountersAreShownExactly};
 ghost use Rattle.driver_laws.specs.PublishingLaws.{PublicationsAreGrantedExactly, PublicationsAreGrantedOnly};
 ghost use Rattle.driver_laws.specs.RefusalLaws.{RefusalsChangeNoMoreThanMoments};
 ghost use Rattle.driver_laws.specs.ReloadLaws.{ReloadsCloseExactly, NewestPolicyIsInForce};
-ghost use Rattle.driver_laws.specs.RemovalLaws.{RegistrationsAreRemovedExactly, SubscriptionsAreRemovedExactly, SubscriptionsAreRemovedOnly};
+ghost use Rattle.driver_laws.specs.RemovalLaws.{SubscriptionsAreRemovedExactly, SubscriptionsAreRemovedOnly, RegistrationsAreRemovedExactly, RegistrationsAreRemovedOnly};
 ghost use Rattle.driver_laws.specs.SoundnessLaws.{RegistriesAreSound};
 ghost use Rattle.driver_laws.specs.SubscribingLaws.{SubscriptionsAreGrantedExactly, SubscriptionsAreGrantedOnly};
 
@@ -94,10 +95,25 @@ pub fn registrations_are_removed_exactly()
     ensures { RegistrationsAreRemovedExactly }
 {}
 
+/// A registration goes only where its own client asks for it, or goes itself.
+pub fn registrations_are_removed_only()
+    ensures { RegistrationsAreRemovedOnly }
+{}
+
 /// A client's request that a counter go takes away the one of that number that is the client's own, and nothing else; where
 /// it has none, nothing goes, and the counter is unknown.
 pub fn counters_are_removed_exactly()
     ensures { CountersAreRemovedExactly }
+{}
+
+/// A counter goes only where its own client asks for it, or goes itself.
+pub fn counters_are_removed_only()
+    ensures { CountersAreRemovedOnly }
+{}
+
+/// A counter has the value that it had before an event, or the one to which its own client set it, unless it is new.
+pub fn counters_are_set_only()
+    ensures { CountersAreSetOnly }
 {}
 
 /// A client is not there after a tick at which nothing was heard of it for longer than the liveness, after its own request
@@ -106,9 +122,26 @@ pub fn clients_go_exactly()
     ensures { ClientsGoExactly }
 {}
 
+/// A client that is there stays, unless a tick finds that nothing was heard of it for too long, it closes itself, or the
+/// driver is ended by a request that the policy in force allowed.
+pub fn clients_go_only()
+    ensures { ClientsGoOnly }
+{}
+
 /// After an event that takes a client away no registration, subscription or counter of it is there.
 pub fn rows_go_with_their_client()
     ensures { RowsGoWithTheirClient }
+{}
+
+/// In a registry that was opened with sound settings a log closes, and is told of, at a tick at which it has lingered for
+/// longer than it may, and where the driver is ended by a request that the policy in force allowed.
+pub fn logs_close_exactly()
+    ensures { LogsCloseExactly }
+{}
+
+/// A log closes, and is told of, only so: else it is live behind the event, whether it lingers by then or not.
+pub fn logs_close_only()
+    ensures { LogsCloseOnly }
 {}
 
 /// A reload puts its policy in force under the next number and leaves all lists as they are: the pairs go that the old

@@ -1,0 +1,135 @@
+-- Where a log lingered for too long, or the driver ends, it closes.
+use Rattle.std.proofs.Common.{◌≡◌, ℕ, ◌-◌, ◌<◌, ◌==◌, max, Bool, true, false, List, [], ◌∷◌, ◌++◌, map, filter, Option, Some, sym, ap, ◌∙◌, ⊎_elim}
+use Rattle.std.specs.List.{Contains, list_any}
+use Rattle.std.proofs.lemmas.Bool.{eq-eqb, lt-ltb, or_left, or_right}
+use Rattle.std.proofs.lemmas.List.Elements.{All-contains, Contains-append_cases, filter_passes}
+use Rattle.driver_core.specs.declared.change.Change.{Change}
+use Rattle.driver_core.specs.declared.event.Event.{Event}
+use Rattle.driver_core.specs.declared.event.Event.TheVariants.{Tick}
+use Rattle.driver_core.specs.declared.event.Inputs.{Inputs}
+use Rattle.driver_core.specs.Commands.{heard}
+use Rattle.driver_core.specs.Conduct.{conduct, drafted, state_of}
+use Rattle.driver_core.specs.Leaving.{all_left}
+use Rattle.driver_core.specs.Renewal.{renewed}
+use Rattle.driver_core.specs.Soundness.{MovesLogs, is_left, log_of}
+use Rattle.driver_core.specs.State.{State, at_moment, opened}
+use Rattle.driver_core.specs.Terminating.{terminated}
+use Rattle.driver_core.specs.Ticking.{late, tick, ticked}
+use Rattle.driver_laws.specs.ClosingLaws.{Closes, IsClosed, IsPastBy, LogsCloseExactly}
+use Rattle.driver_laws.specs.LeavingLaws.{IsTerminatedBy}
+use Rattle.client_registry.specs.declared.client.Client.{Client}
+use Rattle.stream_registry.specs.declared.lingering.LogPlace.{LogPlace}
+use Rattle.stream_registry.specs.declared.rows.Publication.{Publication}
+use Rattle.stream_registry.specs.Lingering.{closing_of, is_past, is_past_since, place_of}
+use Rattle.driver_core.proofs.EventCases.{at_request}
+use Rattle.driver_core.proofs.ListLemmas.{contains_none, only_one, passes_are_left}
+use Rattle.driver_core.proofs.SoundnessLemmas.{moves_logs, registries_sound}
+use Rattle.driver_laws.proofs.GoingLemmas.{moment_of}
+use Rattle.driver_laws.proofs.GoneLemmas.{end_is}
+use Rattle.driver_laws.proofs.LeftLemmas.{Left, each_left, mapped, past_settles, place_settles}
+
+-- ---- the outcome tells it
+
+past_is : (linger now since : ℕ) (lingers : Option ℕ) → lingers ≡ Some since → linger < now - since →
+    is_past_since linger now lingers ≡ true
+past_is linger now since lingers is long = rw is (lt-ltb linger (now - since) long)
+
+ticked_closes : {Goes : ℕ → Type 0} (s between : State) (now : ℕ) (log : Publication) →
+    Left (max s.moment now) (at_moment s now) between Goes → Contains s.streams.publications log →
+    is_past (max s.moment now) log ≡ true →
+    Contains (closing_of between.streams (max s.moment now)) (place_of log)
+unfolding closing_of at_moment
+ticked_closes s between now log leaves has past =
+    let moment = max s.moment now in
+    let there = leaves.logs log has in
+    rw (sym (place_settles moment log there.0 there.2))
+    (mapped place_of (filter (is_past moment) between.streams.publications) there.0
+    (passes_are_left (is_past moment) between.streams.publications there.0
+    (past_settles moment log there.0 there.2 ∙ past) there.1))
+
+tick_closes : (s : State) (now : ℕ) (log : Publication) → Contains s.streams.publications log →
+    is_past (max s.moment now) log ≡ true → Contains (drafted s (Tick now)).closes (place_of log)
+unfolding drafted tick ticked
+tick_closes s now log has past =
+    let start = at_moment s now in
+    let between = all_left start (late start) in
+    let leaves = each_left start (max s.moment now) (late start) (moment_of s now) in
+    rw leaves.moment (ticked_closes s between now log leaves has past)
+
+past_closes : (s : State) (event : Event) (log : Publication) → Contains s.streams.publications log →
+    IsPastBy s event log → Contains (drafted s event).closes (place_of log)
+past_closes s event log has by =
+    rw by.event_is
+    (tick_closes s by.moment log has
+    (past_is log.measures.linger (max s.moment by.moment) by.since log.lingering_since by.lingers by.too_long))
+
+terminated_closes : (s : State) (now handle : ℕ) (client : Client) (correlation : ℕ) (log : Publication) →
+    Contains s.streams.publications log →
+    Contains (terminated (at_request s now handle) client correlation).closes (place_of log)
+unfolding terminated heard at_moment
+terminated_closes s now handle client correlation log has = mapped place_of s.streams.publications log has
+
+end_closes : (s : State) (event : Event) (log : Publication) → Contains s.streams.publications log →
+    IsTerminatedBy s event → Contains (drafted s event).closes (place_of log)
+end_closes s event log has by =
+    rw (end_is s event by) (terminated_closes s by.moment by.handle by.client by.correlation log has)
+
+told_of : (s : State) (event : Event) (inputs : Inputs) (log : Publication) → Contains s.streams.publications log →
+    Closes s event log → Contains (conduct s event inputs).outcome.closes (place_of log)
+unfolding conduct renewed
+told_of s event inputs log has closes =
+    ⊎_elim (λ past. past_closes s event log has past) (λ ends. end_closes s event log has ends) closes
+
+-- ---- no log of its number is live
+
+any_of : {X : Type 0} (test : X → Bool) (xs : List X) (x : X) → Contains xs x → test x ≡ true → list_any test xs ≡ true
+any_of test [] x has passes = absurd (contains_none x has)
+any_of test (y ∷ ys) x has passes =
+    ⊎_elim
+    (λ first. or_left (test y) _ (ap test (only_one y x first) ∙ passes))
+    (λ later. or_right (test y) _ (any_of test ys x later passes))
+    (Contains-append_cases (y ∷ []) ys x has)
+
+-- a log behind the event is none of those that close
+is_left_behind : (s : State) (change : Change) (log : Publication) → MovesLogs s change →
+    Contains change.after.streams.publications log → is_left change.outcome.closes (log_of log) ≡ true
+is_left_behind s change log moves has =
+    let stays : Publication → Bool = is_left change.outcome.closes in
+    let before : List Publication = filter stays (map log_of s.streams.publications) in
+    let there : Contains (before ++ moves.opened) (log_of log) =
+    rw (sym moves.logs) (mapped log_of change.after.streams.publications log has) in
+    ⊎_elim
+    (λ was. All-contains (λ l. stays l ≡ true) before (log_of log)
+    (filter_passes stays (map log_of s.streams.publications)) was)
+    (λ opens. All-contains (λ l. stays l ≡ true) (filter stays moves.opened) (log_of log)
+    (filter_passes stays moves.opened) (rw moves.stays opens))
+    (Contains-append_cases before moves.opened (log_of log) there)
+
+none_live : (s : State) (change : Change) (log other : Publication) → MovesLogs s change →
+    Contains change.outcome.closes (place_of log) → Contains change.after.streams.publications other →
+    other.source ≡ log.source → ⊥
+none_live s change log other moves told has same =
+    let stays : is_left change.outcome.closes (log_of other) ≡ true = is_left_behind s change other moves has in
+    let closes : list_any (λ (closed : LogPlace). closed.source == other.source) change.outcome.closes ≡ true =
+    any_of (λ (closed : LogPlace). closed.source == other.source) change.outcome.closes (place_of log) told
+    (eq-eqb log.source other.source (sym same)) in
+    let never : false ≡ true = rw closes at stays in
+    absurd (cc never)
+
+-- ---- the law
+
+closed_by : (s : State) (event : Event) (inputs : Inputs) (log : Publication) →
+    MovesLogs s (conduct s event inputs) → Contains s.streams.publications log → Closes s event log →
+    IsClosed (conduct s event inputs) log
+closed_by s event inputs log moves has closes =
+    let told = told_of s event inputs log has closes in
+    record {
+      told = told;
+      gone = λ other there same. none_live s (conduct s event inputs) log other moves told there same;
+    }
+
+pub logs_closed : LogsCloseExactly
+logs_closed settings policy peers events sound event inputs log has closes =
+    let s = state_of (opened settings policy peers) events in
+    closed_by s event inputs log
+    (moves_logs s event inputs (registries_sound settings policy peers events sound)) has closes
