@@ -24,7 +24,7 @@ use Rattle.policy_text.specs.Document.{policy_of}
 use Rattle.policy_text.specs.Fault.{Fails}
 use Rattle.policy_text.specs.Names.{Known}
 use Rattle.driver_script.specs.Script.{Opening, Ends, Refuses, Opens, no_preface, opening_of, Deed, Takes, deed_by, deed_of, put_in_force, Told, Answered, IsDone, IsOpeningText, IsRunning, Writes, answer_text, told_text, ended_text}
-use Rattle.driver_script.specs.Turns.{Turns, Goes, Steps, Puts, StopsAt, TakesStep, GivesUp, GivesUpStep, GivesUpPolicy, IsHead, WritesScript, BeginsScript, WritesFront, WritesWhole, SoFar, told_of_fault}
+use Rattle.driver_script.specs.Turns.{Turns, Goes, Steps, Puts, StopsAt, TakesStep, GivesUp, GivesUpStep, GivesUpPolicy, IsHead, FollowsHead, BeginsHead, WritesScript, BeginsScript, WritesFront, WritesWhole, SoFar, told_of_fault}
 use Rattle.driver_script.proofs.OutputLemmas.{appends_more}
 
 -- ---- writing
@@ -468,18 +468,11 @@ head_refused (Refuses number) names left line is =
     (ap BadLine same, ap (λ n. ended_text (BadLine n)) same)
 head_refused (Opens given settings policy rest) names left line is = absurd is.2
 
-pub begins_refused : (r : Result Ended RunFault) (statements : List Statement) (names : Known) (left : List Statement) (line : ℕ)
-    (before after' : Option (List ℕ)) →
-    IsHead (opening_of no_preface statements) names left (head.Refused line) →
-    OnErr r (AppendsFront before after' (ended_text (BadLine line))) → OnErr r (BeginsScript statements before after')
-begins_refused (Ok x) statements names left line before after' is begun = tt
-begins_refused (Err fault) statements names left line before after' is begun =
-    record {
-      ended = BadLine line;
-      text = ended_text (BadLine line);
-      is = head_refused (opening_of no_preface statements) names left line is;
-      appended = begun;
-    }
+-- the script ended within the head
+head_ended : (o : Opening) (names : Known) (left : List Statement) → IsHead o names left head.Ended → IsOpeningText o Done []
+head_ended Ends names left is = (refl, refl)
+head_ended (Refuses line) names left is = cc
+head_ended (Opens given settings policy rest) names left is = absurd is.2
 
 -- the head opened a world
 head_whole : (o : Opening) (names : Known) (left : List Statement) (world : Held) (ended : Ended) (before after' : Option (List ℕ)) →
@@ -504,30 +497,62 @@ head_front (Opens given settings policy rest) names left world before after' is 
     let Q : Known → Type 0 = λ those. Writes those (opening_end settings policy []) rest ended text in
     (ended, text, subst Q (sym is.0) (subst P (sym is.1) written), begun)
 
-pub writes_opened : (r : Result Ended RunFault) (statements : List Statement) (names : Known) (left : List Statement) (world : Held)
-    (before after' : Option (List ℕ)) →
-    IsHead (opening_of no_preface statements) names left (head.Opened world) →
-    IfOk r (λ ended. WritesWhole names world left ended before after') → IfOk r (λ ended. WritesScript statements ended before after')
-writes_opened (Ok ended) statements names left world before after' is whole =
+-- what follows the head makes the text of the script
+whole_followed : (statements : List Statement) (names : Known) (left : List Statement) (h : Head) (ended : Ended) (before after' : Option (List ℕ)) →
+    IsHead (opening_of no_preface statements) names left h → FollowsHead names left h ended before after' →
+    WritesScript statements ended before after'
+whole_followed statements names left head.Ended ended before after' is (done, same) =
+    rw (done, same) (record {
+      text = [];
+      is = head_ended (opening_of no_preface statements) names left is;
+      appended = appends_nothing before;
+    })
+whole_followed statements names left (head.Refused line) ended before after' is (bad, written) =
+    rw bad (record {
+      text = ended_text (BadLine line);
+      is = head_refused (opening_of no_preface statements) names left line is;
+      appended = written;
+    })
+whole_followed statements names left (head.Opened world) ended before after' is whole =
     let (text, written, appended) = head_whole (opening_of no_preface statements) names left world ended before after' is whole in
     record { text = text; is = written; appended = appended }
-writes_opened (Err fault) statements names left world before after' is whole = tt
 
-pub begins_opened : (r : Result Ended RunFault) (statements : List Statement) (names : Known) (left : List Statement) (world : Held)
-    (before after' : Option (List ℕ)) →
-    IsHead (opening_of no_preface statements) names left (head.Opened world) →
-    OnErr r (WritesFront names world left before after') → OnErr r (BeginsScript statements before after')
-begins_opened (Ok ended) statements names left world before after' is front = tt
-begins_opened (Err fault) statements names left world before after' is front =
+front_followed : (statements : List Statement) (names : Known) (left : List Statement) (h : Head) (before after' : Option (List ℕ)) →
+    IsHead (opening_of no_preface statements) names left h → BeginsHead names left h before after' →
+    BeginsScript statements before after'
+front_followed statements names left head.Ended before after' is none = absurd none
+front_followed statements names left (head.Refused line) before after' is begun =
+    record {
+      ended = BadLine line;
+      text = ended_text (BadLine line);
+      is = head_refused (opening_of no_preface statements) names left line is;
+      appended = begun;
+    }
+front_followed statements names left (head.Opened world) before after' is front =
     let (ended, text, written, begun) = head_front (opening_of no_preface statements) names left world before after' is front in
     record { ended = ended; text = text; is = written; appended = begun }
 
+pub writes_followed : (r : Result Ended RunFault) (statements : List Statement) (names : Known) (left : List Statement) (h : Head)
+    (before after' : Option (List ℕ)) →
+    IsHead (opening_of no_preface statements) names left h →
+    IfOk r (λ ended. FollowsHead names left h ended before after') → IfOk r (λ ended. WritesScript statements ended before after')
+writes_followed (Ok ended) statements names left h before after' is whole =
+    whole_followed statements names left h ended before after' is whole
+writes_followed (Err fault) statements names left h before after' is whole = tt
+
+pub begins_followed : (r : Result Ended RunFault) (statements : List Statement) (names : Known) (left : List Statement) (h : Head)
+    (before after' : Option (List ℕ)) →
+    IsHead (opening_of no_preface statements) names left h →
+    OnErr r (BeginsHead names left h before after') → OnErr r (BeginsScript statements before after')
+begins_followed (Ok ended) statements names left h before after' is front = tt
+begins_followed (Err fault) statements names left h before after' is front =
+    front_followed statements names left h before after' is front
+
 -- the head of the statements that are those of the script, from no names on
-pub head_at : (given : Preface) (statements found : List Statement) (names : Known) (left : List Statement) (h k : Head) →
-    given ≡ no_preface → statements ≡ found → h ≡ k →
-    IsHead (opening_of given statements) names left h → IsHead (opening_of no_preface found) names left k
-head_at given statements found names left h k none same is head =
+pub head_at : (given : Preface) (statements found : List Statement) (names : Known) (left : List Statement) (h : Head) →
+    given ≡ no_preface → statements ≡ found →
+    IsHead (opening_of given statements) names left h → IsHead (opening_of no_preface found) names left h
+head_at given statements found names left h none same head =
     let N : Preface → Type 0 = λ those. IsHead (opening_of those statements) names left h in
     let P : List Statement → Type 0 = λ those. IsHead (opening_of no_preface those) names left h in
-    let Q : Head → Type 0 = λ that. IsHead (opening_of no_preface found) names left that in
-    subst Q is (subst P same (subst N none head))
+    subst P same (subst N none head)

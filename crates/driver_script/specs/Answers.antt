@@ -85,6 +85,10 @@ value_line value = codes "value " ++ (signed_decimal value ++ codes "\n")
 abbrev pub denial_line : Verdict → List ℕ
 denial_line verdict = verdict_text verdict ++ codes "\n"
 
+-- a line that is none of a script
+abbrev pub bad_line : ℕ → List ℕ
+bad_line number = codes "line " ++ (decimal number ++ codes ": bad line\n")
+
 -- each line with its line feed
 unfoldable pub line_text : AnswerLine → List ℕ
 line_text (Attached client) = numbered_line (codes "attached ") client
@@ -105,4 +109,4 @@ line_text (Denied verdict) = denial_line verdict
 line_text UnknownCounter = codes "unknown counter\n"
 line_text WrongClient = codes "wrong client\n"
 line_text NoMemory = codes "no memory\n"
-line_text (BadLine number) = codes "line " ++ (decimal number ++ codes ": bad line\n")
+line_text (BadLine number) = bad_line number

@@ -11,6 +11,7 @@ use Rattle.policy_text.specs.declared.fault.PolicyFault.{PolicyFault}
 use Rattle.policy_text.specs.declared.fault.PolicyFault.TheVariants as text
 use Rattle.policy_text.specs.Names.{Known}
 use Rattle.driver_script.specs.declared.script.Ended.{Ended}
+use Rattle.driver_script.specs.declared.script.Ended.TheVariants.{Done, BadLine}
 use Rattle.driver_script.specs.declared.script.Head.{Head}
 use Rattle.driver_script.specs.declared.script.Head.TheVariants as head
 use Rattle.driver_script.specs.declared.script.Preface.{Preface}
@@ -20,7 +21,7 @@ use Rattle.script_lines.specs.declared.statements.Said.{Said}
 use Rattle.script_lines.specs.declared.statements.Said.TheVariants.{Policy}
 use Rattle.script_lines.specs.declared.statements.Statement.{Statement}
 use Rattle.driver_script.specs.Output.{AppendsFront}
-use Rattle.driver_script.specs.Script.{Opening, Ends, Refuses, Opens, opening_of, Takes, deed_of, Told, Answered, Refused, Writes, IsScriptText}
+use Rattle.driver_script.specs.Script.{Opening, Ends, Refuses, Opens, opening_of, Takes, deed_of, Told, Answered, Refused, Writes, IsScriptText, ended_text}
 
 -- ---- the head
 
@@ -111,6 +112,19 @@ pub record SoFar (names : Known) (start : Held) (all : List Statement) (held : H
       × ((ended : Ended) (text : List ℕ) → Writes names next left ended text → Writes names e all ended (front ++ text))
 
 -- ---- a whole script
+
+-- what was written where the head came to that, and these statements are left: nothing, that its line is bad, or the text
+-- of the statements
+abbrev pub FollowsHead : Known → List Statement → Head → Ended → Option (List ℕ) → Option (List ℕ) → Type 0
+FollowsHead names left head.Ended ended before after = (ended ≡ Done) × (after ≡ before)
+FollowsHead names left (head.Refused line) ended before after = (ended ≡ BadLine line) × Appends before after (ended_text (BadLine line))
+FollowsHead names left (head.Opened world) ended before after = WritesWhole names world left ended before after
+
+-- a front of that was written, where it gave up
+abbrev pub BeginsHead : Known → List Statement → Head → Option (List ℕ) → Option (List ℕ) → Type 0
+BeginsHead names left head.Ended before after = ⊥
+BeginsHead names left (head.Refused line) before after = AppendsFront before after (ended_text (BadLine line))
+BeginsHead names left (head.Opened world) before after = WritesFront names world left before after
 
 -- the text of the script was written, and nothing else
 pub record WritesScript (statements : List Statement) (ended : Ended) (before after : Option (List ℕ)) : Type 0 where

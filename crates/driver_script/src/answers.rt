@@ -67,6 +67,81 @@ impl fmt::Display for Numbered<'_> {
     }
 }
 
+/// The line of a policy whose text is refused.
+#[derive(Clone, Copy)]
+struct RefusalLine(PolicyFault);
+
+impl fmt::Display for RefusalLine {
+    ghost use Rattle.driver_script.specs.Answers.{refusal_line};
+
+    ghost output = { λ line. Some (refusal_line line.0) };
+
+    fn fmt<W: fmt::Write>(&self, f: &mut fmt::Formatter<W>) -> fmt::Result {
+        let fault = self.0;
+        writeln!(f, "policy refused: {fault}")
+    }
+}
+
+/// The line of an offer.
+#[derive(Clone, Copy)]
+struct OfferLine(Offered);
+
+impl fmt::Display for OfferLine {
+    ghost use Rattle.driver_script.specs.Answers.{offer_line};
+
+    ghost output = { λ line. Some (offer_line line.0) };
+
+    fn fmt<W: fmt::Write>(&self, f: &mut fmt::Formatter<W>) -> fmt::Result {
+        let code = OfferCode(self.0);
+        writeln!(f, "offer {code}")
+    }
+}
+
+/// The line of a counter's value.
+#[derive(Clone, Copy)]
+struct ValueLine(i64);
+
+impl fmt::Display for ValueLine {
+    ghost use Rattle.driver_script.specs.Answers.{value_line};
+
+    ghost output = { λ line. Some (value_line line.0) };
+
+    fn fmt<W: fmt::Write>(&self, f: &mut fmt::Formatter<W>) -> fmt::Result {
+        let value = self.0;
+        writeln!(f, "value {value}")
+    }
+}
+
+/// The line of what a policy decided.
+#[derive(Clone, Copy)]
+struct DenialLine(Verdict);
+
+impl fmt::Display for DenialLine {
+    ghost use Rattle.driver_script.specs.Answers.{denial_line};
+
+    ghost output = { λ line. Some (denial_line line.0) };
+
+    fn fmt<W: fmt::Write>(&self, f: &mut fmt::Formatter<W>) -> fmt::Result {
+        let verdict = self.0;
+        writeln!(f, "{verdict}")
+    }
+}
+
+/// The line that says which line is bad.
+#[derive(Clone, Copy)]
+struct BadLine(u64);
+
+impl fmt::Display for BadLine {
+    ghost use Rattle.driver_script.specs.Answers.{bad_line};
+
+    ghost output = { λ line. Some (bad_line line.0) };
+
+    fn fmt<W: fmt::Write>(&self, f: &mut fmt::Formatter<W>) -> fmt::Result {
+        let number = self.0;
+        writeln!(f, "line {number}: bad line")
+    }
+}
+
 /// The line of a reply.
 #[derive(Clone, Copy)]
 struct ReplyLine<'a> {
@@ -200,12 +275,9 @@ impl fmt::Display for AnswerLine<'_> {
             AnswerLine::Stopped => f.write_str("stopped\n"),
             AnswerLine::PolicyInForce(epoch) => Numbered("policy ", epoch).fmt(f),
             AnswerLine::PolicyFull => f.write_str("policy refused: full\n"),
-            AnswerLine::PolicyRefused(fault) => writeln!(f, "policy refused: {fault}"),
+            AnswerLine::PolicyRefused(fault) => RefusalLine(fault).fmt(f),
             AnswerLine::Reply { client, bytes } => ReplyLine { client, bytes }.fmt(f),
-            AnswerLine::Offer(offered) => {
-                let code = OfferCode(offered);
-                writeln!(f, "offer {code}")
-            }
+            AnswerLine::Offer(offered) => OfferLine(offered).fmt(f),
             AnswerLine::Poll(count) => Numbered("poll ", count).fmt(f),
             AnswerLine::Fragment {
                 position,
@@ -231,12 +303,12 @@ impl fmt::Display for AnswerLine<'_> {
                 label,
             }
             .fmt(f),
-            AnswerLine::Value(value) => writeln!(f, "value {value}"),
-            AnswerLine::Denied(verdict) => writeln!(f, "{verdict}"),
+            AnswerLine::Value(value) => ValueLine(value).fmt(f),
+            AnswerLine::Denied(verdict) => DenialLine(verdict).fmt(f),
             AnswerLine::UnknownCounter => f.write_str("unknown counter\n"),
             AnswerLine::WrongClient => f.write_str("wrong client\n"),
             AnswerLine::NoMemory => f.write_str("no memory\n"),
-            AnswerLine::BadLine(number) => writeln!(f, "line {number}: bad line"),
+            AnswerLine::BadLine(number) => BadLine(number).fmt(f),
         }
     }
 }

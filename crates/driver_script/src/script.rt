@@ -13,7 +13,7 @@ ghost use Rattle.script_lines.specs.declared.statements.TheConstants.{LIMIT};
 ghost use Rattle.script_lines.specs.Statements.{statements_of};
 ghost use Rattle.script_lines.specs.Left.{left};
 ghost use Rattle.driver_script.specs.Script.{opening_of};
-ghost use Rattle.driver_script.specs.Turns.{TakesHead, IsHead, Steps, GivesUpStep, Puts, GivesUpPolicy, told_of_fault, TakesStep, GivesUp, WritesWhole, WritesFront, WritesScript, BeginsScript, IsBegun, IsUnread};
+ghost use Rattle.driver_script.specs.Turns.{TakesHead, IsHead, Steps, GivesUpStep, Puts, GivesUpPolicy, told_of_fault, TakesStep, GivesUp, WritesWhole, WritesFront, FollowsHead, BeginsHead, WritesScript, BeginsScript, IsBegun, IsUnread};
 ghost use Rattle.std.specs.Prelude.{◌≡◌, ◌<◌, ◌≤◌, ◌++◌, [], Some, None, Err, IfOk, IfErr, IfSome, OnOk, OnErr, length};
 ghost use Rattle.std.specs.String.{string_bytes};
 
@@ -467,6 +467,25 @@ fn take_steps<W: Target>(
     }
 }
 
+/// Goes on from what the head came to.
+fn follow_head<W: Target>(
+    alloc: Global,
+    names: &Names,
+    head: Head,
+    statements: &mut Statements<'_>,
+    writer: &mut W,
+) -> Result<Ended, RunFault>
+    ensures whole { IfOk result (λ ended. FollowsHead names.now (left statements.old) head ended (W.contents writer.old) (W.contents writer.new)) }
+    ensures front { OnErr result (BeginsHead names.now (left statements.old) head (W.contents writer.old) (W.contents writer.new)) }
+    ensures begun { IfErr result (OfAnswering W.may_fail) }
+{
+    match head {
+        Head::Ended => Ok(Ended::Done),
+        Head::Refused(line) => write_bad_line(alloc, line, writer),
+        Head::Opened(mut world) => take_steps(alloc, names, statements, &mut world, writer),
+    }
+}
+
 /// Runs a script that was read.
 fn run_script<W: Target>(alloc: Global, script: &[u8], writer: &mut W) -> Result<Ended, RunFault>
     requires { length script.now ≤ LIMIT }
@@ -476,13 +495,8 @@ fn run_script<W: Target>(alloc: Global, script: &[u8], writer: &mut W) -> Result
 {
     let mut preface = Preface::new(alloc);
     let mut statements = Statements::new(script);
-    match take_heads(alloc, &mut preface, &mut statements)? {
-        Head::Ended => Ok(Ended::Done),
-        Head::Refused(line) => write_bad_line(alloc, line, writer),
-        Head::Opened(mut world) => {
-            take_steps(alloc, &preface.names, &mut statements, &mut world, writer)
-        }
-    }
+    let head = take_heads(alloc, &mut preface, &mut statements)?;
+    follow_head(alloc, &preface.names, head, &mut statements, writer)
 }
 
 /// Runs the script that `reader` gives, and writes the answers to `writer`. What it writes is the text of the script,
