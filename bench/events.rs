@@ -1414,7 +1414,7 @@ fn main() {
         let rounds = first.map(|times| few.paired(times, rounds_for));
         let mut times = [Each::all(u64::MAX); 2];
         // In turns, so that both meet the same machine.
-        for _ in 0..5 {
+        for _ in 0..4 {
             for (i, run) in [plain_run, proved_run].into_iter().enumerate() {
                 let mut these = Each::all(0);
                 black_box(run(full, black_box(&rounds[i]), &mut these));
