@@ -8,7 +8,6 @@ use std::collections::BTreeMap;
 use std::hint::black_box;
 use std::mem;
 use std::net::SocketAddrV4;
-use std::time::Instant;
 
 /// A number for each kind of event.
 #[repr(C)]
@@ -22,9 +21,17 @@ struct Each {
 
 unsafe extern "C" {
     fn driver_core_run(full: bool, rounds: &Each, times: &mut Each) -> u64;
+    fn clock_gettime(clock: i32, time: &mut Timespec) -> i32;
     fn malloc(size: usize) -> *mut u8;
     fn realloc(start: *mut u8, size: usize) -> *mut u8;
     fn free(start: *mut u8);
+}
+
+/// A time of a clock.
+#[repr(C)]
+struct Timespec {
+    seconds: i64,
+    nanoseconds: i64,
 }
 
 /// What the library is told of memory: whether there is some, and where.
@@ -64,6 +71,9 @@ const CHANNEL: &str = "aeron:ipc?linger=5s|mtu=1408|term-length=64k";
 
 /// How many streams there are.
 const STREAMS: u64 = 33;
+
+/// The clock of the processor time that a program takes.
+const PROCESSOR_TIME: i32 = 2;
 
 /// How often each kind of event is timed, to take the least time.
 const TURNS: u64 = 3;
@@ -1220,6 +1230,13 @@ fn stream_of(number: u64) -> i32 {
     (number % STREAMS) as i32 + 1
 }
 
+/// The processor time that the program took so far, in nanoseconds, so that other work of the machine counts little.
+fn moment() -> u64 {
+    let mut time = Timespec { seconds: 0, nanoseconds: 0 };
+    unsafe { clock_gettime(PROCESSOR_TIME, &mut time) };
+    (time.seconds * 1_000_000_000 + time.nanoseconds) as u64
+}
+
 /// A registry, with what was told so far.
 struct Driver {
     registry: Registry,
@@ -1300,22 +1317,22 @@ impl Driver {
     fn time(&mut self, rounds: u64, events: fn(&mut Driver, u64) -> Vec<Event>) -> u64 {
         let turns = (0..TURNS).map(|_| {
             let events = events(self, rounds);
-            let start = Instant::now();
+            let start = moment();
             for event in &events {
                 self.take(event);
             }
-            start.elapsed().as_nanos() as u64
+            moment() - start
         });
         turns.min().unwrap_or(0)
     }
 
     fn time_repeated(&mut self, rounds: u64, event: &Event) -> u64 {
         let turns = (0..TURNS).map(|_| {
-            let start = Instant::now();
+            let start = moment();
             for _ in 0..rounds {
                 self.take(event);
             }
-            start.elapsed().as_nanos() as u64
+            moment() - start
         });
         turns.min().unwrap_or(0)
     }
@@ -1397,7 +1414,7 @@ fn main() {
         let rounds = first.map(|times| few.paired(times, rounds_for));
         let mut times = [Each::all(u64::MAX); 2];
         // In turns, so that both meet the same machine.
-        for _ in 0..5 {
+        for _ in 0..4 {
             for (i, run) in [plain_run, proved_run].into_iter().enumerate() {
                 let mut these = Each::all(0);
                 black_box(run(full, black_box(&rounds[i]), &mut these));
