@@ -1,3 +1,4 @@
+pub mod AskedLemmas
 pub mod EventCases
 pub mod ListLemmas
 pub mod LogListLemmas

@@ -1,4 +1,4 @@
-ghost use Rattle.driver_core.specs.Commands.{requested, asked, command};
+ghost use Rattle.driver_core.specs.Commands.{requested, heard, asked, command};
 ghost use Rattle.std.specs.Prelude.{◌≡◌, IfOk};
 
 use crate::draft::Draft;
@@ -51,8 +51,17 @@ fn requested(
     }
 }
 
+/// The client of this handle is heard of, by a command of its own. It takes no memory.
+#[tactic(auto, unfolding(crate::specs::Commands::heard))]
+fn hear(registry: &mut Registry, handle: u64)
+    ensures { registry.new ≡ heard registry.old handle }
+{
+    let moment = registry.moment;
+    registry.clients.touch(handle, moment);
+}
+
 /// The command of a handle.
-#[tactic(auto, unfolding(crate::specs::Commands::asked, crate::specs::Commands::heard))]
+#[tactic(auto, unfolding(crate::specs::Commands::asked))]
 fn asked(
     registry: Registry,
     alloc: Global,
@@ -80,8 +89,7 @@ fn asked(
         );
     };
     let mut registry = registry;
-    let moment = registry.moment;
-    registry.clients.touch(handle, moment);
+    hear(&mut registry, handle);
     requested(registry, alloc, client, command)
 }
 
