@@ -81,7 +81,7 @@ pub(crate) fn event(alloc: Global, deed: Deed) -> Result<Event, AllocError> {
         Deed::Terminate => command(alloc, termination(alloc)?),
         Deed::Reload(default) => Ok(Event::Reload {
             now: 0,
-            policy: Policy::new(Vec::new(alloc), default),
+            policy: Policy::new(Vec::new(alloc), default)?,
         }),
         Deed::Tick(now) => Ok(Event::Tick { now }),
     }
@@ -118,7 +118,7 @@ impl Conductor {
 
     /// A registry where everything is allowed.
     pub(crate) fn new(alloc: Global) -> Result<Conductor, Fail> {
-        let policy = Policy::new(Vec::new(alloc), true);
+        let policy = Policy::new(Vec::new(alloc), true)?;
         Conductor::set_to(alloc, Settings::default(), policy)
     }
 

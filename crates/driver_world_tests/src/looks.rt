@@ -1,7 +1,7 @@
 //! What is asked of a log, and of whom, which changes nothing.
 
 use crate::conductor::{Conductor, Deed};
-use byte_strings::Text;
+use byte_strings::ShortText;
 use channel_uri::Pattern;
 use driver_core::{LogRequest, Settings};
 use policy_core::{Act, Acts, Decision, Policy, Principals, Rule, Verdict};
@@ -29,7 +29,7 @@ fn request(act: Act, subject: u64, allow: bool, rule: Option<u32>) -> Option<Log
 /// Principal 7 may not offer, and everything else is allowed.
 fn without_offers(alloc: Global) -> Result<Policy, Fail> {
     let rule = Rule {
-        name: Text::new(alloc, "no offers")?,
+        name: ShortText::new("no offers"),
         principals: Principals::One(7),
         acts: Acts::none().with(Act::Offer),
         channel: Pattern::Any,
@@ -37,7 +37,7 @@ fn without_offers(alloc: Global) -> Result<Policy, Fail> {
         high: i32::MAX,
         allow: false,
     };
-    Ok(Policy::new(vec![in alloc; rule]?, true))
+    Ok(Policy::new(vec![in alloc; rule]?, true)?)
 }
 
 /// Client 1 has registrations 1 and 3 with the log of source 1, and subscription 2 reads it.

@@ -45,7 +45,7 @@ const OPENINGS: [Opening<'static>; 11] = [
 fn logs_open_and_close(rt: HostRuntime) -> Result<(), Fail> {
     let mut settings = Settings::default();
     settings.arena_pages = 96;
-    let policy = Policy::new(Vec::new(rt.alloc()), true);
+    let policy = Policy::new(Vec::new(rt.alloc()), true)?;
     let mut conductor = Conductor::set_to(rt.alloc(), settings, policy)?;
     assert!(rt; conductor.opens_all(&OPENINGS));
     Ok(())

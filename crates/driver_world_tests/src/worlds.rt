@@ -16,7 +16,7 @@ fn with_pages(alloc: Global, arena_pages: u32) -> Result<World, Fail>
 {
     let mut settings = Settings::default();
     settings.arena_pages = arena_pages;
-    let policy = Policy::new(Vec::new(alloc), true);
+    let policy = Policy::new(Vec::new(alloc), true)?;
     Ok(World::new(alloc, settings, policy, &[])?)
 }
 

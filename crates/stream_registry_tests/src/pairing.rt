@@ -10,11 +10,11 @@ use std::test::Fail;
 use stream_registry::{Pair, Streams, Wish, reads};
 
 /// Two clients, of principals 1 and 2.
-fn two_clients(alloc: Global) -> Clients {
-    let mut clients = Clients::new(alloc, 10);
+fn two_clients(alloc: Global) -> Result<Clients, AllocError> {
+    let mut clients = Clients::new(alloc, 10)?;
     let _first = clients.admit(1, 0);
     let _second = clients.admit(2, 0);
-    clients
+    Ok(clients)
 }
 
 /// Allows everything.
@@ -45,7 +45,10 @@ fn pair(source: u64, subscription: u64) -> Pair {
 
 /// Whether these are the pairs under this policy.
 fn pairs_are(alloc: Global, streams: &Streams, policy: &Policy, pairs: &[Pair]) -> bool {
-    match streams.pairs(alloc, &two_clients(alloc), policy, 1) {
+    let Ok(clients) = two_clients(alloc) else {
+        return false;
+    };
+    match streams.pairs(alloc, &clients, policy, 1) {
         Ok(found) => found.as_slice() == pairs,
         Err(_) => false,
     }
@@ -92,9 +95,15 @@ fn other_pairs_are_told(rt: HostRuntime) -> Result<(), Fail> {
 }
 
 /// Whether the subscription reads the log under this policy.
-fn is_read(play: &Play, policy: &Policy, source: u64, subscription: u64) -> bool {
+fn is_read(
+    play: &Play,
+    clients: &Clients,
+    policy: &Policy,
+    source: u64,
+    subscription: u64,
+) -> bool {
     play.streams
-        .has_pair(&two_clients(play.alloc), policy, 1, source, subscription)
+        .has_pair(clients, policy, 1, source, subscription)
 }
 
 #[test]
@@ -102,25 +111,25 @@ fn one_subscription_reads_a_log(rt: HostRuntime) -> Result<(), Fail> {
     let mut play = Play::new(rt.alloc())?;
     assert!(rt; two_subscribe_and_one_publishes(&mut play));
     let closed = image_denied(rt.alloc())?;
-    assert!(rt; is_read(&play, &closed, 3, 1));
-    assert!(rt; !is_read(&play, &closed, 3, 2));
-    assert!(rt; !is_read(&play, &closed, 4, 1));
+    let clients = two_clients(rt.alloc())?;
+    assert!(rt; is_read(&play, &clients, &closed, 3, 1));
+    assert!(rt; !is_read(&play, &clients, &closed, 3, 2));
+    assert!(rt; !is_read(&play, &clients, &closed, 4, 1));
     Ok(())
 }
 
 /// Whether a subscription would read each log under this policy, which isn't there.
-fn would_read(play: &Play, policy: &Policy, client: u64, stream: i32) -> bool {
+fn would_read(play: &Play, clients: &Clients, policy: &Policy, client: u64, stream: i32) -> bool {
     let wish = Wish {
         number: 9,
         client,
         channel: &Channel::ipc(),
         stream,
     };
-    let clients = two_clients(play.alloc);
     play.streams
         .publications()
         .iter()
-        .all(|log| reads(&clients, policy, 1, log, &wish))
+        .all(|log| reads(clients, policy, 1, log, &wish))
 }
 
 #[test]
@@ -128,17 +137,17 @@ fn a_subscription_is_only_asked_about(rt: HostRuntime) -> Result<(), Fail> {
     let mut play = Play::new(rt.alloc())?;
     assert!(rt; play.publishes(3, 1, "aeron:ipc", made(1)));
     let closed = image_denied(rt.alloc())?;
-    assert!(rt; would_read(&play, &closed, 1, 10));
-    assert!(rt; !would_read(&play, &closed, 2, 10));
-    assert!(rt; !would_read(&play, &closed, 3, 10));
-    assert!(rt; !would_read(&play, &closed, 1, 11));
+    let clients = two_clients(rt.alloc())?;
+    assert!(rt; would_read(&play, &clients, &closed, 1, 10));
+    assert!(rt; !would_read(&play, &clients, &closed, 2, 10));
+    assert!(rt; !would_read(&play, &clients, &closed, 3, 10));
+    assert!(rt; !would_read(&play, &clients, &closed, 1, 11));
     assert!(rt; play.has(1, 1, 0));
     Ok(())
 }
 
 fn lingering_is_read(play: &mut Play) -> bool {
-    let opened = play.publishes(1, 1, "aeron:ipc", made(1))
-        && play.subscribes(2, 2, "aeron:ipc");
+    let opened = play.publishes(1, 1, "aeron:ipc", made(1)) && play.subscribes(2, 2, "aeron:ipc");
     play.streams.client_left(1, 0);
     let read = all_pairs_are(play, &[pair(1, 2)]);
     play.streams.client_left(2, 0);
