@@ -1,4 +1,4 @@
--- A request that a registration or a counter go takes away what it names, and nothing else.
+-- A request that a registration or a counter go takes away what it names, and nothing else; so one that sets a counter.
 use Rattle.std.proofs.Common.{◌≡◌, ℕ, true, false, List, [], refl, ap, ◌∙◌}
 use Rattle.std.proofs.lemmas.Bool.{eq-eqb}
 use Rattle.driver_core.specs.declared.event.Event.TheVariants.{Command}
@@ -7,19 +7,20 @@ use Rattle.driver_core.specs.declared.refusal.Refusal.TheVariants.{UnknownCounte
 use Rattle.driver_core.specs.declared.replies.Reply.TheVariants.{OperationSuccess}
 use Rattle.driver_core.specs.Commands.{asked, body_change, command, heard, requested}
 use Rattle.driver_core.specs.Conduct.{conduct, drafted}
-use Rattle.driver_core.specs.Counting.{remove_counter, uncounted}
+use Rattle.driver_core.specs.Counting.{remove_counter, set_counter, uncounted, valued}
 use Rattle.driver_core.specs.Draft.{Draft, refused, replied, told}
 use Rattle.driver_core.specs.Pairs.{pairs_of}
 use Rattle.driver_core.specs.Renewal.{renewed}
 use Rattle.driver_core.specs.Requests.{Asks}
 use Rattle.driver_core.specs.State.{State, at_moment}
 use Rattle.driver_core.specs.Unpublishing.{remove_publication, unpublished}
-use Rattle.driver_laws.specs.CounterLaws.{IsUncounted, IsUncountedExactly}
+use Rattle.driver_laws.specs.CounterLaws.{IsSet, IsSetExactly, IsUncounted, IsUncountedExactly}
 use Rattle.driver_laws.specs.RemovalLaws.{IsUnregistered, IsUnregisteredExactly}
 use Rattle.client_registry.specs.declared.client.Client.{Client}
 use Rattle.command_codec.specs.declared.command.Body.{Body}
-use Rattle.command_codec.specs.declared.command.Body.TheVariants.{RemoveCounter as RemovesCounter, RemovePublication as Unpublishes}
+use Rattle.command_codec.specs.declared.command.Body.TheVariants.{RemoveCounter as RemovesCounter, RemovePublication as Unpublishes, SetCounter as Sets}
 use Rattle.command_codec.specs.declared.removal.Removal.{Removal}
+use Rattle.command_codec.specs.declared.set_counter.SetCounter.{SetCounter}
 use Rattle.counters.specs.Counters.{has}
 use Rattle.stream_registry.specs.Leaving.{has_registration}
 use Rattle.driver_core.proofs.EventCases.{at_request}
@@ -160,3 +161,59 @@ uncounted_exactly s now handle correlation bytes inputs client fields asks =
     rw (body_is_asked s now handle correlation bytes client (RemovesCounter fields) asks)
     (counter_by_number s now handle correlation inputs client fields
     (found_number s.clients.rows handle client asks.attached))
+
+-- ---- a counter that is set
+
+-- no pair is by a counter
+valued_pairs : (s : State) (now handle correlation : ℕ) (client : Client) (fields : SetCounter) →
+    pairs_of (valued (at_request s now handle) client correlation fields).after ≡ pairs_of s
+unfolding valued replied told
+valued_pairs s now handle correlation client fields =
+    pairs_by (valued (at_request s now handle) client correlation fields).after (at_request s now handle) refl refl refl
+    (λ n. refl)
+    ∙ pairs_heard s now handle
+
+valued_change : (s : State) (now handle correlation : ℕ) (inputs : Inputs) (client : Client) (fields : SetCounter) →
+    client.number ≡ handle →
+    IsSet s now handle correlation fields (
+    renewed s inputs (valued (at_request s now handle) client correlation fields))
+unfolding valued replied told heard at_moment
+valued_change s now handle correlation inputs client fields own =
+    let draft : Draft = valued (at_request s now handle) client correlation fields in
+    let as_it_is : ToldAsItIs draft (renewed s inputs draft) =
+    unchanged s inputs draft (valued_pairs s now handle correlation client fields) in
+    record {
+      after_is = as_it_is.after ∙ rw own refl;
+      told = as_it_is.replies ∙ rw own refl;
+      decided = as_it_is.decisions;
+    }
+
+value_is_set : (s : State) (client : Client) (correlation : ℕ) (fields : SetCounter) →
+    has s.counters client.number fields.registration ≡ true →
+    set_counter s client correlation fields ≡ valued s client correlation fields
+unfolding set_counter
+value_is_set s client correlation fields known = rw known refl
+
+value_is_unknown : (s : State) (client : Client) (correlation : ℕ) (fields : SetCounter) →
+    has s.counters client.number fields.registration ≡ false →
+    set_counter s client correlation fields ≡ refused s [] client.number correlation UnknownCounter
+unfolding set_counter
+value_is_unknown s client correlation fields unknown = rw unknown refl
+
+pub set_exactly : (s : State) (now handle correlation : ℕ) (bytes : List ℕ) (inputs : Inputs) (client : Client)
+    (fields : SetCounter) → Asks s handle bytes client correlation (Sets fields) →
+    IsSetExactly s now handle correlation fields (conduct s (Command now handle bytes) inputs)
+unfolding conduct
+set_exactly s now handle correlation bytes inputs client fields asks =
+    let own : client.number ≡ handle = found_number s.clients.rows handle client asks.attached in
+    let same = ap (λ (n : ℕ). has (at_request s now handle).counters n fields.registration) own
+    ∙ counters_before s now handle fields.registration in
+    rw (body_is_asked s now handle correlation bytes client (Sets fields) asks)
+    (record {
+      known = λ known.
+          rw (value_is_set (at_request s now handle) client correlation fields (same ∙ known))
+          (valued_change s now handle correlation inputs client fields own);
+      unknown = λ unknown.
+          rw (value_is_unknown (at_request s now handle) client correlation fields (same ∙ unknown))
+          (unknown_change s now handle client.number correlation inputs UnknownCounter own);
+    })

@@ -17,8 +17,9 @@ use Rattle.driver_laws.specs.RemovalLaws.{IsAskedBy, IsUnknown}
 use Rattle.client_registry.specs.declared.client.Client.{Client}
 use Rattle.command_codec.specs.declared.command.Body.TheVariants.{RemoveCounter as RemovesCounter, SetCounter as Sets}
 use Rattle.command_codec.specs.declared.removal.Removal.{Removal}
+use Rattle.command_codec.specs.declared.set_counter.SetCounter.{SetCounter}
 use Rattle.counters.specs.declared.counter.Counter.{Counter}
-use Rattle.counters.specs.Counters.{has, without}
+use Rattle.counters.specs.Counters.{has, set, without}
 
 -- ---- removed exactly
 
@@ -61,6 +62,30 @@ CountersAreRemovedOnly =
     IsStillThere (state_after s event inputs) counter
     ⊎ (IsAskedBy s event counter.client (RemovesCounter (record { registration = counter.number }))
     ⊎ IsGoneBy s event counter.client))
+
+-- ---- set exactly
+
+-- the client's counter of that number has that value; all else stays but for the moments
+pub record IsSet (s : State) (now handle correlation : ℕ) (fields : SetCounter) (change : Change) : Type 0 where
+  pub after_is :
+      change.after
+      ≡ record (heard (at_moment s now) handle) {
+        counters = set s.counters handle fields.registration fields.value;
+      }
+  pub told : change.outcome.replies ≡ record { client = handle; reply = OperationSuccess correlation } ∷ []
+  pub decided : change.outcome.decisions ≡ []
+
+pub record IsSetExactly (s : State) (now handle correlation : ℕ) (fields : SetCounter) (change : Change) : Type 0 where
+  pub known : has s.counters handle fields.registration ≡ true → IsSet s now handle correlation fields change
+  pub unknown :
+      has s.counters handle fields.registration ≡ false → IsUnknown s now handle correlation UnknownCounter change
+
+abbrev pub CountersAreSetExactly : Type 0
+CountersAreSetExactly =
+    AfterAnyEvents (λ s.
+    (now handle correlation : ℕ) (bytes : List ℕ) (inputs : Inputs) (client : Client) (fields : SetCounter) →
+    Asks s handle bytes client correlation (Sets fields) →
+    IsSetExactly s now handle correlation fields (conduct s (Command now handle bytes) inputs))
 
 -- ---- set only
 

@@ -4,7 +4,7 @@
 #![tactic(auto)]
 
 ghost use Rattle.driver_laws.specs.ClosingLaws.{LogsCloseExactly, LogsCloseOnly};
-ghost use Rattle.driver_laws.specs.CounterLaws.{CountersAreRemovedExactly, CountersAreRemovedOnly, CountersAreSetOnly};
+ghost use Rattle.driver_laws.specs.CounterLaws.{CountersAreRemovedExactly, CountersAreRemovedOnly, CountersAreSetExactly, CountersAreSetOnly};
 ghost use Rattle.driver_laws.specs.DenialLaws.{DenialsAreNamed};
 ghost use Rattle.driver_laws.specs.GrantLaws.{CountersAreGrantedExactly, TerminationsAreGrantedExactly, CountersAndTerminationsAreGrantedOnly};
 ghost use Rattle.driver_laws.specs.ImageLaws.{ImagesAreGrantedExactly};
@@ -109,6 +109,12 @@ pub fn counters_are_removed_exactly()
 /// A counter goes only where its own client asks for it, or goes itself.
 pub fn counters_are_removed_only()
     ensures { CountersAreRemovedOnly }
+{}
+
+/// A client's request that a counter have a value sets the one of that number that is the client's own, and nothing else;
+/// where it has none, nothing is set, and the counter is unknown.
+pub fn counters_are_set_exactly()
+    ensures { CountersAreSetExactly }
 {}
 
 /// A counter has the value that it had before an event, or the one to which its own client set it, unless it is new.
