@@ -19,7 +19,7 @@ use Rattle.driver_laws.specs.ClosingLaws.{Closes, IsClosed, IsPastBy, LogsCloseE
 use Rattle.driver_laws.specs.LeavingLaws.{IsTerminatedBy}
 use Rattle.client_registry.specs.declared.client.Client.{Client}
 use Rattle.stream_registry.specs.declared.lingering.LogPlace.{LogPlace}
-use Rattle.stream_registry.specs.declared.rows.Publication.{Publication}
+use Rattle.stream_registry.specs.declared.row.Publication.{Publication}
 use Rattle.stream_registry.specs.Lingering.{closing_of, is_past, is_past_since, place_of}
 use Rattle.driver_core.proofs.EventCases.{at_request}
 use Rattle.driver_core.proofs.ListLemmas.{contains_none, only_one, passes_are_left}

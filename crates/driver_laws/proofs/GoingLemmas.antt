@@ -46,8 +46,8 @@ use Rattle.policy_core.specs.declared.decision.Decision.{Decision}
 use Rattle.policy_core.specs.declared.verdict.Verdict.{Verdict}
 use Rattle.policy_core.specs.RuleList.{Rules}
 use Rattle.stream_registry.specs.declared.lingering.LogPlace.{LogPlace}
-use Rattle.stream_registry.specs.declared.rows.Publication.{Publication}
-use Rattle.stream_registry.specs.declared.rows.Registration.{Registration}
+use Rattle.stream_registry.specs.declared.row.Publication.{Publication}
+use Rattle.stream_registry.specs.declared.row.Registration.{Registration}
 use Rattle.stream_registry.specs.declared.wanted.Adding.{Adding}
 use Rattle.stream_registry.specs.declared.wanted.Adding.TheVariants.{Join, Make}
 use Rattle.stream_registry.specs.declared.wanted.Wanted.{Wanted}

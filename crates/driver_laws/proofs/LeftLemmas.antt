@@ -9,8 +9,8 @@ use Rattle.driver_core.specs.State.{State}
 use Rattle.driver_laws.specs.LeavingLaws.{is_there}
 use Rattle.counters.specs.declared.counter.Counter.{Counter}
 use Rattle.counters.specs.Counters.{is_of_another, without_those_of}
-use Rattle.stream_registry.specs.declared.rows.Publication.{Publication}
-use Rattle.stream_registry.specs.declared.rows.Registration.{Registration}
+use Rattle.stream_registry.specs.declared.row.Publication.{Publication}
+use Rattle.stream_registry.specs.declared.row.Registration.{Registration}
 use Rattle.stream_registry.specs.Leaving.{left as left_in}
 use Rattle.stream_registry.specs.Lingering.{is_past, is_past_since, is_used, left_alone, place_of, settled, settled_one}
 use Rattle.driver_core.proofs.ListLemmas.{contains_none, left_was_there, only_one, passes_are_left}
