@@ -1,3 +1,4 @@
+pub mod CountLemmas
 pub mod LimitLemmas
 pub mod PageLawLemmas
 pub mod PageLemmas

@@ -109,7 +109,7 @@ impl Streams {
     }
 
     /// The row of a new log.
-    fn log(&self, number: u64, wanted: &Wanted, place: u64, session: i32) -> Publication
+    pub(crate) fn log(&self, number: u64, wanted: &Wanted, place: u64, session: i32) -> Publication
         ensures { result ≡ log_of self.now number wanted.now place session }
     {
         Publication {

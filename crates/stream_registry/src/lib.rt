@@ -8,6 +8,7 @@
 #![tactic(auto)]
 
 mod adding;
+mod counting;
 mod fault;
 mod joining;
 mod laws;
