@@ -1,6 +1,6 @@
-ghost use Rattle.driver_core.specs.Pairs.{pairs_of, is_within_pairs, is_same_pair, is_lacked_by, lacking};
+ghost use Rattle.driver_core.specs.Pairs.{pairs_of, is_same_pair, is_lacked_by, lacking};
 ghost use Rattle.std.specs.List.{list_any};
-ghost use Rattle.std.specs.Prelude.{◌≡◌, Some, None, if◌then◌else◌, IfOk};
+ghost use Rattle.std.specs.Prelude.{◌≡◌, IfOk};
 
 use crate::registry::Registry;
 use byte_strings::Items;
@@ -8,7 +8,7 @@ use std::alloc::{AllocError, Global};
 use stream_registry::Pair;
 
 /// How many pairs there are at most.
-const PAIRS: usize = 4096;
+pub(crate) const PAIRS: usize = 4096;
 
 impl Registry {
     /// Which subscription reads which log, by source and then subscription.
@@ -18,25 +18,6 @@ impl Registry {
     {
         self.streams
             .pairs(alloc, &self.clients, &self.policy, self.epoch)
-    }
-
-    /// Whether there are no more pairs than there may be.
-    #[tactic(auto, unfolding(crate::specs::Pairs::is_within_pairs))]
-    pub(crate) fn is_within_pairs(&self, alloc: Global) -> Result<bool, AllocError>
-        ensures { IfOk result (λ within. within ≡ is_within_pairs self.now) }
-    {
-        Ok(self.pairs(alloc)?.len() <= PAIRS)
-    }
-
-    /// The registry, if there are no more pairs than there may be.
-    pub(crate) fn if_within_pairs(self, alloc: Global) -> Result<Option<Registry>, AllocError>
-        ensures { IfOk result (λ kept. kept ≡ (if is_within_pairs self then Some self else None)) }
-    {
-        if self.is_within_pairs(alloc)? {
-            Ok(Some(self))
-        } else {
-            Ok(None)
-        }
     }
 }
 

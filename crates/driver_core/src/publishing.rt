@@ -1,11 +1,12 @@
-ghost use Rattle.driver_core.specs.Publishing.{add_publication, has_place, has_room_for_publication, is_publishable, opening_of, publication_decision, publish, publish_under, publishing_act, ready_for, refused_by_streams, session_of, with_publication};
-ghost use Rattle.driver_core.specs.declared.refusal.Refusal.TheVariants.{Full as IsFull, NoRoom as HasNoRoom};
-ghost use Rattle.std.specs.Prelude.{◌≡◌, true, not, Ok, Err, if◌then◌else◌, IfOk};
+ghost use Rattle.driver_core.specs.Publishing.{add_publication, has_place, has_room_for_publication, is_publishable, opening_of, publication_decision, publish, publish_under, published, publishing_act, ready_for, refused_by_streams, session_of, with_publication};
+ghost use Rattle.driver_core.specs.Pairs.{pairs_of};
+ghost use Rattle.std.specs.Prelude.{◌≡◌, true, Ok, length, IfOk};
 ghost use Rattle.driver_core.specs.State.{has_number};
 ghost use Rattle.stream_registry.specs.Adding.{adding_of};
 
 use crate::deciding;
 use crate::draft::Draft;
+use crate::pairs::PAIRS;
 use crate::refusal::Refusal;
 use crate::registry::Registry;
 use crate::replies::Reply;
@@ -118,10 +119,37 @@ impl Registry {
         }
     }
 
+    /// How many pairs there would be with the publication. It takes no memory.
+    #[tactic(auto, unfolding(crate::specs::Pairs::pairs_of, crate::specs::Publishing::with_publication))]
+    fn pairs_with_publication(&self, client: u64, wanted: &Wanted, adding: Adding) -> usize
+        requires { has_number self.now ≡ true }
+        ensures { result ≡ length (pairs_of (with_publication self.now client wanted.now adding)) }
+    {
+        let place = self.streams.place_for(self.settings.arena_pages, wanted);
+        self.streams.pair_count_with_publication(
+            &self.clients,
+            &self.policy,
+            self.epoch,
+            self.next_number(),
+            client,
+            wanted,
+            place.unwrap_or(0),
+            adding,
+        )
+    }
+
+    /// Whether there is a number for the publication, and room for its pairs. It takes no memory.
+    #[tactic(auto, unfolding(crate::specs::Pairs::is_within_pairs))]
+    fn has_room_for_publication(&self, client: u64, wanted: &Wanted, adding: Adding) -> bool
+        ensures { result ≡ has_room_for_publication self.now client wanted.now adding }
+    {
+        self.has_number() && self.pairs_with_publication(client, wanted, adding) <= PAIRS
+    }
+
     /// The client is registered under the next number. It takes no memory.
     #[tactic(auto, unfolding(crate::specs::Publishing::with_publication))]
     fn put_publication(&mut self, client: u64, wanted: &Wanted, adding: Adding)
-        requires number { has_number self.old ≡ true }
+        requires room { has_room_for_publication self.old client wanted.now adding ≡ true }
         requires taken { adding_of self.old.streams wanted.now ≡ Ok adding }
         ensures { self.new ≡ with_publication self.old client wanted.now adding }
     {
@@ -131,37 +159,34 @@ impl Registry {
             .add_publication(number, client, wanted, place.unwrap_or(0), adding);
         self.last_number = number;
     }
+}
 
-    /// The copy with the registration, or why there is none: there are too many pairs, or no place for the log.
-    fn made(
-        &self,
-        alloc: Global,
-        client: u64,
-        wanted: &Wanted,
-        adding: Adding,
-    ) -> Result<Result<Registry, Refusal>, AllocError>
-        requires number { has_number self.now ≡ true }
-        requires taken { adding_of self.now.streams wanted.now ≡ Ok adding }
-        ensures { IfOk result (λ made. made ≡ (if not (has_room_for_publication self.now client wanted.now adding) then Err IsFull else (if has_place self.now wanted.now adding then Ok (with_publication self.now client wanted.now adding) else Err HasNoRoom))) }
-    {
-        let has_place = self.has_place(wanted, adding);
-        let mut after = self.copy(alloc)?;
-        after.put_publication(client, wanted, adding);
-        match after.if_within_pairs(alloc)? {
-            Some(after) => {
-                if has_place {
-                    Ok(Ok(after))
-                } else {
-                    Ok(Err(Refusal::NoRoom))
-                }
-            }
-            None => Ok(Err(Refusal::Full)),
-        }
-    }
+/// A publication that the lists take, for which there are a number, pages and room.
+#[tactic(auto, unfolding(crate::specs::Publishing::published))]
+fn publish_granted(
+    registry: Registry,
+    alloc: Global,
+    client: Client,
+    correlation: u64,
+    wanted: &Wanted,
+    adding: Adding,
+    decision: Decision,
+) -> Result<Draft, AllocError>
+    requires room { has_room_for_publication registry client.number wanted.now adding ≡ true }
+    requires taken { adding_of registry.streams wanted.now ≡ Ok adding }
+    requires decided { decision ≡ publication_decision registry client wanted.now }
+    ensures { IfOk result (λ draft. draft ≡ published registry client correlation wanted.now adding) }
+{
+    let number = registry.next_number();
+    let reply = ready_for(wanted, correlation, number, session_of(adding));
+    let opens = registry.opening(wanted, adding);
+    let mut registry = registry;
+    registry.put_publication(client.number, wanted, adding);
+    Draft::replied_opening(alloc, registry, decision, client.number, reply, opens)
 }
 
 /// A publication that the lists take.
-#[tactic(auto, unfolding(crate::specs::Publishing::publish_under, crate::specs::Publishing::published))]
+#[tactic(auto, unfolding(crate::specs::Publishing::publish_under))]
 fn publish_under(
     registry: Registry,
     alloc: Global,
@@ -176,19 +201,15 @@ fn publish_under(
     ensures { IfOk result (λ draft. draft ≡ publish_under registry client correlation wanted.now adding) }
 {
     let handle = client.number;
-    if !registry.has_number() {
-        let full = Refusal::Full;
-        return Draft::refused_on(alloc, registry, decision, handle, correlation, full);
+    if !registry.has_room_for_publication(handle, wanted, adding) {
+        let refusal = Refusal::Full;
+        return Draft::refused_on(alloc, registry, decision, handle, correlation, refusal);
     }
-    let number = registry.next_number();
-    let reply = ready_for(wanted, correlation, number, session_of(adding));
-    let opens = registry.opening(wanted, adding);
-    match registry.made(alloc, handle, wanted, adding)? {
-        Ok(after) => Draft::replied_opening(alloc, after, decision, handle, reply, opens),
-        Err(refusal) => {
-            Draft::refused_on(alloc, registry, decision, handle, correlation, refusal)
-        }
+    if !registry.has_place(wanted, adding) {
+        let refusal = Refusal::NoRoom;
+        return Draft::refused_on(alloc, registry, decision, handle, correlation, refusal);
     }
+    publish_granted(registry, alloc, client, correlation, wanted, adding, decision)
 }
 
 /// A publication on a channel that such a command takes.

@@ -151,7 +151,7 @@ impl Registry {
             }
             Event::Reload { now, policy } => {
                 let registry = self.at_moment(alloc, *now)?;
-                reloading::reload(registry, alloc, policy.copy(alloc)?)
+                Ok(reloading::reload(registry, alloc, policy.copy(alloc)?))
             }
             Event::Tick { now } => {
                 let registry = self.at_moment(alloc, *now)?;

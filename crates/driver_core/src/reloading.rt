@@ -1,40 +1,45 @@
+ghost use Rattle.driver_core.specs.Pairs.{pairs_of};
 ghost use Rattle.driver_core.specs.Reloading.{has_room_for_policy, in_force, reload};
-ghost use Rattle.std.specs.Prelude.{◌≡◌, Some, None, if◌then◌else◌, IfOk};
+ghost use Rattle.std.specs.Prelude.{◌≡◌, ◌<◌, length};
 
 use crate::draft::Draft;
 use crate::outcome::Response;
+use crate::pairs::PAIRS;
 use crate::registry::Registry;
 use policy_core::Policy;
-use std::alloc::{AllocError, Global};
+use std::alloc::Global;
 
-/// The copy in which the policy is in force, under the next number, if there is one and there are not too many pairs.
-#[tactic(auto, unfolding(crate::specs::Reloading::in_force))]
-fn in_force_if_room(
-    registry: &Registry,
-    alloc: Global,
-    policy: Policy,
-) -> Result<Option<Registry>, AllocError>
-    ensures { IfOk result (λ made. made ≡ (if has_room_for_policy registry.now policy then Some (in_force registry.now policy) else None)) }
-{
-    if registry.epoch == u64::MAX {
-        return Ok(None);
+impl Registry {
+    /// How many pairs there would be under the policy. It takes no memory.
+    #[tactic(auto, unfolding(crate::specs::Pairs::pairs_of, crate::specs::Reloading::in_force))]
+    fn pairs_under(&self, policy: &Policy) -> usize
+        requires { self.now.epoch < 18446744073709551615 }
+        ensures { result ≡ length (pairs_of (in_force self.now policy.now)) }
+    {
+        self.streams
+            .pair_count(&self.clients, policy, self.epoch + 1)
     }
-    let mut after = registry.copy(alloc)?;
-    after.policy = policy;
-    after.epoch += 1;
-    after.if_within_pairs(alloc)
+
+    /// Whether there is a number for the policy, and room for the pairs that it allows. It takes no memory.
+    #[tactic(auto, unfolding(crate::specs::Pairs::is_within_pairs))]
+    fn has_room_for_policy(&self, policy: &Policy) -> bool
+        ensures { result ≡ has_room_for_policy self.now policy.now }
+    {
+        self.epoch < u64::MAX && self.pairs_under(policy) <= PAIRS
+    }
 }
 
 /// Puts a policy in force, under the next number, unless there would be too many pairs.
 #[tactic(auto, unfolding(crate::specs::Reloading::reload, crate::specs::Reloading::reloaded, crate::specs::Reloading::in_force))]
-pub(crate) fn reload(registry: Registry, alloc: Global, policy: Policy) -> Result<Draft, AllocError>
-    ensures { IfOk result (λ draft. draft ≡ reload registry policy) }
+pub(crate) fn reload(registry: Registry, alloc: Global, policy: Policy) -> Draft
+    ensures { result ≡ reload registry policy }
 {
-    match in_force_if_room(&registry, alloc, policy)? {
-        Some(after) => {
-            let epoch = after.epoch;
-            Ok(Draft::answered(alloc, after, Response::PolicyInForce(epoch)))
-        }
-        None => Ok(Draft::answered(alloc, registry, Response::PolicyFull)),
+    if !registry.has_room_for_policy(&policy) {
+        return Draft::answered(alloc, registry, Response::PolicyFull);
     }
+    let mut registry = registry;
+    registry.policy = policy;
+    registry.epoch += 1;
+    let epoch = registry.epoch;
+    Draft::answered(alloc, registry, Response::PolicyInForce(epoch))
 }

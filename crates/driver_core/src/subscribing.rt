@@ -1,18 +1,20 @@
-ghost use Rattle.driver_core.specs.Subscribing.{is_subscribable, act_of, decision_of, subscribe, add_subscription, has_room_for_subscription, with_subscription};
-ghost use Rattle.std.specs.Prelude.{◌≡◌, true, Some, None, if◌then◌else◌, IfOk};
+ghost use Rattle.driver_core.specs.Subscribing.{is_subscribable, act_of, subscribe, add_subscription, has_room_for_subscription, with_subscription};
+ghost use Rattle.std.specs.Prelude.{◌≡◌, true, length, IfOk};
 ghost use Rattle.driver_core.specs.State.{has_number};
-ghost use Rattle.stream_registry.specs.Adding.{has_room_for_subscription as has_room_in};
+ghost use Rattle.driver_core.specs.Pairs.{pairs_of};
 
 use crate::deciding;
 use crate::draft::Draft;
+use crate::pairs::PAIRS;
 use crate::refusal::Refusal;
 use crate::registry::Registry;
 use crate::replies::Reply;
 use channel_uri::{Channel, Media};
 use client_registry::Client;
 use command_codec::AddSubscription;
-use policy_core::{Act, Decision};
+use policy_core::Act;
 use std::alloc::{AllocError, Global};
+use stream_registry::Wish;
 
 /// Whether a subscription takes such a channel: a spy needs a place, and `udp` an endpoint and no control mode.
 #[tactic(auto, unfolding(crate::specs::Subscribing::is_subscribable))]
@@ -40,72 +42,48 @@ fn act_of(channel: &Channel) -> Act
     }
 }
 
-/// The client subscribes under the next number. It takes no memory.
-#[tactic(auto, unfolding(crate::specs::Subscribing::with_subscription))]
-fn put_subscription(registry: &mut Registry, client: u64, channel: &Channel, stream: i32)
-    requires number { has_number registry.now ≡ true }
-    requires room { has_room_in registry.now.streams ≡ true }
-    ensures { registry.new ≡ with_subscription registry.old client channel.now stream }
-{
-    let number = registry.next_number();
-    registry
-        .streams
-        .add_subscription(number, client, channel, stream);
-    registry.last_number = number;
-}
-
-/// The copy with the subscription, if there is a number for it, and room for it and its pairs.
-#[tactic(auto, unfolding(crate::specs::Subscribing::has_room_for_subscription))]
-fn with_subscription_if_room(
-    registry: &Registry,
-    alloc: Global,
-    client: u64,
-    channel: &Channel,
-    stream: i32,
-) -> Result<Option<Registry>, AllocError>
-    ensures { IfOk result (λ made. made ≡ (if has_room_for_subscription registry.now client channel.now stream then Some (with_subscription registry.now client channel.now stream) else None)) }
-{
-    if !registry.has_number() || !registry.streams.has_room_for_subscription() {
-        return Ok(None);
+impl Registry {
+    /// How many pairs there would be with the subscription. It takes no memory.
+    #[tactic(auto, unfolding(crate::specs::Pairs::pairs_of, crate::specs::Subscribing::with_subscription))]
+    fn pairs_with_subscription(&self, client: u64, channel: &Channel, stream: i32) -> usize
+        requires { has_number self.now ≡ true }
+        ensures { result ≡ length (pairs_of (with_subscription self.now client channel.now stream)) }
+    {
+        let wish = Wish {
+            number: self.next_number(),
+            client,
+            channel,
+            stream,
+        };
+        self.streams
+            .pair_count_with_subscription(&self.clients, &self.policy, self.epoch, &wish)
     }
-    let mut after = registry.copy(alloc)?;
-    put_subscription(&mut after, client, channel, stream);
-    after.if_within_pairs(alloc)
-}
 
-/// A subscription that the policy allows.
-#[tactic(auto, unfolding(crate::specs::Subscribing::subscribe, crate::specs::Subscribing::subscribed))]
-fn subscribe_allowed(
-    registry: Registry,
-    alloc: Global,
-    client: Client,
-    correlation: u64,
-    channel: &Channel,
-    stream: i32,
-    decision: Decision,
-) -> Result<Draft, AllocError>
-    requires decided { decision ≡ decision_of registry client channel.now stream }
-    requires allowed { decision.verdict.allow ≡ true }
-    ensures { IfOk result (λ draft. draft ≡ subscribe registry client correlation channel.now stream) }
-{
-    let handle = client.number;
-    match with_subscription_if_room(&registry, alloc, handle, channel, stream)? {
-        Some(after) => {
-            let reply = Reply::SubscriptionReady {
-                correlation,
-                registration: after.last_number,
-            };
-            Draft::replied_on(alloc, after, decision, handle, reply)
-        }
-        None => {
-            let full = Refusal::Full;
-            Draft::refused_on(alloc, registry, decision, handle, correlation, full)
-        }
+    /// Whether there is a number for the subscription, and room for it and its pairs. It takes no memory.
+    #[tactic(auto, unfolding(crate::specs::Subscribing::has_room_for_subscription, crate::specs::Pairs::is_within_pairs))]
+    fn has_room_for_subscription(&self, client: u64, channel: &Channel, stream: i32) -> bool
+        ensures { result ≡ has_room_for_subscription self.now client channel.now stream }
+    {
+        self.has_number()
+            && self.streams.has_room_for_subscription()
+            && self.pairs_with_subscription(client, channel, stream) <= PAIRS
+    }
+
+    /// The client subscribes under the next number. It takes no memory.
+    #[tactic(auto, unfolding(crate::specs::Subscribing::has_room_for_subscription, crate::specs::Subscribing::with_subscription))]
+    fn put_subscription(&mut self, client: u64, channel: &Channel, stream: i32)
+        requires { has_room_for_subscription self.old client channel.now stream ≡ true }
+        ensures { self.new ≡ with_subscription self.old client channel.now stream }
+    {
+        let number = self.next_number();
+        self.streams
+            .add_subscription(number, client, channel, stream);
+        self.last_number = number;
     }
 }
 
 /// A subscription on a channel that such a command takes.
-#[tactic(auto, unfolding(crate::specs::Subscribing::subscribe))]
+#[tactic(auto, unfolding(crate::specs::Subscribing::subscribe, crate::specs::Subscribing::subscribed))]
 fn subscribe(
     registry: Registry,
     alloc: Global,
@@ -116,26 +94,23 @@ fn subscribe(
 ) -> Result<Draft, AllocError>
     ensures { IfOk result (λ draft. draft ≡ subscribe registry client correlation channel.now stream) }
 {
+    let handle = client.number;
     let decision = deciding::decide(&registry, client, act_of(channel), channel, stream);
     if !decision.verdict.allow {
-        return Draft::refused_on(
-            alloc,
-            registry,
-            decision,
-            client.number,
-            correlation,
-            Refusal::Denied(decision.verdict),
-        );
+        let refusal = Refusal::Denied(decision.verdict);
+        return Draft::refused_on(alloc, registry, decision, handle, correlation, refusal);
     }
-    subscribe_allowed(
-        registry,
-        alloc,
-        client,
+    if !registry.has_room_for_subscription(handle, channel, stream) {
+        let refusal = Refusal::Full;
+        return Draft::refused_on(alloc, registry, decision, handle, correlation, refusal);
+    }
+    let mut registry = registry;
+    registry.put_subscription(handle, channel, stream);
+    let reply = Reply::SubscriptionReady {
         correlation,
-        channel,
-        stream,
-        decision,
-    )
+        registration: registry.last_number,
+    };
+    Draft::replied_on(alloc, registry, decision, handle, reply)
 }
 
 /// The command ADD_SUBSCRIPTION of a client that is there.
