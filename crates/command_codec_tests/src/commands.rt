@@ -309,6 +309,7 @@ fn are_whole(alloc: Global, rows: &[Row]) -> bool {
 #[test]
 fn commands_end_with_their_bytes(rt: HostRuntime) {
     assert!(rt; are_whole(rt.alloc(), &COMMANDS));
+    assert!(rt; !are_whole(rt.alloc(), &[(2, 6, Plain::ClientKeepalive, &LONGER)]));
     assert!(rt; !each_front_is_malformed(rt.alloc(), &LONGER));
 }
 

@@ -262,6 +262,7 @@ fn are_whole(alloc: Global, rows: &[Row]) -> bool {
 #[test]
 fn replies_end_with_their_bytes(rt: HostRuntime) {
     assert!(rt; are_whole(rt.alloc(), &REPLIES));
+    assert!(rt; !are_whole(rt.alloc(), &[(Plain::OperationSuccess(13), &LONGER)]));
     assert!(rt; !each_front_is_a_malformed_reply(rt.alloc(), &LONGER));
 }
 

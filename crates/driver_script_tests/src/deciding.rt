@@ -25,7 +25,9 @@ fn is_answered(alloc: Global, policy: &[u8], channel: &str, stream: i32, text: &
 fn ample_memory(rt: HostRuntime) {
     let allowed = "allowed by default in policy 1";
     assert!(rt; is_checked(rt.alloc(), OPEN, "ok: 0 rules"));
+    assert!(rt; !is_checked(rt.alloc(), OPEN, "ok: 1 rules"));
     assert!(rt; is_answered(rt.alloc(), OPEN, "aeron:ipc", -2_147_483_648, allowed));
+    assert!(rt; !is_answered(rt.alloc(), OPEN, "aeron:tcp", -1, allowed));
     assert!(rt; is_answered(rt.alloc(), OPEN, "aeron:tcp", -1, "invalid channel"));
     assert!(rt; is_shown(rt.alloc(), &DecideFault::NoMemory, "no memory"));
 }

@@ -13,20 +13,22 @@ use script_lines::line::{Line, read_line};
 use std::alloc::{AllocError, Global};
 use std::{fmt, io};
 
-/// Whether these bytes are read whole.
-fn is_read(alloc: Global, bytes: &[u8]) -> bool {
+const ATTACH: &[u8] = b"attach 0 7\n";
+
+/// Whether bytes are read as these.
+fn is_read(alloc: Global, bytes: &[u8], wanted: &[u8]) -> bool {
     let mut reader = bytes;
     match read_input(alloc, &mut reader) {
-        Ok(input) => input.as_slice() == bytes,
+        Ok(input) => input.as_slice() == wanted,
         Err(_) => false,
     }
 }
 
-/// Whether a reader of so many line feeds is read whole.
-fn are_read(alloc: Global, left: usize) -> bool {
+/// Whether of a reader of so many line feeds this many bytes are read.
+fn are_read(alloc: Global, left: usize, count: usize) -> bool {
     let mut reader = MayFail(LineFeeds { left, fails: false });
     match read_input(alloc, &mut reader) {
-        Ok(input) => input.len() == left,
+        Ok(input) => input.len() == count,
         Err(_) => false,
     }
 }
@@ -41,10 +43,12 @@ fn is_not_read(alloc: Global, left: usize, fails: bool, fault: RunFault) -> bool
 
 #[test]
 fn a_script_is_read_whole(rt: HostRuntime) {
-    assert!(rt; is_read(rt.alloc(), b"attach 0 7\n"));
-    assert!(rt; is_read(rt.alloc(), b""));
+    assert!(rt; is_read(rt.alloc(), ATTACH, ATTACH));
+    assert!(rt; is_read(rt.alloc(), b"", b""));
+    assert!(rt; !is_read(rt.alloc(), ATTACH, b"attach 0 8\n"));
     assert!(rt; !is_not_read(rt.alloc(), 0, true, RunFault::TooLong));
-    assert!(rt; are_read(rt.alloc(), 16_777_216));
+    assert!(rt; are_read(rt.alloc(), 16_777_216, 16_777_216));
+    assert!(rt; !are_read(rt.alloc(), 10_000, 9_999));
 }
 
 #[test]
@@ -55,12 +59,14 @@ fn reading_fails_by_name(rt: HostRuntime) {
     assert!(rt; is_not_read(rt.alloc(), 16_777_217, true, RunFault::TooLong));
 }
 
-/// Whether a writer with ample room takes a text, and nothing behind it.
-fn is_written(alloc: Global, text: &[u8]) -> bool {
+const ATTACHED: &[u8] = b"attached 1\n";
+
+/// Whether a writer with ample room takes a text as these bytes, and nothing behind it.
+fn is_written(alloc: Global, text: &[u8], wanted: &[u8]) -> bool {
     let mut ample = MayFail(Choppy::new(alloc, 100, true));
     write_whole(&mut ample, text) == Ok(())
         && write_whole(&mut ample, b"") == Ok(())
-        && ample.0.taken.as_slice() == text
+        && ample.0.taken.as_slice() == wanted
 }
 
 /// Whether a writer with room for seven bytes has those of a text.
@@ -71,10 +77,12 @@ fn has_seven(alloc: Global, text: &[u8], front: &[u8], fails: bool) -> bool {
 
 #[test]
 fn a_text_is_written_whole_or_a_front_of_it(rt: HostRuntime) {
-    assert!(rt; is_written(rt.alloc(), b"attached 1\n"));
-    assert!(rt; has_seven(rt.alloc(), b"attached 1\n", b"attache", false));
-    assert!(rt; has_seven(rt.alloc(), b"attached 1\n", b"attache", true));
-    assert!(rt; write_whole(&mut io::sink(), b"attached 1\n") == Ok(()));
+    assert!(rt; is_written(rt.alloc(), ATTACHED, ATTACHED));
+    assert!(rt; !is_written(rt.alloc(), ATTACHED, b"attached 2\n"));
+    assert!(rt; has_seven(rt.alloc(), ATTACHED, b"attache", false));
+    assert!(rt; has_seven(rt.alloc(), ATTACHED, b"attache", true));
+    assert!(rt; !has_seven(rt.alloc(), ATTACHED, b"attach", true));
+    assert!(rt; write_whole(&mut io::sink(), ATTACHED) == Ok(()));
 }
 
 /// A value in words, by which two of them are compared.
@@ -135,7 +143,9 @@ fn lines_are_skipped(rt: HostRuntime) {
     assert!(rt; is_skipped(rt.alloc(), "#"));
     assert!(rt; is_skipped(rt.alloc(), "# attach 0 7"));
     assert!(rt; is_skipped(rt.alloc(), "#attach"));
+    assert!(rt; !is_skipped(rt.alloc(), "policy"));
     assert!(rt; says(rt.alloc(), "policy", Ok(Line::Policy)));
+    assert!(rt; !says(rt.alloc(), "policy", Ok(Line::Skipped)));
 }
 
 fn principal(alloc: Global, name: &str, number: u32) -> Result<Line, AllocError> {
@@ -222,6 +232,8 @@ fn is_made(alloc: Global, line: &str, step: Result<Step, AllocError>) -> bool {
 fn offers_are_read(rt: HostRuntime) {
     let some = offer(rt.alloc(), 5, 2, 3, b"\x00\xff");
     assert!(rt; is_made(rt.alloc(), "offer 5 2 3 00_ff", some));
+    let other = offer(rt.alloc(), 5, 2, 3, b"\x00\xfe");
+    assert!(rt; !is_made(rt.alloc(), "offer 5 2 3 00_ff", other));
     let most = 18_446_744_073_709_551_615;
     let none = offer(rt.alloc(), 0, 1, most, b"");
     assert!(rt; is_made(rt.alloc(), "offer 0 1 18446744073709551615 -", none));
@@ -310,6 +322,7 @@ fn hex_is_read(rt: HostRuntime) {
     assert!(rt; is_command(rt.alloc(), "cmd 10 1 00ff6a", b"\x00\xff\x6a"));
     assert!(rt; is_command(rt.alloc(), "cmd 10 1 00_ff_6a", b"\x00\xff\x6a"));
     assert!(rt; is_command(rt.alloc(), "cmd 10 1 00__ff6a", b"\x00\xff\x6a"));
+    assert!(rt; !is_command(rt.alloc(), "cmd 10 1 00ff6a", b"\x00\xff\x6b"));
     assert!(rt; are_bad(rt.alloc(), &BAD_HEX));
 }
 

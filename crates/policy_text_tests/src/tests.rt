@@ -75,7 +75,10 @@ fn ample_memory(rt: HostRuntime) {
     assert!(rt; is_numbered(rt.alloc(), "alice", Some(7)));
     assert!(rt; is_numbered(rt.alloc(), "bob", Some(8)));
     assert!(rt; is_numbered(rt.alloc(), "carol", None));
+    assert!(rt; !is_numbered(rt.alloc(), "alice", Some(9)));
     assert!(rt; Field::Stream.name() == "stream");
     assert!(rt; is_refused(rt.alloc(), " # nothing", PolicyFault::BadVersion));
+    assert!(rt; !is_refused(rt.alloc(), " # nothing", PolicyFault::NotToml));
     assert!(rt; is_read(rt.alloc(), 100, 199));
+    assert!(rt; !is_read(rt.alloc(), 100, 198));
 }
