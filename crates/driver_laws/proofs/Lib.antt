@@ -9,6 +9,7 @@ pub mod ImageLemmas
 pub mod LeavingLemmas
 pub mod LeftLemmas
 pub mod ListingLemmas
+pub mod OwnerLemmas
 pub mod PublishingLemmas
 pub mod PublishingOnlyLemmas
 pub mod RefusalLemmas

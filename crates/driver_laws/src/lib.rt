@@ -10,6 +10,7 @@ ghost use Rattle.driver_laws.specs.GrantLaws.{CountersAreGrantedExactly, Termina
 ghost use Rattle.driver_laws.specs.ImageLaws.{ImagesAreGrantedExactly};
 ghost use Rattle.driver_laws.specs.LeavingLaws.{ClientsGoExactly, ClientsGoOnly, RowsGoWithTheirClient};
 ghost use Rattle.driver_laws.specs.ListingLaws.{CountersAreShownExactly};
+ghost use Rattle.driver_laws.specs.OwnerLaws.{RowsHaveTheirClients};
 ghost use Rattle.driver_laws.specs.PublishingLaws.{PublicationsAreGrantedExactly, PublicationsAreGrantedOnly};
 ghost use Rattle.driver_laws.specs.RefusalLaws.{RefusalsChangeNoMoreThanMoments};
 ghost use Rattle.driver_laws.specs.ReloadLaws.{ReloadsCloseExactly, NewestPolicyIsInForce};
@@ -171,4 +172,9 @@ pub fn refusals_change_no_more_than_moments()
 /// came, and share no page, whatever happened.
 pub fn registries_are_sound()
     ensures { RegistriesAreSound }
+{}
+
+/// In every registry each registration, subscription and counter belongs to a client that is there.
+pub fn rows_have_their_clients()
+    ensures { RowsHaveTheirClients }
 {}
