@@ -9,6 +9,7 @@ pub mod ImageLemmas
 pub mod LeavingLemmas
 pub mod LeftLemmas
 pub mod ListingLemmas
+pub mod NumberLemmas
 pub mod OwnerLemmas
 pub mod PublishingLemmas
 pub mod PublishingOnlyLemmas
@@ -17,5 +18,6 @@ pub mod ReloadLemmas
 pub mod RemovalLemmas
 pub mod RemovedExactlyLemmas
 pub mod RenewalLemmas
+pub mod RisingLemmas
 pub mod SubscribingLemmas
 pub mod SubscribingOnlyLemmas

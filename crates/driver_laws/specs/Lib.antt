@@ -6,6 +6,7 @@ pub mod GrantLaws
 pub mod ImageLaws
 pub mod LeavingLaws
 pub mod ListingLaws
+pub mod NumberLaws
 pub mod OwnerLaws
 pub mod PublishingLaws
 pub mod RefusalLaws

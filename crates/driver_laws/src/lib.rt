@@ -10,6 +10,7 @@ ghost use Rattle.driver_laws.specs.GrantLaws.{CountersAreGrantedExactly, Termina
 ghost use Rattle.driver_laws.specs.ImageLaws.{ImagesAreGrantedExactly};
 ghost use Rattle.driver_laws.specs.LeavingLaws.{ClientsGoExactly, ClientsGoOnly, RowsGoWithTheirClient};
 ghost use Rattle.driver_laws.specs.ListingLaws.{CountersAreShownExactly};
+ghost use Rattle.driver_laws.specs.NumberLaws.{NumbersAreAtMostTheLast, NumbersAreDrawnOnce, NumbersAreUnique};
 ghost use Rattle.driver_laws.specs.OwnerLaws.{RowsHaveTheirClients};
 ghost use Rattle.driver_laws.specs.PublishingLaws.{PublicationsAreGrantedExactly, PublicationsAreGrantedOnly};
 ghost use Rattle.driver_laws.specs.RefusalLaws.{RefusalsChangeNoMoreThanMoments};
@@ -177,4 +178,20 @@ pub fn registries_are_sound()
 /// In every registry each registration, subscription and counter belongs to a client that is there.
 pub fn rows_have_their_clients()
     ensures { RowsHaveTheirClients }
+{}
+
+/// In every registry no number of a registration, a subscription, a counter or a log is above the one that was drawn last,
+/// and no client's above that of the client that came last.
+pub fn numbers_are_at_most_the_last()
+    ensures { NumbersAreAtMostTheLast }
+{}
+
+/// In every registry no two rows of one list have one number: the numbers rise.
+pub fn numbers_are_unique()
+    ensures { NumbersAreUnique }
+{}
+
+/// No event lowers the number that was drawn last, that of the client that came last, or that of the policy in force.
+pub fn numbers_are_drawn_once()
+    ensures { NumbersAreDrawnOnce }
 {}
