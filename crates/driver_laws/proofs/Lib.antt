@@ -9,6 +9,7 @@ pub mod ImageLemmas
 pub mod LeavingLemmas
 pub mod LeftLemmas
 pub mod ListingLemmas
+pub mod LoggedLemmas
 pub mod NumberLemmas
 pub mod OwnerLemmas
 pub mod PublishingLemmas

@@ -11,7 +11,7 @@ ghost use Rattle.driver_laws.specs.ImageLaws.{ImagesAreGrantedExactly};
 ghost use Rattle.driver_laws.specs.LeavingLaws.{ClientsGoExactly, ClientsGoOnly, RowsGoWithTheirClient};
 ghost use Rattle.driver_laws.specs.ListingLaws.{CountersAreShownExactly};
 ghost use Rattle.driver_laws.specs.NumberLaws.{NumbersAreAtMostTheLast, NumbersAreDrawnOnce, NumbersAreUnique};
-ghost use Rattle.driver_laws.specs.OwnerLaws.{RowsHaveTheirClients};
+ghost use Rattle.driver_laws.specs.OwnerLaws.{RegistrationsHaveTheirLogs, RowsHaveTheirClients};
 ghost use Rattle.driver_laws.specs.PublishingLaws.{PublicationsAreGrantedExactly, PublicationsAreGrantedOnly};
 ghost use Rattle.driver_laws.specs.RefusalLaws.{RefusalsChangeNoMoreThanMoments};
 ghost use Rattle.driver_laws.specs.ReloadLaws.{ReloadsCloseExactly, NewestPolicyIsInForce};
@@ -178,6 +178,11 @@ pub fn registries_are_sound()
 /// In every registry each registration, subscription and counter belongs to a client that is there.
 pub fn rows_have_their_clients()
     ensures { RowsHaveTheirClients }
+{}
+
+/// In every registry the log that a registration names is live, and does not linger.
+pub fn registrations_have_their_logs()
+    ensures { RegistrationsHaveTheirLogs }
 {}
 
 /// In every registry no number of a registration, a subscription, a counter or a log is above the one that was drawn last,
