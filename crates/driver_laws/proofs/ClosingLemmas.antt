@@ -82,7 +82,7 @@ told_of s event inputs log has closes =
 
 -- ---- no log of its number is live
 
-any_of : {X : Type 0} (test : X → Bool) (xs : List X) (x : X) → Contains xs x → test x ≡ true → list_any test xs ≡ true
+pub any_of : {X : Type 0} (test : X → Bool) (xs : List X) (x : X) → Contains xs x → test x ≡ true → list_any test xs ≡ true
 any_of test [] x has passes = absurd (contains_none x has)
 any_of test (y ∷ ys) x has passes =
     ⊎_elim

@@ -9,6 +9,9 @@ pub mod ImageLemmas
 pub mod LeavingLemmas
 pub mod LeftLemmas
 pub mod ListingLemmas
+pub mod LoggedLemmas
+pub mod NumberLemmas
+pub mod OwnerLemmas
 pub mod PublishingLemmas
 pub mod PublishingOnlyLemmas
 pub mod RefusalLemmas
@@ -16,5 +19,6 @@ pub mod ReloadLemmas
 pub mod RemovalLemmas
 pub mod RemovedExactlyLemmas
 pub mod RenewalLemmas
+pub mod RisingLemmas
 pub mod SubscribingLemmas
 pub mod SubscribingOnlyLemmas

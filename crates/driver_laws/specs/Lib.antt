@@ -6,6 +6,8 @@ pub mod GrantLaws
 pub mod ImageLaws
 pub mod LeavingLaws
 pub mod ListingLaws
+pub mod NumberLaws
+pub mod OwnerLaws
 pub mod PublishingLaws
 pub mod RefusalLaws
 pub mod ReloadLaws

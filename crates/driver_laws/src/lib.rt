@@ -10,6 +10,8 @@ ghost use Rattle.driver_laws.specs.GrantLaws.{CountersAreGrantedExactly, Termina
 ghost use Rattle.driver_laws.specs.ImageLaws.{ImagesAreGrantedExactly};
 ghost use Rattle.driver_laws.specs.LeavingLaws.{ClientsGoExactly, ClientsGoOnly, RowsGoWithTheirClient};
 ghost use Rattle.driver_laws.specs.ListingLaws.{CountersAreShownExactly};
+ghost use Rattle.driver_laws.specs.NumberLaws.{NumbersAreAtMostTheLast, NumbersAreDrawnOnce, NumbersAreUnique};
+ghost use Rattle.driver_laws.specs.OwnerLaws.{RegistrationsHaveTheirLogs, RowsHaveTheirClients};
 ghost use Rattle.driver_laws.specs.PublishingLaws.{PublicationsAreGrantedExactly, PublicationsAreGrantedOnly};
 ghost use Rattle.driver_laws.specs.RefusalLaws.{RefusalsChangeNoMoreThanMoments};
 ghost use Rattle.driver_laws.specs.ReloadLaws.{ReloadsCloseExactly, NewestPolicyIsInForce};
@@ -171,4 +173,30 @@ pub fn refusals_change_no_more_than_moments()
 /// came, and share no page, whatever happened.
 pub fn registries_are_sound()
     ensures { RegistriesAreSound }
+{}
+
+/// In every registry each registration, subscription and counter belongs to a client that is there.
+pub fn rows_have_their_clients()
+    ensures { RowsHaveTheirClients }
+{}
+
+/// In every registry the log that a registration names is live, and does not linger.
+pub fn registrations_have_their_logs()
+    ensures { RegistrationsHaveTheirLogs }
+{}
+
+/// In every registry no number of a registration, a subscription, a counter or a log is above the one that was drawn last,
+/// and no client's above that of the client that came last.
+pub fn numbers_are_at_most_the_last()
+    ensures { NumbersAreAtMostTheLast }
+{}
+
+/// In every registry no two rows of one list have one number: the numbers rise.
+pub fn numbers_are_unique()
+    ensures { NumbersAreUnique }
+{}
+
+/// No event lowers the number that was drawn last, that of the client that came last, or that of the policy in force.
+pub fn numbers_are_drawn_once()
+    ensures { NumbersAreDrawnOnce }
 {}

@@ -1,0 +1,64 @@
+-- Over every list of events: the numbers of rows, each of which is drawn once.
+use Rattle.std.specs.Prelude.{ℕ, ◌<◌, ◌≤◌, List, [], ◌∷◌, Contains}
+use Rattle.driver_core.specs.declared.event.Event.{Event}
+use Rattle.driver_core.specs.declared.event.Inputs.{Inputs}
+use Rattle.driver_core.specs.Conduct.{state_after}
+use Rattle.driver_core.specs.State.{State}
+use Rattle.driver_laws.specs.Events.{AfterAnyEvents}
+use Rattle.client_registry.specs.declared.client.Client.{Client}
+use Rattle.counters.specs.declared.counter.Counter.{Counter}
+use Rattle.stream_registry.specs.declared.row.Publication.{Publication}
+use Rattle.stream_registry.specs.declared.row.Registration.{Registration}
+use Rattle.stream_registry.specs.declared.row.Subscription.{Subscription}
+
+-- ---- at most the last
+
+-- the number was drawn, where this is the one drawn last
+pub record IsDrawn (last number : ℕ) : Type 0 where
+  pub above : 0 < number
+  pub below : number ≤ last
+
+pub record AreDrawn (s : State) : Type 0 where
+  pub clients : (client : Client) → Contains s.clients.rows client → IsDrawn s.clients.last client.number
+  pub publications :
+      (publication : Publication) → Contains s.streams.publications publication → IsDrawn s.last_number publication.source
+  pub registrations :
+      (registration : Registration) → Contains s.streams.registrations registration →
+      IsDrawn s.last_number registration.number
+  pub subscriptions :
+      (subscription : Subscription) → Contains s.streams.subscriptions subscription →
+      IsDrawn s.last_number subscription.number
+  pub counters : (counter : Counter) → Contains s.counters counter → IsDrawn s.last_number counter.number
+
+abbrev pub NumbersAreAtMostTheLast : Type 0
+NumbersAreAtMostTheLast = AfterAnyEvents AreDrawn
+
+-- ---- no two alike
+
+-- each row's number is above that of the row before it, the first one's above `low`, and the last one's at most `last`
+abbrev pub Rises : {A : Type 0} → (A → ℕ) → ℕ → ℕ → List A → Type 0
+Rises number_of low last [] = low ≤ last
+Rises number_of low last (row ∷ rows) = (low < number_of row) × Rises number_of (number_of row) last rows
+
+-- in each list the numbers rise
+pub record AreRising (s : State) : Type 0 where
+  pub clients : Rises (λ (client : Client). client.number) 0 s.clients.last s.clients.rows
+  pub publications : Rises (λ (publication : Publication). publication.source) 0 s.last_number s.streams.publications
+  pub registrations : Rises (λ (registration : Registration). registration.number) 0 s.last_number s.streams.registrations
+  pub subscriptions : Rises (λ (subscription : Subscription). subscription.number) 0 s.last_number s.streams.subscriptions
+  pub counters : Rises (λ (counter : Counter). counter.number) 0 s.last_number s.counters
+
+abbrev pub NumbersAreUnique : Type 0
+NumbersAreUnique = AfterAnyEvents AreRising
+
+-- ---- never drawn twice
+
+-- no last number falls, and what comes has a number above the last one before
+pub record DrawsAbove (s after : State) : Type 0 where
+  pub last : s.last_number ≤ after.last_number
+  pub last_client : s.clients.last ≤ after.clients.last
+  pub epoch : s.epoch ≤ after.epoch
+
+abbrev pub NumbersAreDrawnOnce : Type 0
+NumbersAreDrawnOnce =
+    AfterAnyEvents (λ s. (event : Event) (inputs : Inputs) → DrawsAbove s (state_after s event inputs))
