@@ -3,7 +3,7 @@
 set -e
 cd "$(dirname "$0")"
 needed='byte_strings channel_uri client_registry command_codec counters driver_core driver_world frame_codec log_arena
-policy_core stream_registry term_log'
+policy_core rows stream_registry term_log'
 mkdir -p out/crates/driver_world_c/src
 for crate in $needed; do
     cp -r "../crates/$crate" out/crates/

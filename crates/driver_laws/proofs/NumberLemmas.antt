@@ -24,7 +24,7 @@ use Rattle.driver_core.specs.Terminating.{stopped_for_good, terminated}
 use Rattle.driver_core.specs.Ticking.{late, tick, ticked}
 use Rattle.driver_core.specs.Unpublishing.{unpublished}
 use Rattle.driver_core.specs.Unsubscribing.{unsubscribed}
-use Rattle.driver_laws.specs.NumberLaws.{AreDrawn, AreRising, DrawsAbove, NumbersAreAtMostTheLast, NumbersAreDrawnOnce, NumbersAreUnique}
+use Rattle.driver_laws.specs.NumberLaws.{AreDrawn, AreRising, NeverLowers, NumbersAreAtMostTheLast, LastNumbersNeverFall, NumbersAreUnique}
 use Rattle.client_registry.specs.declared.client.Client.{Client}
 use Rattle.client_registry.specs.Clients.{admitted, is_other, touched, without}
 use Rattle.command_codec.specs.declared.add_counter.AddCounter.{AddCounter}
@@ -77,7 +77,7 @@ set_number false value counter = refl
 
 record Rising (s after : State) : Type 0 where
   rises : AreRising after
-  draws : DrawsAbove s after
+  draws : NeverLowers s after
 
 -- nothing but the rows changes
 record SameLast (s after : State) : Type 0 where
@@ -460,6 +460,6 @@ are_drawn s rises = record {
 pub numbers_drawn : NumbersAreAtMostTheLast
 numbers_drawn settings policy peers events = are_drawn _ (numbers_rise settings policy peers events)
 
-pub numbers_drawn_once : NumbersAreDrawnOnce
+pub numbers_drawn_once : LastNumbersNeverFall
 numbers_drawn_once settings policy peers events event inputs =
     (event_rises _ event inputs (numbers_rise settings policy peers events)).draws

@@ -1,4 +1,4 @@
--- Over every list of events: the numbers of rows, each of which is drawn once.
+-- Over every list of events: the numbers of rows.
 use Rattle.std.specs.Prelude.{ℕ, ◌<◌, ◌≤◌, List, [], ◌∷◌, Contains}
 use Rattle.driver_core.specs.declared.event.Event.{Event}
 use Rattle.driver_core.specs.declared.event.Inputs.{Inputs}
@@ -51,14 +51,14 @@ pub record AreRising (s : State) : Type 0 where
 abbrev pub NumbersAreUnique : Type 0
 NumbersAreUnique = AfterAnyEvents AreRising
 
--- ---- never drawn twice
+-- ---- the last ones never fall
 
--- no last number falls, and what comes has a number above the last one before
-pub record DrawsAbove (s after : State) : Type 0 where
+-- none of the three falls
+pub record NeverLowers (s after : State) : Type 0 where
   pub last : s.last_number ≤ after.last_number
   pub last_client : s.clients.last ≤ after.clients.last
   pub epoch : s.epoch ≤ after.epoch
 
-abbrev pub NumbersAreDrawnOnce : Type 0
-NumbersAreDrawnOnce =
-    AfterAnyEvents (λ s. (event : Event) (inputs : Inputs) → DrawsAbove s (state_after s event inputs))
+abbrev pub LastNumbersNeverFall : Type 0
+LastNumbersNeverFall =
+    AfterAnyEvents (λ s. (event : Event) (inputs : Inputs) → NeverLowers s (state_after s event inputs))

@@ -10,7 +10,7 @@ ghost use Rattle.driver_laws.specs.GrantLaws.{CountersAreGrantedExactly, Termina
 ghost use Rattle.driver_laws.specs.ImageLaws.{ImagesAreGrantedExactly};
 ghost use Rattle.driver_laws.specs.LeavingLaws.{ClientsGoExactly, ClientsGoOnly, RowsGoWithTheirClient};
 ghost use Rattle.driver_laws.specs.ListingLaws.{CountersAreShownExactly};
-ghost use Rattle.driver_laws.specs.NumberLaws.{NumbersAreAtMostTheLast, NumbersAreDrawnOnce, NumbersAreUnique};
+ghost use Rattle.driver_laws.specs.NumberLaws.{NumbersAreAtMostTheLast, LastNumbersNeverFall, NumbersAreUnique};
 ghost use Rattle.driver_laws.specs.OwnerLaws.{RegistrationsHaveTheirLogs, RowsHaveTheirClients};
 ghost use Rattle.driver_laws.specs.PublishingLaws.{PublicationsAreGrantedExactly, PublicationsAreGrantedOnly};
 ghost use Rattle.driver_laws.specs.RefusalLaws.{RefusalsChangeNoMoreThanMoments};
@@ -197,6 +197,6 @@ pub fn numbers_are_unique()
 {}
 
 /// No event lowers the number that was drawn last, that of the client that came last, or that of the policy in force.
-pub fn numbers_are_drawn_once()
-    ensures { NumbersAreDrawnOnce }
+pub fn last_numbers_never_fall()
+    ensures { LastNumbersNeverFall }
 {}

@@ -1,5 +1,5 @@
 use Rattle.driver_laws.proofs.NumberLemmas.{numbers_drawn_once}
-use Rattle.driver_laws.proofs.numbers_are_drawn_once.Goals as goal
+use Rattle.driver_laws.proofs.last_numbers_never_fall.Goals as goal
 
 pub returns : goal.returns
 returns c = numbers_drawn_once
