@@ -10,6 +10,7 @@ pub mod LeavingLemmas
 pub mod LeftLemmas
 pub mod ListingLemmas
 pub mod LoggedLemmas
+pub mod NewNumberLemmas
 pub mod NumberLemmas
 pub mod OwnerLemmas
 pub mod PublishingLemmas

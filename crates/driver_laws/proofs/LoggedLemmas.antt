@@ -1,5 +1,5 @@
 -- Each event keeps the logs with which somebody is registered.
-use Rattle.std.proofs.Common.{◌≡◌, ℕ, ◌+◌, ◌==◌, ◌&&◌, ℤ, Bool, true, false, max, cond, List, [], ◌∷◌, ◌++◌, map, Option, Some, None, Result, Ok, Err, refl, sym, subst, ap, ⊎_elim}
+use Rattle.std.proofs.Common.{◌≡◌, ℕ, ◌+◌, ◌==◌, ◌&&◌, ℤ, Bool, true, false, max, cond, List, [], ◌∷◌, ◌++◌, map, Option, Some, None, Result, Ok, Err, refl, sym, subst, ⊎_elim}
 use Rattle.std.specs.Prelude.{find, is_none}
 use Rattle.std.specs.List.{Contains}
 use Rattle.std.proofs.lemmas.Bool.{and_parts, eq-eqb}
@@ -7,9 +7,7 @@ use Rattle.std.proofs.lemmas.List.Elements.{Contains-append_left, Contains-appen
 use Rattle.driver_core.specs.declared.event.Event.{Event}
 use Rattle.driver_core.specs.declared.event.Event.TheVariants.{Attach, Command, Reload, Tick}
 use Rattle.driver_core.specs.declared.event.Inputs.{Inputs}
-use Rattle.driver_core.specs.declared.outcome.Response.{Response}
 use Rattle.driver_core.specs.declared.peer.Peer.{Peer}
-use Rattle.driver_core.specs.declared.refusal.Refusal.{Refusal}
 use Rattle.driver_core.specs.declared.settings.Settings.{Settings}
 use Rattle.driver_core.specs.Attaching.{attached}
 use Rattle.driver_core.specs.Closing.{close, keep_alive}
@@ -29,7 +27,6 @@ use Rattle.driver_core.specs.Ticking.{late, tick, ticked}
 use Rattle.driver_core.specs.Unpublishing.{unpublished}
 use Rattle.driver_core.specs.Unsubscribing.{unsubscribed}
 use Rattle.driver_laws.specs.OwnerLaws.{HasLog, HaveTheirLogs, RegistrationsHaveTheirLogs}
-use Rattle.client_registry.specs.declared.client.Client.{Client}
 use Rattle.policy_core.specs.RuleList.{Rules}
 use Rattle.channel_uri.specs.Channel.{Shape}
 use Rattle.stream_registry.specs.declared.fault.StreamFault.{StreamFault}
@@ -40,13 +37,13 @@ use Rattle.stream_registry.specs.declared.wanted.Adding.{Adding}
 use Rattle.stream_registry.specs.declared.wanted.Adding.TheVariants.{Join, Make}
 use Rattle.stream_registry.specs.declared.wanted.Wanted.{Wanted}
 use Rattle.stream_registry.specs.Adding.{added, adding_by, adding_of, has_room_for_log, has_room_for_registration, joining_of, log_of, making_of, registration_of, subscribed as subscribed_in}
-use Rattle.stream_registry.specs.Joining.{contradicts, is_joinable, is_open, joined_at}
+use Rattle.stream_registry.specs.Joining.{contradicts, is_joinable, joined_at}
 use Rattle.stream_registry.specs.Leaving.{is_another_registration, is_registration_of_another, left as left_in, unregistered, unsubscribed as unsubscribed_in}
 use Rattle.stream_registry.specs.Lingering.{closed, is_not_past, is_used, left_alone, settled, settled_one}
 use Rattle.stream_registry.specs.Sessions.{is_stated_again}
 use Rattle.stream_registry.specs.Streams.{Streams}
 use Rattle.channel_uri.specs.Parameters.{stated_session_of}
-use Rattle.driver_core.proofs.EventCases.{Cases, at_request, attach_cases, command_cases, reload_cases}
+use Rattle.driver_core.proofs.EventCases.{Cases, attach_cases, command_cases, reload_cases}
 use Rattle.driver_core.proofs.ListLemmas.{contains_none, left_was_there, passes_are_left}
 use Rattle.driver_laws.proofs.ClosingLemmas.{any_of}
 use Rattle.driver_laws.proofs.LeftLemmas.{mapped}

@@ -1,10 +1,11 @@
--- Over every list of events: the numbers of rows.
-use Rattle.std.specs.Prelude.{ℕ, ◌<◌, ◌≤◌, List, [], ◌∷◌, Contains}
+-- Over every list of events: the numbers of rows, each of which is drawn once.
+use Rattle.std.specs.Prelude.{ℕ, ◌<◌, ◌≤◌, List, [], ◌∷◌, Contains, ◌⊎◌}
 use Rattle.driver_core.specs.declared.event.Event.{Event}
 use Rattle.driver_core.specs.declared.event.Inputs.{Inputs}
 use Rattle.driver_core.specs.Conduct.{state_after}
 use Rattle.driver_core.specs.State.{State}
 use Rattle.driver_laws.specs.Events.{AfterAnyEvents}
+use Rattle.driver_laws.specs.GrantLaws.{StoodBefore}
 use Rattle.client_registry.specs.declared.client.Client.{Client}
 use Rattle.counters.specs.declared.counter.Counter.{Counter}
 use Rattle.stream_registry.specs.declared.row.Publication.{Publication}
@@ -51,7 +52,7 @@ pub record AreRising (s : State) : Type 0 where
 abbrev pub NumbersAreUnique : Type 0
 NumbersAreUnique = AfterAnyEvents AreRising
 
--- ---- the last ones never fall
+-- ---- never drawn again
 
 -- none of the three falls
 pub record NeverLowers (s after : State) : Type 0 where
@@ -62,3 +63,18 @@ pub record NeverLowers (s after : State) : Type 0 where
 abbrev pub LastNumbersNeverFall : Type 0
 LastNumbersNeverFall =
     AfterAnyEvents (λ s. (event : Event) (inputs : Inputs) → NeverLowers s (state_after s event inputs))
+
+-- what was not there before has a number above the one that was drawn last by then; a counter's value may be another
+pub record ComesAbove (s after : State) : Type 0 where
+  pub registrations :
+      (registration : Registration) → Contains after.streams.registrations registration →
+      Contains s.streams.registrations registration ⊎ (s.last_number < registration.number)
+  pub subscriptions :
+      (subscription : Subscription) → Contains after.streams.subscriptions subscription →
+      Contains s.streams.subscriptions subscription ⊎ (s.last_number < subscription.number)
+  pub counters :
+      (counter : Counter) → Contains after.counters counter → StoodBefore s counter ⊎ (s.last_number < counter.number)
+
+abbrev pub NewNumbersAreAboveTheLast : Type 0
+NewNumbersAreAboveTheLast =
+    AfterAnyEvents (λ s. (event : Event) (inputs : Inputs) → ComesAbove s (state_after s event inputs))

@@ -10,7 +10,7 @@ ghost use Rattle.driver_laws.specs.GrantLaws.{CountersAreGrantedExactly, Termina
 ghost use Rattle.driver_laws.specs.ImageLaws.{ImagesAreGrantedExactly};
 ghost use Rattle.driver_laws.specs.LeavingLaws.{ClientsGoExactly, ClientsGoOnly, RowsGoWithTheirClient};
 ghost use Rattle.driver_laws.specs.ListingLaws.{CountersAreShownExactly};
-ghost use Rattle.driver_laws.specs.NumberLaws.{NumbersAreAtMostTheLast, LastNumbersNeverFall, NumbersAreUnique};
+ghost use Rattle.driver_laws.specs.NumberLaws.{NewNumbersAreAboveTheLast, NumbersAreAtMostTheLast, LastNumbersNeverFall, NumbersAreUnique};
 ghost use Rattle.driver_laws.specs.OwnerLaws.{RegistrationsHaveTheirLogs, RowsHaveTheirClients};
 ghost use Rattle.driver_laws.specs.PublishingLaws.{PublicationsAreGrantedExactly, PublicationsAreGrantedOnly};
 ghost use Rattle.driver_laws.specs.RefusalLaws.{RefusalsChangeNoMoreThanMoments};
@@ -199,4 +199,10 @@ pub fn numbers_are_unique()
 /// No event lowers the number that was drawn last, that of the client that came last, or that of the policy in force.
 pub fn last_numbers_never_fall()
     ensures { LastNumbersNeverFall }
+{}
+
+/// A registration, a subscription or a counter that was not there before an event has a number above the one that was drawn
+/// last before it.
+pub fn new_numbers_are_above_the_last()
+    ensures { NewNumbersAreAboveTheLast }
 {}
