@@ -1,4 +1,4 @@
--- Over every list of events: the numbers of rows, each of which is drawn once.
+-- Over every list of events: the numbers of rows, none of which is drawn again.
 use Rattle.std.specs.Prelude.{ℕ, ◌<◌, ◌≤◌, List, [], ◌∷◌, Contains, ◌⊎◌}
 use Rattle.driver_core.specs.declared.event.Event.{Event}
 use Rattle.driver_core.specs.declared.event.Inputs.{Inputs}
