@@ -209,7 +209,15 @@ fn publish_under(
         let refusal = Refusal::NoRoom;
         return Draft::refused_on(alloc, registry, decision, handle, correlation, refusal);
     }
-    publish_granted(registry, alloc, client, correlation, wanted, adding, decision)
+    publish_granted(
+        registry,
+        alloc,
+        client,
+        correlation,
+        wanted,
+        adding,
+        decision,
+    )
 }
 
 /// A publication on a channel that such a command takes.
