@@ -4,7 +4,7 @@ ghost use Rattle.std.specs.Prelude.{◌≡◌, ◌<◌, IfOk, IfSome, OnOk, OnEr
 
 use crate::client::Client;
 use crate::error::AdmitError;
-use byte_strings::Items;
+use arrayvec::ArrayVec;
 use rows::{Rows, Test};
 use std::alloc::{AllocError, Global};
 use std::marker::Model;
@@ -161,18 +161,18 @@ impl Clients {
         }
     }
 
-    /// The ids of the clients of which nothing was heard for longer than the liveness, in their order.
+    /// The ids of the clients of which nothing was heard for longer than the liveness, in their order. It takes no memory.
     #[tactic(auto, unfolding(crate::specs::Clients::expired_of))]
-    pub fn expired(&self, alloc: Global, now: u64) -> Result<Items<u64>, AllocError>
-        ensures { IfOk result (λ numbers. numbers ≡ expired_of self.now now) }
+    pub fn expired(&self, now: u64) -> ArrayVec<u64, 64>
+        ensures { result.items ≡ expired_of self.now now }
     {
-        let mut numbers = Items::new(alloc);
+        let mut numbers = ArrayVec::new();
         for client in self.rows.as_slice() {
             if now.saturating_sub(client.heard) > self.liveness {
-                numbers.push(client.number)?;
+                numbers.push(client.number);
             }
         }
-        Ok(numbers)
+        numbers
     }
 
     /// The client of this id goes. Its id is not given again.

@@ -1,7 +1,7 @@
 -- What holds of the draft that each case of an event makes holds of the event's.
 use Rattle.std.proofs.Common.{◌≡◌, ℕ, ℤ, pos, ◌==◌, Bool, true, false, not, List, [], ◌∷◌, Option, Some, None, Result, Ok, Err, if◌then◌else◌, inl, inr, refl, ap, ◌∙◌}
 use Rattle.std.proofs.lemmas.Bool.{eqb-true, cond_both, not-true, not-false}
-use Rattle.driver_core.specs.declared.draft.Draft.{Draft}
+use Rattle.driver_core.specs.Draft.{Draft}
 use Rattle.driver_core.specs.declared.event.Event.TheVariants.{Command}
 use Rattle.driver_core.specs.declared.outcome.Response.TheVariants as response
 use Rattle.driver_core.specs.declared.refusal.Refusal.{Refusal}
@@ -48,10 +48,6 @@ use Rattle.stream_registry.specs.declared.wanted.Adding.{Adding}
 use Rattle.stream_registry.specs.declared.wanted.Wanted.{Wanted}
 use Rattle.stream_registry.specs.Adding.{adding_of}
 use Rattle.stream_registry.specs.Leaving.{has_registration, has_subscription}
-
--- the state at which a request is decided
-abbrev pub at_request : State → ℕ → ℕ → State
-at_request s now handle = heard (at_moment s now) handle
 
 -- a refusal for which the policy is not asked
 abbrev pub IsPlain : Refusal → Type 0

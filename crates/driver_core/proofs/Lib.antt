@@ -1,8 +1,15 @@
 pub mod AskedLemmas
+pub mod AskingLemmas
+pub mod ComingLemmas
 pub mod EventCases
+pub mod KeptLemmas
 pub mod ListLemmas
 pub mod LogListLemmas
+pub mod PairLemmas
 pub mod PublishLemmas
+pub mod ReaderLemmas
 pub mod SizeLemmas
 pub mod SoundnessLemmas
+pub mod SubscribeLemmas
+pub mod UnsubscribeLemmas
 pub mod VerdictLemmas

@@ -1,82 +1,104 @@
--- What a request that is granted makes.
-use Rattle.std.proofs.Common.{◌≡◌, ℕ, ℤ, ◌+◌, Bool, true, false, not, [], ◌∷◌, Option, Some, None, Result, Ok, Err, if◌then◌else◌, refl}
-use Rattle.driver_core.specs.Draft.{replied, replied_opening, refused}
-use Rattle.driver_core.specs.declared.draft.Draft.{Draft}
-use Rattle.driver_core.specs.declared.refusal.Refusal.{Refusal}
-use Rattle.driver_core.specs.declared.refusal.Refusal.TheVariants.{Full, NoRoom}
-use Rattle.driver_core.specs.declared.replies.Reply.TheVariants.{SubscriptionReady}
-use Rattle.driver_core.specs.Publishing.{has_place, has_room_for_publication, opening_of, publication_decision, publish, publish_by, publish_under, published, ready_for, session_of, with_publication}
+-- A publication is made or refused by what is decided on it.
+use Rattle.std.proofs.Common.{◌≡◌, ℕ, Bool, true, false, not, [], Result, Ok, Err, if◌then◌else◌, refl, subst, ◌∙◌}
+use Rattle.driver_core.specs.declared.publishing.Granted.{Granted}
+use Rattle.driver_core.specs.declared.refused.Refused.{Refused}
+use Rattle.driver_core.specs.Draft.{Draft, refused}
+use Rattle.driver_core.specs.Publishing.{add_publication, granting_of, has_place, has_room_for_publication, publication_decision, is_publishable, publish, publish_by, publish_on, publish_under, published, publishing_by, publishing_of}
+use Rattle.driver_core.specs.declared.refusal.Refusal.TheVariants.{Full, NoRoom, InvalidChannel}
+use Rattle.driver_core.specs.Refusing.{denied, on, refused_by}
 use Rattle.driver_core.specs.State.{State}
-use Rattle.driver_core.specs.Subscribing.{decision_of, has_room_for_subscription, subscribe, subscribed, with_subscription}
-use Rattle.channel_uri.specs.Channel.{Shape}
 use Rattle.client_registry.specs.declared.client.Client.{Client}
+use Rattle.channel_uri.specs.declared.error.UriError.{UriError}
+use Rattle.channel_uri.specs.Channel.{Shape, denotes}
+use Rattle.command_codec.specs.declared.add_publication.AddPublication.{AddPublication}
 use Rattle.stream_registry.specs.declared.fault.StreamFault.{StreamFault}
 use Rattle.stream_registry.specs.declared.wanted.Adding.{Adding}
 use Rattle.stream_registry.specs.declared.wanted.Wanted.{Wanted}
 use Rattle.stream_registry.specs.Adding.{adding_of}
 
--- ---- a subscription that the policy allows, made or not
+abbrev pub publish_as : State → Client → ℕ → Wanted → Result Granted Refused → Draft
+publish_as s client correlation wanted (Ok granted) = published s client correlation wanted granted.adding
+publish_as s client correlation wanted (Err why) = refused_by s client.number correlation why
 
-abbrev pub subscription_as : State → Client → ℕ → Shape → ℤ → Option State → Draft
-subscription_as s client correlation channel stream (Some after) =
-    replied after (decision_of s client channel stream ∷ []) client.number (SubscriptionReady correlation after.last_number)
-subscription_as s client correlation channel stream None =
-    refused s (decision_of s client channel stream ∷ []) client.number correlation Full
-
-subscription_by : (s : State) (client : Client) (correlation : ℕ) (channel : Shape) (stream : ℤ) (room : Bool) →
-    (decision_of s client channel stream).verdict.allow ≡ true →
-    has_room_for_subscription s client.number channel stream ≡ room →
-    subscribe s client correlation channel stream
-    ≡ subscription_as s client correlation channel stream
-    (if room then Some (with_subscription s client.number channel stream) else None)
-unfolding subscribe subscribed
-subscription_by s client correlation channel stream true allows is = rw (allows, is) refl
-subscription_by s client correlation channel stream false allows is = rw (allows, is) refl
-
-pub subscription_is_made : (s : State) (client : Client) (correlation : ℕ) (channel : Shape) (stream : ℤ)
-    (made : Option State) → (decision_of s client channel stream).verdict.allow ≡ true →
-    made
-    ≡ (if has_room_for_subscription s client.number channel stream
-    then Some (with_subscription s client.number channel stream)
-    else None) →
-    subscribe s client correlation channel stream ≡ subscription_as s client correlation channel stream made
-subscription_is_made s client correlation channel stream made allows is =
-    rw is (subscription_by s client correlation channel stream _ allows refl)
-
--- ---- a publication that the lists take, made or not
-
-abbrev pub publication_as : State → Client → ℕ → Wanted → Adding → Result State Refusal → Draft
-publication_as s client correlation wanted adding (Ok after) =
-    replied_opening after (publication_decision s client wanted ∷ []) client.number
-    (ready_for wanted correlation (s.last_number + 1) (session_of adding))
-    (opening_of s wanted adding)
-publication_as s client correlation wanted adding (Err refusal) =
-    refused s (publication_decision s client wanted ∷ []) client.number correlation refusal
-
-publication_by : (s : State) (client : Client) (correlation : ℕ) (wanted : Wanted) (adding : Adding) (room place : Bool) →
+under_as : (s : State) (client : Client) (correlation : ℕ) (wanted : Wanted) (adding : Adding) (room place : Bool) →
     has_room_for_publication s client.number wanted adding ≡ room → has_place s wanted adding ≡ place →
     publish_under s client correlation wanted adding
-    ≡ publication_as s client correlation wanted adding
-    (if not room then Err Full else if place then Ok (with_publication s client.number wanted adding) else Err NoRoom)
-unfolding publish_under published
-publication_by s client correlation wanted adding true true room place = rw (room, place) refl
-publication_by s client correlation wanted adding true false room place = rw (room, place) refl
-publication_by s client correlation wanted adding false place room is = rw room refl
+    ≡ publish_as s client correlation wanted (granting_of s client wanted adding)
+unfolding publish_under
+under_as s client correlation wanted adding true true room place = rw (room, place) refl
+under_as s client correlation wanted adding true false room place = rw (room, place) refl
+under_as s client correlation wanted adding false place room is = rw room refl
 
-pub publication_is_made : (s : State) (client : Client) (correlation : ℕ) (wanted : Wanted) (adding : Adding)
-    (made : Result State Refusal) →
-    made
-    ≡ (if not (has_room_for_publication s client.number wanted adding)
-    then Err Full
-    else if has_place s wanted adding then Ok (with_publication s client.number wanted adding) else Err NoRoom) →
-    publish_under s client correlation wanted adding ≡ publication_as s client correlation wanted adding made
-publication_is_made s client correlation wanted adding made is =
-    rw is (publication_by s client correlation wanted adding _ _ refl refl)
+by_as : (s : State) (client : Client) (correlation : ℕ) (wanted : Wanted) (found : Result Adding StreamFault) →
+    publish_by s client correlation wanted found
+    ≡ publish_as s client correlation wanted (publishing_by s client wanted found)
+by_as s client correlation wanted (Err why) = refl
+by_as s client correlation wanted (Ok adding) = under_as s client correlation wanted adding _ _ refl refl
 
--- the policy allows it, and the lists decide
-pub publication_is_allowed : (s : State) (client : Client) (correlation : ℕ) (wanted : Wanted)
-    (found : Result Adding StreamFault) → (publication_decision s client wanted).verdict.allow ≡ true →
-    adding_of s.streams wanted ≡ found →
-    publish s client correlation wanted ≡ publish_by s client correlation wanted found
-unfolding publish
-publication_is_allowed s client correlation wanted found allows is = rw (allows, is) refl
+allowed_as : (s : State) (client : Client) (correlation : ℕ) (wanted : Wanted) (allow : Bool) →
+    (publication_decision s client wanted).verdict.allow ≡ allow →
+    publish s client correlation wanted ≡ publish_as s client correlation wanted (publishing_of s client wanted)
+unfolding publish publishing_of
+allowed_as s client correlation wanted true allow = rw allow (by_as s client correlation wanted (adding_of s.streams wanted))
+allowed_as s client correlation wanted false allow = rw allow refl
+
+pub publish_is : (s : State) (client : Client) (correlation : ℕ) (wanted : Wanted) (decided : Result Granted Refused) →
+    publishing_of s client wanted ≡ decided →
+    publish s client correlation wanted ≡ publish_as s client correlation wanted decided
+publish_is s client correlation wanted decided is = rw (← is) (allowed_as s client correlation wanted _ refl)
+
+-- ---- where it is granted
+
+pub record IsGranted (s : State) (client : Client) (wanted : Wanted) (granted : Granted) : Type 0 where
+  pub room : has_room_for_publication s client.number wanted granted.adding ≡ true
+  pub taken : adding_of s.streams wanted ≡ Ok granted.adding
+  pub decided : granted.decision ≡ publication_decision s client wanted
+
+granted_under : (s : State) (client : Client) (wanted : Wanted) (granted : Granted) (adding : Adding) (room place : Bool) →
+    has_room_for_publication s client.number wanted adding ≡ room → has_place s wanted adding ≡ place →
+    adding_of s.streams wanted ≡ Ok adding → granting_of s client wanted adding ≡ Ok granted → IsGranted s client wanted granted
+granted_under s client wanted granted adding true true room place found is =
+    let whole : Granted = record { decision = publication_decision s client wanted; adding = adding } in
+    let same : Ok whole ≡ Ok granted = (rw (room, place) refl) ∙ is in
+    let one : whole ≡ granted = cc in
+    subst (IsGranted s client wanted) one (record { room = room; taken = found; decided = refl })
+granted_under s client wanted granted adding true false room place found is =
+    let never : Err (on (publication_decision s client wanted) NoRoom) ≡ Ok granted = (rw (room, place) refl) ∙ is in
+    absurd cc
+granted_under s client wanted granted adding false place room known found is =
+    let never : Err (on (publication_decision s client wanted) Full) ≡ Ok granted = (rw room refl) ∙ is in
+    absurd cc
+
+granted_as : (s : State) (client : Client) (wanted : Wanted) (granted : Granted) (found : Result Adding StreamFault) →
+    adding_of s.streams wanted ≡ found → publishing_by s client wanted found ≡ Ok granted → IsGranted s client wanted granted
+granted_as s client wanted granted (Err why) found is = absurd cc
+granted_as s client wanted granted (Ok adding) found is = granted_under s client wanted granted adding _ _ refl refl found is
+
+granted_by : (s : State) (client : Client) (wanted : Wanted) (granted : Granted) (allow : Bool) →
+    (publication_decision s client wanted).verdict.allow ≡ allow → publishing_of s client wanted ≡ Ok granted →
+    IsGranted s client wanted granted
+unfolding publishing_of
+granted_by s client wanted granted true allow is =
+    granted_as s client wanted granted (adding_of s.streams wanted) refl ((rw allow refl) ∙ is)
+granted_by s client wanted granted false allow is =
+    let never : Err (denied (publication_decision s client wanted)) ≡ Ok granted = (rw allow refl) ∙ is in
+    absurd cc
+
+pub is_granted : (s : State) (client : Client) (wanted : Wanted) (granted : Granted) →
+    publishing_of s client wanted ≡ Ok granted → IsGranted s client wanted granted
+is_granted s client wanted granted is = granted_by s client wanted granted _ refl is
+
+-- ---- by the channel
+
+pub added_on : (s : State) (client : Client) (correlation : ℕ) (fields : AddPublication) (exclusive : Bool)
+    (channel : Result Shape UriError) → denotes fields.channel ≡ channel →
+    add_publication s client correlation fields exclusive ≡ publish_on s client correlation channel fields.stream exclusive
+unfolding add_publication
+added_on s client correlation fields exclusive channel is = rw is refl
+
+-- on a channel that the command does not take
+pub not_taken : (s : State) (client : Client) (correlation : ℕ) (fields : AddPublication) (exclusive : Bool)
+    (channel : Shape) → denotes fields.channel ≡ Ok channel → is_publishable channel ≡ false →
+    add_publication s client correlation fields exclusive ≡ refused s [] client.number correlation InvalidChannel
+not_taken s client correlation fields exclusive channel is taken =
+    added_on s client correlation fields exclusive (Ok channel) is ∙ (rw taken refl)

@@ -5,8 +5,8 @@ use Rattle.std.proofs.lemmas.List.{append-nil, length-append, map-append}
 use Rattle.std.proofs.lemmas.List.Elements.{All-filter, All-nil, All-push}
 use Rattle.std.proofs.lemmas.List.Filters.{length-filter_both}
 use Rattle.std.proofs.lemmas.Bool.{ltb-true, and_parts}
-use Rattle.driver_core.specs.declared.change.Change.{Change}
-use Rattle.driver_core.specs.declared.draft.Draft.{Draft}
+use Rattle.driver_core.specs.Change.{Change}
+use Rattle.driver_core.specs.Draft.{Draft}
 use Rattle.driver_core.specs.declared.event.Event.{Event}
 use Rattle.driver_core.specs.declared.event.Event.TheVariants.{Attach, Command, Reload, Tick}
 use Rattle.driver_core.specs.declared.event.Inputs.{Inputs}
@@ -16,7 +16,7 @@ use Rattle.driver_core.specs.declared.refusal.Refusal.{Refusal}
 use Rattle.driver_core.specs.declared.settings.Settings.{Settings}
 use Rattle.driver_core.specs.Attaching.{attached}
 use Rattle.driver_core.specs.Closing.{keep_alive, close}
-use Rattle.driver_core.specs.Commands.{heard}
+use Rattle.driver_core.specs.Commands.{heard, at_request}
 use Rattle.driver_core.specs.Conduct.{conduct, drafted, state_after, state_of}
 use Rattle.driver_core.specs.Counting.{counted, with_counter, valued, uncounted}
 use Rattle.driver_core.specs.Draft.{answered, told, replied, replied_opening, refused}
@@ -50,7 +50,7 @@ use Rattle.stream_registry.specs.LogPages.{log_pages}
 use Rattle.stream_registry.specs.PageLaws.{IsLaidOut}
 use Rattle.stream_registry.specs.Streams.{Streams}
 use Rattle.stream_registry.proofs.PageLawLemmas.{all_least, share_nothing}
-use Rattle.driver_core.proofs.EventCases.{Cases, at_request, attach_cases, command_cases, reload_cases}
+use Rattle.driver_core.proofs.EventCases.{Cases, attach_cases, command_cases, reload_cases}
 use Rattle.driver_core.proofs.LogListLemmas.{all_kept, ascend_push, ascend_up_to, closed_logs, kept_ascend, none_kept, same_logs_ascend, same_logs_sizes, settled_logs}
 use Rattle.driver_core.proofs.SizeLemmas.{sizes_of_made}
 
@@ -529,10 +529,6 @@ moves_logs s event inputs sound =
     }
 
 -- what answers the event moves the logs, where there was memory for it
-pub moves_if_ok : {E : Type 0} (s : State) (event : Event) (inputs : Inputs) (result : Result Change E) →
-    IfOk result (λ change. change ≡ conduct s event inputs) → IfOk result (λ change. IsSound s → MovesLogs s change)
-moves_if_ok s event inputs (Ok change) is = λ sound. subst (MovesLogs s) (sym is) (moves_logs s event inputs sound)
-moves_if_ok s event inputs (Err error) is = is
 
 -- ---- every registry
 

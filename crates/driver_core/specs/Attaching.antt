@@ -1,6 +1,6 @@
 -- A client comes.
 use Rattle.std.specs.Prelude.{ℕ, ◌+◌, if◌then◌else◌}
-use Rattle.driver_core.specs.declared.draft.Draft.{Draft}
+use Rattle.driver_core.specs.Draft.{Draft}
 use Rattle.driver_core.specs.declared.outcome.Response.TheVariants.{Attached, Full, Stopped}
 use Rattle.driver_core.specs.Draft.{answered}
 use Rattle.driver_core.specs.State.{State}

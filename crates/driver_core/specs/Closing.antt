@@ -1,6 +1,6 @@
 -- CLIENT_KEEPALIVE and CLIENT_CLOSE.
 use Rattle.std.specs.Prelude.{ℕ, []}
-use Rattle.driver_core.specs.declared.draft.Draft.{Draft}
+use Rattle.driver_core.specs.Draft.{Draft}
 use Rattle.driver_core.specs.declared.replies.Reply.TheVariants.{OperationSuccess}
 use Rattle.driver_core.specs.Draft.{told, replied}
 use Rattle.driver_core.specs.Leaving.{left}

@@ -1,13 +1,14 @@
 -- The bytes of a command come over a client's handle.
-use Rattle.std.specs.Prelude.{ℕ, ◌==◌, true, false, List, [], Option, Some, None, Result, Ok, Err, if◌then◌else◌}
-use Rattle.driver_core.specs.declared.draft.Draft.{Draft}
+use Rattle.std.specs.Prelude.{ℕ, ◌==◌, Bool, true, false, List, [], Option, Some, None, Result, Ok, Err, if◌then◌else◌}
+use Rattle.driver_core.specs.Draft.{Draft}
+use Rattle.driver_core.specs.declared.asking.Asking.{Asking}
 use Rattle.driver_core.specs.declared.refusal.Refusal.{Refusal}
 use Rattle.driver_core.specs.declared.refusal.Refusal.TheVariants.{UnknownCommandType, MalformedCommand, WrongClient}
 use Rattle.driver_core.specs.Draft.{refused}
 use Rattle.driver_core.specs.Closing.{keep_alive, close}
 use Rattle.driver_core.specs.Counting.{add_counter, set_counter, remove_counter}
 use Rattle.driver_core.specs.Publishing.{add_publication}
-use Rattle.driver_core.specs.State.{State}
+use Rattle.driver_core.specs.State.{State, at_moment}
 use Rattle.driver_core.specs.Subscribing.{add_subscription}
 use Rattle.driver_core.specs.Terminating.{terminate}
 use Rattle.driver_core.specs.Unpublishing.{remove_publication}
@@ -24,6 +25,23 @@ use Rattle.command_codec.specs.Command.{command_of, correlation_of}
 -- the client of this id was heard of now
 unfoldable pub heard : State → ℕ → State
 heard s number = record s { clients = touched s.clients number s.moment }
+
+-- the registry at which the command of a client that is there is decided
+abbrev pub at_request : State → ℕ → ℕ → State
+at_request s now handle = heard (at_moment s now) handle
+
+-- so for a command that is asked
+abbrev pub at_asking : State → Asking → State
+at_asking s asking = at_request s asking.now asking.handle
+
+-- commands that change no pair, whatever is decided on them
+abbrev pub keeps_pairs : Body → Bool
+keeps_pairs (RemovePublication fields) = true
+keeps_pairs ClientKeepalive = true
+keeps_pairs (AddCounter fields) = true
+keeps_pairs (RemoveCounter fields) = true
+keeps_pairs (SetCounter fields) = true
+keeps_pairs other = false
 
 -- what is asked for by a client that is there
 abbrev pub body_change : State → Client → ℕ → Body → Draft

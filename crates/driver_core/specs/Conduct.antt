@@ -1,7 +1,7 @@
 -- One event of the conductor: two total functions, neither of which reads the other.
 use Rattle.std.specs.Prelude.{List, [], ◌∷◌}
-use Rattle.driver_core.specs.declared.change.Change.{Change}
-use Rattle.driver_core.specs.declared.draft.Draft.{Draft}
+use Rattle.driver_core.specs.Change.{Change}
+use Rattle.driver_core.specs.Draft.{Draft}
 use Rattle.driver_core.specs.declared.event.Event.{Event}
 use Rattle.driver_core.specs.declared.event.Event.TheVariants.{Attach, Command, Reload, Tick}
 use Rattle.driver_core.specs.declared.event.Inputs.{Inputs}

@@ -1,10 +1,12 @@
 -- ADD_COUNTER, SET_COUNTER and REMOVE_COUNTER.
-use Rattle.std.specs.Prelude.{ℕ, ◌+◌, Bool, not, ◌&&◌, nat_lt, [], ◌∷◌, ◌++◌, if◌then◌else◌}
-use Rattle.driver_core.specs.declared.draft.Draft.{Draft}
+use Rattle.std.specs.Prelude.{ℕ, ◌+◌, Bool, not, ◌&&◌, nat_lt, [], ◌∷◌, ◌++◌, Result, Ok, Err, if◌then◌else◌}
+use Rattle.driver_core.specs.Draft.{Draft}
 use Rattle.driver_core.specs.declared.refusal.Refusal.TheVariants.{UnknownCounter, Denied, Full}
 use Rattle.driver_core.specs.declared.replies.Reply.TheVariants.{OperationSuccess, CounterReady, UnavailableCounter}
 use Rattle.driver_core.specs.Draft.{told, replied, refused}
 use Rattle.driver_core.specs.Deciding.{decision_by}
+use Rattle.driver_core.specs.declared.refused.Refused.{Refused}
+use Rattle.driver_core.specs.Refusing.{on, denied}
 use Rattle.driver_core.specs.State.{State}
 use Rattle.channel_uri.specs.Channel.{counter_shape}
 use Rattle.client_registry.specs.declared.client.Client.{Client}
@@ -46,6 +48,15 @@ add_counter s client correlation fields =
     else if has_room_for_counter s
     then counted s client correlation fields
     else refused s (counter_decision s client fields ∷ []) client.number correlation Full
+
+-- what is decided on it: why it is refused, or on which decision it is granted
+unfoldable pub counting_of : State → Client → AddCounter → Result Decision Refused
+counting_of s client fields =
+    if not (counter_decision s client fields).verdict.allow
+    then Err (denied (counter_decision s client fields))
+    else if has_room_for_counter s
+    then Ok (counter_decision s client fields)
+    else Err (on (counter_decision s client fields) Full)
 
 -- ---- a counter that is there
 

@@ -1,6 +1,5 @@
 -- What an event's own rule makes of the registry, before the pairs are renewed.
 use Rattle.std.specs.Prelude.{ℕ, List, [], ◌∷◌, Option, None}
-use Rattle.driver_core.specs.declared.draft.Draft.{Draft as Declared}
 use Rattle.driver_core.specs.declared.outcome.Response.{Response}
 use Rattle.driver_core.specs.declared.outcome.Response.TheVariants.{Nothing}
 use Rattle.driver_core.specs.declared.refusal.Refusal.{Refusal}
@@ -11,9 +10,16 @@ use Rattle.driver_core.specs.State.{State}
 use Rattle.policy_core.specs.declared.decision.Decision.{Decision}
 use Rattle.stream_registry.specs.declared.lingering.LogPlace.{LogPlace}
 
--- a draft, as crates above name it
-abbrev pub Draft : Type 0
-Draft = Declared
+-- what an event's own rule leaves, and what it tells: its answer, its replies, those behind the replies of images, what was
+-- decided, and which logs open and close
+pub record Draft : Type 0 where
+  pub after : State
+  pub response : Response
+  pub replies : List Message
+  pub later : List Message
+  pub decisions : List Decision
+  pub opens : Option LogPlace
+  pub closes : List LogPlace
 
 -- the event is answered, and nobody else is told anything
 unfoldable pub answered : State → Response → Draft

@@ -1,6 +1,6 @@
 -- ADD_PUBLICATION and ADD_EXCLUSIVE_PUBLICATION.
 use Rattle.std.specs.Prelude.{ℕ, ◌+◌, ℤ, Bool, true, not, ◌&&◌, [], ◌∷◌, Option, Some, None, Result, Ok, Err, is_some, unwrap_or, if◌then◌else◌}
-use Rattle.driver_core.specs.declared.draft.Draft.{Draft}
+use Rattle.driver_core.specs.Draft.{Draft}
 use Rattle.driver_core.specs.declared.refusal.Refusal.{Refusal}
 use Rattle.driver_core.specs.declared.refusal.Refusal.TheVariants.{InvalidChannel, Denied, Conflict, Full, NoRoom}
 use Rattle.driver_core.specs.declared.replies.Reply.{Reply}
@@ -8,6 +8,9 @@ use Rattle.driver_core.specs.declared.replies.Reply.TheVariants.{PublicationRead
 use Rattle.driver_core.specs.Deciding.{decision_by}
 use Rattle.driver_core.specs.Draft.{replied_opening, refused}
 use Rattle.driver_core.specs.Pairs.{is_within_pairs}
+use Rattle.driver_core.specs.declared.publishing.Granted.{Granted}
+use Rattle.driver_core.specs.declared.refused.Refused.{Refused}
+use Rattle.driver_core.specs.Refusing.{on, denied}
 use Rattle.driver_core.specs.State.{State, has_number}
 use Rattle.channel_uri.specs.declared.error.UriError.{UriError}
 use Rattle.channel_uri.specs.Channel.{Shape, denotes}
@@ -112,6 +115,30 @@ publish s client correlation wanted =
     then refused s (publication_decision s client wanted ∷ []) client.number correlation
     (Denied (publication_decision s client wanted).verdict)
     else publish_by s client correlation wanted (adding_of s.streams wanted)
+
+-- ---- what is decided on it
+
+-- on which decision it is granted, and what the lists make of it
+-- (a publication that is denied, or that the lists do not take, or for which there is no room, is refused)
+abbrev pub granting_of : State → Client → Wanted → Adding → Result Granted Refused
+granting_of s client wanted adding =
+    if not (has_room_for_publication s client.number wanted adding)
+    then Err (on (publication_decision s client wanted) Full)
+    else if has_place s wanted adding
+    then Ok (record { decision = publication_decision s client wanted; adding = adding })
+    else Err (on (publication_decision s client wanted) NoRoom)
+
+abbrev pub publishing_by : State → Client → Wanted → Result Adding StreamFault → Result Granted Refused
+publishing_by s client wanted (Err why) = Err (on (publication_decision s client wanted) (refused_by_streams why))
+publishing_by s client wanted (Ok adding) = granting_of s client wanted adding
+
+unfoldable pub publishing_of : State → Client → Wanted → Result Granted Refused
+publishing_of s client wanted =
+    if not (publication_decision s client wanted).verdict.allow
+    then Err (denied (publication_decision s client wanted))
+    else publishing_by s client wanted (adding_of s.streams wanted)
+
+-- ---- the command
 
 abbrev pub wanted_of : Shape → ℤ → Bool → Wanted
 wanted_of channel stream exclusive = record { channel = channel; stream = stream; exclusive = exclusive }

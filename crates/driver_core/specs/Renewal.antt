@@ -1,8 +1,10 @@
 -- After each event the pairs are those of the lists and the policy in force. What that closes and opens is told.
 use Rattle.std.specs.Prelude.{ℕ, ◌==◌, List, [], ◌∷◌, ◌++◌, find, Option, Some, None}
 use Rattle.std.specs.List.{flat_map}
-use Rattle.driver_core.specs.declared.change.Change.{Change}
-use Rattle.driver_core.specs.declared.draft.Draft.{Draft}
+use Rattle.driver_core.specs.declared.outcome.Outcome.{Outcome}
+use Rattle.driver_core.specs.declared.told.Told.{Told}
+use Rattle.driver_core.specs.Change.{Change}
+use Rattle.driver_core.specs.Draft.{Draft}
 use Rattle.driver_core.specs.declared.event.End.{End}
 use Rattle.driver_core.specs.declared.event.Inputs.{Inputs}
 use Rattle.driver_core.specs.declared.replies.Message.{Message}
@@ -10,6 +12,7 @@ use Rattle.driver_core.specs.declared.replies.Reply.TheVariants.{AvailableImage,
 use Rattle.driver_core.specs.Pairs.{pairs_of, lacking}
 use Rattle.driver_core.specs.State.{State}
 use Rattle.client_registry.specs.Clients.{principal_at}
+use Rattle.log_readers.specs.Turnover.{pairs_with}
 use Rattle.policy_core.specs.declared.act.Act.TheVariants.{Image}
 use Rattle.policy_core.specs.declared.decision.Decision.{Decision}
 use Rattle.policy_core.specs.Rules.{verdict_of}
@@ -123,3 +126,58 @@ renewed before inputs draft = record {
     come = come_to before draft.after;
   };
 }
+
+-- what it tells, by what its own rule tells and by the registry behind it
+abbrev pub outcome_with : State → Inputs → Told → State → Outcome
+outcome_with before inputs told after = record {
+  response = told.response;
+  replies = told.replies
+      ++ (images_told after inputs (gone_from before after) (come_to before after) ++ told.later);
+  decisions = told.decisions ++ images_decided after (gone_from before after) (come_to before after);
+  opens = told.opens;
+  closes = told.closes;
+  gone = gone_from before after;
+  come = come_to before after;
+}
+
+-- where no pair goes or comes
+abbrev pub outcome_kept : Told → Outcome
+outcome_kept told = record {
+  response = told.response;
+  replies = told.replies ++ told.later;
+  decisions = told.decisions;
+  opens = told.opens;
+  closes = told.closes;
+  gone = [];
+  come = [];
+}
+
+-- what an event's draft tells once the pairs are renewed
+abbrev pub outcome_by : State → Inputs → Draft → Outcome
+outcome_by before inputs draft = (renewed before inputs draft).outcome
+
+-- ---- where a subscription comes
+
+-- what its client is told of a log that it reads
+abbrev pub available_on : List Publication → List End → Subscription → Pair → List Message
+available_on publications ends subscription pair =
+    available_to ends pair (publication_at publications pair.source) (Some subscription)
+
+-- what is decided on it
+abbrev pub decided_with : State → Subscription → Pair → List Decision
+decided_with s subscription pair =
+    decided_to s (publication_at s.streams.publications pair.source) (Some subscription)
+
+-- what it tells that a subscription comes, by what its own rule tells
+abbrev pub outcome_coming : State → Inputs → Told → Subscription → Outcome
+outcome_coming s inputs told subscription =
+    let come : List Pair = pairs_with s.clients.rows s.policy s.epoch s.streams.publications subscription in
+    record {
+      response = told.response;
+      replies = told.replies ++ flat_map (available_on s.streams.publications inputs.ends subscription) come;
+      decisions = told.decisions ++ flat_map (decided_with s subscription) come;
+      opens = told.opens;
+      closes = told.closes;
+      gone = [];
+      come = come;
+    }

@@ -3,7 +3,7 @@
 -- change. Own rules.
 use Rattle.std.specs.Prelude.{◌≡◌, ℕ, ◌%◌, ◌<◌, ◌≤◌, Bool, not, ◌==◌, List, [], ◌∷◌, ◌++◌, length, map, filter, All, Option, Some, None}
 use Rattle.std.specs.List.{list_any}
-use Rattle.driver_core.specs.declared.change.Change.{Change}
+use Rattle.driver_core.specs.Change.{Change}
 use Rattle.driver_core.specs.declared.settings.Settings.{Settings}
 use Rattle.driver_core.specs.State.{State}
 use Rattle.stream_registry.specs.declared.lingering.LogPlace.{LogPlace}

@@ -1,11 +1,13 @@
 -- ADD_SUBSCRIPTION.
 use Rattle.std.specs.Prelude.{ℕ, ◌+◌, ℤ, Bool, true, false, not, ◌&&◌, [], ◌∷◌, is_some, is_none, Result, Ok, Err, codes, if◌then◌else◌}
-use Rattle.driver_core.specs.declared.draft.Draft.{Draft}
+use Rattle.driver_core.specs.Draft.{Draft}
 use Rattle.driver_core.specs.declared.refusal.Refusal.TheVariants.{InvalidChannel, Denied, Full}
 use Rattle.driver_core.specs.declared.replies.Reply.TheVariants.{SubscriptionReady}
 use Rattle.driver_core.specs.Draft.{replied, refused}
 use Rattle.driver_core.specs.Deciding.{decision_by}
 use Rattle.driver_core.specs.Pairs.{is_within_pairs}
+use Rattle.driver_core.specs.declared.refused.Refused.{Refused}
+use Rattle.driver_core.specs.Refusing.{on, denied}
 use Rattle.driver_core.specs.State.{State, has_number}
 use Rattle.client_registry.specs.declared.client.Client.{Client}
 use Rattle.channel_uri.specs.declared.error.UriError.{UriError}
@@ -67,6 +69,15 @@ subscribe s client correlation channel stream =
     else if has_room_for_subscription s client.number channel stream
     then subscribed s client correlation channel stream
     else refused s (decision_of s client channel stream ∷ []) client.number correlation Full
+
+-- what is decided on it: why it is refused, or on which decision it is granted
+unfoldable pub subscribing_of : State → Client → Shape → ℤ → Result Decision Refused
+subscribing_of s client channel stream =
+    if not (decision_of s client channel stream).verdict.allow
+    then Err (denied (decision_of s client channel stream))
+    else if has_room_for_subscription s client.number channel stream
+    then Ok (decision_of s client channel stream)
+    else Err (on (decision_of s client channel stream) Full)
 
 -- the text has to be a channel that the command takes
 abbrev pub subscribe_on : State → Client → ℕ → Result Shape UriError → ℤ → Draft

@@ -1,11 +1,13 @@
 -- TERMINATE_DRIVER.
-use Rattle.std.specs.Prelude.{ℕ, true, not, pos, [], ◌∷◌, map, None, if◌then◌else◌}
-use Rattle.driver_core.specs.declared.draft.Draft.{Draft}
+use Rattle.std.specs.Prelude.{ℕ, true, not, pos, [], ◌∷◌, map, None, Result, Ok, Err, if◌then◌else◌}
+use Rattle.driver_core.specs.Draft.{Draft}
 use Rattle.driver_core.specs.declared.outcome.Response.TheVariants.{Nothing}
 use Rattle.driver_core.specs.declared.refusal.Refusal.TheVariants.{Denied}
 use Rattle.driver_core.specs.declared.replies.Reply.TheVariants.{OperationSuccess}
 use Rattle.driver_core.specs.Draft.{refused}
 use Rattle.driver_core.specs.Deciding.{decision_by}
+use Rattle.driver_core.specs.declared.refused.Refused.{Refused}
+use Rattle.driver_core.specs.Refusing.{denied}
 use Rattle.driver_core.specs.State.{State}
 use Rattle.channel_uri.specs.Channel.{ipc_shape}
 use Rattle.client_registry.specs.declared.client.Client.{Client}
@@ -43,3 +45,10 @@ terminate s client correlation =
     then refused s (termination_decision s client ∷ []) client.number correlation
     (Denied (termination_decision s client).verdict)
     else terminated s client correlation
+
+-- what is decided on it: why it is refused, or on which decision it is granted
+unfoldable pub terminating_of : State → Client → Result Decision Refused
+terminating_of s client =
+    if not (termination_decision s client).verdict.allow
+    then Err (denied (termination_decision s client))
+    else Ok (termination_decision s client)

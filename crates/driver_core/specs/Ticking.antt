@@ -1,6 +1,6 @@
 -- Time goes on: clients of which nothing was heard for too long go, and publications that linger for too long close.
 use Rattle.std.specs.Prelude.{ℕ, List, [], map, None}
-use Rattle.driver_core.specs.declared.draft.Draft.{Draft}
+use Rattle.driver_core.specs.Draft.{Draft}
 use Rattle.driver_core.specs.declared.outcome.Response.TheVariants.{Nothing}
 use Rattle.driver_core.specs.declared.replies.Message.{Message}
 use Rattle.driver_core.specs.declared.replies.Reply.TheVariants.{ClientTimeout}

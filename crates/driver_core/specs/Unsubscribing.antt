@@ -1,6 +1,6 @@
 -- REMOVE_SUBSCRIPTION.
 use Rattle.std.specs.Prelude.{ℕ, [], if◌then◌else◌}
-use Rattle.driver_core.specs.declared.draft.Draft.{Draft}
+use Rattle.driver_core.specs.Draft.{Draft}
 use Rattle.driver_core.specs.declared.refusal.Refusal.TheVariants.{UnknownSubscription}
 use Rattle.driver_core.specs.declared.replies.Reply.TheVariants.{OperationSuccess}
 use Rattle.driver_core.specs.Draft.{replied, refused}

@@ -1,23 +1,58 @@
 ghost use Rattle.driver_core.specs.Attaching.{attach};
-ghost use Rattle.std.specs.Prelude.{◌≡◌};
+ghost use Rattle.driver_core.specs.Renewal.{outcome_by};
+ghost use Rattle.driver_core.specs.State.{at_moment};
+ghost use Rattle.driver_core.specs.Told.{told_of};
+ghost use Rattle.std.specs.Prelude.{◌≡◌, ℕ, IfOk};
 
-use crate::draft::Draft;
-use crate::outcome::Response;
+use crate::event::Inputs;
+use crate::outcome::{Outcome, Response};
 use crate::registry::Registry;
-use std::alloc::Global;
+use crate::told::Told;
+use std::alloc::{AllocError, Global};
 
-/// A client comes.
-#[tactic(auto, unfolding(crate::specs::Attaching::attach, crate::specs::Attaching::attached, client_registry::specs::Clients::admission))]
-pub(crate) fn attach(registry: Registry, alloc: Global, principal: u32) -> Draft
-    ensures { result ≡ attach registry principal }
-{
-    if registry.stopped {
-        return Draft::answered(alloc, registry, Response::Stopped);
+impl Registry {
+    /// What a client is told that comes. It takes no memory.
+    #[tactic(auto, unfolding(crate::specs::Attaching::attach, crate::specs::Attaching::attached, crate::specs::Draft::answered, crate::specs::State::at_moment, client_registry::specs::Clients::admission))]
+    pub(crate) fn tell_attach(&self, alloc: Global) -> Told
+        ensures { (now principal : ℕ) → result ≡ told_of (attach (at_moment self.now now) principal) }
+    {
+        if self.stopped {
+            return Told::answered(alloc, Response::Stopped);
+        }
+        match self.clients.admission() {
+            Ok(number) => Told::answered(alloc, Response::Attached(number)),
+            Err(_) => Told::answered(alloc, Response::Full),
+        }
     }
-    let mut registry = registry;
-    let response = match registry.clients.admit(principal, registry.moment) {
-        Ok(number) => Response::Attached(number),
-        Err(_) => Response::Full,
-    };
-    Draft::answered(alloc, registry, response)
+
+    /// What it tells, and does outside the registry, that a client comes.
+    #[tactic(auto, unfolding(crate::specs::Renewal::renewed))]
+    pub(crate) fn outcome_of_attach(
+        &self,
+        alloc: Global,
+        now: u64,
+        principal: u32,
+        inputs: &Inputs,
+    ) -> Result<Outcome, AllocError>
+        ensures { IfOk result (λ outcome. outcome ≡ outcome_by self.now inputs.now (attach (at_moment self.now now) principal)) }
+    {
+        let mut after = self.copy(alloc)?;
+        after.go_on(now);
+        after.do_attach(principal);
+        self.renew(alloc, inputs, self.tell_attach(alloc), &after)
+    }
+
+    /// A client comes, which acts for this principal.
+    #[tactic(auto, unfolding(crate::specs::Attaching::attach, crate::specs::Attaching::attached, crate::specs::Draft::answered, client_registry::specs::Clients::admission))]
+    pub(crate) fn do_attach(&mut self, principal: u32)
+        ensures { self.new ≡ (attach self.old principal).after }
+    {
+        if self.stopped {
+            return;
+        }
+        match self.clients.admit(principal, self.moment) {
+            Ok(_) => {}
+            Err(_) => {}
+        }
+    }
 }

@@ -1,118 +1,264 @@
-ghost use Rattle.driver_core.specs.Commands.{requested, heard, asked, command};
-ghost use Rattle.std.specs.Prelude.{◌≡◌, IfOk};
+ghost use Rattle.driver_core.specs.Commands.{requested, heard, asked, at_asking, command, keeps_pairs, refusal_for};
+ghost use Rattle.driver_core.specs.Draft.{refused};
+ghost use Rattle.driver_core.specs.Received.{channel_named};
+ghost use Rattle.driver_core.specs.Refusing.{refused_by};
+ghost use Rattle.driver_core.specs.Renewal.{outcome_by};
+ghost use Rattle.driver_core.specs.State.{at_moment};
+ghost use Rattle.driver_core.specs.Told.{told_of};
+ghost use Rattle.driver_core.specs.declared.event.Inputs.{Inputs as InputsSpec};
+ghost use Rattle.std.specs.Prelude.{◌≡◌, [], is_some, true, IfOk};
+ghost use Rattle.client_registry.specs.Clients.{client_at, principal_at};
 
-use crate::draft::Draft;
+use crate::asking::Asking;
+use crate::event::Inputs;
+use crate::outcome::Outcome;
+use crate::received::Received;
 use crate::refusal::Refusal;
+use crate::refused::Refused;
 use crate::registry::Registry;
-use crate::{closing, counting, publishing, subscribing, terminating, unpublishing, unsubscribing};
+use crate::renewal;
+use crate::told::Told;
+use channel_uri::{Channel, UriError};
 use client_registry::Client;
 use command_codec::{Body, Command, CommandFault};
 use std::alloc::{AllocError, Global};
 
-/// What the command of a client that is there asks for.
-#[tactic(auto, unfolding(crate::specs::Commands::requested))]
-fn requested(
-    registry: Registry,
-    alloc: Global,
-    client: Client,
-    command: &Command,
-) -> Result<Draft, AllocError>
-    ensures { IfOk result (λ draft. draft ≡ requested registry client command.now) }
+/// The refusal of bytes that are no command.
+fn refusal_for(fault: CommandFault) -> Refusal
+    ensures { result ≡ refusal_for fault }
 {
-    let correlation = command.correlation;
-    match &command.body {
-        Body::AddPublication(fields) => {
-            publishing::add_publication(registry, alloc, client, correlation, fields, false)
-        }
-        Body::RemovePublication(fields) => {
-            unpublishing::remove_publication(registry, alloc, client, correlation, *fields)
-        }
-        Body::AddExclusivePublication(fields) => {
-            publishing::add_publication(registry, alloc, client, correlation, fields, true)
-        }
-        Body::AddSubscription(fields) => {
-            subscribing::add_subscription(registry, alloc, client, correlation, fields)
-        }
-        Body::RemoveSubscription(fields) => {
-            unsubscribing::remove_subscription(registry, alloc, client, correlation, *fields)
-        }
-        Body::ClientKeepalive => Ok(closing::keep_alive(registry, alloc)),
-        Body::AddCounter(fields) => {
-            counting::add_counter(registry, alloc, client, correlation, fields)
-        }
-        Body::RemoveCounter(fields) => {
-            counting::remove_counter(registry, alloc, client, correlation, *fields)
-        }
-        Body::ClientClose => closing::close(registry, alloc, client, correlation),
-        Body::TerminateDriver(_) => { terminating::terminate(registry, alloc, client, correlation) }
-        Body::SetCounter(fields) => {
-            counting::set_counter(registry, alloc, client, correlation, *fields)
-        }
+    match fault {
+        CommandFault::Unknown => Refusal::UnknownCommandType,
+        _ => Refusal::MalformedCommand,
     }
 }
 
-/// The client of this handle is heard of, by a command of its own. It takes no memory.
-#[tactic(auto, unfolding(crate::specs::Commands::heard))]
-fn hear(registry: &mut Registry, handle: u64)
-    ensures { registry.new ≡ heard registry.old handle }
-{
-    let moment = registry.moment;
-    registry.clients.touch(handle, moment);
-}
-
-/// The command of a handle.
-#[tactic(auto, unfolding(crate::specs::Commands::asked))]
-fn asked(
-    registry: Registry,
-    alloc: Global,
-    handle: u64,
-    command: &Command,
-) -> Result<Draft, AllocError>
-    ensures { IfOk result (λ draft. draft ≡ asked registry handle command.now) }
-{
-    if command.client != handle {
-        return Draft::refused(
-            alloc,
-            registry,
-            handle,
-            command.correlation,
-            Refusal::WrongClient,
-        );
+impl Registry {
+    /// What the command of a client that is there tells where it changes no pair.
+    #[tactic(auto, unfolding(crate::specs::Commands::requested))]
+    fn tell_quiet(
+        &self,
+        alloc: Global,
+        client: Client,
+        command: &Command,
+    ) -> Result<Told, AllocError>
+        requires { keeps_pairs command.now.body ≡ true }
+        ensures { IfOk result (λ told. told ≡ told_of (requested self.now client command.now)) }
+    {
+        let correlation = command.correlation;
+        match &command.body {
+            Body::RemovePublication(fields) => {
+                self.tell_remove_publication(alloc, client, correlation, *fields)
+            }
+            Body::AddCounter(fields) => self.tell_add_counter(alloc, client, correlation, fields),
+            Body::RemoveCounter(fields) => {
+                self.tell_remove_counter(alloc, client, correlation, *fields)
+            }
+            Body::SetCounter(fields) => self.tell_set_counter(alloc, client, correlation, *fields),
+            _ => Ok(self.tell_keep_alive(alloc)),
+        }
     }
-    let Some(client) = registry.clients.get(handle) else {
-        return Draft::refused(
-            alloc,
-            registry,
-            handle,
-            command.correlation,
-            Refusal::WrongClient,
-        );
-    };
-    let mut registry = registry;
-    hear(&mut registry, handle);
-    requested(registry, alloc, client, command)
-}
 
-/// Bytes that came over a handle.
-#[tactic(auto, unfolding(crate::specs::Commands::command))]
-pub(crate) fn command(
-    registry: Registry,
-    alloc: Global,
-    handle: u64,
-    bytes: &[u8],
-) -> Result<Draft, AllocError>
-    ensures { IfOk result (λ draft. draft ≡ command registry handle bytes.now) }
-{
-    match Command::read(alloc, bytes) {
-        Ok(command) => asked(registry, alloc, handle, &command),
-        Err(fault) => {
-            let refusal = match fault {
-                CommandFault::Unknown => Refusal::UnknownCommandType,
-                CommandFault::Malformed => Refusal::MalformedCommand,
-                CommandFault::NoMemory => return Err(AllocError),
-            };
-            let correlation = Command::correlation_of(bytes);
-            Draft::refused(alloc, registry, handle, correlation, refusal)
+    /// What such a command tells, once the client was heard of.
+    fn tell_at(&self, alloc: Global, asking: Asking, command: &Command) -> Result<Told, AllocError>
+        requires { keeps_pairs command.now.body ≡ true }
+        ensures { IfOk result (λ told. told ≡ told_of (requested (at_asking self.now asking) asking.client command.now)) }
+    {
+        self.tell_quiet(alloc, asking.client, command)
+    }
+
+    /// What the command of a client that is there tells where it changes no pair, and does outside the registry.
+    fn outcome_of_quiet(
+        &self,
+        alloc: Global,
+        asking: Asking,
+        command: &Command,
+    ) -> Result<Outcome, AllocError>
+        requires { keeps_pairs command.now.body ≡ true }
+        ensures { (inputs : InputsSpec) → IfOk result (λ outcome. outcome ≡ outcome_by self.now inputs (requested (at_asking self.now asking) asking.client command.now)) }
+    {
+        let told = self.tell_at(alloc, asking, command)?;
+        renewal::keep_pairs(alloc, told)
+    }
+
+    /// What the command of a client that is there tells, and does outside the registry.
+    #[tactic(auto, unfolding(crate::specs::Commands::requested))]
+    fn outcome_of_requested(
+        &self,
+        alloc: Global,
+        asking: Asking,
+        command: &Command,
+        channel: &Result<Channel, UriError>,
+        inputs: &Inputs,
+    ) -> Result<Outcome, AllocError>
+        requires named { channel.now ≡ channel_named command.now.body }
+        requires own { asking.correlation ≡ command.now.correlation }
+        ensures { IfOk result (λ outcome. outcome ≡ outcome_by self.now inputs.now (requested (at_asking self.now asking) asking.client command.now)) }
+    {
+        match &command.body {
+            Body::AddPublication(fields) => {
+                self.outcome_of_add_publication(alloc, asking, fields, channel, false, inputs)
+            }
+            Body::AddExclusivePublication(fields) => {
+                self.outcome_of_add_publication(alloc, asking, fields, channel, true, inputs)
+            }
+            Body::AddSubscription(fields) => {
+                self.outcome_of_add_subscription(alloc, asking, fields, channel, inputs)
+            }
+            Body::RemoveSubscription(fields) => {
+                self.outcome_of_remove_subscription(alloc, asking, *fields, inputs)
+            }
+            Body::ClientClose => self.outcome_of_close(alloc, asking, inputs),
+            Body::TerminateDriver(_) => self.outcome_of_terminate(alloc, asking, inputs),
+            _ => self.outcome_of_quiet(alloc, asking, command),
+        }
+    }
+
+    /// What a command tells that is refused.
+    pub(crate) fn outcome_of_refused(
+        &self,
+        alloc: Global,
+        asking: Asking,
+        refused: Refused,
+    ) -> Result<Outcome, AllocError>
+        ensures { (inputs : InputsSpec) → IfOk result (λ outcome. outcome ≡ outcome_by self.now inputs (refused_by (at_asking self.now asking) asking.client.number asking.correlation refused)) }
+    {
+        let told = Told::refused(alloc, asking.client.number, asking.correlation, refused)?;
+        renewal::keep_pairs(alloc, told)
+    }
+
+    /// What a command tells that is refused before it is known whose it is.
+    fn outcome_of_unknown(
+        &self,
+        alloc: Global,
+        now: u64,
+        handle: u64,
+        correlation: u64,
+        refusal: Refusal,
+    ) -> Result<Outcome, AllocError>
+        ensures { (inputs : InputsSpec) → IfOk result (λ outcome. outcome ≡ outcome_by self.now inputs (refused (at_moment self.now now) [] handle correlation refusal)) }
+    {
+        let told = Told::refused(alloc, handle, correlation, Refused::plainly(refusal))?;
+        renewal::keep_pairs(alloc, told)
+    }
+
+    /// What the command of a handle tells, and does outside the registry.
+    #[tactic(auto, unfolding(crate::specs::Commands::asked, crate::specs::State::at_moment))]
+    fn outcome_of_asked(
+        &self,
+        alloc: Global,
+        now: u64,
+        handle: u64,
+        command: &Command,
+        channel: &Result<Channel, UriError>,
+        inputs: &Inputs,
+    ) -> Result<Outcome, AllocError>
+        requires { channel.now ≡ channel_named command.now.body }
+        ensures { IfOk result (λ outcome. outcome ≡ outcome_by self.now inputs.now (asked (at_moment self.now now) handle command.now)) }
+    {
+        let correlation = command.correlation;
+        if command.client != handle {
+            return self.outcome_of_unknown(alloc, now, handle, correlation, Refusal::WrongClient);
+        }
+        match self.clients.get(handle) {
+            Some(client) => {
+                let asking = Asking {
+                    now,
+                    handle,
+                    client,
+                    correlation,
+                };
+                self.outcome_of_requested(alloc, asking, command, channel, inputs)
+            }
+            None => self.outcome_of_unknown(alloc, now, handle, correlation, Refusal::WrongClient),
+        }
+    }
+
+    /// What a command tells that came over a handle, and does outside the registry.
+    #[tactic(auto, unfolding(crate::specs::Commands::command, crate::specs::Received::channel_in))]
+    pub(crate) fn outcome_of_command(
+        &self,
+        alloc: Global,
+        now: u64,
+        handle: u64,
+        received: &Received,
+        inputs: &Inputs,
+    ) -> Result<Outcome, AllocError>
+        ensures { IfOk result (λ outcome. outcome ≡ outcome_by self.now inputs.now (command (at_moment self.now now) handle received.now)) }
+    {
+        match received.read() {
+            Ok(command) => {
+                self.outcome_of_asked(alloc, now, handle, command, received.channel(), inputs)
+            }
+            Err(fault) => {
+                let correlation = Command::correlation_of(received.as_slice());
+                self.outcome_of_unknown(alloc, now, handle, correlation, refusal_for(*fault))
+            }
+        }
+    }
+
+    /// The command of a client that is there.
+    #[tactic(auto, unfolding(crate::specs::Commands::requested))]
+    fn do_requested(
+        &mut self,
+        client: Client,
+        command: &Command,
+        channel: &Result<Channel, UriError>,
+    )
+        requires named { channel.now ≡ channel_named command.now.body }
+        requires owned { is_some (principal_at self.old.clients.rows client.number) ≡ true }
+        ensures { self.new ≡ (requested self.old client command.now).after }
+    {
+        match &command.body {
+            Body::AddPublication(fields) => self.do_add_publication(client, fields, channel, false),
+            Body::RemovePublication(fields) => self.do_remove_publication(client, *fields),
+            Body::AddExclusivePublication(fields) => {
+                self.do_add_publication(client, fields, channel, true)
+            }
+            Body::AddSubscription(fields) => self.do_add_subscription(client, fields, channel),
+            Body::RemoveSubscription(fields) => self.do_remove_subscription(client, *fields),
+            Body::ClientKeepalive => self.do_keep_alive(),
+            Body::AddCounter(fields) => self.do_add_counter(client, fields),
+            Body::RemoveCounter(fields) => self.do_remove_counter(client, *fields),
+            Body::ClientClose => self.do_close(client),
+            Body::TerminateDriver(_) => self.do_terminate(client),
+            Body::SetCounter(fields) => self.do_set_counter(client, *fields),
+        }
+    }
+
+    /// The client of this handle is heard of, by a command of its own.
+    #[tactic(auto, unfolding(crate::specs::Commands::heard))]
+    pub(crate) fn hear(&mut self, handle: u64)
+        ensures { self.new ≡ heard self.old handle }
+    {
+        let moment = self.moment;
+        self.clients.touch(handle, moment);
+    }
+
+    /// The command of a handle.
+    #[tactic(auto, unfolding(crate::specs::Commands::asked, crate::specs::Draft::refused, crate::specs::Draft::replied, crate::specs::Draft::told))]
+    fn do_asked(&mut self, handle: u64, command: &Command, channel: &Result<Channel, UriError>)
+        requires { channel.now ≡ channel_named command.now.body }
+        ensures { self.new ≡ (asked self.old handle command.now).after }
+    {
+        if command.client != handle {
+            return;
+        }
+        let Some(client) = self.clients.get(handle) else {
+            return;
+        };
+        self.hear(handle);
+        self.do_requested(client, command, channel);
+    }
+
+    /// A command that came over a handle.
+    #[tactic(auto, unfolding(crate::specs::Commands::command, crate::specs::Received::channel_in, crate::specs::Draft::refused, crate::specs::Draft::replied, crate::specs::Draft::told))]
+    pub(crate) fn do_command(&mut self, handle: u64, received: &Received)
+        ensures { self.new ≡ (command self.old handle received.now).after }
+    {
+        match received.read() {
+            Ok(command) => self.do_asked(handle, command, received.channel()),
+            Err(_) => {}
         }
     }
 }

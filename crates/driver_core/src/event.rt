@@ -1,21 +1,58 @@
-ghost use Rattle.std.specs.Prelude.{◌≡◌, []};
+ghost use Rattle.std.specs.Prelude.{◌≡◌, [], IfOk};
 
-use byte_strings::{Bytes, Items};
+use crate::received::Received;
+use byte_strings::Items;
 use policy_core::Policy;
-use std::alloc::Global;
+use std::alloc::{AllocError, Global};
 
 /// What happens to the conductor, with its moment in nanoseconds. A moment before one that was seen already counts as
 /// the one seen.
 #[derive(Debug, Drop)]
 pub enum Event {
     /// A client comes, which acts for this principal.
-    Attach { now: u64, principal: u32 },
+    Attach {
+        now: u64,
+        principal: u32,
+    },
     /// The bytes of a command come over the handle of a client.
-    Command { now: u64, client: u64, bytes: Bytes },
+    Command {
+        now: u64,
+        client: u64,
+        bytes: Received,
+    },
     /// A policy is to be in force from here on, under the next number.
-    Reload { now: u64, policy: Policy },
+    Reload {
+        now: u64,
+        policy: Policy,
+    },
     /// Time goes on.
-    Tick { now: u64 },
+    Tick {
+        now: u64,
+    },
+}
+
+impl Event {
+    /// Another event, the same as this one.
+    pub fn copy(&self, alloc: Global) -> Result<Event, AllocError>
+        ensures { IfOk result (λ copy. copy ≡ self.now) }
+    {
+        match self {
+            Event::Attach { now, principal } => Ok(Event::Attach {
+                now: *now,
+                principal: *principal,
+            }),
+            Event::Command { now, client, bytes } => Ok(Event::Command {
+                now: *now,
+                client: *client,
+                bytes: bytes.copy(alloc)?,
+            }),
+            Event::Reload { now, policy } => Ok(Event::Reload {
+                now: *now,
+                policy: policy.copy(alloc)?,
+            }),
+            Event::Tick { now } => Ok(Event::Tick { now: *now }),
+        }
+    }
 }
 
 /// How far a log reaches.
@@ -45,5 +82,15 @@ impl Inputs {
             silent: Items::new(alloc),
             ends: Items::new(alloc),
         }
+    }
+
+    /// The same, told once more.
+    pub fn copy(&self, alloc: Global) -> Result<Inputs, AllocError>
+        ensures { IfOk result (λ copy. copy ≡ self.now) }
+    {
+        Ok(Inputs {
+            silent: Items::from(Vec::from_slice(alloc, self.silent.as_slice())?),
+            ends: Items::from(Vec::from_slice(alloc, self.ends.as_slice())?),
+        })
     }
 }

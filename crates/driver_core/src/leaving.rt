@@ -3,22 +3,25 @@ ghost use Rattle.std.specs.Prelude.{◌≡◌};
 
 use crate::registry::Registry;
 
-/// A client goes, with all that it registered. It takes no memory.
-#[tactic(auto, unfolding(crate::specs::Leaving::left))]
-pub(crate) fn leave(registry: &mut Registry, client: u64)
-    ensures { registry.new ≡ left registry.old client }
-{
-    let now = registry.moment;
-    registry.clients.remove(client);
-    registry.streams.client_left(client, now);
-    registry.counters.remove_those_of(client);
-}
+impl Registry {
+    /// A client goes, with all that it registered.
+    #[tactic(auto, unfolding(crate::specs::Leaving::left))]
+    pub(crate) fn leave(&mut self, client: u64)
+        ensures { self.new ≡ left self.old client }
+    {
+        let now = self.moment;
+        self.readers.client_left(&self.streams, client);
+        self.clients.remove(client);
+        self.streams.client_left(client, now);
+        self.counters.remove_those_of(client);
+    }
 
-/// These clients go, each with all that it registered. It takes no memory.
-pub(crate) fn leave_all(registry: &mut Registry, clients: &[u64])
-    ensures { registry.new ≡ all_left registry.old clients.now }
-{
-    for client in clients {
-        leave(registry, *client);
+    /// These clients go, each with all that it registered.
+    pub(crate) fn leave_all(&mut self, clients: &[u64])
+        ensures { self.new ≡ all_left self.old clients.now }
+    {
+        for client in clients {
+            self.leave(*client);
+        }
     }
 }

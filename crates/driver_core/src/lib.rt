@@ -6,13 +6,14 @@
 //! and `Registry::receiving` say what it asks of a log; none of them changes anything.
 #![tactic(auto)]
 
+mod asking;
 mod attaching;
-mod change;
 mod closing;
+mod coming;
 mod commands;
 mod counting;
 mod deciding;
-mod draft;
+mod entry;
 mod event;
 mod finding;
 mod leaving;
@@ -22,7 +23,10 @@ mod outcome;
 mod pairs;
 mod peer;
 mod publishing;
+mod readers;
+mod received;
 mod refusal;
+mod refused;
 mod registry;
 mod reloading;
 mod renewal;
@@ -31,16 +35,18 @@ mod settings;
 mod subscribing;
 mod terminating;
 mod ticking;
+mod told;
 mod unpublishing;
 mod unsubscribing;
 mod view;
 
-pub use change::Change;
+pub use entry::Entry;
 pub use event::{End, Event, Inputs};
 pub use listing::{Listed, ListedCounter, Shown};
 pub use log_request::LogRequest;
 pub use outcome::{Outcome, Response};
 pub use peer::{Address, Peer};
+pub use received::Received;
 pub use refusal::Refusal;
 pub use registry::Registry;
 pub use replies::{Message, Reply};

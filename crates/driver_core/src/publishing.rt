@@ -1,21 +1,35 @@
-ghost use Rattle.driver_core.specs.Publishing.{add_publication, has_place, has_room_for_publication, is_publishable, opening_of, publication_decision, publish, publish_under, published, publishing_act, ready_for, refused_by_streams, session_of, with_publication};
+ghost use Rattle.driver_core.specs.Publishing.{add_publication, granting_of, has_place, has_room_for_publication, is_publishable, opening_of, publication_decision, publish, published, publishing_act, publishing_of, ready_for, refused_by_streams, session_of, with_publication};
+ghost use Rattle.channel_uri.specs.Channel.{denotes};
+ghost use Rattle.driver_core.specs.Commands.{at_asking};
+ghost use Rattle.driver_core.specs.Renewal.{outcome_by};
 ghost use Rattle.driver_core.specs.Pairs.{pairs_of};
-ghost use Rattle.std.specs.Prelude.{◌≡◌, true, Ok, length, IfOk};
+ghost use Rattle.std.specs.Prelude.{◌≡◌, true, Ok, length, ℕ, IfOk};
 ghost use Rattle.driver_core.specs.State.{has_number};
 ghost use Rattle.stream_registry.specs.Adding.{adding_of};
 
+use crate::asking::Asking;
 use crate::deciding;
-use crate::draft::Draft;
+use crate::event::Inputs;
+use crate::outcome::Outcome;
 use crate::pairs::PAIRS;
 use crate::refusal::Refusal;
+use crate::refused::Refused;
 use crate::registry::Registry;
 use crate::replies::Reply;
-use channel_uri::Channel;
+use crate::told::Told;
+use channel_uri::{Channel, UriError};
 use client_registry::Client;
 use command_codec::AddPublication;
 use policy_core::{Act, Decision};
 use std::alloc::{AllocError, Global};
 use stream_registry::{Adding, LogPlace, StreamFault, Wanted};
+
+/// On which decision a publication is granted, and what the lists make of it.
+#[derive(Clone, Copy)]
+pub(crate) struct Granted {
+    pub(crate) decision: Decision,
+    pub(crate) adding: Adding,
+}
 
 /// Whether a publication takes such a channel: no spy, and `udp` with an endpoint or with destinations named by hand.
 #[tactic(auto, unfolding(crate::specs::Publishing::is_publishable))]
@@ -126,7 +140,8 @@ impl Registry {
         ensures { result ≡ length (pairs_of (with_publication self.now client wanted.now adding)) }
     {
         let place = self.streams.place_for(self.settings.arena_pages, wanted);
-        self.streams.pair_count_with_publication(
+        self.readers.pair_count_with_publication(
+            &self.streams,
             &self.clients,
             &self.policy,
             self.epoch,
@@ -146,7 +161,138 @@ impl Registry {
         self.has_number() && self.pairs_with_publication(client, wanted, adding) <= PAIRS
     }
 
-    /// The client is registered under the next number. It takes no memory.
+    /// What the policy in force decides.
+    fn publication_decision(&self, client: Client, wanted: &Wanted) -> Decision
+        ensures { result ≡ publication_decision self.now client wanted.now }
+    {
+        let act = publishing_act(wanted.exclusive);
+        deciding::decide(self, client, act, &wanted.channel, wanted.stream)
+    }
+
+    /// What is decided on a publication that the policy allows and the lists take.
+    #[tactic(auto, unfolding(crate::specs::Publishing::granting_of))]
+    fn granting(
+        &self,
+        client: Client,
+        wanted: &Wanted,
+        decision: Decision,
+        adding: Adding,
+    ) -> Result<Granted, Refused>
+        requires { decision ≡ publication_decision self.now client wanted.now }
+        ensures { result ≡ granting_of self.now client wanted.now adding }
+    {
+        if !self.has_room_for_publication(client.number, wanted, adding) {
+            return Err(Refused::on(decision, Refusal::Full));
+        }
+        if !self.has_place(wanted, adding) {
+            return Err(Refused::on(decision, Refusal::NoRoom));
+        }
+        Ok(Granted { decision, adding })
+    }
+
+    /// What is decided on a publication on a channel that such a command takes.
+    #[tactic(auto, unfolding(crate::specs::Publishing::publishing_of))]
+    fn publishing(&self, client: Client, wanted: &Wanted) -> Result<Granted, Refused>
+        ensures { result ≡ publishing_of self.now client wanted.now }
+    {
+        let decision = self.publication_decision(client, wanted);
+        if !decision.verdict.allow {
+            return Err(Refused::denied(decision));
+        }
+        match self.adding(wanted) {
+            Ok(adding) => self.granting(client, wanted, decision, adding),
+            Err(fault) => Err(Refused::on(decision, refused_by_streams(fault))),
+        }
+    }
+
+    /// What is decided on it, once the client was heard of.
+    fn publishing_at(&self, asking: Asking, wanted: &Wanted) -> Result<Granted, Refused>
+        ensures { result ≡ publishing_of (at_asking self.now asking) asking.client wanted.now }
+    {
+        self.publishing(asking.client, wanted)
+    }
+
+    /// What a publication tells that is granted, and does outside the registry.
+    #[tactic(auto, unfolding(crate::specs::Publishing::published, crate::specs::Renewal::renewed, crate::specs::Draft::replied_opening, crate::specs::Draft::replied, crate::specs::Draft::told))]
+    fn outcome_of_published(
+        &self,
+        alloc: Global,
+        asking: Asking,
+        wanted: &Wanted,
+        granted: Granted,
+        inputs: &Inputs,
+    ) -> Result<Outcome, AllocError>
+        requires room { has_room_for_publication (at_asking self.now asking) asking.client.number wanted.now granted.adding ≡ true }
+        requires taken { adding_of (at_asking self.now asking).streams wanted.now ≡ Ok granted.adding }
+        requires decided { granted.decision ≡ publication_decision (at_asking self.now asking) asking.client wanted.now }
+        ensures { IfOk result (λ outcome. outcome ≡ outcome_by self.now inputs.now (published (at_asking self.now asking) asking.client asking.correlation wanted.now granted.adding)) }
+    {
+        let mut after = self.copy(alloc)?;
+        after.go_on(asking.now);
+        after.hear(asking.handle);
+        let opens = after.opening(wanted, granted.adding);
+        let number = after.next_number();
+        after.put_publication(asking.client.number, wanted, granted.adding);
+        let reply = ready_for(
+            wanted,
+            asking.correlation,
+            number,
+            session_of(granted.adding),
+        );
+        let mut told = Told::replied_on(alloc, granted.decision, asking.client.number, reply)?;
+        told.opens = opens;
+        self.renew(alloc, inputs, told, &after)
+    }
+
+    /// What a publication on a channel that such a command takes tells, and does outside the registry.
+    fn outcome_of_publish(
+        &self,
+        alloc: Global,
+        asking: Asking,
+        wanted: &Wanted,
+        inputs: &Inputs,
+    ) -> Result<Outcome, AllocError>
+        ensures { IfOk result (λ outcome. outcome ≡ outcome_by self.now inputs.now (publish (at_asking self.now asking) asking.client asking.correlation wanted.now)) }
+    {
+        match self.publishing_at(asking, wanted) {
+            Ok(granted) => self.outcome_of_published(alloc, asking, wanted, granted, inputs),
+            Err(refused) => self.outcome_of_refused(alloc, asking, refused),
+        }
+    }
+
+    /// What the command ADD_PUBLICATION of a client that is there tells, or ADD_EXCLUSIVE_PUBLICATION, and does outside
+    /// the registry.
+    #[tactic(auto, unfolding(crate::specs::Publishing::add_publication))]
+    pub(crate) fn outcome_of_add_publication(
+        &self,
+        alloc: Global,
+        asking: Asking,
+        fields: &AddPublication,
+        channel: &Result<Channel, UriError>,
+        exclusive: bool,
+        inputs: &Inputs,
+    ) -> Result<Outcome, AllocError>
+        requires { channel.now ≡ denotes fields.now.channel }
+        ensures { IfOk result (λ outcome. outcome ≡ outcome_by self.now inputs.now (add_publication (at_asking self.now asking) asking.client asking.correlation fields.now exclusive)) }
+    {
+        let invalid = Refused::plainly(Refusal::InvalidChannel);
+        match channel {
+            Ok(channel) => {
+                if !is_publishable(channel) {
+                    return self.outcome_of_refused(alloc, asking, invalid);
+                }
+                let wanted = Wanted {
+                    channel: channel.copy(),
+                    stream: fields.stream,
+                    exclusive,
+                };
+                self.outcome_of_publish(alloc, asking, &wanted, inputs)
+            }
+            Err(_) => self.outcome_of_refused(alloc, asking, invalid),
+        }
+    }
+
+    /// The client is registered under the next number.
     #[tactic(auto, unfolding(crate::specs::Publishing::with_publication))]
     fn put_publication(&mut self, client: u64, wanted: &Wanted, adding: Adding)
         requires room { has_room_for_publication self.old client wanted.now adding ≡ true }
@@ -154,149 +300,59 @@ impl Registry {
         ensures { self.new ≡ with_publication self.old client wanted.now adding }
     {
         let number = self.next_number();
-        let place = self.streams.place_for(self.settings.arena_pages, wanted);
+        let place = self
+            .streams
+            .place_for(self.settings.arena_pages, wanted)
+            .unwrap_or(0);
+        self.readers.add_publication(
+            &self.streams,
+            &self.clients,
+            &self.policy,
+            self.epoch,
+            number,
+            client,
+            wanted,
+            place,
+            adding,
+        );
         self.streams
-            .add_publication(number, client, wanted, place.unwrap_or(0), adding);
+            .add_publication(number, client, wanted, place, adding);
         self.last_number = number;
     }
-}
 
-/// A publication that the lists take, for which there are a number, pages and room.
-#[tactic(auto, unfolding(crate::specs::Publishing::published))]
-fn publish_granted(
-    registry: Registry,
-    alloc: Global,
-    client: Client,
-    correlation: u64,
-    wanted: &Wanted,
-    adding: Adding,
-    decision: Decision,
-) -> Result<Draft, AllocError>
-    requires room { has_room_for_publication registry client.number wanted.now adding ≡ true }
-    requires taken { adding_of registry.streams wanted.now ≡ Ok adding }
-    requires decided { decision ≡ publication_decision registry client wanted.now }
-    ensures { IfOk result (λ draft. draft ≡ published registry client correlation wanted.now adding) }
-{
-    let number = registry.next_number();
-    let reply = ready_for(wanted, correlation, number, session_of(adding));
-    let opens = registry.opening(wanted, adding);
-    let mut registry = registry;
-    registry.put_publication(client.number, wanted, adding);
-    Draft::replied_opening(alloc, registry, decision, client.number, reply, opens)
-}
+    /// A publication on a channel that such a command takes.
+    #[tactic(auto, unfolding(crate::specs::Publishing::publish, crate::specs::Publishing::publish_under, crate::specs::Publishing::published, crate::specs::Publishing::publishing_of, crate::specs::Draft::replied_opening, crate::specs::Draft::refused, crate::specs::Draft::replied, crate::specs::Draft::told))]
+    fn do_publish(&mut self, client: Client, wanted: &Wanted)
+        ensures { (correlation : ℕ) → self.new ≡ (publish self.old client correlation wanted.now).after }
+    {
+        match self.publishing(client, wanted) {
+            Ok(granted) => self.put_publication(client.number, wanted, granted.adding),
+            Err(_) => {}
+        }
+    }
 
-/// A publication that the lists take.
-#[tactic(auto, unfolding(crate::specs::Publishing::publish_under))]
-fn publish_under(
-    registry: Registry,
-    alloc: Global,
-    client: Client,
-    correlation: u64,
-    wanted: &Wanted,
-    adding: Adding,
-    decision: Decision,
-) -> Result<Draft, AllocError>
-    requires taken { adding_of registry.streams wanted.now ≡ Ok adding }
-    requires decided { decision ≡ publication_decision registry client wanted.now }
-    ensures { IfOk result (λ draft. draft ≡ publish_under registry client correlation wanted.now adding) }
-{
-    let handle = client.number;
-    if !registry.has_room_for_publication(handle, wanted, adding) {
-        let refusal = Refusal::Full;
-        return Draft::refused_on(alloc, registry, decision, handle, correlation, refusal);
-    }
-    if !registry.has_place(wanted, adding) {
-        let refusal = Refusal::NoRoom;
-        return Draft::refused_on(alloc, registry, decision, handle, correlation, refusal);
-    }
-    publish_granted(
-        registry,
-        alloc,
-        client,
-        correlation,
-        wanted,
-        adding,
-        decision,
+    /// The command ADD_PUBLICATION of a client that is there, or ADD_EXCLUSIVE_PUBLICATION.
+    #[tactic(auto, unfolding(crate::specs::Publishing::add_publication, crate::specs::Draft::refused, crate::specs::Draft::replied, crate::specs::Draft::told))]
+    pub(crate) fn do_add_publication(
+        &mut self,
+        client: Client,
+        fields: &AddPublication,
+        channel: &Result<Channel, UriError>,
+        exclusive: bool,
     )
-}
-
-/// A publication on a channel that such a command takes.
-#[tactic(auto, unfolding(crate::specs::Publishing::publish))]
-fn publish(
-    registry: Registry,
-    alloc: Global,
-    client: Client,
-    correlation: u64,
-    wanted: &Wanted,
-) -> Result<Draft, AllocError>
-    ensures { IfOk result (λ draft. draft ≡ publish registry client correlation wanted.now) }
-{
-    let act = publishing_act(wanted.exclusive);
-    let decision = deciding::decide(&registry, client, act, &wanted.channel, wanted.stream);
-    if !decision.verdict.allow {
-        let refusal = Refusal::Denied(decision.verdict);
-        return Draft::refused_on(
-            alloc,
-            registry,
-            decision,
-            client.number,
-            correlation,
-            refusal,
-        );
-    }
-    match registry.adding(wanted) {
-        Ok(adding) => {
-            publish_under(
-                registry,
-                alloc,
-                client,
-                correlation,
-                wanted,
-                adding,
-                decision,
-            )
+        requires { channel.now ≡ denotes fields.now.channel }
+        ensures { (correlation : ℕ) → self.new ≡ (add_publication self.old client correlation fields.now exclusive).after }
+    {
+        match channel {
+            Ok(channel) if is_publishable(channel) => {
+                let wanted = Wanted {
+                    channel: channel.copy(),
+                    stream: fields.stream,
+                    exclusive,
+                };
+                self.do_publish(client, &wanted);
+            }
+            _ => {}
         }
-        Err(fault) => {
-            let refusal = refused_by_streams(fault);
-            Draft::refused_on(
-                alloc,
-                registry,
-                decision,
-                client.number,
-                correlation,
-                refusal,
-            )
-        }
-    }
-}
-
-/// The command ADD_PUBLICATION of a client that is there, or ADD_EXCLUSIVE_PUBLICATION.
-#[tactic(auto, unfolding(crate::specs::Publishing::add_publication))]
-pub(crate) fn add_publication(
-    registry: Registry,
-    alloc: Global,
-    client: Client,
-    correlation: u64,
-    fields: &AddPublication,
-    exclusive: bool,
-) -> Result<Draft, AllocError>
-    ensures { IfOk result (λ draft. draft ≡ add_publication registry client correlation fields.now exclusive) }
-{
-    match Channel::parse(fields.channel.as_str()) {
-        Ok(channel) if is_publishable(&channel) => {
-            let wanted = Wanted {
-                channel,
-                stream: fields.stream,
-                exclusive,
-            };
-            publish(registry, alloc, client, correlation, &wanted)
-        }
-        _ => Draft::refused(
-            alloc,
-            registry,
-            client.number,
-            correlation,
-            Refusal::InvalidChannel,
-        ),
     }
 }

@@ -1,14 +1,13 @@
 ghost use Rattle.std.specs.Prelude.{◌≡◌, ◌+◌, true, IfOk, OnOk, OnErr};
 
-use crate::change::Change;
-use crate::draft::Draft;
+use crate::entry::Entry;
 use crate::event::{Event, Inputs};
 use crate::outcome::Outcome;
 use crate::peer::Peer;
 use crate::settings::Settings;
-use crate::{attaching, commands, reloading, renewal, ticking};
 use client_registry::Clients;
 use counters::Counters;
+use log_readers::Readers;
 use policy_core::Policy;
 use std::alloc::{AllocError, Global};
 use std::marker::Model;
@@ -25,12 +24,15 @@ pub struct Registry {
     pub(crate) moment: u64,
     pub(crate) clients: Clients,
     pub(crate) streams: Streams,
+    /// Which subscriptions read each log.
+    pub(crate) readers: Readers,
     pub(crate) counters: Counters,
     pub(crate) last_number: u64,
     pub(crate) stopped: bool,
 }
 
 impl Model for Registry {
+    ghost use Rattle.driver_core.specs.Kept.{IsKept};
     ghost use Rattle.driver_core.specs.State.{State};
 
     ghost Value = { State };
@@ -47,9 +49,13 @@ impl Model for Registry {
       last_number = registry.last_number;
       stopped = registry.stopped;
     } };
+
+    ghost invariant = { λ registry.
+        IsKept registry.streams registry.clients.rows registry.policy registry.epoch registry.last_number registry.readers };
 }
 
 impl Registry {
+    ghost use Rattle.log_readers.specs.Numbering.{AreInOrder};
     ghost use Rattle.driver_core.specs.State.{opened, has_number, at_moment};
     ghost use Rattle.driver_core.specs.Conduct.{drafted, conduct, state_after, outcome_of};
     ghost use Rattle.driver_core.specs.Soundness.{IsSound, MovesLogs};
@@ -77,6 +83,7 @@ impl Registry {
             moment: 0,
             clients: Clients::new(alloc, settings.client_liveness)?,
             streams: Streams::new(alloc, measures, settings.first_session)?,
+            readers: Readers::new(alloc)?,
             counters: Counters::new(alloc)?,
             last_number: 0,
             stopped: false,
@@ -95,6 +102,7 @@ impl Registry {
             moment: self.moment,
             clients: self.clients.copy(alloc)?,
             streams: self.streams.copy(alloc)?,
+            readers: self.readers.copy(alloc)?,
             counters: self.counters.copy(alloc)?,
             last_number: self.last_number,
             stopped: self.stopped,
@@ -120,60 +128,89 @@ impl Registry {
     #[tactic(auto, unfolding(crate::specs::State::has_number))]
     pub(crate) fn next_number(&self) -> u64
         requires { has_number self.now ≡ true }
-        ensures { result ≡ self.now.last_number + 1 }
+        ensures number { result ≡ self.now.last_number + 1 }
+        ensures in_order { AreInOrder self.now.streams self.now.clients.rows self.now.last_number }
     {
         self.last_number + 1
     }
 
-    /// A copy at this moment, or at the one already seen where that is later.
+    /// Time goes on to this moment, or stays at the one already seen where that is later.
     #[tactic(auto, unfolding(crate::specs::State::at_moment))]
-    fn at_moment(&self, alloc: Global, now: u64) -> Result<Registry, AllocError>
-        ensures { IfOk result (λ registry. registry ≡ at_moment self.now now) }
+    pub(crate) fn go_on(&mut self, now: u64)
+        ensures { self.new ≡ at_moment self.old now }
     {
-        let mut copy = self.copy(alloc)?;
-        copy.moment = copy.moment.max(now);
-        Ok(copy)
+        self.moment = self.moment.max(now);
     }
 
-    /// What the event's own rule makes of the registry, which itself stays as it is.
+    /// What the event's own rule makes of the registry.
     #[tactic(auto, unfolding(crate::specs::Conduct::drafted))]
-    fn draft(&self, alloc: Global, event: &Event) -> Result<Draft, AllocError>
-        ensures { IfOk result (λ draft. draft ≡ drafted self.now event.now) }
+    pub(crate) fn take(&mut self, event: &Event)
+        ensures { self.new ≡ (drafted self.old event.now).after }
     {
         match event {
             Event::Attach { now, principal } => {
-                let registry = self.at_moment(alloc, *now)?;
-                Ok(attaching::attach(registry, alloc, *principal))
+                self.go_on(*now);
+                self.do_attach(*principal);
             }
             Event::Command { now, client, bytes } => {
-                let registry = self.at_moment(alloc, *now)?;
-                commands::command(registry, alloc, *client, bytes.as_slice())
+                self.go_on(*now);
+                self.do_command(*client, bytes);
             }
             Event::Reload { now, policy } => {
-                let registry = self.at_moment(alloc, *now)?;
-                Ok(reloading::reload(registry, alloc, policy.copy(alloc)?))
+                self.go_on(*now);
+                self.do_reload(policy);
             }
             Event::Tick { now } => {
-                let registry = self.at_moment(alloc, *now)?;
-                ticking::tick(registry, alloc)
+                self.go_on(*now);
+                self.do_tick();
             }
         }
     }
 
-    /// What the event makes of the registry, which itself stays as it is.
-    #[tactic(auto, unfolding(crate::specs::Conduct::conduct))]
-    pub fn next(&self, alloc: Global, event: &Event, inputs: &Inputs) -> Result<Change, AllocError>
-        ensures exact { IfOk result (λ change. change ≡ conduct self.now event.now inputs.now) }
-        ensures moves { IfOk result (λ change. IsSound self.now → MovesLogs self.now change) }
+    /// What the event tells, and does outside the registry.
+    #[tactic(auto, unfolding(crate::specs::Conduct::conduct, crate::specs::Conduct::drafted))]
+    fn outcome(&self, alloc: Global, event: &Event, inputs: &Inputs) -> Result<Outcome, AllocError>
+        ensures { IfOk result (λ outcome. outcome ≡ outcome_of self.now event.now inputs.now) }
     {
-        let draft = self.draft(alloc, event)?;
-        renewal::renew(self, alloc, inputs, draft)
+        match event {
+            Event::Attach { now, principal } => {
+                self.outcome_of_attach(alloc, *now, *principal, inputs)
+            }
+            Event::Command { now, client, bytes } => {
+                self.outcome_of_command(alloc, *now, *client, bytes, inputs)
+            }
+            Event::Reload { now, policy } => self.outcome_of_reload(alloc, *now, policy, inputs),
+            Event::Tick { now } => self.outcome_of_tick(alloc, *now, inputs),
+        }
     }
 
-    /// Takes one event, with what the logs say at it.
+    /// Decides one event, with what the logs say at it; the registry stays as it is. Only this wants memory.
+    pub fn plan(&self, alloc: Global, event: &Event, inputs: &Inputs) -> Result<Entry, AllocError>
+        ensures exact { IfOk result (λ entry. entry ≡ record { event = event.now; inputs = inputs.now; outcome = outcome_of self.now event.now inputs.now }) }
+        ensures moves { IfOk result (λ entry. IsSound self.now → MovesLogs self.now (conduct self.now event.now inputs.now)) }
+    {
+        let outcome = self.outcome(alloc, event, inputs)?;
+        Ok(Entry {
+            event: event.copy(alloc)?,
+            inputs: inputs.copy(alloc)?,
+            outcome,
+        })
+    }
+
+    /// Does what was planned. It takes no memory, and holds of any registry and any entry: what the registry becomes is
+    /// by the entry's event and inputs alone.
+    #[tactic(auto, unfolding(crate::specs::Conduct::conduct, crate::specs::Renewal::renewed))]
+    pub fn apply(&mut self, entry: &Entry)
+        ensures { self.new ≡ state_after self.old entry.now.event entry.now.inputs }
+    {
+        self.take(&entry.event);
+    }
+
+    /// Takes one event, with what the logs say at it: plans it, and does it.
     ///
     /// # Errors
-    /// Where there is no memory for what the event makes, the registry stays as it was.
+    /// Where there is no memory for what the event tells, the registry stays as it was.
+    #[tactic(auto, unfolding(crate::specs::Conduct::conduct, crate::specs::Renewal::renewed))]
     pub fn step(
         &mut self,
         alloc: Global,
@@ -184,8 +221,8 @@ impl Registry {
         ensures state { OnOk result (self.new ≡ state_after self.old event.now inputs.now) }
         ensures err { OnErr result (self.new ≡ self.old) }
     {
-        let Change { after, outcome } = self.next(alloc, event, inputs)?;
-        *self = after;
+        let outcome = self.outcome(alloc, event, inputs)?;
+        self.take(event);
         Ok(outcome)
     }
 }

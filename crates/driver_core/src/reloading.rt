@@ -1,13 +1,17 @@
 ghost use Rattle.driver_core.specs.Pairs.{pairs_of};
 ghost use Rattle.driver_core.specs.Reloading.{has_room_for_policy, in_force, reload};
-ghost use Rattle.std.specs.Prelude.{◌≡◌, ◌<◌, length};
+ghost use Rattle.driver_core.specs.Renewal.{outcome_by};
+ghost use Rattle.driver_core.specs.State.{at_moment};
+ghost use Rattle.driver_core.specs.Told.{told_of};
+ghost use Rattle.std.specs.Prelude.{◌≡◌, ◌<◌, length, ℕ, true, IfOk};
 
-use crate::draft::Draft;
-use crate::outcome::Response;
+use crate::event::Inputs;
+use crate::outcome::{Outcome, Response};
 use crate::pairs::PAIRS;
 use crate::registry::Registry;
+use crate::told::Told;
 use policy_core::Policy;
-use std::alloc::Global;
+use std::alloc::{AllocError, Global};
 
 impl Registry {
     /// How many pairs there would be under the policy. It takes no memory.
@@ -27,19 +31,54 @@ impl Registry {
     {
         self.epoch < u64::MAX && self.pairs_under(policy) <= PAIRS
     }
-}
 
-/// Puts a policy in force, under the next number, unless there would be too many pairs.
-#[tactic(auto, unfolding(crate::specs::Reloading::reload, crate::specs::Reloading::reloaded, crate::specs::Reloading::in_force))]
-pub(crate) fn reload(registry: Registry, alloc: Global, policy: Policy) -> Draft
-    ensures { result ≡ reload registry policy }
-{
-    if !registry.has_room_for_policy(&policy) {
-        return Draft::answered(alloc, registry, Response::PolicyFull);
+    /// What a policy that is to be in force tells. It takes no memory.
+    #[tactic(auto, unfolding(crate::specs::Reloading::reload, crate::specs::Reloading::reloaded, crate::specs::Reloading::in_force, crate::specs::Draft::answered, crate::specs::Pairs::is_within_pairs, crate::specs::Pairs::pairs_of, crate::specs::State::at_moment))]
+    pub(crate) fn tell_reload(&self, alloc: Global, policy: &Policy) -> Told
+        ensures { (now : ℕ) → result ≡ told_of (reload (at_moment self.now now) policy.now) }
+    {
+        if !self.has_room_for_policy(policy) {
+            return Told::answered(alloc, Response::PolicyFull);
+        }
+        Told::answered(alloc, Response::PolicyInForce(self.epoch + 1))
     }
-    let mut registry = registry;
-    registry.policy = policy;
-    registry.epoch += 1;
-    let epoch = registry.epoch;
-    Draft::answered(alloc, registry, Response::PolicyInForce(epoch))
+
+    /// What it tells, and does outside the registry, that a policy is to be in force.
+    #[tactic(auto, unfolding(crate::specs::Renewal::renewed))]
+    pub(crate) fn outcome_of_reload(
+        &self,
+        alloc: Global,
+        now: u64,
+        policy: &Policy,
+        inputs: &Inputs,
+    ) -> Result<Outcome, AllocError>
+        ensures { IfOk result (λ outcome. outcome ≡ outcome_by self.now inputs.now (reload (at_moment self.now now) policy.now)) }
+    {
+        let mut after = self.copy(alloc)?;
+        after.go_on(now);
+        after.do_reload(policy);
+        self.renew(alloc, inputs, self.tell_reload(alloc, policy), &after)
+    }
+
+    /// The policy is in force, under the next number.
+    #[tactic(auto, unfolding(crate::specs::Reloading::in_force))]
+    fn put_in_force(&mut self, policy: &Policy)
+        requires { self.old.epoch < 18446744073709551615 }
+        ensures { self.new ≡ in_force self.old policy.now }
+    {
+        self.policy.set_from(policy);
+        self.epoch += 1;
+        self.readers
+            .ask_again(&self.streams, &self.clients, &self.policy, self.epoch);
+    }
+
+    /// Puts a policy in force, unless there would be too many pairs.
+    #[tactic(auto, unfolding(crate::specs::Reloading::reload, crate::specs::Reloading::reloaded, crate::specs::Draft::answered))]
+    pub(crate) fn do_reload(&mut self, policy: &Policy)
+        ensures { self.new ≡ (reload self.old policy.now).after }
+    {
+        if self.has_room_for_policy(policy) {
+            self.put_in_force(policy);
+        }
+    }
 }

@@ -1,21 +1,20 @@
-ghost use Rattle.driver_core.specs.Renewal.{available_for, come_to, decided_on, gone_from, images_decided, images_told, position_at, renewed, unavailable_for};
+ghost use Rattle.driver_core.specs.Renewal.{available_for, come_to, decided_on, gone_from, images_decided, images_told, outcome_kept, outcome_with, position_at, unavailable_for};
 ghost use Rattle.std.specs.List.{flat_map};
-ghost use Rattle.std.specs.Prelude.{◌≡◌, ◌++◌, IfOk, OnOk};
+ghost use Rattle.std.specs.Prelude.{◌≡◌, ◌++◌, [], IfOk, OnOk};
 
-use crate::change::Change;
-use crate::draft::Draft;
 use crate::event::{End, Inputs};
 use crate::outcome::Outcome;
 use crate::pairs::lacking;
 use crate::registry::Registry;
 use crate::replies::{Message, Reply};
+use crate::told::Told;
 use byte_strings::Items;
 use policy_core::{Act, Decision, Request};
 use std::alloc::{AllocError, Global};
 use stream_registry::Pair;
 
 /// How far the log of that source reaches; one of which nothing is told begins.
-fn position_at(ends: &[End], source: u64) -> u64
+pub(crate) fn position_at(ends: &[End], source: u64) -> u64
     ensures { result ≡ position_at ends.now source }
 {
     for end in ends {
@@ -197,7 +196,7 @@ struct Turnover {
     come: Items<Pair>,
 }
 
-/// Compares the pairs after an event's own rule with those before it.
+/// Compares the pairs after an event with those before it.
 fn turnover_of(before: &Registry, after: &Registry, alloc: Global) -> Result<Turnover, AllocError>
     ensures gone { IfOk result (λ turnover. turnover.gone ≡ gone_from before.now after.now) }
     ensures come { IfOk result (λ turnover. turnover.come ≡ come_to before.now after.now) }
@@ -210,45 +209,70 @@ fn turnover_of(before: &Registry, after: &Registry, alloc: Global) -> Result<Tur
 }
 
 /// Tells of the images that went and came, puts the later replies behind, and says what is decided on these images.
-fn tell_turnover(draft: &mut Draft, inputs: &Inputs, turnover: &Turnover) -> Result<(), AllocError>
-    ensures { OnOk result (draft.new ≡ record draft.old { replies = draft.old.replies ++ (images_told draft.old.after inputs.now turnover.now.gone turnover.now.come ++ draft.old.later); decisions = draft.old.decisions ++ images_decided draft.old.after turnover.now.gone turnover.now.come }) }
+fn tell_turnover(
+    told: &mut Told,
+    after: &Registry,
+    inputs: &Inputs,
+    turnover: &Turnover,
+) -> Result<(), AllocError>
+    ensures { OnOk result (told.new ≡ record told.old { replies = told.old.replies ++ (images_told after.now inputs.now turnover.now.gone turnover.now.come ++ told.old.later); decisions = told.old.decisions ++ images_decided after.now turnover.now.gone turnover.now.come }) }
 {
     let (gone, come) = (turnover.gone.as_slice(), turnover.come.as_slice());
-    tell_images(&mut draft.replies, &draft.after, inputs, gone, come)?;
-    append(&mut draft.replies, draft.later.as_slice())?;
-    decide_images(&mut draft.decisions, &draft.after, gone, come)
+    tell_images(&mut told.replies, after, inputs, gone, come)?;
+    append(&mut told.replies, told.later.as_slice())?;
+    decide_images(&mut told.decisions, after, gone, come)
 }
 
-/// The change that the draft and its turnover make, where the later replies are among the others already.
-fn changed(draft: Draft, turnover: Turnover) -> Change
-    ensures { result ≡ record { after = draft.after; outcome = record { response = draft.response; replies = draft.replies; decisions = draft.decisions; opens = draft.opens; closes = draft.closes; gone = turnover.gone; come = turnover.come } } }
+/// The outcome that is told and turned over, where the later replies are among the others already.
+fn outcome_from(told: Told, turnover: Turnover) -> Outcome
+    ensures { result ≡ record { response = told.response; replies = told.replies; decisions = told.decisions; opens = told.opens; closes = told.closes; gone = turnover.gone; come = turnover.come } }
 {
-    Change {
-        after: draft.after,
-        outcome: Outcome {
-            response: draft.response,
-            replies: draft.replies,
-            decisions: draft.decisions,
-            opens: draft.opens,
-            closes: draft.closes,
-            gone: turnover.gone,
-            come: turnover.come,
-        },
+    Outcome {
+        response: told.response,
+        replies: told.replies,
+        decisions: told.decisions,
+        opens: told.opens,
+        closes: told.closes,
+        gone: turnover.gone,
+        come: turnover.come,
     }
 }
 
-/// Tells what an event's own rule opens and closes of the pairs.
-#[tactic(auto, unfolding(crate::specs::Renewal::renewed))]
-pub(crate) fn renew(
-    before: &Registry,
-    alloc: Global,
-    inputs: &Inputs,
-    draft: Draft,
-) -> Result<Change, AllocError>
-    ensures { IfOk result (λ change. change ≡ renewed before.now inputs.now draft) }
+impl Registry {
+    /// What an event tells whose own rule tells this and leaves that registry.
+    pub(crate) fn renew(
+        &self,
+        alloc: Global,
+        inputs: &Inputs,
+        told: Told,
+        after: &Registry,
+    ) -> Result<Outcome, AllocError>
+        ensures { IfOk result (λ outcome. outcome ≡ outcome_with self.now inputs.now told after.now) }
+    {
+        let turnover = turnover_of(self, after, alloc)?;
+        let mut told = told;
+        tell_turnover(&mut told, after, inputs, &turnover)?;
+        Ok(outcome_from(told, turnover))
+    }
+}
+
+/// What an event tells where these pairs come, of which is told already, and none goes.
+pub(crate) fn come_alone(alloc: Global, told: Told, come: Items<Pair>) -> Outcome
+    ensures { result ≡ record { response = told.response; replies = told.replies; decisions = told.decisions; opens = told.opens; closes = told.closes; gone = []; come = come } }
 {
-    let mut draft = draft;
-    let turnover = turnover_of(before, &draft.after, alloc)?;
-    tell_turnover(&mut draft, inputs, &turnover)?;
-    Ok(changed(draft, turnover))
+    let gone = Items::new(alloc);
+    outcome_from(told, Turnover { gone, come })
+}
+
+/// What an event tells whose own rule tells this and changes no pair.
+pub(crate) fn keep_pairs(alloc: Global, told: Told) -> Result<Outcome, AllocError>
+    ensures { IfOk result (λ outcome. outcome ≡ outcome_kept told) }
+{
+    let mut told = told;
+    append(&mut told.replies, told.later.as_slice())?;
+    let turnover = Turnover {
+        gone: Items::new(alloc),
+        come: Items::new(alloc),
+    };
+    Ok(outcome_from(told, turnover))
 }

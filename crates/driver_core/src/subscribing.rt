@@ -1,18 +1,27 @@
-ghost use Rattle.driver_core.specs.Subscribing.{is_subscribable, act_of, subscribe, add_subscription, has_room_for_subscription, with_subscription};
-ghost use Rattle.std.specs.Prelude.{◌≡◌, true, length, IfOk};
+ghost use Rattle.driver_core.specs.Subscribing.{is_subscribable, act_of, decision_of, subscribe, subscribed, subscribing_of, add_subscription, has_room_for_subscription, with_subscription};
+ghost use Rattle.channel_uri.specs.Channel.{denotes};
+ghost use Rattle.driver_core.specs.Commands.{at_asking};
+ghost use Rattle.driver_core.specs.Renewal.{outcome_by, outcome_coming};
+ghost use Rattle.stream_registry.specs.Wish.{row_of};
+ghost use Rattle.std.specs.Prelude.{◌≡◌, true, length, is_some, ℕ, IfOk};
+ghost use Rattle.client_registry.specs.Clients.{principal_at};
 ghost use Rattle.driver_core.specs.State.{has_number};
 ghost use Rattle.driver_core.specs.Pairs.{pairs_of};
 
-use crate::deciding;
-use crate::draft::Draft;
+use crate::asking::Asking;
+use crate::event::Inputs;
+use crate::outcome::Outcome;
 use crate::pairs::PAIRS;
 use crate::refusal::Refusal;
+use crate::refused::Refused;
 use crate::registry::Registry;
 use crate::replies::Reply;
-use channel_uri::{Channel, Media};
+use crate::told::Told;
+use crate::{deciding, renewal};
+use channel_uri::{Channel, Media, UriError};
 use client_registry::Client;
 use command_codec::AddSubscription;
-use policy_core::Act;
+use policy_core::{Act, Decision};
 use std::alloc::{AllocError, Global};
 use stream_registry::Wish;
 
@@ -55,8 +64,13 @@ impl Registry {
             channel,
             stream,
         };
-        self.streams
-            .pair_count_with_subscription(&self.clients, &self.policy, self.epoch, &wish)
+        self.readers.pair_count_with_subscription(
+            &self.streams,
+            &self.clients,
+            &self.policy,
+            self.epoch,
+            &wish,
+        )
     }
 
     /// Whether there is a number for the subscription, and room for it and its pairs. It takes no memory.
@@ -69,78 +83,190 @@ impl Registry {
             && self.pairs_with_subscription(client, channel, stream) <= PAIRS
     }
 
-    /// The client subscribes under the next number. It takes no memory.
+    /// What is decided on a subscription on a channel that such a command takes.
+    #[tactic(auto, unfolding(crate::specs::Subscribing::subscribing_of))]
+    fn subscribing(
+        &self,
+        client: Client,
+        channel: &Channel,
+        stream: i32,
+    ) -> Result<Decision, Refused>
+        ensures { result ≡ subscribing_of self.now client channel.now stream }
+    {
+        let decision = deciding::decide(self, client, act_of(channel), channel, stream);
+        if !decision.verdict.allow {
+            return Err(Refused::denied(decision));
+        }
+        if !self.has_room_for_subscription(client.number, channel, stream) {
+            return Err(Refused::on(decision, Refusal::Full));
+        }
+        Ok(decision)
+    }
+
+    /// What is decided on it, once the client was heard of.
+    fn subscribing_at(
+        &self,
+        asking: Asking,
+        channel: &Channel,
+        stream: i32,
+    ) -> Result<Decision, Refused>
+        ensures { result ≡ subscribing_of (at_asking self.now asking) asking.client channel.now stream }
+    {
+        self.subscribing(asking.client, channel, stream)
+    }
+
+    /// What it tells that a subscription comes, whose own reply and decision are told.
+    fn outcome_of_coming(
+        &self,
+        alloc: Global,
+        inputs: &Inputs,
+        wish: &Wish<'_>,
+        told: Told,
+    ) -> Result<Outcome, AllocError>
+        ensures { IfOk result (λ outcome. outcome ≡ outcome_coming self.now inputs.now told (row_of wish.now)) }
+    {
+        let mut told = told;
+        let come = log_readers::pairs_of_subscription(
+            alloc,
+            &self.streams,
+            &self.clients,
+            &self.policy,
+            self.epoch,
+            wish,
+        )?;
+        let ends = inputs.ends.as_slice();
+        self.push_all_available_on(&mut told.replies, ends, wish, come.as_slice())?;
+        self.push_all_decided_with(alloc, &mut told.decisions, wish, come.as_slice())?;
+        Ok(renewal::come_alone(alloc, told, come))
+    }
+
+    /// What a subscription tells that is granted, and does outside the registry.
+    #[tactic(auto, unfolding(crate::specs::Subscribing::subscribed, crate::specs::Subscribing::has_room_for_subscription, crate::specs::Commands::heard, crate::specs::State::at_moment, crate::specs::State::has_number, crate::specs::Draft::replied, crate::specs::Draft::told))]
+    fn outcome_of_subscribed(
+        &self,
+        alloc: Global,
+        asking: Asking,
+        channel: &Channel,
+        stream: i32,
+        inputs: &Inputs,
+        decision: Decision,
+    ) -> Result<Outcome, AllocError>
+        requires room { has_room_for_subscription (at_asking self.now asking) asking.client.number channel.now stream ≡ true }
+        requires decided { decision ≡ decision_of (at_asking self.now asking) asking.client channel.now stream }
+        ensures { IfOk result (λ outcome. outcome ≡ outcome_by self.now inputs.now (subscribed (at_asking self.now asking) asking.client asking.correlation channel.now stream)) }
+    {
+        let wish = Wish {
+            number: self.next_number(),
+            client: asking.client.number,
+            channel,
+            stream,
+        };
+        let reply = Reply::SubscriptionReady {
+            correlation: asking.correlation,
+            registration: wish.number,
+        };
+        let told = Told::replied_on(alloc, decision, asking.client.number, reply)?;
+        self.outcome_of_coming(alloc, inputs, &wish, told)
+    }
+
+    /// What a subscription on a channel that such a command takes tells, and does outside the registry.
+    fn outcome_of_subscribe(
+        &self,
+        alloc: Global,
+        asking: Asking,
+        channel: &Channel,
+        stream: i32,
+        inputs: &Inputs,
+    ) -> Result<Outcome, AllocError>
+        ensures { IfOk result (λ outcome. outcome ≡ outcome_by self.now inputs.now (subscribe (at_asking self.now asking) asking.client asking.correlation channel.now stream)) }
+    {
+        match self.subscribing_at(asking, channel, stream) {
+            Ok(decision) => {
+                self.outcome_of_subscribed(alloc, asking, channel, stream, inputs, decision)
+            }
+            Err(refused) => self.outcome_of_refused(alloc, asking, refused),
+        }
+    }
+
+    /// What the command ADD_SUBSCRIPTION of a client that is there tells, and does outside the registry.
+    #[tactic(auto, unfolding(crate::specs::Subscribing::add_subscription))]
+    pub(crate) fn outcome_of_add_subscription(
+        &self,
+        alloc: Global,
+        asking: Asking,
+        fields: &AddSubscription,
+        channel: &Result<Channel, UriError>,
+        inputs: &Inputs,
+    ) -> Result<Outcome, AllocError>
+        requires { channel.now ≡ denotes fields.now.channel }
+        ensures { IfOk result (λ outcome. outcome ≡ outcome_by self.now inputs.now (add_subscription (at_asking self.now asking) asking.client asking.correlation fields.now)) }
+    {
+        let invalid = Refused::plainly(Refusal::InvalidChannel);
+        match channel {
+            Ok(channel) => {
+                if !is_subscribable(channel) {
+                    return self.outcome_of_refused(alloc, asking, invalid);
+                }
+                self.outcome_of_subscribe(alloc, asking, channel, fields.stream, inputs)
+            }
+            Err(_) => self.outcome_of_refused(alloc, asking, invalid),
+        }
+    }
+
+    /// The client subscribes under the next number.
     #[tactic(auto, unfolding(crate::specs::Subscribing::has_room_for_subscription, crate::specs::Subscribing::with_subscription))]
     fn put_subscription(&mut self, client: u64, channel: &Channel, stream: i32)
-        requires { has_room_for_subscription self.old client channel.now stream ≡ true }
+        requires owned { is_some (principal_at self.old.clients.rows client) ≡ true }
+        requires room { has_room_for_subscription self.old client channel.now stream ≡ true }
         ensures { self.new ≡ with_subscription self.old client channel.now stream }
     {
-        let number = self.next_number();
+        let wish = Wish {
+            number: self.next_number(),
+            client,
+            channel,
+            stream,
+        };
+        self.readers.add_subscription(
+            &self.streams,
+            &self.clients,
+            &self.policy,
+            self.epoch,
+            &wish,
+        );
         self.streams
-            .add_subscription(number, client, channel, stream);
-        self.last_number = number;
+            .add_subscription(wish.number, client, channel, stream);
+        self.last_number = wish.number;
     }
-}
 
-/// A subscription on a channel that such a command takes.
-#[tactic(auto, unfolding(crate::specs::Subscribing::subscribe, crate::specs::Subscribing::subscribed))]
-fn subscribe(
-    registry: Registry,
-    alloc: Global,
-    client: Client,
-    correlation: u64,
-    channel: &Channel,
-    stream: i32,
-) -> Result<Draft, AllocError>
-    ensures { IfOk result (λ draft. draft ≡ subscribe registry client correlation channel.now stream) }
-{
-    let handle = client.number;
-    let decision = deciding::decide(&registry, client, act_of(channel), channel, stream);
-    if !decision.verdict.allow {
-        let refusal = Refusal::Denied(decision.verdict);
-        return Draft::refused_on(alloc, registry, decision, handle, correlation, refusal);
-    }
-    if !registry.has_room_for_subscription(handle, channel, stream) {
-        let refusal = Refusal::Full;
-        return Draft::refused_on(alloc, registry, decision, handle, correlation, refusal);
-    }
-    let mut registry = registry;
-    registry.put_subscription(handle, channel, stream);
-    let reply = Reply::SubscriptionReady {
-        correlation,
-        registration: registry.last_number,
-    };
-    Draft::replied_on(alloc, registry, decision, handle, reply)
-}
-
-/// The command ADD_SUBSCRIPTION of a client that is there.
-#[tactic(auto, unfolding(crate::specs::Subscribing::add_subscription))]
-pub(crate) fn add_subscription(
-    registry: Registry,
-    alloc: Global,
-    client: Client,
-    correlation: u64,
-    fields: &AddSubscription,
-) -> Result<Draft, AllocError>
-    ensures { IfOk result (λ draft. draft ≡ add_subscription registry client correlation fields.now) }
-{
-    match Channel::parse(fields.channel.as_str()) {
-        Ok(channel) if is_subscribable(&channel) => {
-            subscribe(
-                registry,
-                alloc,
-                client,
-                correlation,
-                &channel,
-                fields.stream,
-            )
+    /// A subscription on a channel that such a command takes.
+    #[tactic(auto, unfolding(crate::specs::Subscribing::subscribe, crate::specs::Subscribing::subscribed, crate::specs::Subscribing::subscribing_of, crate::specs::Draft::refused, crate::specs::Draft::replied, crate::specs::Draft::told))]
+    fn do_subscribe(&mut self, client: Client, channel: &Channel, stream: i32)
+        requires { is_some (principal_at self.old.clients.rows client.number) ≡ true }
+        ensures { (correlation : ℕ) → self.new ≡ (subscribe self.old client correlation channel.now stream).after }
+    {
+        match self.subscribing(client, channel, stream) {
+            Ok(_) => self.put_subscription(client.number, channel, stream),
+            Err(_) => {}
         }
-        _ => Draft::refused(
-            alloc,
-            registry,
-            client.number,
-            correlation,
-            Refusal::InvalidChannel,
-        ),
+    }
+
+    /// The command ADD_SUBSCRIPTION of a client that is there.
+    #[tactic(auto, unfolding(crate::specs::Subscribing::add_subscription, crate::specs::Draft::refused, crate::specs::Draft::replied, crate::specs::Draft::told))]
+    pub(crate) fn do_add_subscription(
+        &mut self,
+        client: Client,
+        fields: &AddSubscription,
+        channel: &Result<Channel, UriError>,
+    )
+        requires named { channel.now ≡ denotes fields.now.channel }
+        requires owned { is_some (principal_at self.old.clients.rows client.number) ≡ true }
+        ensures { (correlation : ℕ) → self.new ≡ (add_subscription self.old client correlation fields.now).after }
+    {
+        match channel {
+            Ok(channel) if is_subscribable(channel) => {
+                self.do_subscribe(client, channel, fields.stream)
+            }
+            _ => {}
+        }
     }
 }

@@ -1,12 +1,18 @@
-ghost use Rattle.driver_core.specs.Terminating.{stopped_for_good, terminate, termination_decision};
-ghost use Rattle.std.specs.Prelude.{◌≡◌, map, IfOk};
+ghost use Rattle.driver_core.specs.Terminating.{stopped_for_good, terminate, terminating_of, termination_decision};
+ghost use Rattle.driver_core.specs.Commands.{at_asking};
+ghost use Rattle.driver_core.specs.Renewal.{outcome_by};
+ghost use Rattle.driver_core.specs.Told.{told_of};
+ghost use Rattle.std.specs.Prelude.{◌≡◌, ℕ, map, IfOk};
 ghost use Rattle.stream_registry.specs.Lingering.{place_of};
 
+use crate::asking::Asking;
 use crate::deciding;
-use crate::draft::Draft;
-use crate::refusal::Refusal;
+use crate::event::Inputs;
+use crate::outcome::Outcome;
+use crate::refused::Refused;
 use crate::registry::Registry;
 use crate::replies::Reply;
+use crate::told::Told;
 use byte_strings::Items;
 use channel_uri::Channel;
 use client_registry::Client;
@@ -28,17 +34,6 @@ fn places_of(alloc: Global, publications: &[Publication]) -> Result<Items<LogPla
     Ok(places)
 }
 
-/// All clients go, with all that they registered, and nobody comes any more. It takes no memory.
-#[tactic(auto, unfolding(crate::specs::Terminating::stopped_for_good))]
-fn stop(registry: &mut Registry)
-    ensures { registry.new ≡ stopped_for_good registry.old }
-{
-    registry.clients.clear();
-    registry.streams.close_all();
-    registry.counters.clear();
-    registry.stopped = true;
-}
-
 /// What the policy in force decides: the driver goes by shared memory and stream 0.
 fn termination_decision(registry: &Registry, client: Client) -> Decision
     ensures { result ≡ termination_decision registry.now client }
@@ -47,33 +42,78 @@ fn termination_decision(registry: &Registry, client: Client) -> Decision
     deciding::decide(registry, client, Act::Terminate, &channel, 0)
 }
 
-/// The command TERMINATE_DRIVER of a client that is there.
-#[tactic(auto, unfolding(crate::specs::Terminating::terminate, crate::specs::Terminating::terminated, crate::specs::Draft::replied, crate::specs::Draft::told))]
-pub(crate) fn terminate(
-    registry: Registry,
-    alloc: Global,
-    client: Client,
-    correlation: u64,
-) -> Result<Draft, AllocError>
-    ensures { IfOk result (λ draft. draft ≡ terminate registry client correlation) }
-{
-    let decision = termination_decision(&registry, client);
-    if !decision.verdict.allow {
-        let refusal = Refusal::Denied(decision.verdict);
-        return Draft::refused_on(
-            alloc,
-            registry,
-            decision,
-            client.number,
-            correlation,
-            refusal,
-        );
+impl Registry {
+    /// What is decided on TERMINATE_DRIVER.
+    #[tactic(auto, unfolding(crate::specs::Terminating::terminating_of))]
+    fn terminating(&self, client: Client) -> Result<Decision, Refused>
+        ensures { result ≡ terminating_of self.now client }
+    {
+        let decision = termination_decision(self, client);
+        if !decision.verdict.allow {
+            return Err(Refused::denied(decision));
+        }
+        Ok(decision)
     }
-    let closes = places_of(alloc, registry.streams.publications())?;
-    let mut registry = registry;
-    stop(&mut registry);
-    let reply = Reply::OperationSuccess { correlation };
-    let mut draft = Draft::replied_on(alloc, registry, decision, client.number, reply)?;
-    draft.closes = closes;
-    Ok(draft)
+
+    /// What the command TERMINATE_DRIVER of a client that is there tells.
+    #[tactic(auto, unfolding(crate::specs::Terminating::terminate, crate::specs::Terminating::terminated, crate::specs::Terminating::terminating_of, crate::specs::Draft::refused, crate::specs::Draft::replied, crate::specs::Draft::told))]
+    pub(crate) fn tell_terminate(
+        &self,
+        alloc: Global,
+        client: Client,
+        correlation: u64,
+    ) -> Result<Told, AllocError>
+        ensures { IfOk result (λ told. told ≡ told_of (terminate self.now client correlation)) }
+    {
+        match self.terminating(client) {
+            Ok(decision) => {
+                let reply = Reply::OperationSuccess { correlation };
+                let mut told = Told::replied_on(alloc, decision, client.number, reply)?;
+                told.closes = places_of(alloc, self.streams.publications())?;
+                Ok(told)
+            }
+            Err(refused) => Told::refused(alloc, client.number, correlation, refused),
+        }
+    }
+
+    /// What the command TERMINATE_DRIVER of a client that is there tells, and does outside the registry.
+    #[tactic(auto, unfolding(crate::specs::Renewal::renewed))]
+    pub(crate) fn outcome_of_terminate(
+        &self,
+        alloc: Global,
+        asking: Asking,
+        inputs: &Inputs,
+    ) -> Result<Outcome, AllocError>
+        ensures { IfOk result (λ outcome. outcome ≡ outcome_by self.now inputs.now (terminate (at_asking self.now asking) asking.client asking.correlation)) }
+    {
+        let mut after = self.copy(alloc)?;
+        after.go_on(asking.now);
+        after.hear(asking.handle);
+        let told = after.tell_terminate(alloc, asking.client, asking.correlation)?;
+        after.do_terminate(asking.client);
+        self.renew(alloc, inputs, told, &after)
+    }
+
+    /// All clients go, with all that they registered, and nobody comes any more.
+    #[tactic(auto, unfolding(crate::specs::Terminating::stopped_for_good))]
+    fn stop(&mut self)
+        ensures { self.new ≡ stopped_for_good self.old }
+    {
+        self.clients.clear();
+        self.streams.close_all();
+        self.readers.close_all();
+        self.counters.clear();
+        self.stopped = true;
+    }
+
+    /// The command TERMINATE_DRIVER of a client that is there.
+    #[tactic(auto, unfolding(crate::specs::Terminating::terminate, crate::specs::Terminating::terminated, crate::specs::Terminating::terminating_of, crate::specs::Draft::refused, crate::specs::Draft::replied, crate::specs::Draft::told))]
+    pub(crate) fn do_terminate(&mut self, client: Client)
+        ensures { (correlation : ℕ) → self.new ≡ (terminate self.old client correlation).after }
+    {
+        match self.terminating(client) {
+            Ok(_) => self.stop(),
+            Err(_) => {}
+        }
+    }
 }

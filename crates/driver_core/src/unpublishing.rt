@@ -1,41 +1,51 @@
+ghost use Rattle.driver_core.specs.Told.{told_of};
 ghost use Rattle.driver_core.specs.Unpublishing.{remove_publication};
-ghost use Rattle.std.specs.Prelude.{◌≡◌, IfOk};
+ghost use Rattle.std.specs.Prelude.{◌≡◌, ℕ, IfOk};
 
-use crate::draft::Draft;
 use crate::refusal::Refusal;
+use crate::refused::Refused;
 use crate::registry::Registry;
 use crate::replies::Reply;
+use crate::told::Told;
 use client_registry::Client;
 use command_codec::Removal;
 use std::alloc::{AllocError, Global};
 
-/// The command REMOVE_PUBLICATION of a client that is there.
-#[tactic(auto, unfolding(crate::specs::Unpublishing::remove_publication, crate::specs::Unpublishing::unpublished))]
-pub(crate) fn remove_publication(
-    registry: Registry,
-    alloc: Global,
-    client: Client,
-    correlation: u64,
-    fields: Removal,
-) -> Result<Draft, AllocError>
-    ensures { IfOk result (λ draft. draft ≡ remove_publication registry client correlation fields) }
-{
-    let mut registry = registry;
-    let now = registry.moment;
-    match registry
-        .streams
-        .remove_publication(client.number, fields.registration, now)
+impl Registry {
+    /// What the command REMOVE_PUBLICATION of a client that is there tells.
+    #[tactic(auto, unfolding(crate::specs::Unpublishing::remove_publication, crate::specs::Unpublishing::unpublished, crate::specs::Draft::refused, crate::specs::Draft::replied, crate::specs::Draft::told))]
+    pub(crate) fn tell_remove_publication(
+        &self,
+        alloc: Global,
+        client: Client,
+        correlation: u64,
+        fields: Removal,
+    ) -> Result<Told, AllocError>
+        ensures { IfOk result (λ told. told ≡ told_of (remove_publication self.now client correlation fields)) }
     {
-        Ok(()) => {
-            let reply = Reply::OperationSuccess { correlation };
-            Draft::replied(alloc, registry, client.number, reply)
+        if !self
+            .streams
+            .has_registration(client.number, fields.registration)
+        {
+            let refused = Refused::plainly(Refusal::UnknownPublication);
+            return Told::refused(alloc, client.number, correlation, refused);
         }
-        Err(_) => Draft::refused(
-            alloc,
-            registry,
-            client.number,
-            correlation,
-            Refusal::UnknownPublication,
-        ),
+        let reply = Reply::OperationSuccess { correlation };
+        Told::replied(alloc, client.number, reply)
+    }
+
+    /// The command REMOVE_PUBLICATION of a client that is there.
+    #[tactic(auto, unfolding(crate::specs::Unpublishing::remove_publication, crate::specs::Unpublishing::unpublished, crate::specs::Draft::refused, crate::specs::Draft::replied, crate::specs::Draft::told))]
+    pub(crate) fn do_remove_publication(&mut self, client: Client, fields: Removal)
+        ensures { (correlation : ℕ) → self.new ≡ (remove_publication self.old client correlation fields).after }
+    {
+        let now = self.moment;
+        match self
+            .streams
+            .remove_publication(client.number, fields.registration, now)
+        {
+            Ok(()) => {}
+            Err(_) => {}
+        }
     }
 }

@@ -11,7 +11,7 @@ use Rattle.driver_core.specs.declared.refusal.Refusal.TheVariants.{UnknownComman
 use Rattle.driver_core.specs.declared.replies.Message.{Message}
 use Rattle.driver_core.specs.Attaching.{attached}
 use Rattle.driver_core.specs.Closing.{keep_alive, close}
-use Rattle.driver_core.specs.Commands.{heard}
+use Rattle.driver_core.specs.Commands.{heard, at_request}
 use Rattle.driver_core.specs.Conduct.{conduct, drafted, outcome_of}
 use Rattle.driver_core.specs.Counting.{counted, valued, uncounted}
 use Rattle.driver_core.specs.Deciding.{decision_by, question_by}
@@ -39,7 +39,7 @@ use Rattle.policy_core.specs.Question.{Question}
 use Rattle.policy_core.specs.RuleList.{Rules}
 use Rattle.stream_registry.specs.declared.wanted.Adding.{Adding}
 use Rattle.stream_registry.specs.declared.wanted.Wanted.{Wanted}
-use Rattle.driver_core.proofs.EventCases.{Cases, IsPlain, command_cases, attach_cases, reload_cases, at_request}
+use Rattle.driver_core.proofs.EventCases.{Cases, IsPlain, command_cases, attach_cases, reload_cases}
 use Rattle.driver_core.proofs.VerdictLemmas.{by_policy}
 use Rattle.driver_laws.proofs.DenialTextLemmas.{epoch_of, denial_words, denial_is_named}
 use Rattle.driver_laws.proofs.SubscribingLemmas.{asks_before, found_number}

@@ -11,7 +11,7 @@ use Rattle.driver_core.specs.declared.outcome.Response.{Response}
 use Rattle.driver_core.specs.declared.refusal.Refusal.{Refusal}
 use Rattle.driver_core.specs.Attaching.{attached}
 use Rattle.driver_core.specs.Closing.{close, keep_alive}
-use Rattle.driver_core.specs.Commands.{heard}
+use Rattle.driver_core.specs.Commands.{heard, at_request}
 use Rattle.driver_core.specs.Conduct.{conduct, drafted, state_after}
 use Rattle.driver_core.specs.Counting.{counted, has_room_for_counter, uncounted, valued, with_counter}
 use Rattle.driver_core.specs.Draft.{Draft, answered, refused, replied, replied_opening, told}
@@ -55,13 +55,13 @@ use Rattle.stream_registry.specs.Adding.{added, subscribed as subscribed_in}
 use Rattle.stream_registry.specs.Leaving.{is_another_registration, is_own_registration, unregistered, unsubscribed as unsubscribed_in}
 use Rattle.stream_registry.specs.Lingering.{closed, closing_of, is_not_past, is_past, place_of, settled}
 use Rattle.stream_registry.specs.Streams.{Streams}
-use Rattle.driver_core.proofs.EventCases.{Cases, at_request, attach_cases, command_cases, reload_cases}
+use Rattle.driver_core.proofs.EventCases.{Cases, attach_cases, command_cases, reload_cases}
 use Rattle.driver_core.proofs.ListLemmas.{contains_none, left_was_there, passes_are_left}
+use Rattle.driver_core.proofs.PairLemmas.{row_number}
 use Rattle.driver_laws.proofs.GrantLemmas.{counter_room, counter_verdict}
 use Rattle.driver_laws.proofs.GrantOnlyLemmas.{made_by, set_keeps}
 use Rattle.driver_laws.proofs.LeftLemmas.{Left, each_left, from_map, mapped, one_left, past_settles, past_since, place_settles, same_but_since, settled_logs}
 use Rattle.driver_laws.proofs.RemovalLemmas.{allowed_before, asks_the_same, closed_by}
-use Rattle.driver_laws.proofs.RenewalLemmas.{row_number}
 use Rattle.driver_laws.proofs.SubscribingLemmas.{found_number}
 
 -- ---- what stays

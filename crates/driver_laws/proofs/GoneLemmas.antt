@@ -8,7 +8,7 @@ use Rattle.driver_core.specs.declared.event.Event.{Event}
 use Rattle.driver_core.specs.declared.event.Event.TheVariants.{Tick}
 use Rattle.driver_core.specs.declared.event.Inputs.{Inputs}
 use Rattle.driver_core.specs.Closing.{close}
-use Rattle.driver_core.specs.Commands.{heard}
+use Rattle.driver_core.specs.Commands.{heard, at_request}
 use Rattle.driver_core.specs.Conduct.{conduct, drafted, state_after}
 use Rattle.driver_core.specs.Deciding.{decision_by}
 use Rattle.driver_core.specs.Draft.{replied, told}
@@ -26,7 +26,6 @@ use Rattle.command_codec.specs.declared.command.Body.TheVariants.{ClientClose as
 use Rattle.counters.specs.Counters.{is_of_another, without_those_of}
 use Rattle.stream_registry.specs.Leaving.{is_registration_of_another, is_subscription_of_another, left as left_in}
 use Rattle.stream_registry.specs.Lingering.{closed, settled}
-use Rattle.driver_core.proofs.EventCases.{at_request}
 use Rattle.driver_core.proofs.ListLemmas.{contains_none, left_was_there, only_one}
 use Rattle.driver_laws.proofs.RemovedExactlyLemmas.{body_is_asked}
 use Rattle.driver_laws.proofs.SubscribingLemmas.{found_number}

@@ -7,7 +7,7 @@ use Rattle.driver_core.specs.declared.event.Event.TheVariants.{Command}
 use Rattle.driver_core.specs.declared.event.Inputs.{Inputs}
 use Rattle.driver_core.specs.declared.refusal.Refusal.{Refusal}
 use Rattle.driver_core.specs.declared.refusal.Refusal.TheVariants.{Denied, Full}
-use Rattle.driver_core.specs.Commands.{heard, requested, asked, command}
+use Rattle.driver_core.specs.Commands.{heard, requested, asked, command, at_request}
 use Rattle.driver_core.specs.Conduct.{conduct, drafted}
 use Rattle.driver_core.specs.Counting.{add_counter, counted, with_counter, counter_decision, has_room_for_counter}
 use Rattle.driver_core.specs.Deciding.{decision_by}
@@ -29,10 +29,10 @@ use Rattle.policy_core.specs.declared.verdict.Verdict.{Verdict}
 use Rattle.policy_core.specs.Question.{Question}
 use Rattle.stream_registry.specs.declared.pairs.Pair.{Pair}
 use Rattle.stream_registry.specs.Pairs.{pairs_of as pairs_on}
-use Rattle.driver_core.proofs.EventCases.{at_request}
 use Rattle.driver_core.proofs.VerdictLemmas.{by_policy}
+use Rattle.driver_core.proofs.PairLemmas.{pairs_by, pairs_heard}
 use Rattle.driver_laws.proofs.SubscribingLemmas.{found_number}
-use Rattle.driver_laws.proofs.RenewalLemmas.{ToldAsItIs, unchanged, pairs_by, pairs_heard}
+use Rattle.driver_laws.proofs.RenewalLemmas.{ToldAsItIs, unchanged}
 
 -- a refusal changes no pair
 refused_change : (s : State) (now handle correlation : ℕ) (inputs : Inputs) (client : Client) (question : Question)

@@ -9,7 +9,7 @@ use Rattle.driver_core.specs.declared.outcome.Response.{Response}
 use Rattle.driver_core.specs.declared.refusal.Refusal.{Refusal}
 use Rattle.driver_core.specs.Attaching.{attached}
 use Rattle.driver_core.specs.Closing.{keep_alive, close}
-use Rattle.driver_core.specs.Commands.{heard}
+use Rattle.driver_core.specs.Commands.{heard, at_request}
 use Rattle.driver_core.specs.Conduct.{conduct, drafted}
 use Rattle.driver_core.specs.Counting.{counted, with_counter, valued, uncounted, has_room_for_counter}
 use Rattle.driver_core.specs.Draft.{Draft, answered, told, replied, replied_opening, refused}
@@ -38,7 +38,7 @@ use Rattle.policy_core.specs.declared.decision.Decision.{Decision}
 use Rattle.policy_core.specs.declared.verdict.Verdict.{Verdict}
 use Rattle.policy_core.specs.RuleList.{Rules}
 use Rattle.stream_registry.specs.declared.wanted.Adding.{Adding}
-use Rattle.driver_core.proofs.EventCases.{Cases, at_request, command_cases, attach_cases, reload_cases}
+use Rattle.driver_core.proofs.EventCases.{Cases, command_cases, attach_cases, reload_cases}
 use Rattle.driver_core.proofs.ListLemmas.{left_was_there, contains_none}
 use Rattle.driver_core.proofs.VerdictLemmas.{by_policy}
 use Rattle.driver_laws.proofs.GrantLemmas.{counter_verdict, counter_room}

@@ -1,3 +1,6 @@
+pub mod ApartLemmas
+pub mod ClientComingLemmas
+pub mod ClosedLogLemmas
 pub mod ClosingLemmas
 pub mod DenialLemmas
 pub mod DenialTextLemmas
@@ -6,13 +9,16 @@ pub mod GoneLemmas
 pub mod GrantLemmas
 pub mod GrantOnlyLemmas
 pub mod ImageLemmas
+pub mod ImageTellingLemmas
 pub mod LeavingLemmas
 pub mod LeftLemmas
+pub mod LimitLemmas
 pub mod ListingLemmas
 pub mod LoggedLemmas
 pub mod NewNumberLemmas
 pub mod NumberLemmas
 pub mod OwnerLemmas
+pub mod PairCountLemmas
 pub mod PublishingLemmas
 pub mod PublishingOnlyLemmas
 pub mod RefusalLemmas
@@ -21,5 +27,6 @@ pub mod RemovalLemmas
 pub mod RemovedExactlyLemmas
 pub mod RenewalLemmas
 pub mod RisingLemmas
+pub mod RoomLemmas
 pub mod SubscribingLemmas
 pub mod SubscribingOnlyLemmas

@@ -104,9 +104,9 @@ closed_logged streams now logged = λ registration has.
 
 -- ---- a log that is joined
 
-record IsFound {X : Type 0} (test : X → Bool) (xs : List X) (x : X) : Type 0 where
-  stands : Contains xs x
-  passes : test x ≡ true
+pub record IsFound {X : Type 0} (test : X → Bool) (xs : List X) (x : X) : Type 0 where
+  pub stands : Contains xs x
+  pub passes : test x ≡ true
 
 found_first : {X : Type 0} (test : X → Bool) (y x : X) (ys : List X) (b : Bool) → test y ≡ b →
     (find test ys ≡ Some x → IsFound test ys x) → cond b (Some y) (find test ys) ≡ Some x → IsFound test (y ∷ ys) x
@@ -120,7 +120,7 @@ found_first test y x ys false passes later found =
     let rest = later found in
     record { stands = Contains-append_right (y ∷ []) ys x rest.stands; passes = rest.passes }
 
-found_in : {X : Type 0} (test : X → Bool) (xs : List X) (x : X) → find test xs ≡ Some x → IsFound test xs x
+pub found_in : {X : Type 0} (test : X → Bool) (xs : List X) (x : X) → find test xs ≡ Some x → IsFound test xs x
 found_in test [] x found = absurd (cc found)
 found_in test (y ∷ ys) x found = found_first test y x ys (test y) refl (found_in test ys x) found
 

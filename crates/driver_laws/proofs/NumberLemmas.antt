@@ -9,7 +9,7 @@ use Rattle.driver_core.specs.declared.refusal.Refusal.{Refusal}
 use Rattle.driver_core.specs.declared.settings.Settings.{Settings}
 use Rattle.driver_core.specs.Attaching.{attached}
 use Rattle.driver_core.specs.Closing.{close, keep_alive}
-use Rattle.driver_core.specs.Commands.{heard}
+use Rattle.driver_core.specs.Commands.{heard, at_request}
 use Rattle.driver_core.specs.Conduct.{conduct, drafted, state_after}
 use Rattle.driver_core.specs.Counting.{counted, uncounted, valued, with_counter}
 use Rattle.driver_core.specs.Draft.{Draft, answered, refused, replied, replied_opening, told}
@@ -42,9 +42,9 @@ use Rattle.stream_registry.specs.declared.wanted.Wanted.{Wanted}
 use Rattle.stream_registry.specs.Adding.{subscribed as subscribed_in}
 use Rattle.stream_registry.specs.Leaving.{is_another_registration, is_another_subscription, is_registration_of_another, is_subscription_of_another, left as left_in, unregistered, unsubscribed as unsubscribed_in}
 use Rattle.stream_registry.specs.Lingering.{closed, is_not_past, is_used, left_alone, settled}
-use Rattle.driver_core.proofs.EventCases.{Cases, at_request, attach_cases, command_cases, reload_cases}
+use Rattle.driver_core.proofs.EventCases.{Cases, attach_cases, command_cases, reload_cases}
+use Rattle.driver_core.proofs.PairLemmas.{row_number}
 use Rattle.driver_laws.proofs.OwnerLemmas.{after_any}
-use Rattle.driver_laws.proofs.RenewalLemmas.{row_number}
 use Rattle.driver_laws.proofs.RisingLemmas.{rises_drawn, rises_kept, rises_mapped, rises_push, rises_up_to}
 
 -- ---- the numbers of rows
@@ -52,7 +52,7 @@ use Rattle.driver_laws.proofs.RisingLemmas.{rises_drawn, rises_kept, rises_mappe
 abbrev client_number : Client → ℕ
 client_number client = client.number
 
-abbrev source_number : Publication → ℕ
+abbrev pub source_number : Publication → ℕ
 source_number publication = publication.source
 
 abbrev registration_number : Registration → ℕ
@@ -64,7 +64,7 @@ subscription_number subscription = subscription.number
 abbrev counter_number : Counter → ℕ
 counter_number counter = counter.number
 
-settled_number : (b : Bool) (now : ℕ) (log : Publication) → (cond b log (left_alone now log)).source ≡ log.source
+pub settled_number : (b : Bool) (now : ℕ) (log : Publication) → (cond b log (left_alone now log)).source ≡ log.source
 settled_number true now log = refl
 settled_number false now log = refl
 
@@ -75,9 +75,9 @@ set_number false value counter = refl
 
 -- ---- what the draft leaves rises, and no last number fell
 
-record Rising (s after : State) : Type 0 where
-  rises : AreRising after
-  draws : NeverLowers s after
+pub record Rising (s after : State) : Type 0 where
+  pub rises : AreRising after
+  pub draws : NeverLowers s after
 
 -- nothing but the rows changes
 record SameLast (s after : State) : Type 0 where
@@ -303,7 +303,7 @@ all_left_same s (client ∷ clients) =
     same_both s (left s client) (all_left (left s client) clients) (one_left_same s client)
     (all_left_same (left s client) clients)
 
-all_left_rises : (s : State) (clients : List ℕ) → AreRising s → AreRising (all_left s clients)
+pub all_left_rises : (s : State) (clients : List ℕ) → AreRising s → AreRising (all_left s clients)
 all_left_rises s [] rises = rises
 all_left_rises s (client ∷ clients) rises = all_left_rises (left s client) clients (one_left_rises s client rises)
 
@@ -339,7 +339,7 @@ termination_rises s client correlation rises =
 
 -- ---- each event
 
-moment_rises : (s : State) (now : ℕ) → AreRising s → AreRising (at_moment s now)
+pub moment_rises : (s : State) (now : ℕ) → AreRising s → AreRising (at_moment s now)
 unfolding at_moment
 moment_rises s now rises = record {
   clients = rises.clients;
@@ -427,13 +427,13 @@ draft_rises s (Reload now policy) rising =
     (λ full. from_moment s now _ (answer_rises before _ rises))
 draft_rises s (Tick now) rising = from_moment s now _ (tick_rises (at_moment s now) (moment_rises s now rising))
 
-event_rises : (s : State) (event : Event) (inputs : Inputs) → AreRising s → Rising s (state_after s event inputs)
+pub event_rises : (s : State) (event : Event) (inputs : Inputs) → AreRising s → Rising s (state_after s event inputs)
 unfolding conduct renewed
 event_rises s event inputs rising = draft_rises s event rising
 
 -- ---- every registry
 
-opened_rises : (settings : Settings) (policy : Rules) (peers : List Peer) → AreRising (opened settings policy peers)
+pub opened_rises : (settings : Settings) (policy : Rules) (peers : List Peer) → AreRising (opened settings policy peers)
 unfolding opened
 opened_rises settings policy peers = record {
   clients = omega arith;
@@ -446,7 +446,7 @@ opened_rises settings policy peers = record {
 pub numbers_rise : NumbersAreUnique
 numbers_rise = after_any AreRising opened_rises (λ s event inputs rising. (event_rises s event inputs rising).rises)
 
-are_drawn : (s : State) → AreRising s → AreDrawn s
+pub are_drawn : (s : State) → AreRising s → AreDrawn s
 are_drawn s rises = record {
   clients = λ client has. rises_drawn client_number s.clients.last s.clients.rows client rises.clients has;
   publications = λ log has. rises_drawn source_number s.last_number s.streams.publications log rises.publications has;

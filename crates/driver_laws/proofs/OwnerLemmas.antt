@@ -98,7 +98,7 @@ counting_there s event inputs counter before has =
     stays_there s event inputs counter.client was
     (λ goes. (rows_gone s event inputs counter.client goes).counters counter has refl)
 
-opened_owned : (settings : Settings) (policy : Rules) (peers : List Peer) →
+pub opened_owned : (settings : Settings) (policy : Rules) (peers : List Peer) →
     HaveTheirClients (opened settings policy peers)
 unfolding opened
 opened_owned settings policy peers = record {
@@ -107,12 +107,13 @@ opened_owned settings policy peers = record {
   counters = λ counter has. absurd (contains_none counter has);
 }
 
+pub stay_owned : (s : State) (event : Event) (inputs : Inputs) → HaveTheirClients s →
+    HaveTheirClients (state_after s event inputs)
+stay_owned s event inputs before = record {
+  registrations = λ registration has. registrant_there s event inputs registration before has;
+  subscriptions = λ subscription has. subscriber_there s event inputs subscription before has;
+  counters = λ counter has. counting_there s event inputs counter before has;
+}
+
 pub rows_owned : RowsHaveTheirClients
-rows_owned =
-    after_any HaveTheirClients opened_owned
-    (λ s event inputs before.
-    record {
-      registrations = λ registration has. registrant_there s event inputs registration before has;
-      subscriptions = λ subscription has. subscriber_there s event inputs subscription before has;
-      counters = λ counter has. counting_there s event inputs counter before has;
-    })
+rows_owned = after_any HaveTheirClients opened_owned stay_owned

@@ -7,7 +7,7 @@ use Rattle.driver_core.specs.declared.event.Inputs.{Inputs}
 use Rattle.driver_core.specs.declared.refusal.Refusal.{Refusal}
 use Rattle.driver_core.specs.declared.refusal.Refusal.TheVariants.{Denied, Full, NoRoom}
 use Rattle.driver_core.specs.declared.replies.Message.{Message}
-use Rattle.driver_core.specs.Commands.{heard, requested, asked, command, body_change}
+use Rattle.driver_core.specs.Commands.{heard, requested, asked, command, body_change, at_request}
 use Rattle.driver_core.specs.Conduct.{conduct, drafted}
 use Rattle.driver_core.specs.Deciding.{decision_by}
 use Rattle.driver_core.specs.Draft.{replied, replied_opening, refused, told}
@@ -31,10 +31,10 @@ use Rattle.stream_registry.specs.declared.wanted.Adding.{Adding}
 use Rattle.stream_registry.specs.declared.wanted.Adding.TheVariants.{Join, Make}
 use Rattle.stream_registry.specs.declared.wanted.Wanted.{Wanted}
 use Rattle.stream_registry.specs.Adding.{adding_of}
-use Rattle.driver_core.proofs.EventCases.{at_request}
 use Rattle.driver_core.proofs.VerdictLemmas.{by_policy}
+use Rattle.driver_core.proofs.PairLemmas.{pairs_by, pairs_heard, principal_heard}
 use Rattle.driver_laws.proofs.SubscribingLemmas.{found_number}
-use Rattle.driver_laws.proofs.RenewalLemmas.{pairs_by, pairs_heard, principal_heard, unchanged}
+use Rattle.driver_laws.proofs.RenewalLemmas.{unchanged}
 
 -- ---- a well-formed request comes to the policy
 

@@ -9,7 +9,7 @@ use Rattle.driver_core.specs.declared.outcome.Response.{Response}
 use Rattle.driver_core.specs.declared.refusal.Refusal.{Refusal}
 use Rattle.driver_core.specs.Attaching.{attached}
 use Rattle.driver_core.specs.Closing.{keep_alive, close}
-use Rattle.driver_core.specs.Commands.{heard}
+use Rattle.driver_core.specs.Commands.{heard, at_request}
 use Rattle.driver_core.specs.Conduct.{conduct, drafted}
 use Rattle.driver_core.specs.Counting.{counted, with_counter, valued, uncounted}
 use Rattle.driver_core.specs.Draft.{Draft, answered, refused, replied, replied_opening, told}
@@ -38,7 +38,7 @@ use Rattle.stream_registry.specs.Adding.{added, adding_of, log_of, registration_
 use Rattle.stream_registry.specs.Leaving.{is_another_registration, is_registration_of_another, left as left_in, unregistered, unsubscribed as unsubscribed_in}
 use Rattle.stream_registry.specs.Lingering.{closed, is_not_past, is_used, left_alone, settled, settled_one}
 use Rattle.stream_registry.specs.Streams.{Streams}
-use Rattle.driver_core.proofs.EventCases.{Cases, at_request, attach_cases, command_cases, reload_cases}
+use Rattle.driver_core.proofs.EventCases.{Cases, attach_cases, command_cases, reload_cases}
 use Rattle.driver_core.proofs.ListLemmas.{contains_none, left_was_there}
 use Rattle.driver_core.proofs.VerdictLemmas.{by_policy}
 use Rattle.driver_laws.proofs.SubscribingLemmas.{found_number}

@@ -14,7 +14,7 @@ use Rattle.driver_core.specs.declared.replies.Message.{Message}
 use Rattle.driver_core.specs.declared.replies.Reply.TheVariants.{OperationSuccess}
 use Rattle.driver_core.specs.Attaching.{attached}
 use Rattle.driver_core.specs.Closing.{keep_alive, close}
-use Rattle.driver_core.specs.Commands.{heard, requested, asked, command}
+use Rattle.driver_core.specs.Commands.{heard, requested, asked, command, at_request}
 use Rattle.driver_core.specs.Conduct.{conduct, drafted, state_after}
 use Rattle.driver_core.specs.Counting.{counted, with_counter, valued, uncounted}
 use Rattle.driver_core.specs.Deciding.{decision_by}
@@ -48,11 +48,12 @@ use Rattle.stream_registry.specs.Adding.{added, subscribed as subscribed_in}
 use Rattle.stream_registry.specs.Leaving.{has_subscription, is_another_subscription, is_own_subscription, unregistered, unsubscribed as unsubscribed_in}
 use Rattle.stream_registry.specs.Lingering.{closed, settled}
 use Rattle.stream_registry.specs.Streams.{Streams}
-use Rattle.driver_core.proofs.EventCases.{Cases, at_request, command_cases, attach_cases, reload_cases}
+use Rattle.driver_core.proofs.EventCases.{Cases, command_cases, attach_cases, reload_cases}
 use Rattle.driver_core.proofs.ListLemmas.{passes_are_left}
+use Rattle.driver_core.proofs.PairLemmas.{pairs_heard}
 use Rattle.driver_laws.proofs.SubscribingLemmas.{found_number}
 use Rattle.driver_laws.proofs.LeavingLemmas.{left_or_stays, one_left_or_stays}
-use Rattle.driver_laws.proofs.RenewalLemmas.{pairs_heard, unchanged}
+use Rattle.driver_laws.proofs.RenewalLemmas.{unchanged}
 
 -- ---- removed exactly
 

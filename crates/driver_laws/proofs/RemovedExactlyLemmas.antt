@@ -5,7 +5,7 @@ use Rattle.driver_core.specs.declared.event.Event.TheVariants.{Command}
 use Rattle.driver_core.specs.declared.event.Inputs.{Inputs}
 use Rattle.driver_core.specs.declared.refusal.Refusal.TheVariants.{UnknownCounter, UnknownPublication}
 use Rattle.driver_core.specs.declared.replies.Reply.TheVariants.{OperationSuccess}
-use Rattle.driver_core.specs.Commands.{asked, body_change, command, heard, requested}
+use Rattle.driver_core.specs.Commands.{asked, body_change, command, heard, requested, at_request}
 use Rattle.driver_core.specs.Conduct.{conduct, drafted}
 use Rattle.driver_core.specs.Counting.{remove_counter, set_counter, uncounted, valued}
 use Rattle.driver_core.specs.Draft.{Draft, refused, replied, told}
@@ -14,6 +14,7 @@ use Rattle.driver_core.specs.Renewal.{renewed}
 use Rattle.driver_core.specs.Requests.{Asks}
 use Rattle.driver_core.specs.State.{State, at_moment}
 use Rattle.driver_core.specs.Unpublishing.{remove_publication, unpublished}
+use Rattle.driver_core.proofs.PairLemmas.{pairs_by, pairs_heard}
 use Rattle.driver_laws.specs.CounterLaws.{IsSet, IsSetExactly, IsUncounted, IsUncountedExactly}
 use Rattle.driver_laws.specs.RemovalLaws.{IsUnregistered, IsUnregisteredExactly}
 use Rattle.client_registry.specs.declared.client.Client.{Client}
@@ -23,9 +24,8 @@ use Rattle.command_codec.specs.declared.removal.Removal.{Removal}
 use Rattle.command_codec.specs.declared.set_counter.SetCounter.{SetCounter}
 use Rattle.counters.specs.Counters.{has}
 use Rattle.stream_registry.specs.Leaving.{has_registration}
-use Rattle.driver_core.proofs.EventCases.{at_request}
 use Rattle.driver_laws.proofs.RemovalLemmas.{told_first, unknown_change}
-use Rattle.driver_laws.proofs.RenewalLemmas.{ToldAsItIs, pairs_by, pairs_heard, unchanged}
+use Rattle.driver_laws.proofs.RenewalLemmas.{ToldAsItIs, unchanged}
 use Rattle.driver_laws.proofs.SubscribingLemmas.{found_number}
 
 -- a client's request comes to the rule of its body

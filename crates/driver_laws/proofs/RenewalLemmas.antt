@@ -1,29 +1,22 @@
 -- What renewing the pairs adds to a draft.
-use Rattle.std.proofs.Common.{◌≡◌, ℕ, ℤ, ◌==◌, ◌&&◌, max, Bool, true, false, cond, List, [], ◌∷◌, ◌++◌, map, filter, Option, Some, None, refl, sym, subst, ap, ◌∙◌}
-use Rattle.std.proofs.lemmas.Bool.{eq-eqb, or_left, or_right}
-use Rattle.std.proofs.lemmas.List.{append-nil, append_assoc}
-use Rattle.std.specs.List.{AllByRecursion, flat_map, list_any}
-use Rattle.std.specs.Option.{option_map}
-use Rattle.driver_core.specs.declared.change.Change.{Change}
+use Rattle.std.proofs.Common.{◌≡◌, ℕ, ℤ, List, [], ◌∷◌, ◌++◌, Option, Some, None, refl}
+use Rattle.std.proofs.lemmas.List.{append-nil}
+use Rattle.std.specs.List.{AllByRecursion, flat_map}
+use Rattle.driver_core.specs.Change.{Change}
 use Rattle.driver_core.specs.declared.event.End.{End}
 use Rattle.driver_core.specs.declared.event.Event.{Event}
 use Rattle.driver_core.specs.declared.event.Inputs.{Inputs}
 use Rattle.driver_core.specs.declared.replies.Message.{Message}
 use Rattle.driver_core.specs.declared.replies.Reply.TheVariants.{AvailableImage, UnavailableImage}
-use Rattle.driver_core.specs.Commands.{heard}
 use Rattle.driver_core.specs.Conduct.{conduct, drafted}
 use Rattle.driver_core.specs.Draft.{Draft}
-use Rattle.driver_core.specs.Pairs.{pairs_of, lacking, is_same_pair}
+use Rattle.driver_core.specs.Pairs.{pairs_of}
 use Rattle.driver_core.specs.Renewal.{renewed, images_told, images_decided, gone_from, come_to, unavailable_for, unavailable_to, subscription_at, available_for, available_to, publication_at}
-use Rattle.driver_core.specs.State.{State, at_moment}
-use Rattle.client_registry.specs.declared.client.Client.{Client}
-use Rattle.client_registry.specs.Clients.{client_at, heard_one, principal_at, touched}
-use Rattle.policy_core.specs.RuleList.{Rules}
+use Rattle.driver_core.specs.State.{State}
+use Rattle.driver_core.proofs.PairLemmas.{nothing_lacks}
 use Rattle.stream_registry.specs.declared.pairs.Pair.{Pair}
 use Rattle.stream_registry.specs.declared.row.Publication.{Publication}
 use Rattle.stream_registry.specs.declared.row.Subscription.{Subscription}
-use Rattle.stream_registry.specs.Pairs.{fits, is_allowed, is_allowed_to, pair_of, pairs_of as pairs_on}
-use Rattle.stream_registry.specs.Streams.{Streams}
 
 -- an event is its draft, renewed
 pub conduct_is : (s : State) (event : Event) (inputs : Inputs) → conduct s event inputs ≡ renewed s inputs (drafted s event)
@@ -33,79 +26,6 @@ conduct_is s event inputs = refl
 pub renewed_after : (s : State) (inputs : Inputs) (draft : Draft) → (renewed s inputs draft).after ≡ draft.after
 unfolding renewed
 renewed_after s inputs draft = refl
-
--- ---- whom a client acts for, once it was heard of
-
-row_principal : (b : Bool) (row : Client) (moment : ℕ) → (cond b (record row { heard = moment }) row).principal ≡ row.principal
-row_principal true row moment = refl
-row_principal false row moment = refl
-
-pub row_number : (b : Bool) (row : Client) (moment : ℕ) → (cond b (record row { heard = moment }) row).number ≡ row.number
-row_number true row moment = refl
-row_number false row moment = refl
-
-principal_in : (b : Bool) (row other : Client) (rest others : Option Client) → row.principal ≡ other.principal →
-    option_map (λ (client : Client). client.principal) rest ≡ option_map (λ (client : Client). client.principal) others →
-    option_map (λ (client : Client). client.principal) (cond b (Some row) rest)
-    ≡ option_map (λ (client : Client). client.principal) (cond b (Some other) others)
-principal_in true row other rest others same later = ap Some same
-principal_in false row other rest others same later = later
-
-pub principal_heard : (rows : List Client) (handle moment number : ℕ) →
-    principal_at (map (heard_one handle moment) rows) number ≡ principal_at rows number
-principal_heard [] handle moment number = refl
-principal_heard (row ∷ rows) handle moment number =
-    let same : (heard_one handle moment row).number ≡ row.number = row_number (row.number == handle) row (max row.heard moment) in
-    rw same
-    (principal_in (row.number == number) (heard_one handle moment row) row
-    (client_at (map (heard_one handle moment) rows) number) (client_at rows number)
-    (row_principal (row.number == handle) row (max row.heard moment))
-    (principal_heard rows handle moment number))
-
--- ---- the pairs are by the lists, the policy and whom clients act for
-
-abbrev by_principals : (ℕ → Option ℕ) → Rules → ℕ → Publication → Subscription → Bool
-by_principals principals policy epoch publication subscription =
-    fits publication subscription && is_allowed_to policy epoch subscription (principals subscription.client)
-
-abbrev pairs_with : (ℕ → Option ℕ) → Rules → ℕ → Streams → List Pair
-pairs_with principals policy epoch streams =
-    flat_map (λ (publication : Publication).
-    map (pair_of publication) (filter (by_principals principals policy epoch publication) streams.subscriptions)) streams.publications
-
-pairs_are : (s : State) → pairs_of s ≡ pairs_with (principal_at s.clients.rows) s.policy s.epoch s.streams
-unfolding pairs_of pairs_on is_allowed
-pairs_are s = refl
-
-pub pairs_by : (s t : State) → s.streams ≡ t.streams → s.policy ≡ t.policy → s.epoch ≡ t.epoch →
-    ((n : ℕ) → principal_at s.clients.rows n ≡ principal_at t.clients.rows n) → pairs_of s ≡ pairs_of t
-pairs_by s t streams policy epoch principals =
-    pairs_are s ∙ (λ i. pairs_with (λ n. principals n i) (policy i) (epoch i) (streams i)) ∙ sym (pairs_are t)
-
--- a command alone changes no pair
-pub pairs_heard : (s : State) (now handle : ℕ) → pairs_of (heard (at_moment s now) handle) ≡ pairs_of s
-unfolding heard at_moment touched
-pairs_heard s now handle =
-    pairs_by (heard (at_moment s now) handle) s refl refl refl (principal_heard s.clients.rows handle (max s.moment now))
-
--- ---- where the pairs stay, nothing is added
-
-is_itself : (pair : Pair) → is_same_pair pair pair ≡ true
-is_itself pair = rw (eq-eqb pair.source pair.source refl, eq-eqb pair.subscription pair.subscription refl) refl
-
-is_there : (before rest : List Pair) (pair : Pair) → list_any (is_same_pair pair) (before ++ pair ∷ rest) ≡ true
-is_there [] rest pair = or_left (is_same_pair pair pair) _ (is_itself pair)
-is_there (other ∷ before) rest pair = or_right (is_same_pair pair other) _ (is_there before rest pair)
-
-lacks_none : (before rest : List Pair) → lacking rest (before ++ rest) ≡ []
-lacks_none before [] = refl
-lacks_none before (pair ∷ rest) =
-    rw (is_there before rest pair)
-    (subst (λ (others : List Pair). lacking rest others ≡ []) (append_assoc before (pair ∷ []) rest)
-    (lacks_none (before ++ pair ∷ []) rest))
-
-pub nothing_lacks : (pairs : List Pair) → lacking pairs pairs ≡ []
-nothing_lacks pairs = lacks_none [] pairs
 
 -- the change tells what the draft does
 pub record ToldAsItIs (draft : Draft) (change : Change) : Type 0 where

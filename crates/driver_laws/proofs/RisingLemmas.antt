@@ -1,5 +1,5 @@
 -- Rows whose numbers rise.
-use Rattle.std.proofs.Common.{◌≡◌, ℕ, ◌<◌, ◌≤◌, Bool, true, false, cond, List, [], ◌∷◌, ◌++◌, map, filter, ap, ⊎_elim, arith}
+use Rattle.std.proofs.Common.{◌≡◌, ℕ, ◌<◌, ◌≤◌, Bool, true, false, cond, List, [], ◌∷◌, ◌++◌, map, filter, ap, sym, ◌∙◌, ⊎_elim, arith}
 use Rattle.std.specs.List.{Contains}
 use Rattle.std.proofs.lemmas.List.Elements.{Contains-append_cases}
 use Rattle.driver_laws.specs.NumberLaws.{IsDrawn, Rises}
@@ -75,3 +75,29 @@ pub rises_drawn : {A : Type 0} (number_of : A → ℕ) (last : ℕ) (rows : List
 rises_drawn number_of last rows row up has =
     let both = between number_of 0 last rows row up has in
     record { above = both.0; below = both.1 }
+
+-- no two rows have one number
+pub rises_unique : {A : Type 0} (number_of : A → ℕ) (low last : ℕ) (rows : List A) (row other : A) →
+    Rises number_of low last rows → Contains rows row → Contains rows other → number_of row ≡ number_of other →
+    row ≡ other
+rises_unique number_of low last [] row other up has stands same = absurd (contains_none row has)
+rises_unique number_of low last (first ∷ rows) row other up has stands same =
+    ⊎_elim
+    (λ here.
+    let is : first ≡ row = only_one first row here in
+    let number = ap number_of is in
+    ⊎_elim
+    (λ there. sym is ∙ only_one first other there)
+    (λ later.
+    let above = (between number_of (number_of first) last rows other up.1 later).0 in
+    absurd (omega (arith, number, above, same)))
+    (Contains-append_cases (first ∷ []) rows other stands))
+    (λ later.
+    ⊎_elim
+    (λ there.
+    let number = ap number_of (only_one first other there) in
+    let above = (between number_of (number_of first) last rows row up.1 later).0 in
+    absurd (omega (arith, number, above, same)))
+    (λ rest. rises_unique number_of (number_of first) last rows row other up.1 later rest same)
+    (Contains-append_cases (first ∷ []) rows other stands))
+    (Contains-append_cases (first ∷ []) rows row has)

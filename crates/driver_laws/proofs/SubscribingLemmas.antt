@@ -8,7 +8,7 @@ use Rattle.driver_core.specs.declared.refusal.Refusal.{Refusal}
 use Rattle.driver_core.specs.declared.refusal.Refusal.TheVariants.{Denied, Full}
 use Rattle.driver_core.specs.declared.replies.Message.{Message}
 use Rattle.driver_core.specs.declared.replies.Reply.TheVariants.{SubscriptionReady}
-use Rattle.driver_core.specs.Commands.{heard, requested, asked, command}
+use Rattle.driver_core.specs.Commands.{heard, requested, asked, command, at_request}
 use Rattle.driver_core.specs.Conduct.{conduct, drafted}
 use Rattle.driver_core.specs.Deciding.{decision_by}
 use Rattle.driver_core.specs.Draft.{Draft, told, replied, refused}
@@ -25,9 +25,9 @@ use Rattle.client_registry.specs.Clients.{client_at, touched}
 use Rattle.policy_core.specs.declared.verdict.Verdict.{Verdict}
 use Rattle.stream_registry.specs.declared.pairs.Pair.{Pair}
 use Rattle.stream_registry.specs.Adding.{subscribed as subscribed_in, has_room_for_subscription as has_room_in}
-use Rattle.driver_core.proofs.EventCases.{at_request}
 use Rattle.driver_core.proofs.VerdictLemmas.{by_policy}
-use Rattle.driver_laws.proofs.RenewalLemmas.{ToldAsItIs, unchanged, pairs_by, pairs_heard, principal_heard}
+use Rattle.driver_core.proofs.PairLemmas.{pairs_by, pairs_heard, principal_heard}
+use Rattle.driver_laws.proofs.RenewalLemmas.{ToldAsItIs, unchanged}
 
 -- ---- a client that is found has the id that was looked for
 

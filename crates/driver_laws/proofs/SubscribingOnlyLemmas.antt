@@ -12,7 +12,7 @@ use Rattle.driver_core.specs.declared.replies.Message.{Message}
 use Rattle.driver_core.specs.declared.replies.Reply.TheVariants.{PublicationReady, ExclusivePublicationReady}
 use Rattle.driver_core.specs.Attaching.{attached}
 use Rattle.driver_core.specs.Closing.{keep_alive, close}
-use Rattle.driver_core.specs.Commands.{heard}
+use Rattle.driver_core.specs.Commands.{heard, at_request}
 use Rattle.driver_core.specs.Conduct.{conduct, drafted}
 use Rattle.driver_core.specs.Counting.{counted, with_counter, valued, uncounted}
 use Rattle.driver_core.specs.Draft.{Draft, answered, told, replied, replied_opening, refused}
@@ -42,7 +42,7 @@ use Rattle.stream_registry.specs.Adding.{added, subscribed as subscribed_in}
 use Rattle.stream_registry.specs.Leaving.{unregistered, unsubscribed as unsubscribed_in, is_another_subscription}
 use Rattle.stream_registry.specs.Lingering.{closed, settled}
 use Rattle.stream_registry.specs.Streams.{Streams}
-use Rattle.driver_core.proofs.EventCases.{Cases, at_request, command_cases, attach_cases, reload_cases}
+use Rattle.driver_core.proofs.EventCases.{Cases, command_cases, attach_cases, reload_cases}
 use Rattle.driver_core.proofs.ListLemmas.{left_was_there, contains_none}
 use Rattle.driver_core.proofs.VerdictLemmas.{by_policy}
 use Rattle.driver_laws.proofs.SubscribingLemmas.{asks_before, found_number, room_for, verdict_is}

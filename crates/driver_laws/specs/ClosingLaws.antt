@@ -1,6 +1,7 @@
 -- Over every list of events: which logs close.
-use Rattle.std.specs.Prelude.{◌≡◌, ℕ, ◌-◌, ◌<◌, max, List, Contains, Some, ◌⊎◌}
-use Rattle.driver_core.specs.declared.change.Change.{Change}
+use Rattle.std.specs.Prelude.{◌≡◌, ℕ, ◌-◌, ◌<◌, ◌==◌, max, Bool, not, List, map, filter, Contains, Some, ◌⊎◌}
+use Rattle.std.specs.List.{list_any}
+use Rattle.driver_core.specs.Change.{Change}
 use Rattle.driver_core.specs.declared.event.Event.{Event}
 use Rattle.driver_core.specs.declared.event.Event.TheVariants.{Tick}
 use Rattle.driver_core.specs.declared.event.Inputs.{Inputs}
@@ -68,3 +69,18 @@ pub record ClosesOnly (s : State) (event : Event) (change : Change) : Type 0 whe
 abbrev pub LogsCloseOnly : Type 0
 LogsCloseOnly =
     AfterAnyEvents (λ s. (event : Event) (inputs : Inputs) → ClosesOnly s event (conduct s event inputs))
+
+-- ---- what closes was there
+
+-- no log of its number is live
+abbrev pub is_no_more : State → Publication → Bool
+is_no_more after publication =
+    not (list_any (λ (other : Publication). other.source == publication.source) after.streams.publications)
+
+-- what is told are the places of the logs that were live before and are no more, each once, in the order in which they came
+abbrev pub ClosedLogsWereThere : Type 0
+ClosedLogsWereThere =
+    AfterAnyEvents (λ s.
+    (event : Event) (inputs : Inputs) →
+    (conduct s event inputs).outcome.closes
+    ≡ map place_of (filter (is_no_more (conduct s event inputs).after) s.streams.publications))

@@ -4,7 +4,9 @@ pub mod DenialLaws
 pub mod Events
 pub mod GrantLaws
 pub mod ImageLaws
+pub mod ImageTellingLaws
 pub mod LeavingLaws
+pub mod LimitLaws
 pub mod ListingLaws
 pub mod NumberLaws
 pub mod OwnerLaws

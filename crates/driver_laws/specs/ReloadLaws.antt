@@ -1,6 +1,6 @@
 -- Over every list of events: which policy is in force, and what a reload closes.
 use Rattle.std.specs.Prelude.{◌≡◌, ℕ, ◌+◌, max, true, false, [], None, if◌then◌else◌}
-use Rattle.driver_core.specs.declared.change.Change.{Change}
+use Rattle.driver_core.specs.Change.{Change}
 use Rattle.driver_core.specs.declared.event.Event.{Event}
 use Rattle.driver_core.specs.declared.event.Event.TheVariants.{Reload}
 use Rattle.driver_core.specs.declared.event.Inputs.{Inputs}

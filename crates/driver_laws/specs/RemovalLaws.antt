@@ -1,6 +1,6 @@
 -- Over every list of events: which subscriptions and registrations go.
 use Rattle.std.specs.Prelude.{◌≡◌, ℕ, max, true, false, List, [], ◌∷◌, Contains, ◌⊎◌}
-use Rattle.driver_core.specs.declared.change.Change.{Change}
+use Rattle.driver_core.specs.Change.{Change}
 use Rattle.driver_core.specs.declared.event.Event.{Event}
 use Rattle.driver_core.specs.declared.event.Event.TheVariants.{Command}
 use Rattle.driver_core.specs.declared.event.Inputs.{Inputs}

@@ -3,14 +3,16 @@
 //! `specs/` define by them.
 #![tactic(auto)]
 
-ghost use Rattle.driver_laws.specs.ClosingLaws.{LogsCloseExactly, LogsCloseOnly};
+ghost use Rattle.driver_laws.specs.ClosingLaws.{ClosedLogsWereThere, LogsCloseExactly, LogsCloseOnly};
 ghost use Rattle.driver_laws.specs.CounterLaws.{CountersAreRemovedExactly, CountersAreRemovedOnly, CountersAreSetExactly, CountersAreSetOnly};
 ghost use Rattle.driver_laws.specs.DenialLaws.{DenialsAreNamed};
 ghost use Rattle.driver_laws.specs.GrantLaws.{CountersAreGrantedExactly, TerminationsAreGrantedExactly, CountersAndTerminationsAreGrantedOnly};
 ghost use Rattle.driver_laws.specs.ImageLaws.{ImagesAreGrantedExactly};
+ghost use Rattle.driver_laws.specs.ImageTellingLaws.{ImagesAreToldExactly};
 ghost use Rattle.driver_laws.specs.LeavingLaws.{ClientsGoExactly, ClientsGoOnly, RowsGoWithTheirClient};
+ghost use Rattle.driver_laws.specs.LimitLaws.{LimitsAreKept, RoomIsLeftBelowTheLimits};
 ghost use Rattle.driver_laws.specs.ListingLaws.{CountersAreShownExactly};
-ghost use Rattle.driver_laws.specs.NumberLaws.{NewNumbersAreAboveTheLast, NumbersAreAtMostTheLast, LastNumbersNeverFall, NumbersAreUnique};
+ghost use Rattle.driver_laws.specs.NumberLaws.{LastNumbersNeverFall, ListsShareNoNumber, NewNumbersAreAboveTheLast, NumbersAreAtMostTheLast, NumbersAreNeverDrawnAgain, NumbersAreUnique};
 ghost use Rattle.driver_laws.specs.OwnerLaws.{RegistrationsHaveTheirLogs, RowsHaveTheirClients};
 ghost use Rattle.driver_laws.specs.PublishingLaws.{PublicationsAreGrantedExactly, PublicationsAreGrantedOnly};
 ghost use Rattle.driver_laws.specs.RefusalLaws.{RefusalsChangeNoMoreThanMoments};
@@ -47,6 +49,12 @@ pub fn publications_are_granted_only()
 /// client; what an event opens and closes of these is the difference that it makes.
 pub fn images_are_granted_exactly()
     ensures { ImagesAreGrantedExactly }
+{}
+
+/// Of all replies to an event one for each pair that came, and no other, tells the subscription's client of an image that is
+/// available; and one for each pair that went, whose subscription did not, and no other, of one that is not.
+pub fn images_are_told_exactly()
+    ensures { ImagesAreToldExactly }
 {}
 
 /// A client's well-formed request for a counter is granted where the first rule that matches allows it, or where none
@@ -152,6 +160,11 @@ pub fn logs_close_only()
     ensures { LogsCloseOnly }
 {}
 
+/// What an event tells to close are the places of exactly the logs that were live before it and are no more, each once.
+pub fn closed_logs_were_there()
+    ensures { ClosedLogsWereThere }
+{}
+
 /// A reload puts its policy in force under the next number and leaves all lists as they are: the pairs go that the old
 /// policy allowed and the new one does not, and those come that it gains. A reload that is refused closes nothing.
 pub fn reloads_close_exactly()
@@ -196,13 +209,38 @@ pub fn numbers_are_unique()
     ensures { NumbersAreUnique }
 {}
 
+/// In every registry no number is that of rows of two lists, of registrations, subscriptions, counters and logs, but for
+/// one: a log has the number of the registration that made it, which is registered with that very log.
+pub fn lists_share_no_number()
+    ensures { ListsShareNoNumber }
+{}
+
 /// No event lowers the number that was drawn last, that of the client that came last, or that of the policy in force.
 pub fn last_numbers_never_fall()
     ensures { LastNumbersNeverFall }
 {}
 
-/// A registration, a subscription or a counter that was not there before an event has a number above the one that was drawn
-/// last before it.
+/// A log, a registration, a subscription or a counter that was not there before an event has a number above the one that was
+/// drawn last before it, a client one above that of the client that came last, and a policy one above that in force.
 pub fn new_numbers_are_above_the_last()
     ensures { NewNumbersAreAboveTheLast }
+{}
+
+/// So it is over any later events: whatever they bring has numbers above all that were drawn before. No client, log,
+/// registration, subscription, counter or policy is ever given the number of one that went.
+pub fn numbers_are_never_drawn_again()
+    ensures { NumbersAreNeverDrawnAgain }
+{}
+
+/// In every registry there are at most 64 clients, 256 logs, 1,024 registrations with them, 512 subscriptions, 1,024
+/// counters and 4,096 pairs.
+pub fn limits_are_kept()
+    ensures { LimitsAreKept }
+{}
+
+/// And none of these limits is kept too soon: there is room for one more, or for a policy, where the lists concerned are
+/// below theirs (for a publication those of registrations and of logs), the pairs would stay within theirs, and a number is
+/// left.
+pub fn room_is_left_below_the_limits()
+    ensures { RoomIsLeftBelowTheLimits }
 {}

@@ -1,7 +1,7 @@
 use crate::ends::{Choppy, LineFeeds};
 use crate::play::is_shown;
 use byte_strings::{Bytes, Text};
-use driver_core::Event;
+use driver_core::{Event, Received};
 use driver_script::answers::AnswerLine;
 use driver_script::output::write_whole;
 use driver_script::{MayFail, RunFault, read_input};
@@ -287,7 +287,7 @@ fn command(alloc: Global, now: u64, client: u64, bytes: &[u8]) -> Result<Step, A
     Ok(Step::Conductor(Event::Command {
         now,
         client,
-        bytes: Bytes::new(alloc, bytes)?,
+        bytes: Received::new(alloc, bytes)?,
     }))
 }
 

@@ -15,7 +15,7 @@ use Rattle.driver_world.specs.declared.answer.Answer.TheVariants.{Offered as Off
 use Rattle.driver_world.specs.declared.answer.Offered.TheVariants.{Closed, TooLong, NotConnected}
 use Rattle.driver_world.specs.declared.step.Step.TheVariants.{Offer, Poll}
 use Rattle.driver_world.specs.Ends.{RunEnd, Moved, log_at, with_log, moved_on, on_log, on_offered, moved}
-use Rattle.driver_world.specs.Held.{readers_of}
+use Rattle.driver_core.specs.Readers.{readers_of}
 use Rattle.driver_world.specs.Laws.{LogsFollow, OfferRequest, AsksToOffer, offer_question, stays, taken_by_log, let_through, OfferIsDecided, OffersAreDecided, OffersAreGrantedExactly, PollRequest, AsksToPoll, poll_question, given_by_log, PollIsDecided, PollsAreDecided, PollsAreGrantedExactly}
 use Rattle.driver_world.specs.Moves.{WholeLog, Move, answered, taken, given, offer_under, offer_move, poll_under, poll_move}
 use Rattle.driver_world.proofs.FoundLemmas.{found_holds, found_source, with_same}

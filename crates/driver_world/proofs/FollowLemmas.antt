@@ -5,7 +5,7 @@ use Rattle.std.specs.List.{All}
 use Rattle.std.proofs.lemmas.Bool.{cond_both}
 use Rattle.std.proofs.lemmas.List.{map-append}
 use Rattle.std.proofs.lemmas.List.Elements.{All-nil, All-cons, filter-append}
-use Rattle.driver_core.specs.declared.change.Change.{Change}
+use Rattle.driver_core.specs.Change.{Change}
 use Rattle.driver_core.specs.declared.log_request.LogRequest.{LogRequest}
 use Rattle.driver_core.specs.declared.peer.Peer.{Peer}
 use Rattle.driver_core.specs.declared.settings.Settings.{Settings}
@@ -22,7 +22,8 @@ use Rattle.driver_world.specs.declared.answer.Offered.TheVariants.{Closed}
 use Rattle.driver_world.specs.declared.step.Step.{Step}
 use Rattle.driver_world.specs.declared.step.Step.TheVariants.{Conductor, Offer, Poll, List as Lists, Value}
 use Rattle.driver_world.specs.Ends.{RunEnd, opening_end, inputs_of, begun, opened_for, stays_open, rejoined_log, logs_after, log_at, with_log, moved_on, on_log, on_offered, conducted, moved}
-use Rattle.driver_world.specs.Held.{is_closed, readers_of}
+use Rattle.driver_core.specs.Readers.{readers_of}
+use Rattle.driver_world.specs.Held.{is_closed}
 use Rattle.driver_world.specs.Laws.{AtEachEnd, made_for, made_as, LogsFollow, LogsFollowTheRegistry}
 use Rattle.driver_world.specs.Moves.{WholeLog, Move, taken, offer_under, offer_move, given, poll_under, poll_move}
 use Rattle.driver_world.proofs.EndLemmas.{run_keeps}

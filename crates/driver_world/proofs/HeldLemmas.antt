@@ -5,7 +5,8 @@ use Rattle.std.specs.List.{position_or_len}
 use Rattle.std.proofs.lemmas.Bool.{ltb-true, ltb-false}
 use Rattle.std.proofs.lemmas.List.{drop_more, length-map, length-take-le, map-append, take_more}
 use Rattle.driver_world.specs.declared.answer.Answer.{Answer}
-use Rattle.driver_world.specs.Held.{HeldLog, HeldLogs, LiesAsBefore, held_at, with_held, place_at, with_readers, rejoined_held, readers_of}
+use Rattle.driver_core.specs.Readers.{readers_of}
+use Rattle.driver_world.specs.Held.{HeldLog, HeldLogs, LiesAsBefore, held_at, with_held, place_at, with_readers, rejoined_held}
 use Rattle.driver_world.specs.Memory.{Gives, GivesFirst, GivesHeld}
 use Rattle.driver_world.specs.Moves.{WholeLog, Move, Does, MovesFirst, MovesHeld}
 use Rattle.stream_registry.specs.declared.pairs.Pair.{Pair}

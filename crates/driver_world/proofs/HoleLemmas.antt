@@ -20,10 +20,10 @@ answers_are test n xs long each =
     each i below ∙ sym (get_or-map-range_with_len test 0 n i i true below (omega arith)))
 
 -- the pages with a lease are those of the open logs
-pub leased_taken : (region : Region) (logs : List HeldLog) → AreHoused region logs
-    → region.leased ≡ taken_pages (record { pages = region.home.pages; logs = logs })
+pub leased_taken : (region : Region) (logs : List HeldLog) (room : ℕ) → AreHoused region logs
+    → region.leased ≡ taken_pages (record { pages = region.home.pages; logs = logs; room = room })
 unfolding taken_pages
-leased_taken region logs housed = answers_are (is_taken logs) region.home.pages region.leased housed.sized housed.leased
+leased_taken region logs room housed = answers_are (is_taken logs) region.home.pages region.leased housed.sized housed.leased
 
 same_tests : (f g : ℕ → Bool) (numbers : List ℕ) → ((i : ℕ) → f i ≡ g i) → map f numbers ≡ map g numbers
 same_tests f g [] same = refl

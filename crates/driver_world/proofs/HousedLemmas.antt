@@ -272,13 +272,13 @@ past_leased t page free = elim (cases_lt page (length t)) [
   | inr past ↦ differs (has_lease t page) (get_or_past t page true past) free
 ]
 
-pub vacant_free : (region : Region) (logs : List HeldLog) (pages place : ℕ) → AreHoused region logs
-    → IsVacant (record { pages = region.home.pages; logs = logs }) pages place → IsFree region.leased place pages
+pub vacant_free : {room : ℕ} (region : Region) (logs : List HeldLog) (pages place : ℕ) → AreHoused region logs
+    → IsVacant (record { pages = region.home.pages; logs = logs; room = room }) pages place → IsFree region.leased place pages
 vacant_free region logs pages place housed vacant k l =
     housed.leased (place + k) (omega (arith, vacant.within)) ∙ vacant.free (place + k) (omega arith) (omega arith)
 
-pub free_vacant : (region : Region) (logs : List HeldLog) (pages place : ℕ) → 0 < pages → AreHoused region logs → IsFree region.leased place pages
-    → IsVacant (record { pages = region.home.pages; logs = logs }) pages place
+pub free_vacant : {room : ℕ} (region : Region) (logs : List HeldLog) (pages place : ℕ) → 0 < pages → AreHoused region logs → IsFree region.leased place pages
+    → IsVacant (record { pages = region.home.pages; logs = logs; room = room }) pages place
 free_vacant region logs pages place some housed free = record {
   within =
       let last = past_leased region.leased (place + (pages - 1)) (free (pages - 1) (omega arith)) in
@@ -291,8 +291,8 @@ free_vacant region logs pages place some housed free = record {
 }
 
 -- two least places are one
-pub least_is : (region : Region) (logs : List HeldLog) (pages place at : ℕ) → 0 < pages → AreHoused region logs
-    → IsLeastVacant (record { pages = region.home.pages; logs = logs }) pages place → IsLeastPlace region.leased pages at → at ≡ place
+pub least_is : {room : ℕ} (region : Region) (logs : List HeldLog) (pages place at : ℕ) → 0 < pages → AreHoused region logs
+    → IsLeastVacant (record { pages = region.home.pages; logs = logs; room = room }) pages place → IsLeastPlace region.leased pages at → at ≡ place
 unfolding IsLeastPlace
 least_is region logs pages place at some housed vacant least =
     elim (cases_lt at place) [
@@ -304,8 +304,8 @@ least_is region logs pages place at some housed vacant least =
     ]
 
 -- where there is a vacant place, the region has one
-pub some_place : (region : Region) (logs : List HeldLog) (pages place : ℕ) → AreHoused region logs
-    → IsLeastVacant (record { pages = region.home.pages; logs = logs }) pages place → HasNoPlace region.leased pages → ⊥
+pub some_place : {room : ℕ} (region : Region) (logs : List HeldLog) (pages place : ℕ) → AreHoused region logs
+    → IsLeastVacant (record { pages = region.home.pages; logs = logs; room = room }) pages place → HasNoPlace region.leased pages → ⊥
 unfolding HasNoPlace
 some_place region logs pages place housed vacant none = none place (vacant_free region logs pages place housed vacant.vacant)
 
@@ -314,7 +314,7 @@ pub housed_opened : (region : Region) (logs : List HeldLog) (held : HeldLog) →
     → let after : Region = record region { leased = marked true (first_page held) (page_count held) region.leased } in
     AreHoused after (logs ++ held ∷ [])
 housed_opened region logs held lies some free housed =
-    let vacant = free_vacant region logs (page_count held) (first_page held) some housed free in
+    let vacant = free_vacant {room = 0} region logs (page_count held) (first_page held) some housed free in
     let small : first_page held + page_count held ≤ length region.leased = omega (arith, vacant.within, housed.sized) in
     record {
       lie = All-push (LiesIn region.home) logs held housed.lie lies;
@@ -359,36 +359,3 @@ housed_leased region after logs all source lease ident log sound whole is least 
     taken ∙ sym (ap₂ (λ a n. let r : Region = record region { leased = marked true a n region.leased } in r) first count) in
     subst (λ (r : Region). AreHoused r all) (sym marks)
     (subst (λ l. AreHoused (record region { leased = marked true (first_page held) (page_count held) region.leased }) l) (sym more) opened)
-
--- pages that got a lease and lost it are as they were
-unmarked : (t : List Bool) (at n page : ℕ) → at + n ≤ length t → IsFree t at n → has_lease (marked false at n (marked true at n t)) page ≡ has_lease t page
-unmarked t at n page within free =
-    let long : at + n ≤ length (marked true at n t) = omega (arith, length-marked true at n t within) in
-    elim (cases_lt page at) [
-      | inl before ↦ before_marked false at n page (marked true at n t) long before ∙ before_marked true at n page t within before
-      | inr from ↦ elim (cases_lt page (at + n)) [
-        | inl to ↦
-            let same : at + (page - at) ≡ page = omega arith in
-            marked_there false at n page (marked true at n t) long from to ∙ sym (ap (λ p. has_lease t p) (sym same) ∙ free (page - at) (omega arith))
-        | inr behind ↦ behind_marked false at n page (marked true at n t) long behind ∙ behind_marked true at n page t within behind
-      ]
-    ]
-
--- the lease is given back at once
-pub housed_refused : (region after : Region) (logs others : List HeldLog) (at n : ℕ) → 0 < n → IsLeastPlace region.leased n at
-    → (let given : Region = record region { leased = marked false at n (marked true at n region.leased) } in after ≡ given) → others ≡ logs
-    → AreHoused region logs → AreHoused after others
-unfolding IsLeastPlace
-housed_refused region after logs others at n some least given same housed =
-    let vacant = free_vacant region logs n at some housed least.0 in
-    let within : at + n ≤ length region.leased = omega (arith, vacant.within, housed.sized) in
-    let long : length (marked true at n region.leased) ≡ length region.leased = length-marked true at n region.leased within in
-    let far : at + n ≤ length (marked true at n region.leased) = omega (arith, long, within) in
-    let back : AreHoused (record region { leased = marked false at n (marked true at n region.leased) }) logs = record {
-      lie = housed.lie;
-      apart = housed.apart;
-      sized = length-marked false at n (marked true at n region.leased) far ∙ long ∙ housed.sized;
-      leased = λ page l. unmarked region.leased at n page within least.0 ∙ housed.leased page l;
-    } in
-    subst (λ (r : Region). AreHoused r others) (sym given)
-    (subst (λ l. AreHoused (record region { leased = marked false at n (marked true at n region.leased) }) l) (sym same) back)

@@ -6,7 +6,7 @@ use Rattle.std.specs.Prelude.{IfSome}
 use Rattle.std.proofs.lemmas.Bool.{cond_both, eqb-true, eq-eqb}
 use Rattle.std.proofs.lemmas.Bool.Decides.{nat_tests}
 use Rattle.std.proofs.lemmas.List.Elements.{All-nil, All-cons, All-head, All-tail, All-append, All-map, All-filter, All-weaker, Contains-append_cases, Contains-append_left, Contains-append_right, Contains-push}
-use Rattle.driver_core.specs.declared.change.Change.{Change}
+use Rattle.driver_core.specs.Change.{Change}
 use Rattle.driver_core.specs.declared.log_request.LogRequest.{LogRequest}
 use Rattle.driver_core.specs.declared.peer.Peer.{Peer}
 use Rattle.driver_core.specs.declared.settings.Settings.{Settings}
@@ -24,7 +24,7 @@ use Rattle.driver_world.specs.declared.step.Step.{Step}
 use Rattle.driver_world.specs.declared.step.Step.TheVariants.{Conductor, Offer as Offers, Poll as Polls, List as Lists, Value}
 use Rattle.driver_world.specs.Answers.{offered_as, fragment_of}
 use Rattle.driver_world.specs.Ends.{RunEnd, opening_end, inputs_of, begun, opened_for, stays_open, rejoined_log, logs_after, log_at, with_log, moved_on, on_log, on_offered, conducted, moved, after, IsAnswer, AreAnswers, end_of}
-use Rattle.driver_world.specs.Held.{readers_of}
+use Rattle.driver_core.specs.Readers.{readers_of}
 use Rattle.driver_world.specs.Laws.{put_into, granted_by, granted_in, ComesFromLog, BytesComeFromTheLiveLog}
 use Rattle.driver_world.specs.Moves.{WholeLog, Move, answered, taken, offer_under, offer_move, given, poll_under, poll_move}
 use Rattle.frame_codec.specs.declared.flags.Flags.{Flags}

@@ -3,7 +3,7 @@ use Rattle.std.proofs.Common.{◌≡◌, ℕ, ◌*◌, ◌<◌, ◌==◌, Bool, 
 use Rattle.std.proofs.lemmas.Bool.{eq-eqb, ne_eqb}
 use Rattle.std.proofs.lemmas.List.{map-append}
 use Rattle.std.proofs.lemmas.List.Elements.{All-head, All-tail, filter-append}
-use Rattle.driver_core.specs.declared.change.Change.{Change}
+use Rattle.driver_core.specs.Change.{Change}
 use Rattle.driver_core.specs.declared.settings.Settings.{Settings}
 use Rattle.driver_core.specs.Renewal.{publication_at}
 use Rattle.driver_core.specs.Soundness.{AreSizes, Ascend, MovesLogs, Opens, is_left, log_of}

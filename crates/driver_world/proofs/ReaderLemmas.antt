@@ -9,7 +9,7 @@ use Rattle.client_registry.specs.declared.client.Client.{Client}
 use Rattle.driver_core.specs.Pairs.{pairs_of}
 use Rattle.driver_core.specs.Soundness.{Ascend, IsSound}
 use Rattle.driver_core.specs.State.{State}
-use Rattle.driver_world.specs.Held.{readers_of}
+use Rattle.driver_core.specs.Readers.{readers_of}
 use Rattle.policy_core.specs.RuleList.{Rules}
 use Rattle.stream_registry.specs.declared.pairs.Pair.{Pair}
 use Rattle.stream_registry.specs.declared.row.Publication.{Publication}

@@ -1,5 +1,5 @@
 -- Logs that are held stand for the logs of an end, one for one.
-use Rattle.std.proofs.Common.{rules, ◌≡◌, ℕ, ◌==◌, Bool, true, false, List, [], ◌∷◌, map, Option, Some, None, if◌then◌else◌, refl, ap, arith}
+use Rattle.std.proofs.Common.{rules, ◌≡◌, ℕ, ◌==◌, Bool, true, false, List, [], ◌∷◌, map, Option, Some, None, if◌then◌else◌, refl, ap, ◌∙◌, arith}
 use Rattle.std.proofs.lemmas.List.Elements.{All-nil}
 use Rattle.driver_core.specs.declared.peer.Peer.{Peer}
 use Rattle.driver_core.specs.declared.settings.Settings.{Settings}
@@ -128,13 +128,22 @@ match_moved s source move absent given old new matches moves =
     let kept = moves_keep source move absent given old new moves in
     record { sound = matches.sound; pages = rw kept.1 matches.pages; rows = rw kept.0 matches.rows }
 
+-- however much room there is
+pub match_roomy : (s : State) (old new : HeldLogs) → (let roomy : HeldLogs = record old { room = new.room } in new ≡ roomy) → Match s old →
+    Match s new
+match_roomy s old new roomy matches = record {
+  sound = matches.sound;
+  pages = ap (λ (h : HeldLogs). h.pages) roomy ∙ matches.pages;
+  rows = ap (λ (h : HeldLogs). map row_held h.logs) roomy ∙ matches.rows;
+}
+
 -- ---- a world in which nothing happened yet
 
 -- nothing is published, and no log is open
-pub opening_match : (settings : Settings) (policy : Rules) (peers : List Peer) → AreSettings settings →
-    Match (opened settings policy peers) (record { pages = settings.arena_pages; logs = [] })
+pub opening_match : (room : ℕ) (settings : Settings) (policy : Rules) (peers : List Peer) → AreSettings settings →
+    Match (opened settings policy peers) (record { pages = settings.arena_pages; logs = []; room = room })
 unfolding opened
-opening_match settings policy peers are =
+opening_match room settings policy peers are =
     record {
       sound = record {
         defaults = are.sizes;

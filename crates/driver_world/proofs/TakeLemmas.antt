@@ -1,17 +1,20 @@
 -- An event that was taken goes on from each end that the world stands for.
 use Rattle.std.proofs.Common.{◌≡◌, ℕ, Bool, true, false, not, cond, List, [], ◌∷◌, ◌++◌, map, filter, Option, Some, None, refl, sym, ap, ap₂, subst, ◌∙◌, append-nil}
-use Rattle.driver_core.specs.declared.change.Change.{Change}
+use Rattle.driver_core.specs.Change.{Change}
+use Rattle.driver_core.specs.declared.entry.Entry.{Entry}
 use Rattle.driver_core.specs.declared.event.End.{End}
 use Rattle.driver_core.specs.declared.event.Event.{Event}
 use Rattle.driver_core.specs.declared.event.Inputs.{Inputs}
-use Rattle.driver_core.specs.Conduct.{conduct}
+use Rattle.driver_core.specs.declared.outcome.Outcome.{Outcome}
+use Rattle.driver_core.specs.Conduct.{conduct, outcome_of, state_after}
 use Rattle.driver_core.specs.Pairs.{pairs_of}
 use Rattle.driver_core.specs.Renewal.{publication_at}
 use Rattle.driver_core.specs.State.{State}
 use Rattle.driver_world.specs.Ends.{RunEnd, begun, conducted, end_of_log, inputs_of, logs_after, opened_for, rejoined_log, stays_open}
-use Rattle.driver_world.specs.Held.{HeldLog, HeldLogs, OpensFor, end_held, inputs_held, is_closed, is_kept, readers_of, rejoined_held}
+use Rattle.driver_core.specs.Readers.{readers_of}
+use Rattle.driver_world.specs.Held.{HeldLog, HeldLogs, OpensFor, end_held, inputs_held, is_closed, is_kept, rejoined_held}
 use Rattle.driver_world.specs.Moves.{StandsForLog, WholeLog}
-use Rattle.driver_world.specs.Opening.{OpensNext}
+use Rattle.driver_world.specs.Opening.{Follows, OpensNext}
 use Rattle.driver_world.specs.Standing.{StandAll, StandsForEnd, Takes}
 use Rattle.driver_world.proofs.MatchLemmas.{left_held}
 use Rattle.stream_registry.specs.declared.lingering.LogPlace.{LogPlace}
@@ -144,17 +147,6 @@ takes s old new event change is opens = record {
 
 -- ---- by steps
 
--- those are closed that close, and then exactly the pairs read them
-pub left_is : (opened closed new : HeldLogs) (change : Change) (closes : List LogPlace) (pairs : List Pair)
-    → closed ≡ record opened { logs = filter (is_kept closes) opened.logs }
-    → new ≡ record closed { logs = map (rejoined_held pairs) closed.logs } → closes ≡ change.outcome.closes
-    → pairs ≡ pairs_of change.after → new ≡ record opened { logs = left_held change (pairs_of change.after) opened.logs }
-left_is opened closed new change closes pairs closed_is new_is closes_is pairs_is =
-    new_is
-    ∙ ap (λ (h : HeldLogs). record h { logs = map (rejoined_held pairs) h.logs }) closed_is
-    ∙ ap₂ (λ (cs : List LogPlace) (ps : List Pair). record opened { logs = map (rejoined_held ps) (filter (is_kept cs) opened.logs) })
-    closes_is pairs_is
-
 pub taken : (s : State) (old opened new : HeldLogs) (event : Event) (change : Change) (inputs : Inputs)
     → change ≡ conduct s event inputs → inputs ≡ inputs_held old.logs → OpensNext old opened change.after change.outcome.opens
     → new ≡ record opened { logs = left_held change (pairs_of change.after) opened.logs }
@@ -163,3 +155,29 @@ taken s old opened new event change inputs is inputs_is opens new_is =
     subst (λ (h : HeldLogs). Takes (record { registry = s; logs = old.logs }) (record { registry = change.after; logs = h.logs }) event change.outcome)
     (sym new_is)
     (takes s old opened event change (is ∙ ap (conduct s event) inputs_is) opens)
+
+-- ---- what was planned is done
+
+abbrev pub done_by : State → Outcome → Change
+done_by after outcome = record { after = after; outcome = outcome }
+
+-- what a plan comes to, where it is done on the registry that it was made for
+pub planned_is : (s after : State) (entry : Entry) (event : Event) (inputs : Inputs)
+    → entry ≡ record { event = event; inputs = inputs; outcome = outcome_of s event inputs }
+    → after ≡ state_after s entry.event entry.inputs → done_by after entry.outcome ≡ conduct s event inputs
+planned_is s after entry event inputs planned done =
+    ap₂ done_by
+    (done ∙ ap (λ (e : Entry). state_after s e.event e.inputs) planned)
+    (ap (λ (e : Entry). e.outcome) planned)
+
+-- the logs followed what the event opens and closes
+pub followed : (old new : HeldLogs) (after : State) (outcome : Outcome) (opens : Option LogPlace) (closes : List LogPlace)
+    → opens ≡ outcome.opens → closes ≡ outcome.closes → Follows old new after opens closes
+    → Follows old new after outcome.opens outcome.closes
+followed old new after outcome opens closes opens_is closes_is follows =
+    subst (λ (places : List LogPlace). Follows old new after outcome.opens places) closes_is
+    (subst (λ (place : Option LogPlace). Follows old new after place closes) opens_is follows)
+
+-- the same logs, however much room there was for them
+pub logs_as_before : (old new : HeldLogs) → (let roomy : HeldLogs = record old { room = new.room } in new ≡ roomy) → new.logs ≡ old.logs
+logs_as_before old new roomy = ap (λ (h : HeldLogs). h.logs) roomy

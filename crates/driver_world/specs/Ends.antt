@@ -1,6 +1,6 @@
 -- What stands at the end of a run, its logs as whole lists of frames; what each step leaves, and what it is answered.
 use Rattle.std.specs.Prelude.{◌≡◌, ℕ, Bool, List, [], ◌∷◌, ◌++◌, map, filter, find, not, ◌==◌, if◌then◌else◌, Option, Some, None}
-use Rattle.driver_core.specs.declared.change.Change.{Change}
+use Rattle.driver_core.specs.Change.{Change}
 use Rattle.driver_core.specs.declared.event.End.{End}
 use Rattle.driver_core.specs.declared.event.Event.{Event}
 use Rattle.driver_core.specs.declared.event.Inputs.{Inputs}
@@ -19,7 +19,8 @@ use Rattle.driver_world.specs.declared.answer.Offered.TheVariants.{Closed}
 use Rattle.driver_world.specs.declared.step.Step.{Step}
 use Rattle.driver_world.specs.declared.step.Step.TheVariants.{Conductor, Offer, Poll, List as Lists, Value}
 use Rattle.driver_world.specs.Answers.{answer_of, answer_listed, answer_shown}
-use Rattle.driver_world.specs.Held.{is_closed, readers_of}
+use Rattle.driver_core.specs.Readers.{readers_of}
+use Rattle.driver_world.specs.Held.{is_closed}
 use Rattle.driver_world.specs.Idents.{ident_of}
 use Rattle.driver_world.specs.Moves.{WholeLog, Move, offer_move, poll_move}
 use Rattle.policy_core.specs.RuleList.{Rules}

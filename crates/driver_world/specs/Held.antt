@@ -1,9 +1,10 @@
 -- The logs that a driver holds open, and the memory in which they lie. Own rules.
-use Rattle.std.specs.Prelude.{◌≡◌, ℕ, zero, suc, ◌+◌, ◌*◌, ◌%◌, ◌<◌, ◌≤◌, Bool, true, false, not, ◌==◌, ◌&&◌, nat_le, nat_lt, List, [], ◌∷◌, ◌++◌, length, map, filter, find, position, take, drop, All, AllPairs, Option, Some, None, if◌then◌else◌}
+use Rattle.std.specs.Prelude.{◌≡◌, ℕ, zero, suc, ◌+◌, ◌*◌, ◌%◌, ◌<◌, ◌≤◌, Bool, true, false, not, ◌==◌, ◌&&◌, nat_le, nat_lt, List, [], ◌∷◌, ◌++◌, length, map, find, position, take, drop, All, AllPairs, Option, Some, None, if◌then◌else◌}
 use Rattle.std.specs.List.{list_any, range_with_len}
 use Rattle.driver_core.specs.declared.event.End.{End}
 use Rattle.driver_core.specs.declared.event.Inputs.{Inputs}
 use Rattle.driver_core.specs.declared.settings.Settings.{Settings}
+use Rattle.driver_core.specs.Readers.{readers_of}
 use Rattle.driver_core.specs.Soundness.{AreSizes}
 use Rattle.driver_world.specs.Idents.{ident_of}
 use Rattle.log_arena.specs.Homes.{Home}
@@ -21,10 +22,12 @@ pub record HeldLog : Type 0 where
   pub source : ℕ
   pub log : Log
 
--- how many pages there are for logs, and the logs that are open, in the order in which they were opened
+-- how many pages there are for logs, the logs that are open, in the order in which they were opened, and for how many of
+-- them there is room in memory
 pub record HeldLogs : Type 0 where
   pub pages : ℕ
   pub logs : List HeldLog
+  pub room : ℕ
 
 -- ---- the memory
 
@@ -98,10 +101,6 @@ is_kept closes held = not (is_closed closes held.source)
 -- without the one at that place
 abbrev pub without : ℕ → List HeldLog → List HeldLog
 without at logs = take at logs ++ drop (at + 1) logs
-
--- the subscriptions that read the log of that source
-unfoldable pub readers_of : List Pair → ℕ → List ℕ
-readers_of pairs source = map (λ pair. pair.subscription) (filter (λ pair. pair.source == source) pairs)
 
 -- exactly the subscriptions of these pairs read the log
 abbrev pub rejoined_held : List Pair → HeldLog → HeldLog

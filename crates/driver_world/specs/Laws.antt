@@ -21,7 +21,7 @@ use Rattle.driver_world.specs.declared.step.Step.{Step}
 use Rattle.driver_world.specs.declared.step.Step.TheVariants.{Conductor, Offer, Poll, List as Lists, Value}
 use Rattle.driver_world.specs.Answers.{answer_of, answer_listed, answer_shown, offered_as, fragment_of}
 use Rattle.driver_world.specs.Ends.{RunEnd, Moved, opening_end, inputs_of, log_at, with_log, moved, after, IsAnswer, AreAnswers, end_of}
-use Rattle.driver_world.specs.Held.{readers_of}
+use Rattle.driver_core.specs.Readers.{readers_of}
 use Rattle.driver_world.specs.Idents.{ident_of}
 use Rattle.driver_world.specs.Moves.{WholeLog}
 use Rattle.client_registry.specs.declared.client.Client.{Client}

@@ -13,7 +13,6 @@ mod open_log;
 mod open_logs;
 mod opening;
 mod polling;
-mod readers;
 mod step;
 mod world;
 

@@ -1,6 +1,8 @@
 //! The open logs of a driver, in one arena.
 
-ghost use Rattle.driver_world.specs.Held.{IsLeastVacant, IsOpened, is_closed, is_kept, place_at, readers_of, rejoined_held, taken_pages, with_readers, without};
+ghost use Rattle.driver_core.specs.Pairs.{pairs_of as all_pairs};
+ghost use Rattle.driver_core.specs.Readers.{readers_of};
+ghost use Rattle.driver_world.specs.Held.{IsLeastVacant, IsOpened, is_closed, is_kept, place_at, rejoined_held, taken_pages, with_readers, without};
 ghost use Rattle.driver_world.specs.declared.answer.Answer.TheVariants.{Gone, Offered as OfferedAs};
 ghost use Rattle.driver_world.specs.declared.answer.Offered.TheVariants.{Closed};
 ghost use Rattle.driver_world.specs.Memory.{GivesFirst};
@@ -14,17 +16,18 @@ use crate::answer::{Answer, Offered};
 use crate::offering::offer_step;
 use crate::open_log::OpenLog;
 use crate::polling::poll_step;
-use crate::readers::collect;
-use driver_core::View;
+use driver_core::{Registry, View};
 use log_arena::Arena;
+use rows::Rows;
 use std::alloc::{AllocError, Global};
 use std::marker::Model;
-use stream_registry::{LogPlace, Pair};
-use term_log::{Ident, TermLog};
+use stream_registry::LogPlace;
+use term_log::{Ident, LogRoom, TermLog};
 
 /// The open logs, each in a lease of one arena, of which no other page has a lease.
 ///
-/// Contracts see how many pages the arena has, and the logs in the order in which they were opened.
+/// Contracts see how many pages the arena has, the logs in the order in which they were opened, and for how many of them
+/// there is room.
 #[derive(Drop)]
 pub(crate) struct OpenLogs {
     arena: Arena,
@@ -33,10 +36,15 @@ pub(crate) struct OpenLogs {
 
 impl Model for OpenLogs {
     ghost use Rattle.driver_world.specs.Held.{HeldLogs, AreHoused};
+    ghost use Rattle.std.specs.Vec.{vec_capacity};
 
     ghost Value = { HeldLogs };
 
-    ghost view = { λ held. record { pages = held.arena.home.pages; logs = held.logs.items } };
+    ghost view = { λ held. record {
+      pages = held.arena.home.pages;
+      logs = held.logs.items;
+      room = vec_capacity held.logs;
+    } };
 
     ghost invariant = { λ held. AreHoused held.arena held.logs.items };
 }
@@ -59,7 +67,7 @@ impl OpenLogs {
     /// No log is open yet. There are `pages` pages for all of them, from 1 to 65,536.
     pub(crate) fn new(alloc: Global, pages: usize) -> Result<OpenLogs, AllocError>
         requires { (0 < pages) × (pages ≤ 65536) }
-        ensures { IfOk result (λ held. held ≡ record { pages = pages; logs = [] }) }
+        ensures { IfOk result (λ held. held ≡ record { pages = pages; logs = []; room = 0 }) }
     {
         Ok(OpenLogs {
             arena: Arena::new(alloc, pages)?,
@@ -81,41 +89,29 @@ impl OpenLogs {
         self.arena.holes()
     }
 
-    /// Opens a log without frames behind the others, in the pages from `place` on, which is the least place for them.
-    ///
-    /// # Errors
-    /// Nothing is changed where there is no memory for it.
-    pub(crate) fn open(
-        &mut self,
-        alloc: Global,
-        source: u64,
-        place: u64,
-        ident: Ident,
-    ) -> Result<(), AllocError>
+    /// Takes room for one log more.
+    pub(crate) fn reserve(&mut self) -> Result<(), AllocError>
+        ensures same { self.new ≡ record self.old { room = self.new.room } }
+        ensures room { OnOk result (length self.new.logs < self.new.room) }
+    {
+        self.logs.reserve(1)
+    }
+
+    /// Opens a log without frames behind the others, in the pages from `place` on, which is the least place for them, and
+    /// in memory that was taken before.
+    pub(crate) fn open(&mut self, memory: LogRoom, source: u64, place: u64, ident: Ident)
         requires ident { IsIdent ident }
         requires whole { ident.term_length % 4096 ≡ 0 }
         requires vacant { IsLeastVacant self.old (pages_of ident.term_length) place }
-        ensures opened { OnOk result (IsOpened self.old self.new source place ident) }
-        ensures err { OnErr result (self.new ≡ self.old) }
+        requires room { length self.old.logs < self.old.room }
+        ensures { IsOpened self.old self.new source place ident }
     {
-        self.logs.reserve(1)?;
         let Ok(lease) = self.arena.lease(3 * ident.term_length as usize) else {
             // the place is there
             unreachable!()
         };
-        match TermLog::open(alloc, lease, ident) {
-            Ok(log) => {
-                match self.logs.push(OpenLog { source, log }) {
-                    Ok(()) => {}
-                    Err(_) => unreachable!(),
-                }
-                Ok(())
-            }
-            Err((lease, refused)) => {
-                self.arena.give(lease);
-                Err(refused)
-            }
-        }
+        let log = TermLog::open_in(memory, lease, ident);
+        self.logs.push_reserved(OpenLog { source, log });
     }
 
     /// Closes the log at that place of the list: its pages are free again.
@@ -151,14 +147,13 @@ impl OpenLogs {
         self.logs[at].log.rejoin(subscriptions);
     }
 
-    /// Exactly the subscriptions of these pairs read the logs. `room` is there for as many numbers as there are pairs.
-    pub(crate) fn rejoin(&mut self, pairs: &[Pair], room: &mut Vec<u64>)
-        requires few { (source : ℕ) → length (readers_of pairs.now source) ≤ 512 }
-        requires room { length pairs.now ≤ room.old.cap }
-        ensures { self.new ≡ record self.old { logs = map (rejoined_held pairs.now) self.old.logs } }
+    /// Exactly the subscriptions read the logs that the registry says. `room` is there for those of one log.
+    pub(crate) fn rejoin(&mut self, registry: &Registry, room: &mut Rows<u64, 512>)
+        requires { (source : ℕ) → length (readers_of (all_pairs registry.now) source) ≤ 512 }
+        ensures { self.new ≡ record self.old { logs = map (rejoined_held (all_pairs registry.now)) self.old.logs } }
     {
         for at in 0..self.logs.len() {
-            collect(pairs, self.logs[at].source, room);
+            registry.readers(self.logs[at].source, room);
             self.rejoin_at(at, room.as_slice());
         }
     }

@@ -1,20 +1,22 @@
 ghost use Rattle.std.specs.Prelude.{◌≡◌, ℕ, ◌≤◌, length, IfOk, OnOk, OnErr};
-ghost use Rattle.driver_core.specs.Conduct.{conduct};
+ghost use Rattle.driver_core.specs.Conduct.{conduct, outcome_of};
 ghost use Rattle.driver_core.specs.Pairs.{pairs_of};
 ghost use Rattle.driver_core.specs.Soundness.{AreSettings, IsSound, MovesLogs};
 ghost use Rattle.driver_world.specs.Ends.{inputs_of};
-ghost use Rattle.driver_world.specs.Held.{inputs_held, readers_of};
-ghost use Rattle.driver_world.specs.Opening.{CanOpen, Follows, OpensNext};
+ghost use Rattle.driver_core.specs.Readers.{readers_of};
+ghost use Rattle.driver_world.specs.Held.{inputs_held};
+ghost use Rattle.driver_world.specs.Opening.{CanOpen, Follows, HasRoom, place_of};
 
 use crate::answer::{Answer, Offered};
 use crate::inputs::inputs_of;
 use crate::open_log::OpenLog;
 use crate::open_logs::OpenLogs;
-use crate::opening::open_for;
+use crate::opening::{Opening, open_next, prepare};
 use crate::step::Step;
 use byte_strings::Items;
-use driver_core::{Change, Event, Outcome, Peer, Registry, Settings};
+use driver_core::{Entry, Event, Outcome, Peer, Registry, Settings};
 use policy_core::Policy;
+use rows::Rows;
 use std::alloc::{AllocError, Global};
 use std::marker::Model;
 use stream_registry::LogPlace;
@@ -24,6 +26,8 @@ use stream_registry::LogPlace;
 pub struct World {
     registry: Registry,
     logs: OpenLogs,
+    /// Room for the subscriptions that read one log.
+    room: Rows<u64, 512>,
 }
 
 impl Model for World {
@@ -36,57 +40,37 @@ impl Model for World {
     ghost invariant = { λ world. Match world.registry world.logs };
 }
 
-/// What the event makes of the registry, which itself stays as it is, where the logs are these.
-fn change_of(
+/// Decides the event on the registry, where the logs are these.
+fn plan_for(
     registry: &Registry,
     alloc: Global,
     event: &Event,
     logs: &[OpenLog],
-) -> Result<Change, AllocError>
-    ensures exact { IfOk result (λ change. change ≡ conduct registry.now event.now (inputs_held logs.now)) }
-    ensures moves { IfOk result (λ change. IsSound registry.now → MovesLogs registry.now change) }
+) -> Result<Entry, AllocError>
+    ensures exact { IfOk result (λ entry. entry ≡ record { event = event.now; inputs = inputs_held logs.now; outcome = outcome_of registry.now event.now (inputs_held logs.now) }) }
+    ensures moves { IfOk result (λ entry. IsSound registry.now → MovesLogs registry.now (conduct registry.now event.now (inputs_held logs.now))) }
 {
     let inputs = inputs_of(alloc, logs)?;
-    registry.next(alloc, event, &inputs)
+    registry.plan(alloc, event, &inputs)
 }
 
-/// Opens the log that an event opens, if it opens one.
-///
-/// # Errors
-/// Nothing is changed where there is no memory for it.
-fn open_next(
+/// The logs follow an event that left this registry: the log that it opens is opened before those are closed that it
+/// closes, and then exactly the pairs read. It takes no memory.
+fn follow(
     logs: &mut OpenLogs,
-    alloc: Global,
+    room: &mut Rows<u64, 512>,
     after: &Registry,
-    opens: Option<LogPlace>,
-) -> Result<(), AllocError>
-    requires { CanOpen logs.old after.now opens }
-    ensures opened { OnOk result (OpensNext logs.old logs.new after.now opens) }
-    ensures err { OnErr result (logs.new ≡ logs.old) }
+    opening: Option<Opening>,
+    closes: &[LogPlace],
+)
+    requires opens { CanOpen logs.old after.now (place_of opening) }
+    requires room { HasRoom logs.old opening }
+    requires few { (source : ℕ) → length (readers_of (pairs_of after.now) source) ≤ 512 }
+    ensures { Follows logs.old logs.new after.now (place_of opening) closes.now }
 {
-    let Some(place) = opens else {
-        return Ok(());
-    };
-    open_for(logs, alloc, after, place)
-}
-
-/// The logs follow the change of an event: the log that it opens is opened before those are closed that it closes, and
-/// then the pairs read.
-///
-/// # Errors
-/// Nothing is changed where there is no memory for it.
-fn follow(logs: &mut OpenLogs, alloc: Global, change: &Change) -> Result<(), AllocError>
-    requires opens { CanOpen logs.old change.now.after change.now.outcome.opens }
-    requires few { (source : ℕ) → length (readers_of (pairs_of change.now.after) source) ≤ 512 }
-    ensures followed { OnOk result (Follows logs.old logs.new change.now) }
-    ensures err { OnErr result (logs.new ≡ logs.old) }
-{
-    let pairs = change.after.pairs(alloc)?;
-    let mut room = Vec::with_capacity(alloc, pairs.len())?;
-    open_next(logs, alloc, &change.after, change.outcome.opens)?;
-    logs.close(change.outcome.closes.as_slice());
-    logs.rejoin(pairs.as_slice(), &mut room);
-    Ok(())
+    open_next(logs, after, opening);
+    logs.close(closes);
+    logs.rejoin(after, room);
 }
 
 impl World {
@@ -109,6 +93,7 @@ impl World {
         Ok(World {
             registry: Registry::new(alloc, settings, policy, peers)?,
             logs: OpenLogs::new(alloc, settings.arena_pages as usize)?,
+            room: Rows::new(alloc)?,
         })
     }
 
@@ -120,15 +105,22 @@ impl World {
         self.logs.holes()
     }
 
-    /// The conductor takes an event, and the logs follow.
+    /// The conductor takes an event, and the logs follow. All memory that this wants is taken before anything is changed.
     fn take(&mut self, alloc: Global, event: &Event) -> Result<Outcome, AllocError>
         ensures taken { IfOk result (λ outcome. Takes self.old self.new event.now outcome) }
         ensures err { OnErr result (self.new ≡ self.old) }
     {
-        let change = change_of(&self.registry, alloc, event, self.logs.as_slice())?;
-        follow(&mut self.logs, alloc, &change)?;
-        self.registry = change.after;
-        Ok(change.outcome)
+        let entry = plan_for(&self.registry, alloc, event, self.logs.as_slice())?;
+        let opening = prepare(&mut self.logs, alloc, entry.outcome.opens)?;
+        self.registry.apply(&entry);
+        follow(
+            &mut self.logs,
+            &mut self.room,
+            &self.registry,
+            opening,
+            entry.outcome.closes.as_slice(),
+        );
+        Ok(entry.outcome)
     }
 
     /// The conductor takes an event.

@@ -2,7 +2,7 @@
 
 use byte_strings::{Bytes, Text};
 use command_codec::{AddPublication, AddSubscription, Body, Command, Removal, TerminateDriver};
-use driver_core::{Event, Inputs, LogRequest, Outcome, Registry, Response, Settings};
+use driver_core::{Event, Inputs, LogRequest, Outcome, Received, Registry, Response, Settings};
 use policy_core::{Decision, Policy};
 use std::alloc::{AllocError, Global};
 use std::test::Fail;
@@ -56,7 +56,7 @@ fn command(alloc: Global, body: Body) -> Result<Event, AllocError> {
     Ok(Event::Command {
         now: 0,
         client: 1,
-        bytes,
+        bytes: Received::new(alloc, bytes.as_slice())?,
     })
 }
 
@@ -126,6 +126,13 @@ impl Conductor {
         let event = event(self.alloc, deed)?;
         self.registry
             .step(self.alloc, &event, &Inputs::none(self.alloc))
+    }
+
+    /// As `outcome`, by a copy of the event and of what the logs tell.
+    fn outcome_of_copy(&mut self, deed: Deed) -> Result<Outcome, AllocError> {
+        let event = event(self.alloc, deed)?.copy(self.alloc)?;
+        let inputs = Inputs::none(self.alloc).copy(self.alloc)?;
+        self.registry.step(self.alloc, &event, &inputs)
     }
 
     /// Whether there is memory for these events.
@@ -238,10 +245,10 @@ impl Conductor {
         }
     }
 
-    /// Whether an event here comes to the same as one at a copy, which is so many replies and no other response.
+    /// Whether an event here comes to the same as a copy of one at a copy, which is so many replies and no other response.
     pub(crate) fn agrees(&mut self, deed: Deed, other: Deed, replies: usize) -> bool {
         match self.copy() {
-            Ok(mut copy) => match copy.outcome(other) {
+            Ok(mut copy) => match copy.outcome_of_copy(other) {
                 Ok(expected) => self.comes_to(deed, &expected, replies),
                 Err(_) => false,
             },

@@ -8,4 +8,6 @@ mod looks;
 #[cfg(test)]
 mod outcomes;
 #[cfg(test)]
+mod received;
+#[cfg(test)]
 mod worlds;

@@ -67,17 +67,14 @@ fn a_client_comes_is_heard_of_and_goes(rt: HostRuntime) {
 }
 
 /// Whether these clients are past their liveness then.
-fn are_expired(alloc: Global, clients: &Clients, now: u64, numbers: &[u64]) -> bool {
-    match clients.expired(alloc, now) {
-        Ok(found) => found.as_slice() == numbers,
-        Err(_) => false,
-    }
+fn are_expired(clients: &Clients, now: u64, numbers: &[u64]) -> bool {
+    clients.expired(now).as_slice() == numbers
 }
 
 fn expire(alloc: Global, rows: &[(u64, &[u64])]) -> Result<bool, Refused> {
     let clients = two(alloc)?;
     for &(now, numbers) in rows {
-        if !are_expired(alloc, &clients, now, numbers) {
+        if !are_expired(&clients, now, numbers) {
             return Ok(false);
         }
     }

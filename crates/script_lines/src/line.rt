@@ -9,7 +9,7 @@ use crate::hex;
 use crate::number::{number, small_number};
 use crate::pieces::first_piece;
 use byte_strings::Text;
-use driver_core::Event;
+use driver_core::{Event, Received};
 use driver_world::Step;
 use std::alloc::{AllocError, AllocFailed, Global};
 
@@ -194,6 +194,7 @@ fn command_of(alloc: Global, fields: Option<&str>) -> Result<Step, LineFault>
     let now = number(now).ok_or(LineFault::Bad)?;
     let client = number(client).ok_or(LineFault::Bad)?;
     let bytes = hex::read_hex(alloc, bytes)?;
+    let bytes = Received::new(alloc, bytes.as_slice())?;
     Ok(Step::Conductor(Event::Command { now, client, bytes }))
 }
 

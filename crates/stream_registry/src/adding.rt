@@ -108,8 +108,8 @@ impl Streams {
         }
     }
 
-    /// The row of a new log.
-    pub(crate) fn log(&self, number: u64, wanted: &Wanted, place: u64, session: i32) -> Publication
+    /// The row of a log that would be made under this number, at this place, with this session.
+    pub fn log(&self, number: u64, wanted: &Wanted, place: u64, session: i32) -> Publication
         ensures { result ≡ log_of self.now number wanted.now place session }
     {
         Publication {

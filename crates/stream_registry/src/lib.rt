@@ -26,9 +26,9 @@ mod wish;
 
 pub use fault::StreamFault;
 pub use laws::{limits_are_kept, places_are_least, places_share_nothing, sessions_are_free};
-pub use lingering::LogPlace;
+pub use lingering::{LogPlace, is_past};
 pub use measures::Measures;
-pub use pairs::{Pair, reads};
+pub use pairs::{Pair, fits, is_allowed, reads};
 pub use row::{Publication, Registration, Subscription};
 pub use streams::Streams;
 pub use wanted::{Adding, Wanted};

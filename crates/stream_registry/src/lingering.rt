@@ -48,8 +48,8 @@ impl Change<Publication> for Settling<'_> {
     }
 }
 
-/// Whether it lingers for longer than it may.
-fn is_past(publication: &Publication, now: u64) -> bool
+/// Whether the publication lingers for longer than it may at `now`.
+pub fn is_past(publication: &Publication, now: u64) -> bool
     ensures { result ≡ is_past now publication.now }
 {
     match publication.lingering_since {

@@ -24,7 +24,7 @@ pub struct Pair {
 
 /// Whether the subscription reads the log, if the policy lets it.
 #[tactic(auto, unfolding(crate::specs::Pairs::fits))]
-fn fits(publication: &Publication, wish: &Wish<'_>) -> bool
+pub fn fits(publication: &Publication, wish: &Wish<'_>) -> bool
     ensures { result ≡ fits publication.now (row_of wish.now) }
 {
     is_ipc(publication.channel.media())
@@ -33,9 +33,9 @@ fn fits(publication: &Publication, wish: &Wish<'_>) -> bool
         && agrees_with(publication.session, wish.channel.session_id())
 }
 
-/// Whether the policy, which goes by this number, lets the client have messages on its subscription.
+/// Whether the policy, which goes by the number `epoch`, lets the client have messages on its subscription.
 #[tactic(auto, unfolding(crate::specs::Pairs::is_allowed))]
-fn is_allowed(clients: &Clients, policy: &Policy, epoch: u64, wish: &Wish<'_>) -> bool
+pub fn is_allowed(clients: &Clients, policy: &Policy, epoch: u64, wish: &Wish<'_>) -> bool
     ensures { result ≡ is_allowed clients.now.rows policy.now epoch (row_of wish.now) }
 {
     let Some(principal) = clients.principal_of(wish.client) else {

@@ -1,4 +1,4 @@
-ghost use Rattle.std.specs.Prelude.{◌≡◌, IfOk};
+ghost use Rattle.std.specs.Prelude.{◌≡◌, ◌≤◌, IfOk, length};
 
 use crate::measures::Measures;
 use crate::row::{Publication, Registration, Subscription};
@@ -65,7 +65,8 @@ impl Streams {
 
     /// The live publications, those that linger too, by their source numbers.
     pub fn publications(&self) -> &[Publication]
-        ensures { result.now ≡ self.now.publications }
+        ensures value { result.now ≡ self.now.publications }
+        ensures few { length result.now ≤ 256 }
     {
         self.publications.as_slice()
     }
@@ -79,7 +80,8 @@ impl Streams {
 
     /// The subscriptions, in their order.
     pub fn subscriptions(&self) -> &[Subscription]
-        ensures { result.now ≡ self.now.subscriptions }
+        ensures value { result.now ≡ self.now.subscriptions }
+        ensures few { length result.now ≤ 512 }
     {
         self.subscriptions.as_slice()
     }

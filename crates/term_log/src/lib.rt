@@ -5,7 +5,7 @@
 //! [`TermLog::frames_over`] lend frames that are held. Contracts say of which lists of frames a log stands for all
 //! (`StandsFor`), and of which whole logs (`Stands`). [`TermLog::fragments`] and [`TermLog::poll`] are the two halves of a
 //! poll. [`TermLog::status`] and the calls behind it tell how far a sender may send, and when what is due. But
-//! for [`TermLog::open`] nothing here takes memory.
+//! for [`TermLog::open`] and [`LogRoom::new`], by which the memory of a log is taken beforehand, nothing here takes memory.
 #![tactic(auto)]
 
 mod appender;
@@ -19,6 +19,7 @@ mod pairs;
 mod polling;
 mod ranges;
 mod reading;
+mod room;
 mod sender;
 mod status;
 mod term_log;
@@ -30,5 +31,6 @@ pub use pair::Pair;
 pub use polling::{Fragment, Fragments};
 pub use ranges::FramesOver;
 pub use reading::{Content, Frames, LogFrame};
+pub use room::LogRoom;
 pub use status::Status;
 pub use term_log::TermLog;

@@ -22,6 +22,7 @@ use crate::pairs::Pairs;
 use crate::polling::{Fragments, end_of, fragments_from};
 use crate::ranges::FramesOver;
 use crate::reading::Frames;
+use crate::room::LogRoom;
 use crate::sender::Sender;
 use crate::status::Status;
 use frame_codec::Header;
@@ -70,13 +71,25 @@ impl TermLog {
         ensures whole { IfOk result (λ log. Stands log (fresh ident)) }
         ensures err { IfErr result (λ refused. refused.0 ≡ lease) }
     {
-        match Pairs::new(alloc) {
-            Ok(pairs) => Ok(TermLog {
-                appender: Appender::new(lease, ident),
-                pairs,
-                sender: Sender::new(ident.start),
-            }),
+        match LogRoom::new(alloc) {
+            Ok(room) => Ok(TermLog::open_in(room, lease, ident)),
             Err(refused) => Err((lease, refused)),
+        }
+    }
+
+    /// A log without frames, in a fresh lease of three terms, as [`TermLog::open`] opens it, in memory that was taken before.
+    pub fn open_in(room: LogRoom, lease: Lease, ident: Ident) -> TermLog
+        requires ident { IsIdent ident }
+        requires len { lease_len lease ≡ 3 * ident.term_length }
+        requires zeros { lease_bytes lease ≡ replicate (3 * ident.term_length) 0 }
+        ensures opened { result ≡ record { kept = opened lease ident; pairs = []; sender = sending ident.start } }
+        ensures stands { StandsFor result.kept [] }
+        ensures whole { Stands result (fresh ident) }
+    {
+        TermLog {
+            appender: Appender::new(lease, ident),
+            pairs: room.pairs,
+            sender: Sender::new(ident.start),
         }
     }
 

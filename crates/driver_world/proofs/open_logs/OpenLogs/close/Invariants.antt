@@ -5,7 +5,7 @@ use Rattle.driver_world.proofs.open_logs.OpenLogs.close.Given as goal
 -- the logs passed stay, and then those of the others that do
 abbrev pub invariant-loop-at : goal.invariant-loop-at
 invariant-loop-at l =
-    (l.self.pages ≡ l.fn.self.pages) × (l.at ≤ length l.self.logs)
+    (l.self.pages ≡ l.fn.self.pages) × (l.self.room ≡ l.fn.self.room) × (l.at ≤ length l.self.logs)
     × (take l.at l.self.logs ++ filter (is_kept l.closes) (drop l.at l.self.logs) ≡ filter (is_kept l.closes) l.fn.self.logs)
 
 abbrev pub decreases-loop-at : goal.decreases-loop-at

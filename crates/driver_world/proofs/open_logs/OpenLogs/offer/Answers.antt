@@ -1,4 +1,5 @@
 use Rattle.std.proofs.Common.{◌≡◌, ◌<◌, List, length, Some, None, sym, ap, subst, ◌∙◌}
+use Rattle.std.specs.Vec.{vec_capacity}
 use Rattle.std.proofs.lemmas.List.{get_or_default}
 use Rattle.std.specs.Prelude.{slice_set}
 use Rattle.driver_world.specs.declared.answer.Answer.TheVariants.{Offered as OfferedAs}
@@ -11,7 +12,7 @@ use Rattle.driver_world.proofs.open_logs.OpenLogs.offer.Goals as goal
 
 pub returns-in_default : goal.returns-in_default
 returns-in_default g c =
-    let old : HeldLogs = record { pages = c.self.inside.arena.home.pages; logs = c.self.inside.logs.items } in
+    let old : HeldLogs = record { pages = c.self.inside.arena.home.pages; logs = c.self.inside.logs.items; room = vec_capacity c.self.inside.logs } in
     let move = offer_move (g.V.View.shows c.args.view.now) c.args.now c.args.client c.args.registration c.args.message.now in
     let none : place_at old.logs c.args.source ≡ None =
     ap (λ l. place_at l c.args.source) (sym c.as_slice.ensures.value) ∙ sym c.place_of.ensures ∙ c.in_default.is in
@@ -30,11 +31,11 @@ invariant_of-self g c =
 
 pub returns : goal.returns
 returns g c =
-    let old : HeldLogs = record { pages = c.self.inside.arena.home.pages; logs = c.self.inside.logs.items } in
+    let old : HeldLogs = record { pages = c.self.inside.arena.home.pages; logs = c.self.inside.logs.items; room = vec_capacity c.self.inside.logs } in
     let move = offer_move (g.V.View.shows c.args.view.now) c.args.now c.args.client c.args.registration c.args.message.now in
     let place : place_at old.logs c.args.source ≡ Some c.in-Some.at =
     ap (λ l. place_at l c.args.source) (sym c.as_slice.ensures.value) ∙ sym c.place_of.ensures ∙ c.in-Some.is in
-    let new : HeldLogs = record { pages = old.pages; logs = slice_set old.logs c.in-Some.at c.offer_step.new.log } in
+    let new : HeldLogs = record { pages = old.pages; logs = slice_set old.logs c.in-Some.at c.offer_step.new.log; room = old.room } in
     subst (λ (h : HeldLogs). MovesFirst c.args.source move (OfferedAs Closed) h new c.offer_step.result) c.self.view_is
     (moves_at c.args.source move (OfferedAs Closed) c.offer_step.result old c.in-Some.at c.index_mut.result.now c.offer_step.new.log place
     c.index_mut.ensures.value c.offer_step.ensures.does c.offer_step.ensures.lies)

@@ -1,4 +1,5 @@
 use Rattle.std.proofs.Common.{◌≡◌, ◌<◌, List, length, Some, None, sym, ap, subst, ◌∙◌}
+use Rattle.std.specs.Vec.{vec_capacity}
 use Rattle.std.specs.Prelude.{slice_set}
 use Rattle.std.proofs.lemmas.List.{get_or_default, set-get_or}
 use Rattle.driver_world.specs.declared.answer.Answer.TheVariants.{Gone}
@@ -11,7 +12,7 @@ use Rattle.driver_world.proofs.open_logs.OpenLogs.poll.Goals as goal
 
 pub returns-in_default-clause-moved : goal.returns-in_default-clause-moved
 returns-in_default-clause-moved g c =
-    let old : HeldLogs = record { pages = c.self.inside.arena.home.pages; logs = c.self.inside.logs.items } in
+    let old : HeldLogs = record { pages = c.self.inside.arena.home.pages; logs = c.self.inside.logs.items; room = vec_capacity c.self.inside.logs } in
     let move = poll_move (g.V.View.shows c.args.view.now) c.args.client c.args.subscription c.args.limit in
     let none : place_at old.logs c.args.source ≡ None =
     ap (λ l. place_at l c.args.source) (sym c.as_slice.ensures.value) ∙ sym c.place_of.ensures ∙ c.in_default.is in
@@ -30,13 +31,13 @@ invariant_of-self g c =
 
 pub returns-clause-moved : goal.returns-clause-moved
 returns-clause-moved g c =
-    let old : HeldLogs = record { pages = c.self.inside.arena.home.pages; logs = c.self.inside.logs.items } in
+    let old : HeldLogs = record { pages = c.self.inside.arena.home.pages; logs = c.self.inside.logs.items; room = vec_capacity c.self.inside.logs } in
     let held : HeldLog = c.index_mut.result.now in
     let log : HeldLog = c.poll_step.new.log in
     let move = poll_move (g.V.View.shows c.args.view.now) c.args.client c.args.subscription c.args.limit in
     let place : place_at old.logs c.args.source ≡ Some c.in-Some.at =
     ap (λ l. place_at l c.args.source) (sym c.as_slice.ensures.value) ∙ sym c.place_of.ensures ∙ c.in-Some.is in
-    let new : HeldLogs = record { pages = old.pages; logs = slice_set old.logs c.in-Some.at log } in
+    let new : HeldLogs = record { pages = old.pages; logs = slice_set old.logs c.in-Some.at log; room = old.room } in
     ok_each (λ answer. Does move held log answer) (λ answer. MovesFirst c.args.source move Gone c.args.self.now new answer)
     (λ answer does.
     subst (λ (h : HeldLogs). MovesFirst c.args.source move Gone h new answer) c.self.view_is
@@ -48,17 +49,17 @@ returns-clause-err g c =
     let logs : List HeldLog = c.self.inside.logs.items in
     let held : HeldLog = c.index_mut.result.now in
     let log : HeldLog = c.poll_step.new.log in
-    let new : HeldLogs = record { pages = c.self.inside.arena.home.pages; logs = slice_set logs c.in-Some.at log } in
+    let new : HeldLogs = record { pages = c.self.inside.arena.home.pages; logs = slice_set logs c.in-Some.at log; room = vec_capacity c.self.inside.logs } in
     err_each (log ≡ held) (new ≡ c.args.self.now)
     (λ same.
-    ap (λ l. let h : HeldLogs = record { pages = c.self.inside.arena.home.pages; logs = l } in h)
+    ap (λ l. let h : HeldLogs = record { pages = c.self.inside.arena.home.pages; logs = l; room = vec_capacity c.self.inside.logs } in h)
     (ap (λ h. slice_set logs c.in-Some.at h) (same ∙ c.index_mut.ensures.value) ∙ set-get_or logs c.in-Some.at held)
     ∙ c.self.view_is)
     c.poll_step.result c.poll_step.ensures.err
 
 pub returns-clause-without_memory : goal.returns-clause-without_memory
 returns-clause-without_memory g c =
-    let old : HeldLogs = record { pages = c.self.inside.arena.home.pages; logs = c.self.inside.logs.items } in
+    let old : HeldLogs = record { pages = c.self.inside.arena.home.pages; logs = c.self.inside.logs.items; room = vec_capacity c.self.inside.logs } in
     let held : HeldLog = c.index_mut.result.now in
     let move = poll_move (g.V.View.shows c.args.view.now) c.args.client c.args.subscription c.args.limit in
     let place : place_at old.logs c.args.source ≡ Some c.in-Some.at =

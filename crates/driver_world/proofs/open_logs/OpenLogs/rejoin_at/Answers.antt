@@ -1,4 +1,5 @@
 use Rattle.std.proofs.Common.{ℕ, ◌<◌, List, length, sym, ap, subst, ◌∙◌}
+use Rattle.std.specs.Vec.{vec_capacity}
 use Rattle.std.proofs.lemmas.List.{get_or_default}
 use Rattle.driver_world.specs.Held.{HeldLog, HeldLogs, LiesAsBefore, with_readers}
 use Rattle.driver_world.proofs.HeldLemmas.{readers_set}
@@ -24,7 +25,7 @@ returns c =
     let within : c.args.at < length logs = subst (λ (h : HeldLogs). c.args.at < length h.logs) (sym c.self.view_is) c.requires.at in
     let source : ℕ = c.behind-self.inside.source in
     let new : HeldLog = record { source = source; log = c.rejoin.new.self } in
-    ap (λ l. let h : HeldLogs = record { pages = c.self.inside.arena.home.pages; logs = l } in h)
+    ap (λ l. let h : HeldLogs = record { pages = c.self.inside.arena.home.pages; logs = l; room = vec_capacity c.self.inside.logs } in h)
     (readers_set logs c.args.at readers new within (λ d.
     let was = get_or_default logs c.args.at d c.index_mut.result.now within ∙ sym c.index_mut.ensures.value ∙ sym c.behind-self.view_is in
     ap (λ (l : Log). let h : HeldLog = record { source = source; log = l } in h) c.rejoin.ensures.exact

@@ -3,4 +3,4 @@ use Rattle.driver_world.proofs.world.World.new.Goals as goal
 
 pub invariant_of-result : goal.invariant_of-result
 invariant_of-result c =
-    rw (c.in_ok-new-2.ensures, c.in_ok-new.ensures) (opening_match c.args.settings c.args.policy c.args.peers.now c.requires)
+    rw (c.in_ok-new-2.ensures, c.in_ok-new.ensures) (opening_match 0 c.args.settings c.args.policy c.args.peers.now c.requires)

@@ -1,36 +1,86 @@
-use Rattle.std.proofs.Common.{rules, ◌≡◌, ap, subst}
-use Rattle.driver_core.specs.declared.change.Change.{Change}
+use Rattle.std.proofs.Common.{rules, ◌≡◌, List, Option, ap, subst, sym, ◌∙◌}
+use Rattle.driver_core.specs.Change.{Change}
+use Rattle.driver_core.specs.declared.event.Inputs.{Inputs}
+use Rattle.driver_core.specs.Conduct.{conduct}
 use Rattle.driver_core.specs.Pairs.{pairs_of}
-use Rattle.driver_world.specs.Held.{inputs_held}
-use Rattle.driver_world.specs.Opening.{Follows}
-use Rattle.driver_world.specs.Standing.{Held, Takes}
+use Rattle.driver_core.specs.Soundness.{MovesLogs}
+use Rattle.driver_core.specs.State.{State}
+use Rattle.driver_world.specs.Held.{HeldLog, inputs_held}
+use Rattle.driver_world.specs.Opening.{CanOpen, Follows, place_of}
+use Rattle.driver_world.specs.Standing.{Held, Match, Takes}
 use Rattle.driver_world.proofs.MatchLemmas.{matches_after, opens_fit}
 use Rattle.driver_world.proofs.ReaderLemmas.{readers_are_few}
-use Rattle.driver_world.proofs.TakeLemmas.{taken}
+use Rattle.driver_world.proofs.StandLemmas.{match_roomy}
+use Rattle.driver_world.proofs.TakeLemmas.{done_by, followed, logs_as_before, planned_is, taken}
+use Rattle.stream_registry.specs.declared.lingering.LogPlace.{LogPlace}
 use Rattle.driver_world.proofs.world.World.take.Goals as goal
+
+pub invariant_of-self : goal.invariant_of-self
+invariant_of-self c = match_roomy c.self.inside.registry c.self.inside.logs c.prepare.new.logs c.prepare.ensures.same c.self.invariant
 
 pub follow-requires-clause-opens : goal.follow-requires-clause-opens
 follow-requires-clause-opens c =
-    opens_fit c.self.inside.registry c.self.inside.logs c.in_ok-change.change c.self.invariant
-    (c.in_ok-change.ensures.moves c.self.invariant.sound)
+    let s : State = c.self.inside.registry in
+    let inputs : Inputs = inputs_held c.as_slice.result.now in
+    let after : State = c.apply.new.self in
+    let change : Change = done_by after c.in_ok-entry.entry.outcome in
+    let is : change ≡ conduct s c.args.event.now inputs =
+    planned_is s after c.in_ok-entry.entry c.args.event.now inputs c.in_ok-entry.ensures.exact c.apply.ensures in
+    let moves : MovesLogs s change =
+    subst (λ (x : Change). MovesLogs s x) (sym is) (c.in_ok-entry.ensures.moves c.self.invariant.sound) in
+    let matches : Match s c.prepare.new.logs = match_roomy s c.self.inside.logs c.prepare.new.logs c.prepare.ensures.same c.self.invariant in
+    subst (λ (opens : Option LogPlace). CanOpen c.prepare.new.logs after opens) (sym c.in_ok-opening.ensures.place)
+    (opens_fit s c.prepare.new.logs change matches moves)
 
 pub follow-requires-clause-few : goal.follow-requires-clause-few
 follow-requires-clause-few c =
-    readers_are_few c.in_ok-change.change.after (c.in_ok-change.ensures.moves c.self.invariant.sound).sound
+    let s : State = c.self.inside.registry in
+    let inputs : Inputs = inputs_held c.as_slice.result.now in
+    let after : State = c.apply.new.self in
+    let change : Change = done_by after c.in_ok-entry.entry.outcome in
+    let is : change ≡ conduct s c.args.event.now inputs =
+    planned_is s after c.in_ok-entry.entry c.args.event.now inputs c.in_ok-entry.ensures.exact c.apply.ensures in
+    let moves : MovesLogs s change =
+    subst (λ (x : Change). MovesLogs s x) (sym is) (c.in_ok-entry.ensures.moves c.self.invariant.sound) in
+    let matches : Match s c.prepare.new.logs = match_roomy s c.self.inside.logs c.prepare.new.logs c.prepare.ensures.same c.self.invariant in
+    readers_are_few after moves.sound
 
 pub invariant_of-self-2 : goal.invariant_of-self-2
 invariant_of-self-2 c =
-    let change : Change = c.in_ok-change.change in
-    let follows : Follows c.self.inside.logs c.follow.new.logs change = search rules in
+    let s : State = c.self.inside.registry in
+    let inputs : Inputs = inputs_held c.as_slice.result.now in
+    let after : State = c.apply.new.self in
+    let change : Change = done_by after c.in_ok-entry.entry.outcome in
+    let is : change ≡ conduct s c.args.event.now inputs =
+    planned_is s after c.in_ok-entry.entry c.args.event.now inputs c.in_ok-entry.ensures.exact c.apply.ensures in
+    let moves : MovesLogs s change =
+    subst (λ (x : Change). MovesLogs s x) (sym is) (c.in_ok-entry.ensures.moves c.self.invariant.sound) in
+    let matches : Match s c.prepare.new.logs = match_roomy s c.self.inside.logs c.prepare.new.logs c.prepare.ensures.same c.self.invariant in
+    let closes : c.as_slice-2.result.now ≡ change.outcome.closes = search rules in
+    let follows : Follows c.prepare.new.logs c.follow.new.logs after change.outcome.opens change.outcome.closes =
+    followed c.prepare.new.logs c.follow.new.logs after change.outcome (place_of c.in_ok-opening.opening) c.as_slice-2.result.now
+    c.in_ok-opening.ensures.place closes c.follow.ensures in
     rw follows.left
-    (matches_after c.self.inside.registry c.self.inside.logs follows.opened change (pairs_of change.after) c.self.invariant
-    (c.in_ok-change.ensures.moves c.self.invariant.sound) follows.opens)
+    (matches_after s c.prepare.new.logs follows.opened change (pairs_of after) matches moves follows.opens)
 
 pub returns-clause-taken : goal.returns-clause-taken
 returns-clause-taken c =
-    let change : Change = c.in_ok-change.change in
-    let follows : Follows c.self.inside.logs c.follow.new.logs change = search rules in
-    let inputs : inputs_held c.as_slice.result.now ≡ inputs_held c.self.inside.logs.logs = ap inputs_held c.as_slice.ensures in
-    subst (λ (held : Held). Takes held (record { registry = change.after; logs = c.follow.new.logs.logs }) c.args.event.now change.outcome) c.self.view_is
-    (taken c.self.inside.registry c.self.inside.logs follows.opened c.follow.new.logs c.args.event.now change
-    (inputs_held c.as_slice.result.now) c.in_ok-change.ensures.exact inputs follows.opens follows.left)
+    let s : State = c.self.inside.registry in
+    let inputs : Inputs = inputs_held c.as_slice.result.now in
+    let after : State = c.apply.new.self in
+    let change : Change = done_by after c.in_ok-entry.entry.outcome in
+    let is : change ≡ conduct s c.args.event.now inputs =
+    planned_is s after c.in_ok-entry.entry c.args.event.now inputs c.in_ok-entry.ensures.exact c.apply.ensures in
+    let moves : MovesLogs s change =
+    subst (λ (x : Change). MovesLogs s x) (sym is) (c.in_ok-entry.ensures.moves c.self.invariant.sound) in
+    let matches : Match s c.prepare.new.logs = match_roomy s c.self.inside.logs c.prepare.new.logs c.prepare.ensures.same c.self.invariant in
+    let closes : c.as_slice-2.result.now ≡ change.outcome.closes = search rules in
+    let follows : Follows c.prepare.new.logs c.follow.new.logs after change.outcome.opens change.outcome.closes =
+    followed c.prepare.new.logs c.follow.new.logs after change.outcome (place_of c.in_ok-opening.opening) c.as_slice-2.result.now
+    c.in_ok-opening.ensures.place closes c.follow.ensures in
+    let same : c.prepare.new.logs.logs ≡ c.self.inside.logs.logs =
+    logs_as_before c.self.inside.logs c.prepare.new.logs c.prepare.ensures.same in
+    let told : inputs ≡ inputs_held c.prepare.new.logs.logs = ap inputs_held (c.as_slice.ensures ∙ sym same) in
+    subst (λ (held : Held). Takes held (record { registry = after; logs = c.follow.new.logs.logs }) c.args.event.now change.outcome) c.self.view_is
+    (subst (λ (logs : List HeldLog). Takes (record { registry = s; logs = logs }) (record { registry = after; logs = c.follow.new.logs.logs }) c.args.event.now change.outcome) same
+    (taken s c.prepare.new.logs follows.opened c.follow.new.logs c.args.event.now change inputs is told follows.opens follows.left))

@@ -1,0 +1,7 @@
+-- What an event leaves, and what it tells.
+use Rattle.driver_core.specs.declared.outcome.Outcome.{Outcome}
+use Rattle.driver_core.specs.State.{State}
+
+pub record Change : Type 0 where
+  pub after : State
+  pub outcome : Outcome

@@ -1,0 +1,10 @@
+use crate::event::{Event, Inputs};
+use crate::outcome::Outcome;
+
+/// An event that was planned: with what the logs said at it, and all that it tells and does outside the registry.
+#[derive(Debug, Drop)]
+pub struct Entry {
+    pub event: Event,
+    pub inputs: Inputs,
+    pub outcome: Outcome,
+}

@@ -1,0 +1,82 @@
+ghost use Rattle.driver_core.specs.Refusing.{decisions_by};
+ghost use Rattle.driver_core.specs.Told.{tells_answer, tells_reply, tells_refusal};
+ghost use Rattle.std.specs.Prelude.{◌≡◌, ◌∷◌, [], IfOk};
+
+use crate::outcome::Response;
+use crate::refused::Refused;
+use crate::replies::{Message, Reply};
+use byte_strings::Items;
+use policy_core::Decision;
+use std::alloc::{AllocError, Global};
+use stream_registry::LogPlace;
+
+/// What an event's own rule tells, before what it tells of images.
+#[derive(Drop)]
+pub(crate) struct Told {
+    pub(crate) response: Response,
+    /// The event's own replies.
+    pub(crate) replies: Items<Message>,
+    /// The replies behind those of images.
+    pub(crate) later: Items<Message>,
+    pub(crate) decisions: Items<Decision>,
+    pub(crate) opens: Option<LogPlace>,
+    pub(crate) closes: Items<LogPlace>,
+}
+
+impl Told {
+    /// The event is answered, and nobody is told anything else. It takes no memory.
+    pub(crate) fn answered(alloc: Global, response: Response) -> Told
+        ensures { result ≡ tells_answer response }
+    {
+        Told {
+            response,
+            replies: Items::new(alloc),
+            later: Items::new(alloc),
+            decisions: Items::new(alloc),
+            opens: None,
+            closes: Items::new(alloc),
+        }
+    }
+
+    /// One client is told one thing.
+    pub(crate) fn replied(alloc: Global, client: u64, reply: Reply) -> Result<Told, AllocError>
+        ensures { IfOk result (λ told. told ≡ tells_reply [] client reply) }
+    {
+        let mut told = Told::answered(alloc, Response::Nothing);
+        told.replies.push(Message { client, reply })?;
+        Ok(told)
+    }
+
+    /// One client is told one thing, after this decision.
+    pub(crate) fn replied_on(
+        alloc: Global,
+        decision: Decision,
+        client: u64,
+        reply: Reply,
+    ) -> Result<Told, AllocError>
+        ensures { IfOk result (λ told. told ≡ tells_reply (decision ∷ []) client reply) }
+    {
+        let mut told = Told::replied(alloc, client, reply)?;
+        told.decisions.push(decision)?;
+        Ok(told)
+    }
+
+    /// The client's command of this correlation id is refused.
+    pub(crate) fn refused(
+        alloc: Global,
+        client: u64,
+        correlation: u64,
+        refused: Refused,
+    ) -> Result<Told, AllocError>
+        ensures { IfOk result (λ told. told ≡ tells_refusal (decisions_by refused.decision) client correlation refused.refusal) }
+    {
+        let reply = Reply::Error {
+            correlation,
+            refusal: refused.refusal,
+        };
+        match refused.decision {
+            Some(decision) => Told::replied_on(alloc, decision, client, reply),
+            None => Told::replied(alloc, client, reply),
+        }
+    }
+}

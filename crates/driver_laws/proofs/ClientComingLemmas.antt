@@ -1,0 +1,118 @@
+-- A client that is there behind an event was there before, or has the next id.
+use Rattle.std.proofs.Common.{◌≡◌, ℕ, ◌<◌, ◌==◌, Bool, true, false, cond, List, [], ◌∷◌, max, inl, inr, refl, sym, ap, ◌∙◌, ◌⊎◌, ⊎_elim, arith}
+use Rattle.std.specs.List.{Contains}
+use Rattle.std.proofs.lemmas.List.Elements.{Contains-push_cases}
+use Rattle.driver_core.specs.declared.event.Event.{Event}
+use Rattle.driver_core.specs.declared.event.Event.TheVariants.{Attach, Command, Reload, Tick}
+use Rattle.driver_core.specs.declared.event.Inputs.{Inputs}
+use Rattle.driver_core.specs.Attaching.{attached}
+use Rattle.driver_core.specs.Closing.{close, keep_alive}
+use Rattle.driver_core.specs.Commands.{heard, at_request}
+use Rattle.driver_core.specs.Conduct.{conduct, drafted, state_after}
+use Rattle.driver_core.specs.Counting.{counted, uncounted, valued, with_counter}
+use Rattle.driver_core.specs.Draft.{Draft, answered, refused, replied, replied_opening, told}
+use Rattle.driver_core.specs.Leaving.{all_left, left}
+use Rattle.driver_core.specs.Publishing.{published, with_publication}
+use Rattle.driver_core.specs.Reloading.{in_force, reloaded}
+use Rattle.driver_core.specs.Renewal.{renewed}
+use Rattle.driver_core.specs.State.{State, at_moment}
+use Rattle.driver_core.specs.Subscribing.{subscribed, with_subscription}
+use Rattle.driver_core.specs.Terminating.{stopped_for_good, terminated}
+use Rattle.driver_core.specs.Ticking.{late, tick, ticked}
+use Rattle.driver_core.specs.Unpublishing.{unpublished}
+use Rattle.driver_core.specs.Unsubscribing.{unsubscribed}
+use Rattle.driver_laws.specs.NumberLaws.{WasAttached}
+use Rattle.client_registry.specs.declared.client.Client.{Client}
+use Rattle.client_registry.specs.Clients.{admitted, heard_one, is_other, touched, without}
+use Rattle.driver_core.proofs.EventCases.{Cases, attach_cases, command_cases, reload_cases}
+use Rattle.driver_core.proofs.ListLemmas.{contains_none, left_was_there}
+use Rattle.driver_laws.proofs.LeftLemmas.{IsImage, from_map}
+
+-- where the clients of a registry come from
+abbrev AllCome : State → List Client → Type 0
+AllCome s rows = (client : Client) → Contains rows client → WasAttached s client ⊎ (s.clients.last < client.number)
+
+abbrev Comes : State → Draft → Type 0
+Comes s draft = AllCome s draft.after.clients.rows
+
+all_stay : (s : State) → AllCome s s.clients.rows
+all_stay s client has = inl (record { before = client; stood = has; same = refl })
+
+one_heard : (b : Bool) (row : Client) (moment : ℕ) →
+    cond b (record row { heard = moment }) row
+    ≡ record row { heard = (cond b (record row { heard = moment }) row).heard }
+one_heard true row moment = refl
+one_heard false row moment = refl
+
+all_heard : (s : State) (handle now : ℕ) → AllCome s (touched s.clients handle now).rows
+unfolding touched
+all_heard s handle now client has =
+    let image : IsImage (heard_one handle now) s.clients.rows client =
+    from_map (heard_one handle now) s.clients.rows client has in
+    inl (record {
+      before = image.of;
+      stood = image.stood;
+      same = image.is ∙ one_heard (image.of.number == handle) image.of (max image.of.heard now)
+          ∙ ap (λ (row : Client). record image.of { heard = row.heard }) (sym image.is);
+    })
+
+one_comes : (s : State) (principal now : ℕ) → AllCome s (admitted s.clients principal now).rows
+unfolding admitted
+one_comes s principal now client has =
+    ⊎_elim (λ stood. all_stay s client stood)
+    (λ is.
+    let next = ap (λ (row : Client). row.number) is in
+    inr (omega (arith, next)))
+    (Contains-push_cases s.clients.rows _ client has)
+
+fewer_left : (s between : State) (client : ℕ) → AllCome s between.clients.rows → AllCome s (left between client).clients.rows
+unfolding left without
+fewer_left s between client come row has =
+    come row (left_was_there (is_other client) between.clients.rows row has)
+
+all_left_come : (s between : State) (clients : List ℕ) → AllCome s between.clients.rows →
+    AllCome s (all_left between clients).clients.rows
+all_left_come s between [] come = come
+all_left_come s between (client ∷ clients) come =
+    all_left_come s (left between client) clients (fewer_left s between client come)
+
+command_comes : (s : State) (now handle : ℕ) (bytes : List ℕ) → Cases (Comes s) (at_moment s now) handle bytes
+unfolding at_moment heard refused replied told subscribed with_subscription published with_publication replied_opening unpublished unsubscribed keep_alive counted with_counter valued uncounted close terminated stopped_for_good
+command_comes s now handle bytes =
+    let heard' : AllCome s (touched s.clients handle (max s.moment now)).rows = all_heard s handle (max s.moment now) in
+    record {
+      unheard = λ correlation refusal plain not_heard. all_stay s;
+      refusal = λ decisions client correlation refusal plain was_heard. heard';
+      denial = λ client correlation act channel stream was_heard found asked denies. heard';
+      subscription = λ request was_heard asks allows room. heard';
+      publication = λ request adding was_heard asks allows is room placed. heard';
+      publication_removal = λ client correlation fields was_heard asks. heard';
+      removal = λ request was_heard asks. heard';
+      keepalive = λ was_heard. heard';
+      counter = λ client correlation fields was_heard asks allows room. heard';
+      value = λ client correlation fields was_heard asks. heard';
+      counter_removal = λ client correlation fields was_heard asks. heard';
+      closing = λ client correlation was_heard asks. fewer_left s (at_request s now handle) client.number heard';
+      termination = λ client correlation fields was_heard asks allows row has. absurd (contains_none row has);
+    }
+
+ticked_comes : (s between : State) (clients : List ℕ) → AllCome s between.clients.rows → Comes s (ticked between clients)
+unfolding ticked
+ticked_comes s between clients come = come
+
+draft_comes : (s : State) (event : Event) → Comes s (drafted s event)
+unfolding drafted at_moment answered attached reloaded in_force tick
+draft_comes s (Attach now principal) =
+    attach_cases (Comes s) (at_moment s now) principal (all_stay s) (one_comes s principal (max s.moment now)) (all_stay s)
+draft_comes s (Command now handle bytes) = command_cases (Comes s) s now handle bytes (command_comes s now handle bytes)
+draft_comes s (Reload now policy) =
+    reload_cases (Comes s) (at_moment s now) policy (λ room. all_stay s) (λ full. all_stay s)
+draft_comes s (Tick now) =
+    ticked_comes s (all_left (at_moment s now) (late (at_moment s now))) (late (at_moment s now))
+    (all_left_come s (at_moment s now) (late (at_moment s now)) (all_stay s))
+
+pub clients_come : (s : State) (event : Event) (inputs : Inputs) (client : Client) →
+    Contains (state_after s event inputs).clients.rows client →
+    WasAttached s client ⊎ (s.clients.last < client.number)
+unfolding conduct renewed
+clients_come s event inputs = draft_comes s event

@@ -1,0 +1,274 @@
+-- What an event closes are the logs that were there and are no more.
+use Rattle.std.proofs.Common.{◌≡◌, ℕ, ◌+◌, ◌==◌, ◌||◌, not, max, Bool, true, false, cond, List, [], ◌∷◌, map, filter, refl, sym, subst, ap, ◌∙◌, ⊎_elim}
+use Rattle.std.specs.List.{Contains, list_any}
+use Rattle.std.proofs.lemmas.Bool.{cases_Bool, eqb-true, eq-eqb}
+use Rattle.std.proofs.lemmas.List.Elements.{All-contains, Contains-append_left, Contains-append_right, Contains-push, filter_passes}
+use Rattle.driver_core.specs.declared.event.Event.{Event}
+use Rattle.driver_core.specs.declared.event.Event.TheVariants.{Attach, Command, Reload, Tick}
+use Rattle.driver_core.specs.Attaching.{attached}
+use Rattle.driver_core.specs.Closing.{close, keep_alive}
+use Rattle.driver_core.specs.Commands.{heard}
+use Rattle.driver_core.specs.Conduct.{conduct, drafted}
+use Rattle.driver_core.specs.Counting.{counted, uncounted, valued, with_counter}
+use Rattle.driver_core.specs.Draft.{Draft, answered, refused, replied, replied_opening, told}
+use Rattle.driver_core.specs.Leaving.{all_left, left}
+use Rattle.driver_core.specs.Publishing.{published, with_publication}
+use Rattle.driver_core.specs.Reloading.{in_force, reloaded}
+use Rattle.driver_core.specs.Renewal.{renewed}
+use Rattle.driver_core.specs.Requests.{wanted_by}
+use Rattle.driver_core.specs.State.{State, at_moment}
+use Rattle.driver_core.specs.Subscribing.{subscribed, with_subscription}
+use Rattle.driver_core.specs.Terminating.{stopped_for_good, terminated}
+use Rattle.driver_core.specs.Ticking.{late, tick, ticked}
+use Rattle.driver_core.specs.Unpublishing.{unpublished}
+use Rattle.driver_core.specs.Unsubscribing.{unsubscribed}
+use Rattle.driver_laws.specs.ClosingLaws.{ClosedLogsWereThere}
+use Rattle.driver_laws.specs.NumberLaws.{AreRising, Rises}
+use Rattle.stream_registry.specs.declared.row.Publication.{Publication}
+use Rattle.stream_registry.specs.declared.row.Registration.{Registration}
+use Rattle.stream_registry.specs.declared.wanted.Adding.{Adding}
+use Rattle.stream_registry.specs.declared.wanted.Adding.TheVariants.{Join, Make}
+use Rattle.stream_registry.specs.declared.wanted.Wanted.{Wanted}
+use Rattle.stream_registry.specs.Adding.{added, subscribed as subscribed_in}
+use Rattle.stream_registry.specs.Leaving.{left as left_in, unregistered, unsubscribed as unsubscribed_in}
+use Rattle.stream_registry.specs.Lingering.{closed, closing_of, is_not_past, is_past, is_used, left_alone, place_of, settled, settled_one}
+use Rattle.stream_registry.specs.Streams.{Streams}
+use Rattle.driver_core.proofs.EventCases.{Cases, attach_cases, command_cases, reload_cases}
+use Rattle.driver_core.proofs.ListLemmas.{left_was_there, passes_are_left}
+use Rattle.driver_laws.proofs.ClosingLemmas.{any_of}
+use Rattle.driver_laws.proofs.LeftLemmas.{mapped}
+use Rattle.driver_laws.proofs.LoggedLemmas.{IsFound}
+use Rattle.driver_laws.proofs.NumberLemmas.{all_left_rises, moment_rises, numbers_rise, settled_number, source_number}
+use Rattle.driver_laws.proofs.RisingLemmas.{rises_unique}
+
+-- ---- logs by their numbers
+
+-- a log of that number is among these
+abbrev has_source : List Publication → ℕ → Bool
+has_source logs source = list_any (λ (other : Publication). other.source == source) logs
+
+abbrev lacks_source : List Publication → ℕ → Bool
+lacks_source logs source = not (has_source logs source)
+
+any_is : {X : Type 0} (b : Bool) (test : X → Bool) (x : X) (xs : List X) → test x ≡ b →
+    (list_any test xs ≡ true → (y : X) × IsFound test xs y) → (b || list_any test xs) ≡ true →
+    (y : X) × IsFound test (x ∷ xs) y
+any_is true test x xs passes later any =
+    (x, record { stands = Contains-append_left (x ∷ []) xs x (Contains-push [] x); passes = passes })
+any_is false test x xs passes later any =
+    let rest = later any in
+    (rest.0, record { stands = Contains-append_right (x ∷ []) xs rest.0 rest.1.stands; passes = rest.1.passes })
+
+-- where some row passes there is one that does
+some_passes : {X : Type 0} (test : X → Bool) (xs : List X) → list_any test xs ≡ true → (y : X) × IsFound test xs y
+some_passes test [] any = absurd (cc any)
+some_passes test (x ∷ xs) any = any_is (test x) test x xs refl (some_passes test xs) any
+
+-- where a log stands that has the number of another, the other's is there
+has_number : (logs : List Publication) (log : Publication) (source : ℕ) → Contains logs log → log.source ≡ source →
+    has_source logs source ≡ true
+has_number logs log source has same =
+    any_of (λ (other : Publication). other.source == source) logs log has (eq-eqb log.source source same)
+
+-- ---- where no log goes
+
+none_fails : {X : Type 0} (test : X → Bool) (xs : List X) → ((x : X) → Contains xs x → test x ≡ false) →
+    filter test xs ≡ []
+none_fails test [] each = refl
+none_fails test (x ∷ xs) each =
+    rw (each x (Contains-append_left (x ∷ []) xs x (Contains-push [] x)))
+    (none_fails test xs (λ y has. each y (Contains-append_right (x ∷ []) xs y has)))
+
+-- each log's number is among these
+abbrev AllStay : List Publication → List Publication → Type 0
+AllStay logs after = (log : Publication) → Contains logs log → has_source after log.source ≡ true
+
+nothing_goes : (logs after : List Publication) → AllStay logs after →
+    [] ≡ map place_of (filter (λ (log : Publication). lacks_source after log.source) logs)
+nothing_goes logs after stay =
+    ap (map place_of)
+    (sym (none_fails (λ (log : Publication). lacks_source after log.source) logs (λ log has. ap not (stay log has))))
+
+as_they_are : (logs : List Publication) → AllStay logs logs
+as_they_are logs log has = has_number logs log log.source has refl
+
+stay_settled : (registrations : List Registration) (now : ℕ) (logs : List Publication) →
+    AllStay logs (map (settled_one registrations now) logs)
+stay_settled registrations now logs log has =
+    has_number (map (settled_one registrations now) logs) (settled_one registrations now log) log.source
+    (mapped (settled_one registrations now) logs log has)
+    (settled_number (is_used registrations log.source) now log)
+
+stay_added : (streams : Streams) (number client : ℕ) (wanted : Wanted) (place : ℕ) (adding : Adding) →
+    AllStay streams.publications (added streams number client wanted place adding).publications
+stay_added streams number client wanted place (Join source session) log has = as_they_are streams.publications log has
+stay_added streams number client wanted place (Make session) log has =
+    has_number _ log log.source (Contains-append_left streams.publications _ log has) refl
+
+-- ---- where all go
+
+all_pass : {X : Type 0} (test : X → Bool) (xs : List X) → ((x : X) → test x ≡ true) → xs ≡ filter test xs
+all_pass test [] each = refl
+all_pass {X = X} test (x ∷ xs) each = rw (each x) (ap (λ (ys : List X). x ∷ ys) (all_pass test xs each))
+
+all_go : (logs : List Publication) →
+    map place_of logs ≡ map place_of (filter (λ (log : Publication). lacks_source [] log.source) logs)
+all_go logs = ap (map place_of) (all_pass (λ (log : Publication). lacks_source [] log.source) logs (λ log. refl))
+
+-- ---- at a tick
+
+-- the two have the logs of the same numbers at the same places
+abbrev SamePlaces : List Publication → List Publication → Type 0
+SamePlaces logs others =
+    (test : ℕ → Bool) →
+    map place_of (filter (λ (log : Publication). test log.source) logs)
+    ≡ map place_of (filter (λ (log : Publication). test log.source) others)
+
+one_passes : (b : Bool) (one other : Publication) (some more : List Publication) → place_of one ≡ place_of other →
+    map place_of some ≡ map place_of more →
+    map place_of (cond b (one ∷ some) some) ≡ map place_of (cond b (other ∷ more) more)
+one_passes true one other some more same rest = (λ i. same i ∷ rest i)
+one_passes false one other some more same rest = rest
+
+one_by_number : (test : ℕ → Bool) (one other : Publication) (some more : List Publication) → one.source ≡ other.source →
+    place_of one ≡ place_of other → map place_of some ≡ map place_of more →
+    map place_of (cond (test one.source) (one ∷ some) some) ≡ map place_of (cond (test other.source) (other ∷ more) more)
+one_by_number test one other some more number same rest =
+    subst (λ (n : ℕ). map place_of (cond (test n) (one ∷ some) some) ≡ map place_of (cond (test other.source) (other ∷ more) more))
+    (sym number) (one_passes (test other.source) one other some more same rest)
+
+settled_place : (b : Bool) (now : ℕ) (log : Publication) → place_of (cond b log (left_alone now log)) ≡ place_of log
+settled_place true now log = refl
+settled_place false now log = refl
+
+settled_places : (registrations : List Registration) (now : ℕ) (logs : List Publication) →
+    SamePlaces (map (settled_one registrations now) logs) logs
+settled_places registrations now [] test = refl
+settled_places registrations now (log ∷ logs) test =
+    one_by_number test (settled_one registrations now log) log
+    (filter (λ (l : Publication). test l.source) (map (settled_one registrations now) logs))
+    (filter (λ (l : Publication). test l.source) logs)
+    (settled_number (is_used registrations log.source) now log)
+    (settled_place (is_used registrations log.source) now log)
+    (settled_places registrations now logs test)
+
+left_places : (s : State) (client : ℕ) → SamePlaces (left s client).streams.publications s.streams.publications
+unfolding left left_in settled
+left_places s client = settled_places _ s.moment s.streams.publications
+
+all_left_places : (s : State) (clients : List ℕ) →
+    SamePlaces (all_left s clients).streams.publications s.streams.publications
+all_left_places s [] test = refl
+all_left_places s (client ∷ clients) test = all_left_places (left s client) clients test ∙ left_places s client test
+
+same_pass : {X : Type 0} (test other : X → Bool) (xs : List X) → ((x : X) → Contains xs x → test x ≡ other x) →
+    filter test xs ≡ filter other xs
+same_pass test other [] each = refl
+same_pass test other (x ∷ xs) each =
+    rw (
+      each x (Contains-append_left (x ∷ []) xs x (Contains-push [] x)),
+      same_pass test other xs (λ y has. each y (Contains-append_right (x ∷ []) xs y has)),
+    ) refl
+
+-- that a log that goes has no other of its number left
+goes : (last now : ℕ) (logs : List Publication) (log : Publication) → Rises source_number 0 last logs →
+    Contains logs log → is_past now log ≡ true → lacks_source (filter (is_not_past now) logs) log.source ≡ true
+goes last now logs log up has past =
+    ⊎_elim
+    (λ there.
+    let found = some_passes (λ (other : Publication). other.source == log.source) (filter (is_not_past now) logs) there in
+    let other : Publication = found.0 in
+    let same : other ≡ log =
+    rises_unique source_number 0 last logs other log up
+    (left_was_there (is_not_past now) logs other found.1.stands) has
+    (eqb-true other.source log.source found.1.passes) in
+    let stays : is_not_past now other ≡ true =
+    All-contains (λ l. is_not_past now l ≡ true) (filter (is_not_past now) logs) other
+    (filter_passes (is_not_past now) logs) found.1.stands in
+    let stays' : not (is_past now log) ≡ true = ap (is_not_past now) (sym same) ∙ stays in
+    let not_past : false ≡ true = ap not (sym past) ∙ stays' in
+    absurd (cc not_past))
+    (λ lacks. ap not lacks)
+    (cases_Bool (has_source (filter (is_not_past now) logs) log.source))
+
+stays : (now : ℕ) (logs : List Publication) (log : Publication) → Contains logs log → is_past now log ≡ false →
+    lacks_source (filter (is_not_past now) logs) log.source ≡ false
+stays now logs log has lasts =
+    ap not
+    (has_number (filter (is_not_past now) logs) log log.source
+    (passes_are_left (is_not_past now) logs log (ap not lasts) has) refl)
+
+past_are_lacked : (last now : ℕ) (logs : List Publication) (log : Publication) → Rises source_number 0 last logs →
+    Contains logs log → is_past now log ≡ lacks_source (filter (is_not_past now) logs) log.source
+past_are_lacked last now logs log up has =
+    ⊎_elim (λ past. past ∙ sym (goes last now logs log up has past)) (λ lasts. lasts ∙ sym (stays now logs log has lasts))
+    (cases_Bool (is_past now log))
+
+-- ---- each event
+
+abbrev ClosesGone : State → Draft → Type 0
+ClosesGone s draft =
+    draft.closes
+    ≡ map place_of (filter (λ (log : Publication). lacks_source draft.after.streams.publications log.source) s.streams.publications)
+
+command_closes : (s : State) (now handle : ℕ) (bytes : List ℕ) → Cases (ClosesGone s) (at_moment s now) handle bytes
+unfolding at_moment heard refused replied told subscribed with_subscription subscribed_in published with_publication replied_opening unpublished unregistered unsubscribed unsubscribed_in keep_alive counted with_counter valued uncounted close left left_in settled terminated stopped_for_good
+command_closes s now handle bytes =
+    let logs : List Publication = s.streams.publications in
+    let same = nothing_goes logs logs (as_they_are logs) in
+    record {
+      unheard = λ correlation refusal plain not_heard. same;
+      refusal = λ decisions client correlation refusal plain was_heard. same;
+      denial = λ client correlation act channel stream was_heard found asked denies. same;
+      subscription = λ request was_heard asks allows room. same;
+      publication = λ request adding was_heard asks allows is room placed.
+          nothing_goes logs _
+          (stay_added s.streams (s.last_number + 1) request.client.number (wanted_by request) _ adding);
+      publication_removal = λ client correlation fields was_heard asks.
+          nothing_goes logs _ (stay_settled _ (max s.moment now) logs);
+      removal = λ request was_heard asks. same;
+      keepalive = λ was_heard. same;
+      counter = λ client correlation fields was_heard asks allows room. same;
+      value = λ client correlation fields was_heard asks. same;
+      counter_removal = λ client correlation fields was_heard asks. same;
+      closing = λ client correlation was_heard asks. nothing_goes logs _ (stay_settled _ (max s.moment now) logs);
+      termination = λ client correlation fields was_heard asks allows. all_go logs;
+    }
+
+ticked_closes : (s between : State) (clients : List ℕ) → AreRising between →
+    SamePlaces between.streams.publications s.streams.publications → ClosesGone s (ticked between clients)
+unfolding ticked closed closing_of
+ticked_closes s between clients rises same =
+    let logs : List Publication = between.streams.publications in
+    let left' : List Publication = filter (is_not_past between.moment) logs in
+    ap (map place_of)
+    (same_pass (is_past between.moment) (λ (log : Publication). lacks_source left' log.source) logs
+    (λ log has. past_are_lacked between.last_number between.moment logs log rises.publications has))
+    ∙ same (lacks_source left')
+
+tick_closes : (s : State) (now : ℕ) → AreRising s → ClosesGone (at_moment s now) (tick (at_moment s now))
+unfolding tick
+tick_closes s now rises =
+    let start = at_moment s now in
+    ticked_closes start (all_left start (late start)) (late start)
+    (all_left_rises start (late start) (moment_rises s now rises))
+    (all_left_places start (late start))
+
+draft_closes : (s : State) (event : Event) → AreRising s → ClosesGone s (drafted s event)
+unfolding drafted at_moment answered attached reloaded in_force
+draft_closes s (Attach now principal) rises =
+    let same = nothing_goes s.streams.publications s.streams.publications (as_they_are s.streams.publications) in
+    attach_cases (ClosesGone s) (at_moment s now) principal same same same
+draft_closes s (Command now handle bytes) rises =
+    command_cases (ClosesGone s) s now handle bytes (command_closes s now handle bytes)
+draft_closes s (Reload now policy) rises =
+    let same = nothing_goes s.streams.publications s.streams.publications (as_they_are s.streams.publications) in
+    reload_cases (ClosesGone s) (at_moment s now) policy (λ room. same) (λ full. same)
+draft_closes s (Tick now) rises = tick_closes s now rises
+
+-- ---- the law
+
+pub closed_were_there : ClosedLogsWereThere
+unfolding conduct renewed
+closed_were_there settings policy peers events event inputs =
+    draft_closes _ event (numbers_rise settings policy peers events)

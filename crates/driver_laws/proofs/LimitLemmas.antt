@@ -1,0 +1,362 @@
+-- No event makes a list grow past its limit.
+use Rattle.std.proofs.Common.{◌≡◌, ℕ, ◌+◌, ◌<◌, ◌≤◌, Bool, true, List, [], ◌∷◌, ◌++◌, length, map, filter, not, Ok, refl, arith}
+use Rattle.std.proofs.lemmas.Bool.{and_parts, cond_both, leb-true, ltb-true}
+use Rattle.std.proofs.lemmas.List.{length-append, length-map}
+use Rattle.std.proofs.lemmas.List.Filters.{length-filter_both}
+use Rattle.driver_core.specs.declared.event.Event.{Event}
+use Rattle.driver_core.specs.declared.event.Event.TheVariants.{Attach, Command, Reload, Tick}
+use Rattle.driver_core.specs.declared.event.Inputs.{Inputs}
+use Rattle.driver_core.specs.declared.outcome.Response.{Response}
+use Rattle.driver_core.specs.declared.peer.Peer.{Peer}
+use Rattle.driver_core.specs.declared.refusal.Refusal.{Refusal}
+use Rattle.driver_core.specs.declared.settings.Settings.{Settings}
+use Rattle.driver_core.specs.Attaching.{attach, attached}
+use Rattle.driver_core.specs.Closing.{close, keep_alive}
+use Rattle.driver_core.specs.Commands.{heard, at_request}
+use Rattle.driver_core.specs.Conduct.{conduct, drafted, state_after}
+use Rattle.driver_core.specs.Counting.{counted, has_room_for_counter, uncounted, valued, with_counter}
+use Rattle.driver_core.specs.Draft.{Draft, answered, refused, replied, replied_opening, told}
+use Rattle.driver_core.specs.Leaving.{all_left, left}
+use Rattle.driver_core.specs.Pairs.{is_within_pairs, pairs_of}
+use Rattle.driver_core.specs.Publishing.{has_room_for_publication, published, with_publication}
+use Rattle.driver_core.specs.Reloading.{has_room_for_policy, in_force, reloaded}
+use Rattle.driver_core.specs.Renewal.{renewed}
+use Rattle.driver_core.specs.Requests.{RemovalRequest, SubscriptionRequest, wanted_by}
+use Rattle.driver_core.specs.State.{State, at_moment, opened}
+use Rattle.driver_core.specs.Subscribing.{has_room_for_subscription, subscribed, with_subscription}
+use Rattle.driver_core.specs.Terminating.{stopped_for_good, terminated}
+use Rattle.driver_core.specs.Ticking.{late, tick, ticked}
+use Rattle.driver_core.specs.Unpublishing.{unpublished}
+use Rattle.driver_core.specs.Unsubscribing.{unsubscribed}
+use Rattle.driver_laws.specs.Events.{AfterAnyEvents}
+use Rattle.driver_laws.specs.LimitLaws.{LimitsAreKept}
+use Rattle.driver_laws.specs.OwnerLaws.{HaveTheirClients}
+use Rattle.client_registry.specs.declared.client.Client.{Client}
+use Rattle.client_registry.specs.Clients.{admitted, has_room, is_other, touched, without}
+use Rattle.command_codec.specs.declared.add_counter.AddCounter.{AddCounter}
+use Rattle.command_codec.specs.declared.set_counter.SetCounter.{SetCounter}
+use Rattle.counters.specs.Counters.{is_another, is_of_another, set, set_one, without as counters_without, without_those_of}
+use Rattle.policy_core.specs.declared.decision.Decision.{Decision}
+use Rattle.policy_core.specs.RuleList.{Rules}
+use Rattle.stream_registry.specs.declared.wanted.Adding.{Adding}
+use Rattle.stream_registry.specs.declared.wanted.Wanted.{Wanted}
+use Rattle.stream_registry.specs.Adding.{adding_of}
+use Rattle.stream_registry.specs.LimitLaws.{IsWithinLimits as StreamsAreWithin}
+use Rattle.stream_registry.specs.Pairs.{pairs_of as pairs_on}
+use Rattle.stream_registry.proofs.LimitLemmas.{stays_within_limits}
+use Rattle.driver_core.proofs.EventCases.{Cases, command_cases, reload_cases}
+use Rattle.driver_core.proofs.PairLemmas.{pairs_heard}
+use Rattle.driver_laws.proofs.OwnerLemmas.{after_any, opened_owned, stay_owned}
+use Rattle.driver_laws.proofs.PairCountLemmas.{HasNoMorePairs, pairs_attached, pairs_closed, pairs_left, pairs_unregistered, pairs_unsubscribed}
+
+-- ---- the lists
+
+record IsWithin (s : State) : Type 0 where
+  clients : length s.clients.rows ≤ 64
+  streams : StreamsAreWithin s.streams
+  counters : length s.counters ≤ 1024
+  pairs : length (pairs_of s) ≤ 4096
+
+one_more : {A : Type 0} (rows : List A) (row : A) (limit : ℕ) → length rows < limit → length (rows ++ row ∷ []) ≤ limit
+one_more rows row limit few =
+    let more : length (rows ++ row ∷ []) ≡ length rows + 1 = length-append rows (row ∷ []) in
+    omega (arith, more, few)
+
+fewer : {A : Type 0} (stays : A → Bool) (rows : List A) (limit : ℕ) → length rows ≤ limit →
+    length (filter stays rows) ≤ limit
+fewer stays rows limit few =
+    let both : length (filter stays rows) + length (filter (λ row. not (stays row)) rows) ≡ length rows =
+    length-filter_both stays (λ row. not (stays row)) (λ row. refl) rows in
+    omega (arith, both, few)
+
+as_many : {A : Type 0} (change : A → A) (rows : List A) (limit : ℕ) → length rows ≤ limit →
+    length (map change rows) ≤ limit
+as_many change rows limit few =
+    let same : length (map change rows) ≡ length rows = length-map rows change in
+    omega (arith, same, few)
+
+no_more : (s after : State) → HasNoMorePairs s after → length (pairs_of s) ≤ 4096 → length (pairs_of after) ≤ 4096
+no_more s after fewer' few = omega (arith, fewer', few)
+
+within_pairs : (s : State) → is_within_pairs s ≡ true → length (pairs_of s) ≤ 4096
+unfolding is_within_pairs
+within_pairs s room = leb-true (length (pairs_of s)) 4096 room
+
+-- ---- what changes no row
+
+refusal_within : (s : State) (decisions : List Decision) (client correlation : ℕ) (refusal : Refusal) → IsWithin s →
+    IsWithin (refused s decisions client correlation refusal).after
+unfolding refused replied told
+refusal_within s decisions client correlation refusal within = within
+
+answer_within : (s : State) (response : Response) → IsWithin s → IsWithin (answered s response).after
+unfolding answered
+answer_within s response within = within
+
+keepalive_within : (s : State) → IsWithin s → IsWithin (keep_alive s).after
+unfolding keep_alive told
+keepalive_within s within = within
+
+-- ---- what comes
+
+attached_within : (s : State) (principal : ℕ) → HaveTheirClients s → has_room s.clients ≡ true → IsWithin s →
+    IsWithin (attached s principal).after
+unfolding attached admitted answered
+attached_within s principal owned room within = record {
+  clients = one_more s.clients.rows _ 64 (ltb-true (length s.clients.rows) 64 (and_parts _ _ room).0);
+  streams = within.streams;
+  counters = within.counters;
+  pairs = no_more s (record s { clients = admitted s.clients principal s.moment }) (pairs_attached s principal owned)
+      within.pairs;
+}
+
+subscription_within : (s : State) (request : SubscriptionRequest) →
+    has_room_for_subscription s request.client.number request.channel request.fields.stream ≡ true → IsWithin s →
+    IsWithin (subscribed s request.client request.correlation request.channel request.fields.stream).after
+unfolding subscribed has_room_for_subscription with_subscription replied told
+subscription_within s request room within =
+    let parts = and_parts _ _ room in
+    let lists = and_parts _ _ parts.0 in
+    record {
+      clients = within.clients;
+      streams = stays_within_limits.subscribed s.streams (s.last_number + 1) request.client.number request.channel
+          request.fields.stream within.streams lists.1;
+      counters = within.counters;
+      pairs = within_pairs (with_subscription s request.client.number request.channel request.fields.stream) parts.1;
+    }
+
+publication_within : (s : State) (client : Client) (correlation : ℕ) (wanted : Wanted) (adding : Adding) →
+    adding_of s.streams wanted ≡ Ok adding → has_room_for_publication s client.number wanted adding ≡ true → IsWithin s →
+    IsWithin (published s client correlation wanted adding).after
+unfolding published with_publication replied_opening replied told
+publication_within s client correlation wanted adding is room within =
+    let parts = and_parts _ _ room in
+    record {
+      clients = within.clients;
+      streams = stays_within_limits.added s.streams (s.last_number + 1) client.number _ wanted adding within.streams is;
+      counters = within.counters;
+      pairs = within_pairs (with_publication s client.number wanted adding) parts.1;
+    }
+
+counter_within : (s : State) (client : Client) (correlation : ℕ) (fields : AddCounter) →
+    has_room_for_counter s ≡ true → IsWithin s → IsWithin (counted s client correlation fields).after
+unfolding counted with_counter replied told pairs_of
+counter_within s client correlation fields room within = record {
+  clients = within.clients;
+  streams = within.streams;
+  counters = one_more s.counters _ 1024 (ltb-true (length s.counters) 1024 (and_parts _ _ room).0);
+  pairs = within.pairs;
+}
+
+reloaded_within : (s : State) (policy : Rules) → has_room_for_policy s policy ≡ true → IsWithin s →
+    IsWithin (reloaded s policy).after
+unfolding reloaded in_force answered
+reloaded_within s policy room within = record {
+  clients = within.clients;
+  streams = within.streams;
+  counters = within.counters;
+  pairs = within_pairs (in_force s policy) (and_parts _ _ room).0;
+}
+
+-- ---- what goes, or has another value
+
+value_within : (s : State) (client : Client) (correlation : ℕ) (fields : SetCounter) → IsWithin s →
+    IsWithin (valued s client correlation fields).after
+unfolding valued replied told set pairs_of
+value_within s client correlation fields within = record {
+  clients = within.clients;
+  streams = within.streams;
+  counters = as_many (set_one client.number fields.registration fields.value) s.counters 1024 within.counters;
+  pairs = within.pairs;
+}
+
+counter_removal_within : (s : State) (client : Client) (correlation number : ℕ) → IsWithin s →
+    IsWithin (uncounted s client correlation number).after
+unfolding uncounted told counters_without pairs_of
+counter_removal_within s client correlation number within = record {
+  clients = within.clients;
+  streams = within.streams;
+  counters = fewer (is_another client.number number) s.counters 1024 within.counters;
+  pairs = within.pairs;
+}
+
+removal_within : (s : State) (request : RemovalRequest) → IsWithin s →
+    IsWithin (unsubscribed s request.client request.correlation request.fields.registration).after
+unfolding unsubscribed replied told
+removal_within s request within = record {
+  clients = within.clients;
+  streams = stays_within_limits.unsubscribed s.streams request.client.number request.fields.registration within.streams;
+  counters = within.counters;
+  pairs = no_more s _ (pairs_unsubscribed s request.client.number request.fields.registration) within.pairs;
+}
+
+publication_removal_within : (s : State) (client : Client) (correlation number : ℕ) → IsWithin s →
+    IsWithin (unpublished s client correlation number).after
+unfolding unpublished replied told
+publication_removal_within s client correlation number within = record {
+  clients = within.clients;
+  streams = stays_within_limits.unregistered s.streams client.number number s.moment within.streams;
+  counters = within.counters;
+  pairs = rw (pairs_unregistered s client.number number s.moment) within.pairs;
+}
+
+one_left_within : (s : State) (client : ℕ) → IsWithin s → IsWithin (left s client)
+unfolding left without without_those_of
+one_left_within s client within = record {
+  clients = fewer (is_other client) s.clients.rows 64 within.clients;
+  streams = stays_within_limits.left s.streams client s.moment within.streams;
+  counters = fewer (is_of_another client) s.counters 1024 within.counters;
+  pairs = no_more s (left s client) (pairs_left s client) within.pairs;
+}
+
+closing_within : (s : State) (client : Client) (correlation : ℕ) → IsWithin s →
+    IsWithin (close s client correlation).after
+unfolding close replied told
+closing_within s client correlation within = one_left_within s client.number within
+
+all_left_within : (s : State) (clients : List ℕ) → IsWithin s → IsWithin (all_left s clients)
+all_left_within s [] within = within
+all_left_within s (client ∷ clients) within = all_left_within (left s client) clients (one_left_within s client within)
+
+ticked_within : (s : State) (clients : List ℕ) → IsWithin s → IsWithin (ticked s clients).after
+unfolding ticked
+ticked_within s clients within = record {
+  clients = within.clients;
+  streams = stays_within_limits.closed s.streams s.moment within.streams;
+  counters = within.counters;
+  pairs = no_more s _ (pairs_closed s s.moment) within.pairs;
+}
+
+tick_within : (s : State) → IsWithin s → IsWithin (tick s).after
+unfolding tick
+tick_within s within = ticked_within (all_left s (late s)) (late s) (all_left_within s (late s) within)
+
+termination_within : (s : State) (client : Client) (correlation : ℕ) → IsWithin s →
+    IsWithin (terminated s client correlation).after
+unfolding terminated stopped_for_good pairs_of pairs_on
+termination_within s client correlation within = record {
+  clients = omega arith;
+  streams = stays_within_limits.cleared s.streams within.streams;
+  counters = omega arith;
+  pairs = omega arith;
+}
+
+-- ---- each event
+
+moment_within : (s : State) (now : ℕ) → IsWithin s → IsWithin (at_moment s now)
+unfolding at_moment pairs_of
+moment_within s now within = record {
+  clients = within.clients;
+  streams = within.streams;
+  counters = within.counters;
+  pairs = within.pairs;
+}
+
+moment_owned : (s : State) (now : ℕ) → HaveTheirClients s → HaveTheirClients (at_moment s now)
+unfolding at_moment
+moment_owned s now owned = record {
+  registrations = owned.registrations;
+  subscriptions = owned.subscriptions;
+  counters = owned.counters;
+}
+
+pairs_at_request : (s : State) (now handle : ℕ) → length (pairs_of s) ≤ 4096 →
+    length (pairs_of (at_request s now handle)) ≤ 4096
+pairs_at_request s now handle few = rw (pairs_heard s now handle) few
+
+request_within : (s : State) (now handle : ℕ) → IsWithin s → IsWithin (at_request s now handle)
+unfolding heard at_moment touched
+request_within s now handle within = record {
+  clients = as_many _ s.clients.rows 64 within.clients;
+  streams = within.streams;
+  counters = within.counters;
+  pairs = pairs_at_request s now handle within.pairs;
+}
+
+abbrev DraftWithin : Draft → Type 0
+DraftWithin draft = IsWithin draft.after
+
+command_within : (s : State) (now handle : ℕ) (bytes : List ℕ) → IsWithin s →
+    Cases DraftWithin (at_moment s now) handle bytes
+command_within s now handle bytes was_within =
+    let at = at_request s now handle in
+    let within : IsWithin at = request_within s now handle was_within in
+    record {
+      unheard = λ correlation refusal plain not_heard.
+          refusal_within (at_moment s now) [] handle correlation refusal (moment_within s now was_within);
+      refusal = λ decisions client correlation refusal plain was_heard.
+          refusal_within at decisions client.number correlation refusal within;
+      denial = λ client correlation act channel stream was_heard found asked denies.
+          refusal_within at _ client.number correlation _ within;
+      subscription = λ request was_heard asks allows room. subscription_within at request room within;
+      publication = λ request adding was_heard asks allows is room placed.
+          publication_within at request.client request.correlation (wanted_by request) adding is room within;
+      publication_removal = λ client correlation fields was_heard asks.
+          publication_removal_within at client correlation fields.registration within;
+      removal = λ request was_heard asks. removal_within at request within;
+      keepalive = λ was_heard. keepalive_within at within;
+      counter = λ client correlation fields was_heard asks allows room.
+          counter_within at client correlation fields room within;
+      value = λ client correlation fields was_heard asks. value_within at client correlation fields within;
+      counter_removal = λ client correlation fields was_heard asks.
+          counter_removal_within at client correlation fields.registration within;
+      closing = λ client correlation was_heard asks. closing_within at client correlation within;
+      termination = λ client correlation fields was_heard asks allows. termination_within at client correlation within;
+    }
+
+attach_within : (s : State) (principal : ℕ) → HaveTheirClients s → IsWithin s → IsWithin (attach s principal).after
+unfolding attach
+attach_within s principal owned within =
+    cond_both s.stopped _ _ DraftWithin (λ stopped. answer_within s _ within)
+    (λ runs.
+    cond_both (has_room s.clients) _ _ DraftWithin (λ room. attached_within s principal owned room within)
+    (λ full. answer_within s _ within))
+
+draft_within : (s : State) (event : Event) → HaveTheirClients s → IsWithin s → IsWithin (drafted s event).after
+unfolding drafted
+draft_within s (Attach now principal) owned within =
+    attach_within (at_moment s now) principal (moment_owned s now owned) (moment_within s now within)
+draft_within s (Command now handle bytes) owned within =
+    command_cases DraftWithin s now handle bytes (command_within s now handle bytes within)
+draft_within s (Reload now policy) owned within =
+    let before = at_moment s now in
+    let moved : IsWithin before = moment_within s now within in
+    reload_cases DraftWithin before policy
+    (λ room. reloaded_within before policy room moved)
+    (λ full. answer_within before _ moved)
+draft_within s (Tick now) owned within = tick_within (at_moment s now) (moment_within s now within)
+
+event_within : (s : State) (event : Event) (inputs : Inputs) → HaveTheirClients s → IsWithin s →
+    IsWithin (state_after s event inputs)
+unfolding conduct renewed
+event_within s event inputs owned within = draft_within s event owned within
+
+-- ---- every registry
+
+opened_within : (settings : Settings) (policy : Rules) (peers : List Peer) → IsWithin (opened settings policy peers)
+unfolding opened pairs_of pairs_on
+opened_within settings policy peers = record {
+  clients = omega arith;
+  streams = stays_within_limits.opened _ _;
+  counters = omega arith;
+  pairs = omega arith;
+}
+
+-- a client that comes makes no pair, since no subscription is of one that is not there
+both_within : AfterAnyEvents (λ s. HaveTheirClients s × IsWithin s)
+both_within =
+    after_any (λ s. HaveTheirClients s × IsWithin s)
+    (λ settings policy peers. (opened_owned settings policy peers, opened_within settings policy peers))
+    (λ s event inputs both. (stay_owned s event inputs both.0, event_within s event inputs both.0 both.1))
+
+pub limits_kept : LimitsAreKept
+limits_kept settings policy peers events =
+    let within = (both_within settings policy peers events).1 in
+    record {
+      clients = within.clients;
+      publications = within.streams.logs;
+      registrations = within.streams.registrations;
+      subscriptions = within.streams.subscriptions;
+      counters = within.counters;
+      pairs = within.pairs;
+    }

@@ -1,0 +1,263 @@
+-- An event that grants nothing makes no more pairs.
+use Rattle.std.proofs.Common.{◌≡◌, ℕ, ◌+◌, ◌≤◌, ◌==◌, ◌&&◌, ◌||◌, not, Bool, true, false, cond, List, [], ◌∷◌, ◌++◌, length, map, filter, Option, Some, refl, sym, ap, ◌∙◌, arith}
+use Rattle.std.specs.List.{Contains, flat_map, list_any}
+use Rattle.std.specs.Option.{option_map}
+use Rattle.std.proofs.lemmas.Bool.{eqb-true}
+use Rattle.std.proofs.lemmas.List.{length-append, length-map}
+use Rattle.std.proofs.lemmas.List.Elements.{All-contains, Contains-append_left, Contains-append_right, Contains-push, filter_passes}
+use Rattle.driver_core.specs.Leaving.{all_left, left}
+use Rattle.driver_core.specs.Pairs.{pairs_of}
+use Rattle.driver_core.specs.State.{State}
+use Rattle.driver_laws.specs.OwnerLaws.{HaveTheirClients}
+use Rattle.client_registry.specs.declared.client.Client.{Client}
+use Rattle.client_registry.specs.Clients.{admitted, client_at, is_other, principal_at, without}
+use Rattle.policy_core.specs.RuleList.{Rules}
+use Rattle.stream_registry.specs.declared.pairs.Pair.{Pair}
+use Rattle.stream_registry.specs.declared.row.Publication.{Publication}
+use Rattle.stream_registry.specs.declared.row.Registration.{Registration}
+use Rattle.stream_registry.specs.declared.row.Subscription.{Subscription}
+use Rattle.stream_registry.specs.Leaving.{is_another_subscription, is_registration_of_another, is_subscription_of_another, left as left_in, unregistered, unsubscribed}
+use Rattle.stream_registry.specs.Lingering.{closed, is_not_past, is_used, left_alone, settled, settled_one}
+use Rattle.stream_registry.specs.Pairs.{fits, is_allowed, is_allowed_to, is_pair, pair_of, pairs_at, pairs_of as pairs_on}
+
+-- ---- how many rows pass
+
+one_passing : {X : Type 0} (b c : Bool) (x : X) (some more : List X) → (b ≡ true → c ≡ true) → length some ≤ length more →
+    length (cond b (x ∷ some) some) ≤ length (cond c (x ∷ more) more)
+one_passing true true x some more both few = omega (arith, few)
+one_passing true false x some more both few = absurd (cc (both refl))
+one_passing false true x some more both few = omega (arith, few)
+one_passing false false x some more both few = few
+
+-- where each row that passes the one test passes the other
+passing : {X : Type 0} (test other : X → Bool) (xs : List X) →
+    ((x : X) → Contains xs x → test x ≡ true → other x ≡ true) → length (filter test xs) ≤ length (filter other xs)
+passing test other [] each = omega arith
+passing test other (x ∷ xs) each =
+    one_passing (test x) (other x) x (filter test xs) (filter other xs)
+    (each x (Contains-append_left (x ∷ []) xs x (Contains-push [] x)))
+    (passing test other xs (λ y has. each y (Contains-append_right (x ∷ []) xs y has)))
+
+one_filtered : {X : Type 0} (test : X → Bool) (b : Bool) (x : X) (some more : List X) →
+    length (filter test some) ≤ length (filter test more) →
+    length (filter test (cond b (x ∷ some) some)) ≤ length (filter test (x ∷ more))
+one_filtered test true x some more few =
+    one_passing (test x) (test x) x (filter test some) (filter test more) (λ passes. passes) few
+one_filtered test false x some more few =
+    one_passing false (test x) x (filter test some) (filter test more) (λ none. absurd (cc none)) few
+
+filtered : {X : Type 0} (test stays : X → Bool) (xs : List X) →
+    length (filter test (filter stays xs)) ≤ length (filter test xs)
+filtered test stays [] = omega arith
+filtered test stays (x ∷ xs) = one_filtered test (stays x) x (filter stays xs) xs (filtered test stays xs)
+
+-- ---- how many each of them has
+
+of_each : {X Y : Type 0} (parts more : X → List Y) (xs : List X) → ((x : X) → length (parts x) ≤ length (more x)) →
+    length (flat_map parts xs) ≤ length (flat_map more xs)
+of_each parts more [] each = omega arith
+of_each parts more (x ∷ xs) each =
+    let first = each x in
+    let rest = of_each parts more xs each in
+    let some : length (parts x ++ flat_map parts xs) ≡ length (parts x) + length (flat_map parts xs) =
+    length-append (parts x) (flat_map parts xs) in
+    let all : length (more x ++ flat_map more xs) ≡ length (more x) + length (flat_map more xs) =
+    length-append (more x) (flat_map more xs) in
+    omega (arith, first, rest, some, all)
+
+one_kept : {X Y : Type 0} (parts : X → List Y) (b : Bool) (x : X) (some more : List X) →
+    length (flat_map parts some) ≤ length (flat_map parts more) →
+    length (flat_map parts (cond b (x ∷ some) some)) ≤ length (parts x ++ flat_map parts more)
+one_kept parts true x some more few =
+    let left' : length (parts x ++ flat_map parts some) ≡ length (parts x) + length (flat_map parts some) =
+    length-append (parts x) (flat_map parts some) in
+    let all : length (parts x ++ flat_map parts more) ≡ length (parts x) + length (flat_map parts more) =
+    length-append (parts x) (flat_map parts more) in
+    omega (arith, few, left', all)
+one_kept parts false x some more few =
+    let all : length (parts x ++ flat_map parts more) ≡ length (parts x) + length (flat_map parts more) =
+    length-append (parts x) (flat_map parts more) in
+    omega (arith, few, all)
+
+of_those_kept : {X Y : Type 0} (parts : X → List Y) (stays : X → Bool) (xs : List X) →
+    length (flat_map parts (filter stays xs)) ≤ length (flat_map parts xs)
+of_those_kept parts stays [] = omega arith
+of_those_kept parts stays (x ∷ xs) =
+    one_kept parts (stays x) x (filter stays xs) xs (of_those_kept parts stays xs)
+
+of_changed : {X Y : Type 0} (parts : X → List Y) (change : X → X) (xs : List X) →
+    ((x : X) → parts (change x) ≡ parts x) → flat_map parts (map change xs) ≡ flat_map parts xs
+of_changed parts change [] same = refl
+of_changed parts change (x ∷ xs) same = rw (same x, of_changed parts change xs same) refl
+
+-- ---- the pairs of one log
+
+one_settled : (b : Bool) (clients : List Client) (policy : Rules) (epoch : ℕ) (subscriptions : List Subscription) (now : ℕ)
+    (log : Publication) →
+    pairs_at clients policy epoch subscriptions (cond b log (left_alone now log))
+    ≡ pairs_at clients policy epoch subscriptions log
+unfolding fits
+one_settled true clients policy epoch subscriptions now log = refl
+one_settled false clients policy epoch subscriptions now log = refl
+
+-- that a log lingers makes no difference to its pairs
+pairs_settled : (clients : List Client) (policy : Rules) (epoch : ℕ) (subscriptions : List Subscription)
+    (registrations : List Registration) (now : ℕ) (logs : List Publication) →
+    flat_map (pairs_at clients policy epoch subscriptions) (map (settled_one registrations now) logs)
+    ≡ flat_map (pairs_at clients policy epoch subscriptions) logs
+pairs_settled clients policy epoch subscriptions registrations now logs =
+    of_changed (pairs_at clients policy epoch subscriptions) (settled_one registrations now) logs
+    (λ log. one_settled (is_used registrations log.source) clients policy epoch subscriptions now log)
+
+readers_counted : (clients : List Client) (policy : Rules) (epoch : ℕ) (subscriptions : List Subscription)
+    (log : Publication) →
+    length (pairs_at clients policy epoch subscriptions log)
+    ≡ length (filter (is_pair clients policy epoch log) subscriptions)
+readers_counted clients policy epoch subscriptions log =
+    length-map (filter (is_pair clients policy epoch log) subscriptions) (pair_of log)
+
+-- whom the subscription's client acts for decides
+pair_by : (clients others : List Client) (policy : Rules) (epoch : ℕ) (log : Publication) (subscription : Subscription) →
+    principal_at clients subscription.client ≡ principal_at others subscription.client →
+    is_pair clients policy epoch log subscription ≡ is_pair others policy epoch log subscription
+unfolding is_allowed
+pair_by clients others policy epoch log subscription same =
+    ap (λ (found : Option ℕ). fits log subscription && is_allowed_to policy epoch subscription found) same
+
+-- the clients of these subscriptions act for whom they did
+abbrev ActAsBefore : List Client → List Client → List Subscription → Type 0
+ActAsBefore clients others subscriptions =
+    (subscription : Subscription) → Contains subscriptions subscription →
+    principal_at clients subscription.client ≡ principal_at others subscription.client
+
+no_more_readers : (clients others : List Client) (policy : Rules) (epoch : ℕ) (stays : Subscription → Bool)
+    (subscriptions : List Subscription) (log : Publication) → ActAsBefore clients others (filter stays subscriptions) →
+    length (pairs_at clients policy epoch (filter stays subscriptions) log)
+    ≤ length (pairs_at others policy epoch subscriptions log)
+no_more_readers clients others policy epoch stays subscriptions log same =
+    let left' : List Subscription = filter stays subscriptions in
+    let some = readers_counted clients policy epoch left' log in
+    let all = readers_counted others policy epoch subscriptions log in
+    let few = passing (is_pair clients policy epoch log) (is_pair others policy epoch log) left'
+    (λ subscription has is.
+    sym (pair_by clients others policy epoch log subscription (same subscription has)) ∙ is) in
+    let fewer = filtered (is_pair others policy epoch log) stays subscriptions in
+    omega (arith, some, all, few, fewer)
+
+same_readers : (clients others : List Client) (policy : Rules) (epoch : ℕ) (subscriptions : List Subscription)
+    (log : Publication) → ActAsBefore clients others subscriptions →
+    length (pairs_at clients policy epoch subscriptions log) ≤ length (pairs_at others policy epoch subscriptions log)
+same_readers clients others policy epoch subscriptions log same =
+    let some = readers_counted clients policy epoch subscriptions log in
+    let all = readers_counted others policy epoch subscriptions log in
+    let few = passing (is_pair clients policy epoch log) (is_pair others policy epoch log) subscriptions
+    (λ subscription has is.
+    sym (pair_by clients others policy epoch log subscription (same subscription has)) ∙ is) in
+    omega (arith, some, all, few)
+
+-- ---- whom clients act for where one goes or comes
+
+abbrev principal_of : Client → ℕ
+principal_of client = client.principal
+
+one_stays : (stays own : Bool) (row : Client) (rest all : List Client) (number : ℕ) → (own ≡ true → stays ≡ true) →
+    (row.number == number) ≡ own → client_at rest number ≡ client_at all number →
+    client_at (cond stays (row ∷ rest) rest) number ≡ cond own (Some row) (client_at all number)
+one_stays true own row rest all number kept is later = rw (is, later) refl
+one_stays false true row rest all number kept is later = absurd (cc (kept refl))
+one_stays false false row rest all number kept is later = later
+
+-- who is another stays
+others_stay : (rows : List Client) (gone number : ℕ) → (number == gone) ≡ false →
+    client_at (filter (is_other gone) rows) number ≡ client_at rows number
+others_stay [] gone number other = refl
+others_stay (row ∷ rows) gone number other =
+    one_stays (is_other gone row) (row.number == number) row (filter (is_other gone) rows) rows number
+    (λ own.
+    let same : row.number ≡ number = eqb-true row.number number own in
+    rw (same, other) refl)
+    refl (others_stay rows gone number other)
+
+one_there : (own later : Bool) (row : Client) (rest more : Option Client) → (own || later) ≡ true →
+    (later ≡ true → more ≡ rest) → cond own (Some row) more ≡ cond own (Some row) rest
+one_there true later row rest more there stays = refl
+one_there false later row rest more there stays = stays there
+
+-- who was there stays where another one comes
+first_stays : (rows : List Client) (new : Client) (number : ℕ) →
+    list_any (λ (row : Client). row.number == number) rows ≡ true →
+    client_at (rows ++ new ∷ []) number ≡ client_at rows number
+first_stays [] new number there = absurd (cc there)
+first_stays (row ∷ rows) new number there =
+    one_there (row.number == number) (list_any (λ (other : Client). other.number == number) rows) row
+    (client_at rows number) (client_at (rows ++ new ∷ []) number) there (first_stays rows new number)
+
+-- ---- no more pairs
+
+-- the one registry has no more pairs than the other
+abbrev pub HasNoMorePairs : State → State → Type 0
+HasNoMorePairs s after = length (pairs_of after) ≤ length (pairs_of s)
+
+-- a client that comes has no subscription yet
+pub pairs_attached : (s : State) (principal : ℕ) → HaveTheirClients s →
+    HasNoMorePairs s (record s { clients = admitted s.clients principal s.moment })
+unfolding pairs_of pairs_on admitted
+pairs_attached s principal owned =
+    of_each _ _ s.streams.publications
+    (λ log.
+    same_readers _ s.clients.rows s.policy s.epoch s.streams.subscriptions log
+    (λ subscription has.
+    ap (option_map principal_of)
+    (first_stays s.clients.rows _ subscription.client (owned.subscriptions subscription has))))
+
+-- a registration that goes takes none away
+pub pairs_unregistered : (s : State) (client number now : ℕ) →
+    pairs_of (record s { streams = unregistered s.streams client number now }) ≡ pairs_of s
+unfolding pairs_of pairs_on unregistered settled
+pairs_unregistered s client number now =
+    pairs_settled s.clients.rows s.policy s.epoch s.streams.subscriptions _ now s.streams.publications
+
+pub pairs_unsubscribed : (s : State) (client number : ℕ) →
+    HasNoMorePairs s (record s { streams = unsubscribed s.streams client number })
+unfolding pairs_of pairs_on unsubscribed
+pairs_unsubscribed s client number =
+    of_each _ _ s.streams.publications
+    (λ log.
+    no_more_readers s.clients.rows s.clients.rows s.policy s.epoch (is_another_subscription client number)
+    s.streams.subscriptions log (λ subscription has. refl))
+
+not_own : (b : Bool) → not b ≡ true → b ≡ false
+not_own true other = absurd (cc other)
+not_own false other = refl
+
+pub pairs_left : (s : State) (client : ℕ) → HasNoMorePairs s (left s client)
+unfolding pairs_of pairs_on left left_in settled without
+pairs_left s client =
+    let rows : List Client = filter (is_other client) s.clients.rows in
+    let stays : List Subscription = filter (is_subscription_of_another client) s.streams.subscriptions in
+    let same = ap (λ (pairs : List Pair). length pairs)
+    (pairs_settled rows s.policy s.epoch stays (filter (is_registration_of_another client) s.streams.registrations) s.moment
+    s.streams.publications) in
+    let few = of_each (pairs_at rows s.policy s.epoch stays) (pairs_at s.clients.rows s.policy s.epoch s.streams.subscriptions)
+    s.streams.publications
+    (λ log.
+    no_more_readers rows s.clients.rows s.policy s.epoch (is_subscription_of_another client) s.streams.subscriptions log
+    (λ subscription has.
+    ap (option_map principal_of)
+    (others_stay s.clients.rows client subscription.client
+    (not_own (subscription.client == client)
+    (All-contains (λ row. is_subscription_of_another client row ≡ true) _ subscription
+    (filter_passes (is_subscription_of_another client) s.streams.subscriptions) has))))) in
+    rw same few
+
+pub pairs_all_left : (s : State) (clients : List ℕ) → HasNoMorePairs s (all_left s clients)
+pairs_all_left s [] = omega arith
+pairs_all_left s (client ∷ clients) =
+    let first = pairs_left s client in
+    let rest = pairs_all_left (left s client) clients in
+    omega (arith, first, rest)
+
+pub pairs_closed : (s : State) (now : ℕ) → HasNoMorePairs s (record s { streams = closed s.streams now })
+unfolding pairs_of pairs_on closed
+pairs_closed s now =
+    of_those_kept (pairs_at s.clients.rows s.policy s.epoch s.streams.subscriptions) (is_not_past now) s.streams.publications

@@ -1,0 +1,112 @@
+-- There is room where no limit would be passed.
+use Rattle.std.proofs.Common.{◌≡◌, ℕ, ◌<◌, ◌≤◌, ℤ, Bool, true, false, ◌&&◌, cond, length, Option, Some, None, inl, inr, refl, ◌⊎◌}
+use Rattle.std.specs.Prelude.{Result, Ok, Err, nat_lt}
+use Rattle.std.proofs.lemmas.Bool.{le-leb, lt-ltb, ltb-false}
+use Rattle.driver_core.specs.Pairs.{is_within_pairs, pairs_of}
+use Rattle.driver_core.specs.Publishing.{with_publication}
+use Rattle.driver_core.specs.Reloading.{in_force}
+use Rattle.driver_core.specs.State.{State, has_number}
+use Rattle.driver_core.specs.Subscribing.{has_room_for_subscription, with_subscription}
+use Rattle.driver_laws.specs.LimitLaws.{HasRoomBelow, IsLeft}
+use Rattle.channel_uri.specs.Channel.{Shape}
+use Rattle.channel_uri.specs.Parameters.{stated_session_of}
+use Rattle.stream_registry.specs.declared.fault.StreamFault.{StreamFault}
+use Rattle.stream_registry.specs.declared.fault.StreamFault.TheVariants.{Conflict, Full}
+use Rattle.stream_registry.specs.declared.row.Publication.{Publication}
+use Rattle.stream_registry.specs.declared.wanted.Adding.{Adding}
+use Rattle.stream_registry.specs.declared.wanted.Adding.TheVariants.{Join, Make}
+use Rattle.stream_registry.specs.declared.wanted.Wanted.{Wanted}
+use Rattle.stream_registry.specs.Adding.{adding_by, adding_of, has_room_for_log, has_room_for_registration, has_room_for_subscription as has_room_in, joining_of, making_of, session_of}
+use Rattle.stream_registry.specs.Joining.{contradicts, joined_at}
+use Rattle.stream_registry.specs.Sessions.{is_stated_again}
+use Rattle.stream_registry.specs.Streams.{Streams}
+
+-- ---- numbers and pairs
+
+number_left : (s : State) → IsLeft s.last_number → has_number s ≡ true
+unfolding has_number
+number_left s left' = lt-ltb s.last_number 18446744073709551615 left'
+
+few_pairs : (s : State) → length (pairs_of s) ≤ 4096 → is_within_pairs s ≡ true
+unfolding is_within_pairs
+few_pairs s few = le-leb (length (pairs_of s)) 4096 few
+
+both_hold : (a b : Bool) → a ≡ true → b ≡ true → (a && b) ≡ true
+both_hold a b first second = rw (first, second) refl
+
+subscription_room : (s : State) (client : ℕ) (channel : Shape) (stream : ℤ) → IsLeft s.last_number →
+    length s.streams.subscriptions < 512 → length (pairs_of (with_subscription s client channel stream)) ≤ 4096 →
+    has_room_for_subscription s client channel stream ≡ true
+unfolding has_room_for_subscription
+subscription_room s client channel stream left' few pairs =
+    both_hold (has_number s && has_room_in s.streams) (is_within_pairs (with_subscription s client channel stream))
+    (both_hold (has_number s) (has_room_in s.streams) (number_left s left')
+    (lt-ltb (length s.streams.subscriptions) 512 few))
+    (few_pairs (with_subscription s client channel stream) pairs)
+
+-- ---- the lists of publications
+
+without_room : (conflicts room : Bool) (granted : Adding) →
+    cond {A = Result Adding StreamFault} conflicts (Err Conflict) (cond room (Ok granted) (Err Full)) ≡ Err Full →
+    room ≡ false
+without_room true room granted is = absurd (cc is)
+without_room false true granted is = absurd (cc is)
+without_room false false granted is = refl
+
+either_full : (streams : Streams) (one other : Bool) → nat_lt (length streams.registrations) 1024 ≡ one →
+    nat_lt (length streams.publications) 256 ≡ other → (one && other) ≡ false →
+    (1024 ≤ length streams.registrations) ⊎ (256 ≤ length streams.publications)
+either_full streams false other one two is = inl (ltb-false (length streams.registrations) 1024 one)
+either_full streams true false one two is = inr (ltb-false (length streams.publications) 256 two)
+either_full streams true true one two is = absurd (cc is)
+
+making_full : (streams : Streams) (wanted : Wanted) → making_of streams wanted ≡ Err Full →
+    (1024 ≤ length streams.registrations) ⊎ (256 ≤ length streams.publications)
+unfolding making_of
+making_full streams wanted is =
+    either_full streams _ _ refl refl
+    (without_room
+    (is_stated_again streams.publications wanted.channel.media wanted.stream (stated_session_of wanted.channel))
+    (has_room_for_registration streams && has_room_for_log streams) (Make (session_of streams wanted.channel)) is)
+
+joining_full : (streams : Streams) (channel : Shape) (log : Publication) → joining_of streams channel log ≡ Err Full →
+    (1024 ≤ length streams.registrations) ⊎ (256 ≤ length streams.publications)
+unfolding joining_of
+joining_full streams channel log is =
+    inl (ltb-false (length streams.registrations) 1024
+    (without_room (contradicts streams.defaults channel log) (has_room_for_registration streams)
+    (Join log.source log.session) is))
+
+by_full : (streams : Streams) (wanted : Wanted) (found : Option Publication) → adding_by streams wanted found ≡ Err Full →
+    (1024 ≤ length streams.registrations) ⊎ (256 ≤ length streams.publications)
+by_full streams wanted None is = making_full streams wanted is
+by_full streams wanted (Some log) is = joining_full streams wanted.channel log is
+
+which_full : (streams : Streams) (wanted : Wanted) (b : Bool) →
+    cond b (making_of streams wanted) (adding_by streams wanted (joined_at streams.publications wanted.channel wanted.stream))
+    ≡ Err Full →
+    (1024 ≤ length streams.registrations) ⊎ (256 ≤ length streams.publications)
+which_full streams wanted true is = making_full streams wanted is
+which_full streams wanted false is =
+    by_full streams wanted (joined_at streams.publications wanted.channel wanted.stream) is
+
+lists_full : (streams : Streams) (wanted : Wanted) → adding_of streams wanted ≡ Err Full →
+    (1024 ≤ length streams.registrations) ⊎ (256 ≤ length streams.publications)
+unfolding adding_of
+lists_full streams wanted is = which_full streams wanted wanted.exclusive is
+
+-- ---- every registry
+
+pub has_room_below : (s : State) → HasRoomBelow s
+has_room_below s = record {
+  client = λ few left'.
+      both_hold _ _ (lt-ltb (length s.clients.rows) 64 few) (lt-ltb s.clients.last 18446744073709551615 left');
+  subscription = subscription_room s;
+  publication = λ client wanted adding left' pairs.
+      both_hold _ _ (number_left s left') (few_pairs (with_publication s client wanted adding) pairs);
+  lists = λ wanted is. lists_full s.streams wanted is;
+  counter = λ left' few.
+      both_hold _ _ (lt-ltb (length s.counters) 1024 few) (lt-ltb s.last_number 18446744073709551615 left');
+  policy = λ policy left' pairs.
+      both_hold _ _ (few_pairs (in_force s policy) pairs) (lt-ltb s.epoch 18446744073709551615 left');
+}

@@ -1,0 +1,5 @@
+use Rattle.driver_laws.proofs.RoomLemmas.{has_room_below}
+use Rattle.driver_laws.proofs.room_is_left_below_the_limits.Goals as goal
+
+pub returns : goal.returns
+returns c settings policy peers events = has_room_below _

@@ -1,0 +1,58 @@
+-- Over every list of events: no list grows past its limit.
+use Rattle.std.specs.Prelude.{◌≡◌, ℕ, ◌<◌, ◌≤◌, ℤ, true, length, Err, ◌⊎◌}
+use Rattle.driver_core.specs.Counting.{has_room_for_counter}
+use Rattle.driver_core.specs.Pairs.{pairs_of}
+use Rattle.driver_core.specs.Publishing.{has_room_for_publication, with_publication}
+use Rattle.driver_core.specs.Reloading.{has_room_for_policy, in_force}
+use Rattle.driver_core.specs.State.{State}
+use Rattle.driver_core.specs.Subscribing.{has_room_for_subscription, with_subscription}
+use Rattle.driver_laws.specs.Events.{AfterAnyEvents}
+use Rattle.channel_uri.specs.Channel.{Shape}
+use Rattle.client_registry.specs.Clients.{has_room}
+use Rattle.policy_core.specs.RuleList.{Rules}
+use Rattle.stream_registry.specs.declared.fault.StreamFault.TheVariants.{Full}
+use Rattle.stream_registry.specs.declared.wanted.Adding.{Adding}
+use Rattle.stream_registry.specs.declared.wanted.Wanted.{Wanted}
+use Rattle.stream_registry.specs.Adding.{adding_of}
+
+-- ---- none is passed
+
+-- at most 64 clients, 256 logs, 1,024 registrations with them, 512 subscriptions, 1,024 counters and 4,096 pairs
+pub record IsWithinLimits (s : State) : Type 0 where
+  pub clients : length s.clients.rows ≤ 64
+  pub publications : length s.streams.publications ≤ 256
+  pub registrations : length s.streams.registrations ≤ 1024
+  pub subscriptions : length s.streams.subscriptions ≤ 512
+  pub counters : length s.counters ≤ 1024
+  pub pairs : length (pairs_of s) ≤ 4096
+
+abbrev pub LimitsAreKept : Type 0
+LimitsAreKept = AfterAnyEvents IsWithinLimits
+
+-- ---- nor is one kept too soon
+
+-- the numbers that rows and policies draw have 64 bits
+abbrev pub IsLeft : ℕ → Type 0
+IsLeft last = last < 18446744073709551615
+
+-- where no limit would be passed, there is room; the lists of publications are full only at theirs
+pub record HasRoomBelow (s : State) : Type 0 where
+  pub client : length s.clients.rows < 64 → IsLeft s.clients.last → has_room s.clients ≡ true
+  pub subscription :
+      (client : ℕ) (channel : Shape) (stream : ℤ) → IsLeft s.last_number → length s.streams.subscriptions < 512 →
+      length (pairs_of (with_subscription s client channel stream)) ≤ 4096 →
+      has_room_for_subscription s client channel stream ≡ true
+  pub publication :
+      (client : ℕ) (wanted : Wanted) (adding : Adding) → IsLeft s.last_number →
+      length (pairs_of (with_publication s client wanted adding)) ≤ 4096 →
+      has_room_for_publication s client wanted adding ≡ true
+  pub lists :
+      (wanted : Wanted) → adding_of s.streams wanted ≡ Err Full →
+      (1024 ≤ length s.streams.registrations) ⊎ (256 ≤ length s.streams.publications)
+  pub counter : IsLeft s.last_number → length s.counters < 1024 → has_room_for_counter s ≡ true
+  pub policy :
+      (policy : Rules) → IsLeft s.epoch → length (pairs_of (in_force s policy)) ≤ 4096 →
+      has_room_for_policy s policy ≡ true
+
+abbrev pub RoomIsLeftBelowTheLimits : Type 0
+RoomIsLeftBelowTheLimits = AfterAnyEvents HasRoomBelow

@@ -1,0 +1,15 @@
+pub mod BesideLemmas
+pub mod CountLemmas
+pub mod FittingLemmas
+pub mod FoundLemmas
+pub mod LackingLemmas
+pub mod LateLemmas
+pub mod ListLemmas
+pub mod NoteLemmas
+pub mod OrderLemmas
+pub mod PartLemmas
+pub mod ReaderLemmas
+pub mod RisingLemmas
+pub mod SameLemmas
+pub mod TellLemmas
+pub mod TurnoverLemmas

@@ -1,0 +1,14 @@
+use Rattle.std.proofs.Common.{List, arith, length, sym, ap, ◌∙◌}
+use Rattle.stream_registry.specs.declared.pairs.Pair.{Pair}
+use Rattle.stream_registry.specs.Wish.{row_of}
+use Rattle.log_readers.proofs.FittingLemmas.{reads_none}
+use Rattle.log_readers.proofs.coming.logs_read.Goals as goal
+
+pub returns-then-not-is_allowed : goal.returns-then-not-is_allowed
+returns-then-not-is_allowed c = record {
+  exact =
+      ap (λ (pairs : List Pair). length pairs)
+      (sym (reads_none c.args.clients.now.rows c.args.policy.now c.args.epoch (row_of c.args.wish.now) c.args.streams.now.publications
+      (sym c.is_allowed.ensures ∙ c.if-not-is_allowed.true)));
+  few = omega arith;
+}

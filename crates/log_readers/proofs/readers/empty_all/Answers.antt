@@ -1,0 +1,12 @@
+use Rattle.std.proofs.Common.{ℕ, ◌<◌, List, [], length, slice_index_or, arith}
+use Rattle.std.proofs.lemmas.List.{get_or_default}
+use Rattle.std.proofs.lemmas.List.Edits.{map_over_more}
+use Rattle.log_readers.proofs.readers.empty_all.Goals as goal
+
+pub loop-numbers-preserved : goal.loop-numbers-preserved
+loop-numbers-preserved c =
+    let before : c.loop-numbers.numbers-index < length c.loop-numbers.slots =
+    omega (arith, c.loop-numbers.auto.slots, c.loop-numbers-test.true) in
+    rw c.clear.ensures
+    (map_over_more {X = List ℕ} (λ numbers. []) _ _ _ (slice_index_or c.loop-numbers.slots c.loop-numbers.numbers-index c.numbers-item.result)
+    c.loop-numbers-test.true c.loop-numbers.invariant (get_or_default _ _ _ _ before))

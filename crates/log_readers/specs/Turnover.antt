@@ -1,0 +1,81 @@
+-- Which pairs one list has and another lacks, and what an event's own rows have to do with that. Own rules.
+use Rattle.std.specs.Prelude.{◌≡◌, ℕ, Bool, not, ◌==◌, ◌&&◌, List, [], ◌∷◌, ◌++◌, map, filter}
+use Rattle.std.specs.List.{list_any}
+use Rattle.log_readers.specs.Readers.{all_readers}
+use Rattle.stream_registry.specs.declared.lingering.LogPlace.{LogPlace}
+use Rattle.stream_registry.specs.declared.pairs.Pair.{Pair}
+use Rattle.stream_registry.specs.declared.row.Publication.{Publication}
+use Rattle.stream_registry.specs.declared.row.Subscription.{Subscription}
+use Rattle.stream_registry.specs.Leaving.{has_subscription, left}
+use Rattle.stream_registry.specs.Pairs.{is_pair, pair_of, pairs_of}
+use Rattle.stream_registry.specs.Streams.{Streams}
+use Rattle.client_registry.specs.declared.client.Client.{Client}
+use Rattle.client_registry.specs.Clients.{ClientList, without}
+use Rattle.policy_core.specs.RuleList.{Rules}
+
+abbrev pub is_same_pair : Pair → Pair → Bool
+is_same_pair pair other = pair.source == other.source && pair.subscription == other.subscription
+
+abbrev pub is_lacked_by : List Pair → Pair → Bool
+is_lacked_by others pair = not (list_any (is_same_pair pair) others)
+
+-- the pairs that the others lack
+abbrev pub lacking : List Pair → List Pair → List Pair
+lacking pairs others = filter (is_lacked_by others) pairs
+
+-- the subscription reads the log
+abbrev pub is_read_by : List Client → Rules → ℕ → Subscription → Publication → Bool
+is_read_by clients policy epoch subscription publication = is_pair clients policy epoch publication subscription
+
+abbrev pub pair_with : Subscription → Publication → Pair
+pair_with subscription publication = pair_of publication subscription
+
+-- the pairs of this subscription, by source
+abbrev pub pairs_with : List Client → Rules → ℕ → List Publication → Subscription → List Pair
+pairs_with clients policy epoch publications subscription =
+    map (pair_with subscription) (filter (is_read_by clients policy epoch subscription) publications)
+
+abbrev pub pair_at : ℕ → ℕ → Pair
+pair_at source number = record { source = source; subscription = number }
+
+-- the pairs of these rows of numbers, a row for each log
+abbrev pub told : List Publication → List (List ℕ) → List Pair
+told [] readers = []
+told (publication ∷ publications) [] = []
+told (publication ∷ publications) (numbers ∷ readers) = map (pair_at publication.source) numbers ++ told publications readers
+
+-- it is of the subscription of this number
+abbrev pub is_of_number : ℕ → Pair → Bool
+is_of_number number pair = pair.subscription == number
+
+-- it is of a subscription of this client
+abbrev pub is_of_client : Streams → ℕ → Pair → Bool
+is_of_client s client pair = has_subscription s client pair.subscription
+
+-- it is of a log that closes
+abbrev pub is_of_closing : List LogPlace → Pair → Bool
+is_of_closing closes pair = list_any (λ closed. closed.source == pair.source) closes
+
+-- the same subscriptions read the same logs
+pub record IsReadAlike (s after : Streams) (clients others : List Client) (policy : Rules) (epoch : ℕ) : Type 0 where
+  pub pairs : pairs_of after others policy epoch ≡ pairs_of s clients policy epoch
+  pub readers : all_readers after others policy epoch ≡ all_readers s clients policy epoch
+
+-- what went and what came where these pairs became those
+pub record IsTurnover (before after went came : List Pair) : Type 0 where
+  pub gone : lacking before after ≡ went
+  pub come : lacking after before ≡ came
+
+-- these clients leave at this moment, one after another
+abbrev pub all_left : Streams → List ℕ → ℕ → Streams
+all_left s [] now = s
+all_left s (client ∷ clients) now = all_left (left s client now) clients now
+
+-- and go
+abbrev pub all_without : ClientList → List ℕ → ClientList
+all_without clients [] = clients
+all_without clients (client ∷ others) = all_without (without clients client) others
+
+-- it is of a subscription of one of these clients
+abbrev pub is_of_any : Streams → List ℕ → Pair → Bool
+is_of_any s clients pair = list_any (λ client. is_of_client s client pair) clients

@@ -1,0 +1,160 @@
+//! The pairs of a subscription or a log that is about to come.
+
+ghost use Rattle.log_readers.specs.Turnover.{pair_with, pairs_with};
+ghost use Rattle.std.specs.Prelude.{◌≡◌, ◌≤◌, ◌++◌, IfOk, OnOk, filter, length, map};
+ghost use Rattle.stream_registry.specs.Pairs.{fits, pairs_at};
+ghost use Rattle.stream_registry.specs.Wish.{row_of};
+
+use byte_strings::Items;
+use client_registry::Clients;
+use policy_core::Policy;
+use std::alloc::{AllocError, Global};
+use stream_registry::{Pair, Publication, Streams, Subscription, Wish, fits, is_allowed, reads};
+
+/// Puts the pairs of the subscription with the logs that it fits behind the others.
+fn push_fitting(
+    pairs: &mut Items<Pair>,
+    publications: &[Publication],
+    wish: &Wish<'_>,
+) -> Result<(), AllocError>
+    ensures { OnOk result (pairs.new ≡ pairs.old ++ map (pair_with (row_of wish.now)) (filter (λ log. fits log (row_of wish.now)) publications.now)) }
+{
+    for publication in publications {
+        if fits(publication, wish) {
+            pairs.push(Pair {
+                source: publication.source,
+                subscription: wish.number,
+            })?;
+        }
+    }
+    Ok(())
+}
+
+/// How many of the logs the subscription fits.
+fn fitting(publications: &[Publication], wish: &Wish<'_>) -> usize
+    ensures exact { result ≡ length (filter (λ log. fits log (row_of wish.now)) publications.now) }
+    ensures few { result ≤ length publications.now }
+{
+    let mut logs = 0;
+    for publication in publications {
+        if fits(publication, wish) {
+            logs += 1;
+        }
+    }
+    logs
+}
+
+/// The pairs that a subscription has, or would have, by source. The policy, which goes by the number `epoch`, is asked once.
+pub fn pairs_of_subscription(
+    alloc: Global,
+    streams: &Streams,
+    clients: &Clients,
+    policy: &Policy,
+    epoch: u64,
+    wish: &Wish<'_>,
+) -> Result<Items<Pair>, AllocError>
+    ensures { IfOk result (λ pairs. pairs ≡ pairs_with clients.now.rows policy.now epoch streams.now.publications (row_of wish.now)) }
+{
+    let mut pairs = Items::new(alloc);
+    if !is_allowed(clients, policy, epoch, wish) {
+        return Ok(pairs);
+    }
+    push_fitting(&mut pairs, streams.publications(), wish)?;
+    Ok(pairs)
+}
+
+/// How many pairs a subscription has, or would have: those of [`pairs_of_subscription`]. It takes no memory.
+pub fn logs_read(
+    streams: &Streams,
+    clients: &Clients,
+    policy: &Policy,
+    epoch: u64,
+    wish: &Wish<'_>,
+) -> usize
+    ensures exact { result ≡ length (pairs_with clients.now.rows policy.now epoch streams.now.publications (row_of wish.now)) }
+    ensures few { result ≤ 256 }
+{
+    if !is_allowed(clients, policy, epoch, wish) {
+        return 0;
+    }
+    fitting(streams.publications(), wish)
+}
+
+/// Puts the pairs of the log with these subscriptions behind the others.
+fn push_readers(
+    pairs: &mut Items<Pair>,
+    clients: &Clients,
+    policy: &Policy,
+    epoch: u64,
+    subscriptions: &[Subscription],
+    publication: &Publication,
+) -> Result<(), AllocError>
+    ensures { OnOk result (pairs.new ≡ pairs.old ++ pairs_at clients.now.rows policy.now epoch subscriptions.now publication.now) }
+{
+    for subscription in subscriptions {
+        if reads(clients, policy, epoch, publication, &subscription.wish()) {
+            pairs.push(Pair {
+                source: publication.source,
+                subscription: subscription.number,
+            })?;
+        }
+    }
+    Ok(())
+}
+
+/// How many of the subscriptions read the log.
+fn readers_among(
+    clients: &Clients,
+    policy: &Policy,
+    epoch: u64,
+    subscriptions: &[Subscription],
+    publication: &Publication,
+) -> usize
+    ensures exact { result ≡ length (pairs_at clients.now.rows policy.now epoch subscriptions.now publication.now) }
+    ensures few { result ≤ length subscriptions.now }
+{
+    let mut readers = 0;
+    for subscription in subscriptions {
+        if reads(clients, policy, epoch, publication, &subscription.wish()) {
+            readers += 1;
+        }
+    }
+    readers
+}
+
+/// The pairs that a log has, or would have, by subscription.
+pub fn pairs_of_log(
+    alloc: Global,
+    streams: &Streams,
+    clients: &Clients,
+    policy: &Policy,
+    epoch: u64,
+    publication: &Publication,
+) -> Result<Items<Pair>, AllocError>
+    ensures { IfOk result (λ pairs. pairs ≡ pairs_at clients.now.rows policy.now epoch streams.now.subscriptions publication.now) }
+{
+    let mut pairs = Items::new(alloc);
+    push_readers(
+        &mut pairs,
+        clients,
+        policy,
+        epoch,
+        streams.subscriptions(),
+        publication,
+    )?;
+    Ok(pairs)
+}
+
+/// How many pairs a log has, or would have: those of [`pairs_of_log`]. It takes no memory.
+pub fn readers_of(
+    streams: &Streams,
+    clients: &Clients,
+    policy: &Policy,
+    epoch: u64,
+    publication: &Publication,
+) -> usize
+    ensures exact { result ≡ length (pairs_at clients.now.rows policy.now epoch streams.now.subscriptions publication.now) }
+    ensures few { result ≤ 512 }
+{
+    readers_among(clients, policy, epoch, streams.subscriptions(), publication)
+}

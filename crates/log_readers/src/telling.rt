@@ -1,0 +1,160 @@
+//! The pairs that go with a subscription, a client or a log, from what is kept: the policy is not asked.
+
+ghost use Rattle.log_readers.specs.Readers.{all_readers};
+ghost use Rattle.log_readers.specs.Turnover.{is_of_client, is_of_closing, is_of_number, pair_at, told};
+ghost use Rattle.client_registry.specs.declared.client.Client.{Client};
+ghost use Rattle.policy_core.specs.RuleList.{Rules};
+ghost use Rattle.std.specs.Prelude.{◌≡◌, ◌++◌, ℕ, List, IfOk, OnOk, filter, length, map};
+ghost use Rattle.stream_registry.specs.Pairs.{pairs_of};
+
+use crate::readers::Readers;
+use byte_strings::Items;
+use rows::{Rows, Test};
+use std::alloc::{AllocError, Global};
+use stream_registry::{LogPlace, Pair, Publication, Streams};
+
+/// Keeps the pairs of the subscription of this number.
+#[derive(Clone, Copy)]
+struct OfNumber {
+    number: u64,
+}
+
+impl Test<Pair> for OfNumber {
+    ghost keeps = { λ test pair. is_of_number test.number pair };
+
+    fn keeps(&self, pair: &Pair) -> bool {
+        pair.subscription == self.number
+    }
+}
+
+/// Keeps the pairs of this client's subscriptions.
+#[derive(Clone, Copy)]
+struct OfClient<'a> {
+    streams: &'a Streams,
+    client: u64,
+}
+
+impl Test<Pair> for OfClient<'_> {
+    ghost keeps = { λ test pair. is_of_client test.streams.now test.client pair };
+
+    fn keeps(&self, pair: &Pair) -> bool {
+        self.streams
+            .has_subscription(self.client, pair.subscription)
+    }
+}
+
+/// Keeps the pairs of these logs.
+#[derive(Clone, Copy)]
+struct OfClosing<'a> {
+    closes: &'a [LogPlace],
+}
+
+impl Test<Pair> for OfClosing<'_> {
+    ghost keeps = { λ test pair. is_of_closing test.closes.now pair };
+
+    fn keeps(&self, pair: &Pair) -> bool {
+        self.closes
+            .iter()
+            .any(|closed| closed.source == pair.source)
+    }
+}
+
+/// Puts the pairs of this log that pass the test behind the others.
+fn push_row<S: Test<Pair>>(
+    pairs: &mut Items<Pair>,
+    source: u64,
+    numbers: &[u64],
+    test: &S,
+) -> Result<(), AllocError>
+    ensures { OnOk result (pairs.new ≡ pairs.old ++ filter (S.keeps test.now) (map (pair_at source) numbers.now)) }
+{
+    for number in numbers {
+        let pair = Pair {
+            source,
+            subscription: *number,
+        };
+        if test.keeps(&pair) {
+            pairs.push(pair)?;
+        }
+    }
+    Ok(())
+}
+
+/// Puts the pairs of these logs that pass the test behind the others.
+fn push_rows<S: Test<Pair>>(
+    pairs: &mut Items<Pair>,
+    publications: &[Publication],
+    slots: &[Rows<u64, 512>],
+    test: &S,
+) -> Result<(), AllocError>
+    requires { length slots.now ≡ length publications.now }
+    ensures { OnOk result (pairs.new ≡ pairs.old ++ filter (S.keeps test.now) (told publications.now slots.now)) }
+{
+    for at in 0..publications.len() {
+        push_row(pairs, publications[at].source, slots[at].as_slice(), test)?;
+    }
+    Ok(())
+}
+
+impl Readers {
+    /// The slots that are those of logs.
+    fn rows(&self) -> &[Rows<u64, 512>]
+        ensures { result.now ≡ self.now }
+    {
+        &self.slots[..self.used]
+    }
+
+    /// The pairs that pass the test.
+    fn pairs_that<S: Test<Pair>>(
+        &self,
+        alloc: Global,
+        publications: &[Publication],
+        test: &S,
+    ) -> Result<Items<Pair>, AllocError>
+        requires { length self.now ≡ length publications.now }
+        ensures { IfOk result (λ pairs. pairs ≡ filter (S.keeps test.now) (told publications.now self.now)) }
+    {
+        let mut pairs = Items::new(alloc);
+        push_rows(&mut pairs, publications, self.rows(), test)?;
+        Ok(pairs)
+    }
+
+    /// The pairs of the subscription of this number, by source.
+    pub fn pairs_of_number(
+        &self,
+        alloc: Global,
+        streams: &Streams,
+        number: u64,
+    ) -> Result<Items<Pair>, AllocError>
+        requires { length self.now ≡ length streams.now.publications }
+        ensures { (clients : List Client) (policy : Rules) (epoch : ℕ) → self.now ≡ all_readers streams.now clients policy epoch → IfOk result (λ pairs. pairs ≡ filter (is_of_number number) (pairs_of streams.now clients policy epoch)) }
+    {
+        self.pairs_that(alloc, streams.publications(), &OfNumber { number })
+    }
+
+    /// The pairs of the client's subscriptions, by source and then subscription.
+    pub fn pairs_of_client(
+        &self,
+        alloc: Global,
+        streams: &Streams,
+        client: u64,
+    ) -> Result<Items<Pair>, AllocError>
+        requires { length self.now ≡ length streams.now.publications }
+        ensures { (clients : List Client) (policy : Rules) (epoch : ℕ) → self.now ≡ all_readers streams.now clients policy epoch → IfOk result (λ pairs. pairs ≡ filter (is_of_client streams.now client) (pairs_of streams.now clients policy epoch)) }
+    {
+        self.pairs_that(alloc, streams.publications(), &OfClient { streams, client })
+    }
+
+    /// The pairs of the logs that close, by source and then subscription.
+    pub fn pairs_of_closing(
+        &self,
+        alloc: Global,
+        streams: &Streams,
+        closes: &[LogPlace],
+    ) -> Result<Items<Pair>, AllocError>
+        requires { length self.now ≡ length streams.now.publications }
+        ensures { (clients : List Client) (policy : Rules) (epoch : ℕ) → self.now ≡ all_readers streams.now clients policy epoch → IfOk result (λ pairs. pairs ≡ filter (is_of_closing closes.now) (pairs_of streams.now clients policy epoch)) }
+    {
+        self.pairs_that(alloc, streams.publications(), &OfClosing { closes })
+    }
+}

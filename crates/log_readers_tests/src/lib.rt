@@ -1,0 +1,9 @@
+//! Tests of `log_readers`.
+#![tactic(auto)]
+
+#[cfg(test)]
+mod coming;
+#[cfg(test)]
+mod keeping;
+#[cfg(test)]
+mod play;

@@ -1,0 +1,181 @@
+//! Lists and their readers that tests play with, all by shared memory and on stream 10.
+
+use byte_strings::ShortText;
+use channel_uri::{Channel, Pattern};
+use client_registry::Clients;
+use log_readers::Readers;
+use policy_core::{Act, Acts, Policy, Principals, Rule};
+use std::alloc::{AllocError, Global};
+use std::marker::Model;
+use std::test::Fail;
+use stream_registry::{LogPlace, Measures, Pair, Streams, Wanted, Wish};
+
+/// How long a log lingers.
+pub(crate) const LINGER: u64 = 5_000;
+
+/// The lists, and their readers under a policy of number 1.
+#[derive(Drop)]
+pub(crate) struct Play {
+    pub(crate) streams: Streams,
+    pub(crate) clients: Clients,
+    pub(crate) policy: Policy,
+    pub(crate) readers: Readers,
+}
+
+impl Model for Play {
+    ghost use Rattle.std.specs.Prelude.{◌≡◌};
+    ghost use Rattle.log_readers.specs.Readers.{all_readers};
+    ghost use Rattle.stream_registry.specs.Streams.{Streams as StreamLists};
+
+    ghost Value = { StreamLists };
+
+    ghost view = { λ play. play.streams };
+
+    ghost invariant = { λ play. play.readers ≡ all_readers play.streams play.clients.rows play.policy 1 };
+}
+
+pub(crate) fn pair(source: u64, subscription: u64) -> Pair {
+    Pair {
+        source,
+        subscription,
+    }
+}
+
+/// What a client publishes on.
+pub(crate) fn wanted() -> Wanted {
+    Wanted {
+        channel: Channel::ipc(),
+        stream: 10,
+        exclusive: true,
+    }
+}
+
+/// Allows everything.
+pub(crate) fn all_allowed(alloc: Global) -> Result<Policy, AllocError> {
+    Policy::new(Vec::new(alloc), true)
+}
+
+/// Allows everything but `image` to principal 2.
+pub(crate) fn image_denied(alloc: Global) -> Result<Policy, Fail> {
+    let rule = Rule {
+        name: ShortText::new("images"),
+        principals: Principals::One(2),
+        acts: Acts::none().with(Act::Image),
+        channel: Pattern::parse("*")?,
+        low: i32::MIN,
+        high: i32::MAX,
+        allow: false,
+    };
+    Ok(Policy::new(vec![in alloc; rule]?, true)?)
+}
+
+impl Play {
+    /// Two clients, of principals 1 and 2, and nothing else.
+    pub(crate) fn new(alloc: Global, policy: Policy) -> Result<Play, AllocError> {
+        let defaults = Measures {
+            mtu: 1408,
+            term_length: 65_536,
+            linger: LINGER,
+        };
+        let streams = Streams::new(alloc, defaults, 1)?;
+        let mut clients = Clients::new(alloc, 10)?;
+        let _first = clients.admit(1, 0);
+        let _second = clients.admit(2, 0);
+        let mut readers = Readers::new(alloc)?;
+        readers.ask_again(&streams, &clients, &policy, 1);
+        Ok(Play {
+            streams,
+            clients,
+            policy,
+            readers,
+        })
+    }
+
+    /// Whether there is room for the subscription. It is there then.
+    pub(crate) fn subscribes(&mut self, number: u64, client: u64) -> bool {
+        if !self.streams.has_room_for_subscription() {
+            return false;
+        }
+        let channel = Channel::ipc();
+        let wish = Wish {
+            number,
+            client,
+            channel: &channel,
+            stream: 10,
+        };
+        self.readers
+            .add_subscription(&self.streams, &self.clients, &self.policy, 1, &wish);
+        self.streams.add_subscription(number, client, &channel, 10);
+        true
+    }
+
+    /// Whether a log may be made. It is there then.
+    pub(crate) fn publishes(&mut self, number: u64, client: u64) -> bool {
+        let wanted = wanted();
+        let Ok(adding) = self.streams.adding(&wanted) else {
+            return false;
+        };
+        self.readers.add_publication(
+            &self.streams,
+            &self.clients,
+            &self.policy,
+            1,
+            number,
+            client,
+            &wanted,
+            0,
+            adding,
+        );
+        self.streams
+            .add_publication(number, client, &wanted, 0, adding);
+        true
+    }
+
+    /// Whether there are so many readers, and as many pairs.
+    pub(crate) fn reads(&self, total: usize) -> bool {
+        let pairs = self.streams.pair_count(&self.clients, &self.policy, 1);
+        self.readers.total() == total && pairs == total
+    }
+
+    /// A client leaves at 0, and all are asked again.
+    pub(crate) fn leaves(&mut self, client: u64) {
+        self.streams.client_left(client, 0);
+        self.readers
+            .ask_again(&self.streams, &self.clients, &self.policy, 1);
+    }
+
+    /// The logs close that linger for too long.
+    #[tactic(auto, using(log_readers::proofs::ReaderLemmas::as_many_as_logs))]
+    pub(crate) fn closes(&mut self, now: u64) {
+        self.readers.close(&self.streams, now);
+        self.streams.close(now);
+    }
+
+    /// Whether these are the pairs of the subscription of this number.
+    #[tactic(auto, using(log_readers::proofs::ReaderLemmas::as_many_as_logs))]
+    pub(crate) fn has_number(&self, alloc: Global, number: u64, pairs: &[Pair]) -> bool {
+        match self.readers.pairs_of_number(alloc, &self.streams, number) {
+            Ok(found) => found.as_slice() == pairs,
+            Err(_) => false,
+        }
+    }
+
+    /// Whether these are the pairs of the client's subscriptions.
+    #[tactic(auto, using(log_readers::proofs::ReaderLemmas::as_many_as_logs))]
+    pub(crate) fn has_client(&self, alloc: Global, client: u64, pairs: &[Pair]) -> bool {
+        match self.readers.pairs_of_client(alloc, &self.streams, client) {
+            Ok(found) => found.as_slice() == pairs,
+            Err(_) => false,
+        }
+    }
+
+    /// Whether these are the pairs of this log.
+    #[tactic(auto, using(log_readers::proofs::ReaderLemmas::as_many_as_logs))]
+    pub(crate) fn has_log(&self, alloc: Global, source: u64, pairs: &[Pair]) -> bool {
+        let closes = [LogPlace { source, place: 0 }];
+        match self.readers.pairs_of_closing(alloc, &self.streams, &closes) {
+            Ok(found) => found.as_slice() == pairs,
+            Err(_) => false,
+        }
+    }
+}
