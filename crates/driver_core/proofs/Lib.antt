@@ -1,5 +1,6 @@
 pub mod AskedLemmas
 pub mod AskingLemmas
+pub mod AttachLemmas
 pub mod ComingLemmas
 pub mod EventCases
 pub mod KeptLemmas

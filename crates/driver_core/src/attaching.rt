@@ -2,19 +2,22 @@ ghost use Rattle.driver_core.specs.Attaching.{attach};
 ghost use Rattle.driver_core.specs.Renewal.{outcome_by};
 ghost use Rattle.driver_core.specs.State.{at_moment};
 ghost use Rattle.driver_core.specs.Told.{told_of};
-ghost use Rattle.std.specs.Prelude.{◌≡◌, ℕ, IfOk};
+ghost use Rattle.log_readers.specs.Numbering.{IsOwned};
+ghost use Rattle.std.specs.Prelude.{◌≡◌, All, ℕ, IfOk};
 
 use crate::event::Inputs;
 use crate::outcome::{Outcome, Response};
 use crate::registry::Registry;
+use crate::renewal;
 use crate::told::Told;
 use std::alloc::{AllocError, Global};
 
 impl Registry {
-    /// What a client is told that comes. It takes no memory.
+    /// What a client is told that comes, and that each subscription has a client already. It takes no memory.
     #[tactic(auto, unfolding(crate::specs::Attaching::attach, crate::specs::Attaching::attached, crate::specs::Draft::answered, crate::specs::State::at_moment, client_registry::specs::Clients::admission))]
     pub(crate) fn tell_attach(&self, alloc: Global) -> Told
-        ensures { (now principal : ℕ) → result ≡ told_of (attach (at_moment self.now now) principal) }
+        ensures exact { (now principal : ℕ) → result ≡ told_of (attach (at_moment self.now now) principal) }
+        ensures owned { All (IsOwned self.now.clients.rows) self.now.streams.subscriptions }
     {
         if self.stopped {
             return Told::answered(alloc, Response::Stopped);
@@ -25,8 +28,8 @@ impl Registry {
         }
     }
 
-    /// What it tells, and does outside the registry, that a client comes.
-    #[tactic(auto, unfolding(crate::specs::Renewal::renewed))]
+    /// What it tells, and does outside the registry, that a client comes: it brings no images, since it has no subscription
+    /// yet.
     pub(crate) fn outcome_of_attach(
         &self,
         alloc: Global,
@@ -36,10 +39,7 @@ impl Registry {
     ) -> Result<Outcome, AllocError>
         ensures { IfOk result (λ outcome. outcome ≡ outcome_by self.now inputs.now (attach (at_moment self.now now) principal)) }
     {
-        let mut after = self.copy(alloc)?;
-        after.go_on(now);
-        after.do_attach(principal);
-        self.renew(alloc, inputs, self.tell_attach(alloc), &after)
+        renewal::keep_pairs(alloc, self.tell_attach(alloc))
     }
 
     /// A client comes, which acts for this principal.
