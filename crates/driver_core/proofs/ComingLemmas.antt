@@ -1,16 +1,14 @@
 -- A subscription that comes brings its own images alone.
-use Rattle.std.proofs.Common.{arith, ◌≡◌, ℕ, ℤ, ◌+◌, ◌<◌, ◌≤◌, ◌==◌, max, Bool, true, false, cond, List, [], ◌∷◌, ◌++◌, map, filter, find, Option, Some, None, refl, sym, ap, ◌∙◌}
+use Rattle.std.proofs.Common.{arith, ◌≡◌, ℕ, ℤ, ◌+◌, ◌<◌, ◌≤◌, ◌==◌, max, List, [], ◌∷◌, ◌++◌, map, filter, find, Option, Some, None, refl, ap, ◌∙◌}
 use Rattle.std.proofs.lemmas.Bool.{eq-eqb, ne_eqb}
 use Rattle.std.proofs.lemmas.List.{append-nil}
 use Rattle.std.specs.List.{flat_map}
 use Rattle.driver_core.specs.declared.event.End.{End}
 use Rattle.driver_core.specs.declared.event.Inputs.{Inputs}
-use Rattle.driver_core.specs.declared.replies.Message.{Message}
 use Rattle.driver_core.specs.Commands.{at_request, heard}
 use Rattle.driver_core.specs.Draft.{Draft, replied, told}
-use Rattle.driver_core.specs.Deciding.{decision_by}
 use Rattle.driver_core.specs.Pairs.{lacking, pairs_of}
-use Rattle.driver_core.specs.Renewal.{available_for, available_on, available_to, decided_for, decided_on, decided_to, decided_with, images_decided, images_told, outcome_by, outcome_coming, publication_at, renewed, subscription_at}
+use Rattle.driver_core.specs.Renewal.{available_for, available_on, available_to, decided_on, decided_to, decided_with, images_decided, images_told, outcome_by, outcome_coming, publication_at, renewed, subscription_at}
 use Rattle.driver_core.specs.State.{State, at_moment}
 use Rattle.driver_core.specs.declared.replies.Reply.TheVariants.{SubscriptionReady}
 use Rattle.driver_core.specs.Subscribing.{decision_of, subscribed, with_subscription}
@@ -23,7 +21,6 @@ use Rattle.log_readers.specs.Numbering.{AreInOrder, Rises, number_of}
 use Rattle.log_readers.specs.Turnover.{is_read_by, pair_with, pairs_with}
 use Rattle.log_readers.proofs.RisingLemmas.{all_below}
 use Rattle.log_readers.proofs.TurnoverLemmas.{subscribed_turnover}
-use Rattle.policy_core.specs.declared.decision.Decision.{Decision}
 use Rattle.stream_registry.specs.declared.pairs.Pair.{Pair}
 use Rattle.stream_registry.specs.declared.row.Publication.{Publication}
 use Rattle.stream_registry.specs.declared.row.Subscription.{Subscription}
@@ -32,13 +29,13 @@ use Rattle.stream_registry.specs.Pairs.{pairs_of as pairs_on}
 
 -- ---- its row is found by its number
 
-found_last : (low last : ℕ) (rows : List Subscription) (row : Subscription) → Rises number_of low last rows →
-    last < row.number → subscription_at (rows ++ row ∷ []) row.number ≡ Some row
-found_last low last [] row up above = rw (eq-eqb row.number row.number refl) refl
-found_last low last (one ∷ rows) row up above =
-    let below : one.number ≤ last = all_below number_of low last (one ∷ rows) up 0 one (omega arith) in
-    rw (ne_eqb one.number row.number (λ same. omega (arith, same, below, above)))
-    (found_last one.number last rows row up.1 above)
+pub found_last : {A : Type 0} (key : A → ℕ) (low last : ℕ) (rows : List A) (row : A) → Rises key low last rows →
+    last < key row → find (λ one. key one == key row) (rows ++ row ∷ []) ≡ Some row
+found_last key low last [] row up above = rw (eq-eqb (key row) (key row) refl) refl
+found_last key low last (one ∷ rows) row up above =
+    let below : key one ≤ last = all_below key low last (one ∷ rows) up 0 one (omega arith) in
+    rw (ne_eqb (key one) (key row) (λ same. omega (arith, same, below, above)))
+    (found_last key (key one) last rows row up.1 above)
 
 -- ---- what is told and decided of its pairs
 
@@ -105,7 +102,7 @@ comes s now handle inputs client channel stream order =
     let after : State = with_subscription (at_request s now handle) client.number channel stream in
     let turn = subscribed_turnover s.clients.rows s.policy s.epoch s.streams (s.last_number + 1) client.number channel stream 0 s.last_number order.numbers (omega arith) in
     let same = pairs_same s now handle client channel stream in
-    let found = found_last 0 s.last_number s.streams.subscriptions row order.numbers (omega arith) in
+    let found = found_last number_of 0 s.last_number s.streams.subscriptions row order.numbers (omega arith) in
     record {
       gone = ap (lacking (pairs_of s)) same ∙ turn.gone;
       come = ap (λ (pairs : List Pair). lacking pairs (pairs_of s)) same ∙ turn.come;

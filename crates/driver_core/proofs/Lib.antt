@@ -6,6 +6,7 @@ pub mod EventCases
 pub mod KeptLemmas
 pub mod ListLemmas
 pub mod LogListLemmas
+pub mod OpeningLemmas
 pub mod PairLemmas
 pub mod PublishLemmas
 pub mod ReaderLemmas

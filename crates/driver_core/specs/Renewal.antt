@@ -1,5 +1,5 @@
 -- After each event the pairs are those of the lists and the policy in force. What that closes and opens is told.
-use Rattle.std.specs.Prelude.{ℕ, ◌==◌, List, [], ◌∷◌, ◌++◌, find, Option, Some, None}
+use Rattle.std.specs.Prelude.{ℕ, ◌==◌, List, [], ◌∷◌, ◌++◌, filter, find, map, Option, Some, None}
 use Rattle.std.specs.List.{flat_map}
 use Rattle.driver_core.specs.declared.outcome.Outcome.{Outcome}
 use Rattle.driver_core.specs.declared.told.Told.{Told}
@@ -19,7 +19,7 @@ use Rattle.policy_core.specs.Rules.{verdict_of}
 use Rattle.stream_registry.specs.declared.pairs.Pair.{Pair}
 use Rattle.stream_registry.specs.declared.row.Publication.{Publication}
 use Rattle.stream_registry.specs.declared.row.Subscription.{Subscription}
-use Rattle.stream_registry.specs.Pairs.{image_question}
+use Rattle.stream_registry.specs.Pairs.{image_question, is_pair, pair_of}
 
 -- the rows of a pair
 abbrev pub publication_at : List Publication → ℕ → Option Publication
@@ -180,4 +180,32 @@ outcome_coming s inputs told subscription =
       closes = told.closes;
       gone = [];
       come = come;
+    }
+
+-- ---- where a log comes
+
+-- those of these subscriptions that read it
+abbrev pub reading : State → Publication → List Subscription → List Subscription
+reading s log subscriptions = filter (is_pair s.clients.rows s.policy s.epoch log) subscriptions
+
+-- what the client of such a subscription is told
+abbrev pub available_from : List End → Publication → Subscription → List Message
+available_from ends log subscription = available_to ends (pair_of log subscription) (Some log) (Some subscription)
+
+-- what is decided on it
+abbrev pub decided_from : State → Subscription → List Decision
+decided_from s subscription = decided_for s subscription (principal_at s.clients.rows subscription.client)
+
+-- what it tells that a log comes, by what its own rule tells
+abbrev pub outcome_opening : State → Inputs → Told → Publication → Outcome
+outcome_opening s inputs told log =
+    let readers : List Subscription = reading s log s.streams.subscriptions in
+    record {
+      response = told.response;
+      replies = told.replies ++ flat_map (available_from inputs.ends log) readers;
+      decisions = told.decisions ++ flat_map (decided_from s) readers;
+      opens = told.opens;
+      closes = told.closes;
+      gone = [];
+      come = map (pair_of log) readers;
     }

@@ -1,9 +1,11 @@
-//! The images that come with a subscription.
+//! The images that come with a subscription, and those that come with a log.
 
-ghost use Rattle.driver_core.specs.Renewal.{available_on, decided_for, decided_with};
+ghost use Rattle.driver_core.specs.Renewal.{available_from, available_on, available_to, decided_for, decided_from, decided_with, image_decision, reading};
 ghost use Rattle.client_registry.specs.Clients.{principal_at};
+ghost use Rattle.policy_core.specs.declared.decision.Decision.{Decision as DecisionSpec};
 ghost use Rattle.std.specs.List.{flat_map};
-ghost use Rattle.std.specs.Prelude.{◌≡◌, ◌++◌, IfOk, OnOk};
+ghost use Rattle.std.specs.Prelude.{◌≡◌, ◌++◌, ◌∷◌, [], Some, is_some, map, IfOk, OnOk};
+ghost use Rattle.stream_registry.specs.Pairs.{is_pair, pair_of};
 ghost use Rattle.stream_registry.specs.Wish.{row_of};
 
 use crate::event::End;
@@ -13,7 +15,24 @@ use crate::replies::{Message, Reply};
 use byte_strings::Items;
 use policy_core::{Act, Decision, Request};
 use std::alloc::{AllocError, Global};
-use stream_registry::{Pair, Wish};
+use stream_registry::{Pair, Publication, Subscription, Wish, fits};
+
+/// What the subscription's client is told of a log that it reads, and from which position on.
+fn available(ends: &[End], pair: Pair, publication: &Publication, wish: &Wish<'_>) -> Message
+    ensures { result ∷ [] ≡ available_to ends.now pair (Some publication.now) (Some (row_of wish.now)) }
+{
+    let reply = Reply::AvailableImage {
+        source: pair.source,
+        subscription: pair.subscription,
+        session: publication.session,
+        stream: publication.stream,
+        position: position_at(ends, pair.source),
+    };
+    Message {
+        client: wish.client,
+        reply,
+    }
+}
 
 impl Registry {
     /// Tells the subscription's client of a log that it reads, and from which position on.
@@ -29,17 +48,7 @@ impl Registry {
         let Some(publication) = self.publication(pair.source) else {
             return Ok(());
         };
-        let reply = Reply::AvailableImage {
-            source: pair.source,
-            subscription: pair.subscription,
-            session: publication.session,
-            stream: publication.stream,
-            position: position_at(ends, pair.source),
-        };
-        messages.push(Message {
-            client: wish.client,
-            reply,
-        })
+        messages.push(available(ends, pair, publication, wish))
     }
 
     /// Tells the subscription's client of the logs that it reads.
@@ -58,6 +67,25 @@ impl Registry {
         Ok(())
     }
 
+    /// What the policy in force decides on the images of a subscription whose client acts for this principal.
+    fn image_decision(&self, wish: &Wish<'_>, principal: u32) -> Decision
+        ensures { result ≡ image_decision self.now (row_of wish.now) principal }
+    {
+        let request = Request {
+            principal,
+            act: Act::Image,
+            channel: wish.channel,
+            stream: wish.stream,
+        };
+        Decision {
+            principal,
+            act: Act::Image,
+            subject: wish.number,
+            stream: wish.stream,
+            verdict: self.policy.verdict(self.epoch, &request),
+        }
+    }
+
     /// What the policy in force decides on the subscription's images: nothing where its client is not there.
     fn image_decisions(&self, alloc: Global, wish: &Wish<'_>) -> Result<Items<Decision>, AllocError>
         ensures { IfOk result (λ decisions. decisions ≡ decided_for self.now (row_of wish.now) (principal_at self.now.clients.rows wish.now.client)) }
@@ -66,19 +94,7 @@ impl Registry {
         let Some(principal) = self.clients.principal_of(wish.client) else {
             return Ok(decisions);
         };
-        let request = Request {
-            principal,
-            act: Act::Image,
-            channel: wish.channel,
-            stream: wish.stream,
-        };
-        decisions.push(Decision {
-            principal,
-            act: Act::Image,
-            subject: wish.number,
-            stream: wish.stream,
-            verdict: self.policy.verdict(self.epoch, &request),
-        })?;
+        decisions.push(self.image_decision(wish, principal))?;
         Ok(decisions)
     }
 
@@ -112,6 +128,53 @@ impl Registry {
         let decided = self.image_decisions(alloc, wish)?;
         for pair in come {
             self.push_decided_with(decisions, wish, decided.as_slice(), *pair)?;
+        }
+        Ok(())
+    }
+
+    /// On which decision a subscription reads the log, if it does. The policy is asked where they fit.
+    #[tactic(auto, unfolding(stream_registry::specs::Pairs::is_allowed))]
+    fn read_on(&self, log: &Publication, wish: &Wish<'_>) -> Option<Decision>
+        ensures reads { is_some result ≡ is_pair self.now.clients.rows self.now.policy self.now.epoch log.now (row_of wish.now) }
+        ensures decided { (decision : DecisionSpec) → result ≡ Some decision → decided_from self.now (row_of wish.now) ≡ decision ∷ [] }
+    {
+        if !fits(log, wish) {
+            return None;
+        }
+        let principal = self.clients.principal_of(wish.client)?;
+        let decision = self.image_decision(wish, principal);
+        if !decision.verdict.allow {
+            return None;
+        }
+        Some(decision)
+    }
+
+    /// Tells of a log that comes: the clients of those of these subscriptions that read it, with what is decided on each, and
+    /// the pairs that it brings. The policy is asked once for each subscription that fits.
+    pub(crate) fn push_images_of(
+        &self,
+        messages: &mut Items<Message>,
+        decisions: &mut Items<Decision>,
+        come: &mut Items<Pair>,
+        ends: &[End],
+        log: &Publication,
+        subscriptions: &[Subscription],
+    ) -> Result<(), AllocError>
+        ensures told { OnOk result (messages.new ≡ messages.old ++ flat_map (available_from ends.now log.now) (reading self.now log.now subscriptions.now)) }
+        ensures decided { OnOk result (decisions.new ≡ decisions.old ++ flat_map (decided_from self.now) (reading self.now log.now subscriptions.now)) }
+        ensures come { OnOk result (come.new ≡ come.old ++ map (pair_of log.now) (reading self.now log.now subscriptions.now)) }
+    {
+        for subscription in subscriptions {
+            let wish = subscription.wish();
+            if let Some(decision) = self.read_on(log, &wish) {
+                let pair = Pair {
+                    source: log.source,
+                    subscription: subscription.number,
+                };
+                messages.push(available(ends, pair, log, &wish))?;
+                decisions.push(decision)?;
+                come.push(pair)?;
+            }
         }
         Ok(())
     }

@@ -1,14 +1,14 @@
-ghost use Rattle.driver_core.specs.Publishing.{add_publication, granting_of, has_place, has_room_for_publication, is_publishable, opening_of, publication_decision, publish, published, publishing_act, publishing_of, ready_for, refused_by_streams, session_of, with_publication};
+ghost use Rattle.driver_core.specs.Publishing.{add_publication, granting_of, has_place, has_room_for_publication, is_publishable, new_log, publication_decision, publish, published, publishing_act, publishing_of, ready_for, refused_by_streams, session_of, with_publication};
 ghost use Rattle.channel_uri.specs.Channel.{denotes};
 ghost use Rattle.driver_core.specs.Commands.{at_asking};
-ghost use Rattle.driver_core.specs.Renewal.{outcome_by};
+ghost use Rattle.driver_core.specs.Renewal.{outcome_by, outcome_opening};
 ghost use Rattle.driver_core.specs.Pairs.{pairs_of};
-ghost use Rattle.std.specs.Prelude.{◌≡◌, true, Ok, length, ℕ, IfOk};
+ghost use Rattle.std.specs.Prelude.{◌≡◌, true, Ok, Some, length, ℕ, IfOk};
 ghost use Rattle.driver_core.specs.State.{has_number};
 ghost use Rattle.stream_registry.specs.Adding.{adding_of};
+ghost use Rattle.stream_registry.specs.Lingering.{place_of};
 
 use crate::asking::Asking;
-use crate::deciding;
 use crate::event::Inputs;
 use crate::outcome::Outcome;
 use crate::pairs::PAIRS;
@@ -17,12 +17,14 @@ use crate::refused::Refused;
 use crate::registry::Registry;
 use crate::replies::Reply;
 use crate::told::Told;
+use crate::{deciding, renewal};
+use byte_strings::Items;
 use channel_uri::{Channel, UriError};
 use client_registry::Client;
 use command_codec::AddPublication;
 use policy_core::{Act, Decision};
 use std::alloc::{AllocError, Global};
-use stream_registry::{Adding, LogPlace, StreamFault, Wanted};
+use stream_registry::{Adding, LogPlace, Publication, StreamFault, Wanted};
 
 /// On which decision a publication is granted, and what the lists make of it.
 #[derive(Clone, Copy)]
@@ -115,22 +117,16 @@ impl Registry {
         }
     }
 
-    /// The log that opens under the next number, and where.
-    #[tactic(auto, unfolding(crate::specs::Publishing::opening_of))]
-    fn opening(&self, wanted: &Wanted, adding: Adding) -> Option<LogPlace>
+    /// The row of the log that would be made under the next number.
+    fn new_log(&self, wanted: &Wanted, session: i32) -> Publication
         requires { has_number self.now ≡ true }
-        ensures { result ≡ opening_of self.now wanted.now adding }
+        ensures { result ≡ new_log self.now wanted.now session }
     {
-        match adding {
-            Adding::Join { .. } => None,
-            Adding::Make { .. } => {
-                let place = self.streams.place_for(self.settings.arena_pages, wanted);
-                Some(LogPlace {
-                    source: self.next_number(),
-                    place: place.unwrap_or(0),
-                })
-            }
-        }
+        let place = self
+            .streams
+            .place_for(self.settings.arena_pages, wanted)
+            .unwrap_or(0);
+        self.streams.log(self.next_number(), wanted, place, session)
     }
 
     /// How many pairs there would be with the publication. It takes no memory.
@@ -212,8 +208,37 @@ impl Registry {
         self.publishing(asking.client, wanted)
     }
 
+    /// What it tells that a log is made, where the publication's own reply and decision are told.
+    fn outcome_of_made(
+        &self,
+        alloc: Global,
+        inputs: &Inputs,
+        wanted: &Wanted,
+        session: i32,
+        told: Told,
+    ) -> Result<Outcome, AllocError>
+        requires { has_number self.now ≡ true }
+        ensures { IfOk result (λ outcome. outcome ≡ outcome_opening self.now inputs.now (record told { opens = Some (place_of (new_log self.now wanted.now session)) }) (new_log self.now wanted.now session)) }
+    {
+        let log = self.new_log(wanted, session);
+        let mut told = told;
+        told.opens = Some(LogPlace {
+            source: log.source,
+            place: log.place,
+        });
+        let mut come = Items::new(alloc);
+        self.push_images_of(
+            &mut told.replies,
+            &mut told.decisions,
+            &mut come,
+            inputs.ends.as_slice(),
+            &log,
+            self.streams.subscriptions(),
+        )?;
+        Ok(renewal::come_alone(alloc, told, come))
+    }
+
     /// What a publication tells that is granted, and does outside the registry.
-    #[tactic(auto, unfolding(crate::specs::Publishing::published, crate::specs::Renewal::renewed, crate::specs::Draft::replied_opening, crate::specs::Draft::replied, crate::specs::Draft::told))]
     fn outcome_of_published(
         &self,
         alloc: Global,
@@ -227,21 +252,19 @@ impl Registry {
         requires decided { granted.decision ≡ publication_decision (at_asking self.now asking) asking.client wanted.now }
         ensures { IfOk result (λ outcome. outcome ≡ outcome_by self.now inputs.now (published (at_asking self.now asking) asking.client asking.correlation wanted.now granted.adding)) }
     {
-        let mut after = self.copy(alloc)?;
-        after.go_on(asking.now);
-        after.hear(asking.handle);
-        let opens = after.opening(wanted, granted.adding);
-        let number = after.next_number();
-        after.put_publication(asking.client.number, wanted, granted.adding);
         let reply = ready_for(
             wanted,
             asking.correlation,
-            number,
+            self.next_number(),
             session_of(granted.adding),
         );
-        let mut told = Told::replied_on(alloc, granted.decision, asking.client.number, reply)?;
-        told.opens = opens;
-        self.renew(alloc, inputs, told, &after)
+        let told = Told::replied_on(alloc, granted.decision, asking.client.number, reply)?;
+        match granted.adding {
+            Adding::Join { .. } => renewal::keep_pairs(alloc, told),
+            Adding::Make { session } => {
+                self.outcome_of_made(alloc, inputs, wanted, session, told)
+            }
+        }
     }
 
     /// What a publication on a channel that such a command takes tells, and does outside the registry.
