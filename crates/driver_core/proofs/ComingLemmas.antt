@@ -52,7 +52,7 @@ unfolding available_for
 available_alike s row ends log found =
     ap (available_to ends (pair_with row log) (publication_at s.streams.publications log.source)) found
 
-decided_alike : (s after : State) (row : Subscription) (found : Option Publication) → after.policy ≡ s.policy →
+pub decided_alike : (s after : State) (row : Subscription) (found : Option Publication) → after.policy ≡ s.policy →
     after.epoch ≡ s.epoch → principal_at after.clients.rows row.client ≡ principal_at s.clients.rows row.client →
     decided_to after found (Some row) ≡ decided_to s found (Some row)
 decided_alike s after row None policy epoch principal = refl

@@ -14,7 +14,7 @@ use Rattle.driver_core.specs.Publishing.{has_room_for_publication, new_log, open
 use Rattle.driver_core.specs.Renewal.{available_for, available_from, available_to, decided_from, decided_on, decided_to, images_decided, images_told, outcome_by, outcome_kept, outcome_opening, publication_at, reading, renewed, subscription_at}
 use Rattle.driver_core.specs.State.{State, at_moment, has_number}
 use Rattle.driver_core.specs.Told.{tells_reply, told_of}
-use Rattle.driver_core.proofs.ComingLemmas.{found_last}
+use Rattle.driver_core.proofs.ComingLemmas.{decided_alike, found_last}
 use Rattle.driver_core.proofs.PairLemmas.{kept, pairs_by, pairs_heard, principal_heard}
 use Rattle.client_registry.specs.declared.client.Client.{Client}
 use Rattle.client_registry.specs.Clients.{principal_at, touched}
@@ -62,11 +62,6 @@ available_alike : (s : State) (ends : List End) (log : Publication) (row : Subsc
 unfolding available_for
 available_alike s ends log row log_found found = λ i. available_to ends (pair_of log row) (log_found i) (found i)
 
-decided_alike : (s after : State) (row : Subscription) → after.policy ≡ s.policy → after.epoch ≡ s.epoch →
-    principal_at after.clients.rows row.client ≡ principal_at s.clients.rows row.client →
-    decided_from after row ≡ decided_from s row
-decided_alike s after row policy epoch principal = rw (policy, epoch, principal) refl
-
 decisions_alike : (s after : State) (log : Publication) (row : Subscription) →
     publication_at after.streams.publications log.source ≡ Some log →
     subscription_at after.streams.subscriptions row.number ≡ Some row →
@@ -75,7 +70,7 @@ decisions_alike : (s after : State) (log : Publication) (row : Subscription) →
     decided_on after (pair_of log row) ≡ decided_from s row
 unfolding decided_on
 decisions_alike s after log row log_found found policy epoch principal =
-    (λ i. decided_to after (log_found i) (found i)) ∙ decided_alike s after row policy epoch principal
+    (λ i. decided_to after (log_found i) (found i)) ∙ decided_alike s after row (Some log) policy epoch principal
 
 -- ---- a log that is made
 
