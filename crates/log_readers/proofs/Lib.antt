@@ -9,6 +9,7 @@ pub mod NoteLemmas
 pub mod OrderLemmas
 pub mod PartLemmas
 pub mod ReaderLemmas
+pub mod ReloadLemmas
 pub mod RisingLemmas
 pub mod SameLemmas
 pub mod TellLemmas

@@ -1,3 +1,4 @@
 pub mod Numbering
 pub mod Readers
+pub mod Reloading
 pub mod Turnover

@@ -11,8 +11,10 @@ mod counting;
 mod leaving;
 mod publishing;
 mod readers;
+mod reloading;
 mod subscribing;
 mod telling;
 
 pub use coming::{logs_read, pairs_of_log, pairs_of_subscription, readers_of};
 pub use readers::Readers;
+pub use reloading::Turnover;

@@ -98,7 +98,7 @@ fn push_rows<S: Test<Pair>>(
 
 impl Readers {
     /// The slots that are those of logs.
-    fn rows(&self) -> &[Rows<u64, 512>]
+    pub(crate) fn rows(&self) -> &[Rows<u64, 512>]
         ensures { result.now ≡ self.now }
     {
         &self.slots[..self.used]
