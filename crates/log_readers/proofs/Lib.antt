@@ -1,5 +1,6 @@
 pub mod BesideLemmas
 pub mod CountLemmas
+pub mod FindLemmas
 pub mod FittingLemmas
 pub mod FoundLemmas
 pub mod LackingLemmas

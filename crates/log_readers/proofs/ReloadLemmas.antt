@@ -3,9 +3,10 @@ use Rattle.std.proofs.Common.{◌≡◌, ℕ, ◌==◌, Bool, true, false, not, 
 use Rattle.std.specs.Prelude.{◌&&◌, ◌||◌, All}
 use Rattle.std.specs.List.{flat_map, list_any}
 use Rattle.std.proofs.lemmas.List.Elements.{All-filter, All-head, All-tail, filter_agree}
+use Rattle.log_readers.specs.Finding.{is_among}
 use Rattle.log_readers.specs.Numbering.{Rises, number_of}
 use Rattle.log_readers.specs.Readers.{all_readers, readers_at}
-use Rattle.log_readers.specs.Reloading.{alone_if, comes, goes, is_among, turned_at, turned_over}
+use Rattle.log_readers.specs.Reloading.{alone_if, comes, goes, turned_at, turned_over}
 use Rattle.log_readers.specs.Turnover.{lacking}
 use Rattle.stream_registry.specs.declared.pairs.Pair.{Pair}
 use Rattle.stream_registry.specs.declared.row.Publication.{Publication}

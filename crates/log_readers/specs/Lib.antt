@@ -1,3 +1,4 @@
+pub mod Finding
 pub mod Numbering
 pub mod Readers
 pub mod Reloading

@@ -1,13 +1,10 @@
 -- What another policy takes away and brings, from the readers that are kept and its verdict on each subscription. Own rules.
-use Rattle.std.specs.Prelude.{ℕ, Bool, true, false, not, ◌==◌, ◌&&◌, List, [], ◌∷◌, ◌++◌}
-use Rattle.std.specs.List.{list_any}
+use Rattle.std.specs.Prelude.{ℕ, Bool, true, false, not, ◌&&◌, List, [], ◌∷◌, ◌++◌}
+use Rattle.log_readers.specs.Finding.{is_among}
 use Rattle.stream_registry.specs.declared.pairs.Pair.{Pair}
 use Rattle.stream_registry.specs.declared.row.Publication.{Publication}
 use Rattle.stream_registry.specs.declared.row.Subscription.{Subscription}
 use Rattle.stream_registry.specs.Pairs.{fits, pair_of}
-
-abbrev pub is_among : List ℕ → ℕ → Bool
-is_among numbers number = list_any (λ other. other == number) numbers
 
 -- a pair goes that was there and is no more, and one comes that was not there
 abbrev pub goes : Bool → Bool → Bool

@@ -8,6 +8,7 @@
 mod closing;
 mod coming;
 mod counting;
+mod finding;
 mod leaving;
 mod publishing;
 mod readers;

@@ -2,12 +2,13 @@
 
 ghost use Rattle.log_readers.specs.Numbering.{Rises, number_of};
 ghost use Rattle.log_readers.specs.Readers.{all_readers};
-ghost use Rattle.log_readers.specs.Reloading.{alone_if, comes, goes, is_among, turned_at, turned_over};
+ghost use Rattle.log_readers.specs.Reloading.{alone_if, comes, goes, turned_at, turned_over};
 ghost use Rattle.log_readers.specs.Turnover.{lacking};
 ghost use Rattle.policy_core.specs.RuleList.{Rules};
 ghost use Rattle.std.specs.Prelude.{◌≡◌, ◌++◌, ℕ, IfOk, OnOk, length, map};
 ghost use Rattle.stream_registry.specs.Pairs.{is_allowed, pairs_of};
 
+use crate::finding::is_among;
 use crate::readers::Readers;
 use byte_strings::Items;
 use client_registry::Clients;
@@ -21,13 +22,6 @@ use stream_registry::{Pair, Publication, Streams, Subscription, fits, is_allowed
 pub struct Turnover {
     pub gone: Items<Pair>,
     pub come: Items<Pair>,
-}
-
-/// Whether the number is one of these.
-fn is_among(numbers: &[u64], number: u64) -> bool
-    ensures { result ≡ is_among numbers.now number }
-{
-    numbers.iter().any(|other| *other == number)
 }
 
 /// The verdict on each subscription.
