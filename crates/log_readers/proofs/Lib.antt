@@ -1,5 +1,6 @@
 pub mod BesideLemmas
 pub mod CountLemmas
+pub mod FindLemmas
 pub mod FittingLemmas
 pub mod FoundLemmas
 pub mod LackingLemmas
@@ -9,6 +10,7 @@ pub mod NoteLemmas
 pub mod OrderLemmas
 pub mod PartLemmas
 pub mod ReaderLemmas
+pub mod ReloadLemmas
 pub mod RisingLemmas
 pub mod SameLemmas
 pub mod TellLemmas

@@ -1,3 +1,5 @@
+pub mod Finding
 pub mod Numbering
 pub mod Readers
+pub mod Reloading
 pub mod Turnover

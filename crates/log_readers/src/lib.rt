@@ -8,11 +8,14 @@
 mod closing;
 mod coming;
 mod counting;
+mod finding;
 mod leaving;
 mod publishing;
 mod readers;
+mod reloading;
 mod subscribing;
 mod telling;
 
 pub use coming::{logs_read, pairs_of_log, pairs_of_subscription, readers_of};
 pub use readers::Readers;
+pub use reloading::Turnover;

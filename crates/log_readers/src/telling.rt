@@ -1,10 +1,10 @@
-//! The pairs that go with a subscription, a client or a log, from what is kept: the policy is not asked.
+//! The pairs, all and those that go with a subscription, a client or a log, from what is kept: the policy is not asked.
 
 ghost use Rattle.log_readers.specs.Readers.{all_readers};
 ghost use Rattle.log_readers.specs.Turnover.{is_of_client, is_of_closing, is_of_number, pair_at, told};
 ghost use Rattle.client_registry.specs.declared.client.Client.{Client};
 ghost use Rattle.policy_core.specs.RuleList.{Rules};
-ghost use Rattle.std.specs.Prelude.{◌≡◌, ◌++◌, ℕ, List, IfOk, OnOk, filter, length, map};
+ghost use Rattle.std.specs.Prelude.{◌≡◌, ◌++◌, ℕ, List, IfOk, OnOk, filter, length, map, true};
 ghost use Rattle.stream_registry.specs.Pairs.{pairs_of};
 
 use crate::readers::Readers;
@@ -59,6 +59,18 @@ impl Test<Pair> for OfClosing<'_> {
     }
 }
 
+/// Keeps all pairs.
+#[derive(Clone, Copy)]
+struct Every;
+
+impl Test<Pair> for Every {
+    ghost keeps = { λ test pair. true };
+
+    fn keeps(&self, _pair: &Pair) -> bool {
+        true
+    }
+}
+
 /// Puts the pairs of this log that pass the test behind the others.
 fn push_row<S: Test<Pair>>(
     pairs: &mut Items<Pair>,
@@ -98,7 +110,7 @@ fn push_rows<S: Test<Pair>>(
 
 impl Readers {
     /// The slots that are those of logs.
-    fn rows(&self) -> &[Rows<u64, 512>]
+    pub(crate) fn rows(&self) -> &[Rows<u64, 512>]
         ensures { result.now ≡ self.now }
     {
         &self.slots[..self.used]
@@ -117,6 +129,14 @@ impl Readers {
         let mut pairs = Items::new(alloc);
         push_rows(&mut pairs, publications, self.rows(), test)?;
         Ok(pairs)
+    }
+
+    /// All pairs, by source and then subscription.
+    pub fn pairs(&self, alloc: Global, streams: &Streams) -> Result<Items<Pair>, AllocError>
+        requires { length self.now ≡ length streams.now.publications }
+        ensures { (clients : List Client) (policy : Rules) (epoch : ℕ) → self.now ≡ all_readers streams.now clients policy epoch → IfOk result (λ pairs. pairs ≡ pairs_of streams.now clients policy epoch) }
+    {
+        self.pairs_that(alloc, streams.publications(), &Every)
     }
 
     /// The pairs of the subscription of this number, by source.
