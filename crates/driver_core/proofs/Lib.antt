@@ -8,6 +8,7 @@ pub mod LogListLemmas
 pub mod PairLemmas
 pub mod PublishLemmas
 pub mod ReaderLemmas
+pub mod SearchLemmas
 pub mod SizeLemmas
 pub mod SoundnessLemmas
 pub mod SubscribeLemmas
