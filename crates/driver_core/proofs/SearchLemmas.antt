@@ -1,6 +1,6 @@
 -- A row is found by its number where numbers rise.
-use Rattle.std.proofs.Common.{arith, ◌≡◌, ℕ, zero, suc, ◌<◌, ◌≤◌, ◌==◌, Bool, true, false, List, [], ◌∷◌, length, get_or, find, Option, Some, None, Result, Ok, Err, refl, sym, ap, ◌∙◌}
-use Rattle.std.specs.Prelude.{All, slice_get}
+use Rattle.std.proofs.Common.{arith, ◌≡◌, ℕ, zero, suc, ◌<◌, ◌≤◌, ◌==◌, Bool, true, false, cond, List, [], ◌∷◌, length, get_or, find, Option, Some, None, Result, Ok, Err, refl, sym, ap, ◌∙◌}
+use Rattle.std.specs.Prelude.{◌&&◌, slice_get}
 use Rattle.std.proofs.lemmas.Bool.Decides.{nat_tests}
 use Rattle.std.proofs.lemmas.Cmp.{ranked}
 use Rattle.std.proofs.lemmas.List.Sorted.{IsNonDecreasingBy-from_default}
@@ -73,3 +73,40 @@ searched number_of number low last (row ∷ rows) up (Err at) within parted =
     let below : j < at → number_of (get_or (row ∷ rows) j d) < number = λ less. ranked _ number _ (sym (ends.0 j d (omega arith) less)) in
     let beyond : at ≤ j → number < number_of (get_or (row ∷ rows) j d) = λ from. ranked _ number _ (sym (ends.1 j d from inside)) in
     grind (arith, nat_tests, below, beyond))
+
+-- ---- one that also passes a test
+
+abbrev pub where_it : {A : Type 0} → (A → Bool) → Option A → Option A
+where_it test None = None
+where_it test (Some row) = cond (test row) (Some row) None
+
+own_one : {A : Type 0} (test : A → Bool) (row : A) (b : Bool) (found : Option A) → None ≡ found →
+    cond b (Some row) None ≡ cond b (Some row) found
+own_one test row true found none = refl
+own_one test row false found none = none
+
+own_case : {A : Type 0} (number_of : A → ℕ) (test : A → Bool) (number : ℕ) (row : A) (rows : List A) (b : Bool) →
+    (b ≡ true → None ≡ find (λ (one : A). number_of one == number && test one) rows) →
+    where_it test (find (has_number number_of number) rows) ≡ find (λ (one : A). number_of one == number && test one) rows →
+    where_it test (cond b (Some row) (find (has_number number_of number) rows))
+    ≡ cond (b && test row) (Some row) (find (λ (one : A). number_of one == number && test one) rows)
+own_case {A = A} number_of test number row rows true none rest =
+    own_one test row (test row) (find (λ (one : A). number_of one == number && test one) rows) (none refl)
+own_case number_of test number row rows false none rest = rest
+
+none_above : {A : Type 0} (number_of : A → ℕ) (test : A → Bool) (number low last : ℕ) (rows : List A) → number ≤ low →
+    Rises number_of low last rows → None ≡ find (λ (one : A). number_of one == number && test one) rows
+none_above number_of test number low last [] below up = refl
+none_above number_of test number low last (row ∷ rows) below up =
+    let higher : low < number_of row = up.0 in
+    let miss : (number_of row == number) ≡ false = grind (arith, nat_tests) in
+    rw miss (none_above number_of test number (number_of row) last rows (omega (arith, higher, below)) up.1)
+
+pub own_found : {A : Type 0} (number_of : A → ℕ) (test : A → Bool) (number low last : ℕ) (rows : List A) →
+    Rises number_of low last rows →
+    where_it test (find (has_number number_of number) rows) ≡ find (λ (one : A). number_of one == number && test one) rows
+own_found number_of test number low last [] up = refl
+own_found number_of test number low last (row ∷ rows) up =
+    own_case number_of test number row rows (number_of row == number)
+    (λ is. none_above number_of test number (number_of row) last rows (grind (arith, nat_tests, is)) up.1)
+    (own_found number_of test number (number_of row) last rows up.1)
