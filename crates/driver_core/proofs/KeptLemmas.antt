@@ -81,8 +81,7 @@ pub kept_added : (s : Streams) (clients : List Client) (policy : Rules) (epoch l
     IsKept (added s (last + 1) client wanted place adding) clients policy epoch (last + 1) after
 kept_added s clients policy epoch last client wanted place (Join source session) readers after kept is = record {
   exact = is;
-  order = later_in_order (added s (last + 1) client wanted place (Join source session)) clients last (last + 1)
-      (joined_in_order s clients last (last + 1) client wanted place source session kept.order) (omega arith);
+  order = joined_in_order s clients last (last + 1) (last + 1) client wanted place source session kept.order (omega arith) (omega arith);
 }
 kept_added s clients policy epoch last client wanted place (Make session) readers after kept is = record {
   exact = is;
@@ -134,7 +133,7 @@ pub kept_opened : (defaults : Measures) (first_session : ℤ) (policy : Rules) �
 unfolding all_readers
 kept_opened defaults first_session policy = record {
   exact = refl;
-  order = record { sources = omega arith; numbers = omega arith; owned = All-nil (λ (row : Subscription). IsOwned [] row) };
+  order = record { sources = omega arith; registered = omega arith; numbers = omega arith; owned = All-nil (λ (row : Subscription). IsOwned [] row) };
 }
 
 -- there are as many readers as logs

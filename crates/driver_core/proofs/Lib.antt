@@ -10,6 +10,7 @@ pub mod OpeningLemmas
 pub mod PairLemmas
 pub mod PublishLemmas
 pub mod ReaderLemmas
+pub mod SearchLemmas
 pub mod SizeLemmas
 pub mod SoundnessLemmas
 pub mod SubscribeLemmas

@@ -1,12 +1,11 @@
-ghost use Rattle.driver_core.specs.LogRequests.{has_pair, offering_of, receiving_of, registration_at, row_decision};
-ghost use Rattle.std.specs.Option.{option_copied, option_map};
+ghost use Rattle.driver_core.specs.LogRequests.{has_pair, offering_of, receiving_of, row_decision};
+ghost use Rattle.std.specs.Option.{option_map};
 ghost use Rattle.std.specs.Prelude.{◌≡◌};
 
 use crate::registry::Registry;
 use channel_uri::Channel;
 use client_registry::Client;
 use policy_core::{Act, Decision, Request};
-use stream_registry::Registration;
 
 /// A client asks something of a log that is there for it.
 #[derive(Clone, Copy, Debug, PartialEq, Eq)]
@@ -15,22 +14,6 @@ pub struct LogRequest {
     pub source: u64,
     /// What the policy in force decides on it.
     pub decision: Decision,
-}
-
-/// The registration of this number that is the client's own.
-fn registration_of(
-    registrations: &[Registration],
-    client: u64,
-    number: u64,
-) -> Option<&Registration>
-    ensures { option_copied result ≡ registration_at registrations.now client number }
-{
-    for registration in registrations {
-        if registration.number == number && registration.client == client {
-            return Some(registration);
-        }
-    }
-    None
 }
 
 impl Registry {
@@ -68,7 +51,7 @@ impl Registry {
         ensures { result ≡ offering_of self.now client registration }
     {
         let holder = self.clients.get(client)?;
-        let registration = registration_of(self.streams.registrations(), client, registration)?;
+        let registration = self.own_registration(client, registration)?;
         let publication = self.publication(registration.source)?;
         Some(LogRequest {
             source: publication.source,
@@ -89,7 +72,7 @@ impl Registry {
         ensures { result ≡ option_map (λ request. request.source) (offering_of self.now client registration) }
     {
         let _holder = self.clients.get(client)?;
-        let registration = registration_of(self.streams.registrations(), client, registration)?;
+        let registration = self.own_registration(client, registration)?;
         let publication = self.publication(registration.source)?;
         Some(publication.source)
     }

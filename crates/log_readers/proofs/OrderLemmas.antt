@@ -2,13 +2,13 @@
 use Rattle.std.proofs.Common.{◌≡◌, ℕ, ◌<◌, ◌≤◌, ℤ, ◌==◌, Bool, true, false, cond, List, filter, refl, arith}
 use Rattle.std.proofs.lemmas.Bool.{not-true}
 use Rattle.std.proofs.lemmas.List.Elements.{All-filter, All-nil, All-push, All-weaker, filter_passes}
-use Rattle.log_readers.specs.Numbering.{AreInOrder, IsOwned, number_of, source_of}
+use Rattle.log_readers.specs.Numbering.{AreInOrder, IsOwned, number_of, registered_as, source_of}
 use Rattle.stream_registry.specs.declared.row.Publication.{Publication}
 use Rattle.stream_registry.specs.declared.row.Subscription.{Subscription}
 use Rattle.stream_registry.specs.declared.wanted.Adding.TheVariants.{Join, Make}
 use Rattle.stream_registry.specs.declared.wanted.Wanted.{Wanted}
-use Rattle.stream_registry.specs.Adding.{added, log_of, subscribed}
-use Rattle.stream_registry.specs.Leaving.{is_another_subscription, is_subscription_of_another, left, unregistered, unsubscribed}
+use Rattle.stream_registry.specs.Adding.{added, log_of, registration_of, subscribed}
+use Rattle.stream_registry.specs.Leaving.{is_another_registration, is_another_subscription, is_registration_of_another, is_subscription_of_another, left, unregistered, unsubscribed}
 use Rattle.stream_registry.specs.Lingering.{closed, is_not_past, is_used, left_alone, settled_one, settled}
 use Rattle.stream_registry.specs.Streams.{Streams, cleared}
 use Rattle.channel_uri.specs.Channel.{Shape}
@@ -22,6 +22,7 @@ pub later_in_order : (s : Streams) (clients : List Client) (last next : ℕ) →
     AreInOrder s clients next
 later_in_order s clients last next h more = record {
   sources = rises_up_to source_of 0 last next s.publications more h.sources;
+  registered = rises_up_to registered_as 0 last next s.registrations more h.registered;
   numbers = rises_up_to number_of 0 last next s.subscriptions more h.numbers;
   owned = h.owned;
 }
@@ -35,6 +36,7 @@ subscribed_in_order s clients last next number client channel stream h above bel
     let row : Subscription = record { number = number; client = client; channel = channel; stream = stream } in
     record {
       sources = rises_up_to source_of 0 last next s.publications (omega (arith, above, below)) h.sources;
+      registered = rises_up_to registered_as 0 last next s.registrations (omega (arith, above, below)) h.registered;
       numbers = rises_push number_of 0 last next s.subscriptions row h.numbers above below;
       owned = All-push (IsOwned clients) s.subscriptions row h.owned owned;
     }
@@ -44,20 +46,27 @@ pub made_in_order : (s : Streams) (clients : List Client) (last next number clie
     AreInOrder (added s number client wanted place (Make session)) clients next
 made_in_order s clients last next number client wanted place session h above below = record {
   sources = rises_push source_of 0 last next s.publications (log_of s number wanted place session) h.sources above below;
+  registered = rises_push registered_as 0 last next s.registrations (registration_of number client wanted number) h.registered above below;
   numbers = rises_up_to number_of 0 last next s.subscriptions (omega (arith, above, below)) h.numbers;
   owned = h.owned;
 }
 
-pub joined_in_order : (s : Streams) (clients : List Client) (last number client : ℕ) (wanted : Wanted) (place source : ℕ) (session : ℤ) →
-    AreInOrder s clients last → AreInOrder (added s number client wanted place (Join source session)) clients last
-joined_in_order s clients last number client wanted place source session h =
-    record { sources = h.sources; numbers = h.numbers; owned = h.owned }
+pub joined_in_order : (s : Streams) (clients : List Client) (last next number client : ℕ) (wanted : Wanted) (place source : ℕ) (session : ℤ) →
+    AreInOrder s clients last → last < number → number ≤ next →
+    AreInOrder (added s number client wanted place (Join source session)) clients next
+joined_in_order s clients last next number client wanted place source session h above below = record {
+  sources = rises_up_to source_of 0 last next s.publications (omega (arith, above, below)) h.sources;
+  registered = rises_push registered_as 0 last next s.registrations (registration_of number client wanted source) h.registered above below;
+  numbers = rises_up_to number_of 0 last next s.subscriptions (omega (arith, above, below)) h.numbers;
+  owned = h.owned;
+}
 
 pub unsubscribed_in_order : (s : Streams) (clients : List Client) (last client number : ℕ) → AreInOrder s clients last →
     AreInOrder (unsubscribed s client number) clients last
 unfolding unsubscribed
 unsubscribed_in_order s clients last client number h = record {
   sources = h.sources;
+  registered = h.registered;
   numbers = rises_kept number_of (is_another_subscription client number) 0 last s.subscriptions h.numbers;
   owned = All-filter (is_another_subscription client number) (IsOwned clients) s.subscriptions h.owned;
 }
@@ -72,6 +81,7 @@ unfolding settled
 settled_in_order s clients last now h = record {
   sources = rises_mapped source_of (settled_one s.registrations now) 0 last s.publications
       (λ log. source_settled (is_used s.registrations log.source) now log) h.sources;
+  registered = h.registered;
   numbers = h.numbers;
   owned = h.owned;
 }
@@ -80,7 +90,12 @@ pub unregistered_in_order : (s : Streams) (clients : List Client) (last client n
     AreInOrder (unregistered s client number now) clients last
 unfolding unregistered
 unregistered_in_order s clients last client number now h =
-    settled_in_order _ clients last now (record { sources = h.sources; numbers = h.numbers; owned = h.owned })
+    settled_in_order _ clients last now (record {
+      sources = h.sources;
+      registered = rises_kept registered_as (is_another_registration client number) 0 last s.registrations h.registered;
+      numbers = h.numbers;
+      owned = h.owned;
+    })
 
 -- a client leaves, and goes
 pub left_in_order : (s : Streams) (clients : ClientList) (last client now : ℕ) → AreInOrder s clients.rows last →
@@ -90,6 +105,7 @@ left_in_order s clients last client now h =
     let subs : List Subscription = filter (is_subscription_of_another client) s.subscriptions in
     settled_in_order _ (filter (is_other client) clients.rows) last now (record {
       sources = h.sources;
+      registered = rises_kept registered_as (is_registration_of_another client) 0 last s.registrations h.registered;
       numbers = rises_kept number_of (is_subscription_of_another client) 0 last s.subscriptions h.numbers;
       owned = owned_alike clients.rows (filter (is_other client) clients.rows) subs
           (found_left clients.rows client subs
@@ -104,6 +120,7 @@ pub closed_in_order : (s : Streams) (clients : List Client) (last now : ℕ) →
 unfolding closed
 closed_in_order s clients last now h = record {
   sources = rises_kept source_of (is_not_past now) 0 last s.publications h.sources;
+  registered = h.registered;
   numbers = h.numbers;
   owned = h.owned;
 }
@@ -111,13 +128,14 @@ closed_in_order s clients last now h = record {
 -- all went, whoever is there
 pub cleared_in_order : (s : Streams) (clients : List Client) (last : ℕ) → AreInOrder (cleared s) clients last
 cleared_in_order s clients last =
-    record { sources = omega arith; numbers = omega arith; owned = All-nil (IsOwned clients) }
+    record { sources = omega arith; registered = omega arith; numbers = omega arith; owned = All-nil (IsOwned clients) }
 
 pub admitted_in_order : (s : Streams) (clients : ClientList) (last principal now : ℕ) → AreInOrder s clients.rows last →
     AreInOrder s (admitted clients principal now).rows last
 unfolding admitted
 admitted_in_order s clients last principal now h = record {
   sources = h.sources;
+  registered = h.registered;
   numbers = h.numbers;
   owned = owned_alike clients.rows (admitted clients principal now).rows s.subscriptions
       (found_with clients.rows _ s.subscriptions h.owned) h.owned;
@@ -128,6 +146,7 @@ pub touched_in_order : (s : Streams) (clients : ClientList) (last number now : �
 unfolding touched
 touched_in_order s clients last number now h = record {
   sources = h.sources;
+  registered = h.registered;
   numbers = h.numbers;
   owned = owned_alike clients.rows (touched clients number now).rows s.subscriptions
       (found_heard clients.rows number now s.subscriptions) h.owned;

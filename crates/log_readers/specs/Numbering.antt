@@ -3,6 +3,7 @@ use Rattle.std.specs.Prelude.{◌≡◌, ℕ, ◌<◌, ◌≤◌, true, List, []
 use Rattle.client_registry.specs.declared.client.Client.{Client}
 use Rattle.client_registry.specs.Clients.{principal_at}
 use Rattle.stream_registry.specs.declared.row.Publication.{Publication}
+use Rattle.stream_registry.specs.declared.row.Registration.{Registration}
 use Rattle.stream_registry.specs.declared.row.Subscription.{Subscription}
 use Rattle.stream_registry.specs.Streams.{Streams}
 
@@ -17,12 +18,17 @@ source_of publication = publication.source
 abbrev pub number_of : Subscription → ℕ
 number_of subscription = subscription.number
 
+abbrev pub registered_as : Registration → ℕ
+registered_as registration = registration.number
+
 -- the client whose subscription it is is there
 abbrev pub IsOwned : List Client → Subscription → Type 0
 IsOwned clients subscription = is_some (principal_at clients subscription.client) ≡ true
 
--- where this number was drawn last, numbers rise among the logs and among the subscriptions, and each subscription is owned
+-- where this number was drawn last, numbers rise among the logs, among the registrations with them, and among the
+-- subscriptions, and each subscription is owned
 pub record AreInOrder (s : Streams) (clients : List Client) (last : ℕ) : Type 0 where
   pub sources : Rises source_of 0 last s.publications
+  pub registered : Rises registered_as 0 last s.registrations
   pub numbers : Rises number_of 0 last s.subscriptions
   pub owned : All (IsOwned clients) s.subscriptions
