@@ -7,7 +7,7 @@ pub mod ListLemmas
 pub mod LogListLemmas
 pub mod PairLemmas
 pub mod PublishLemmas
-pub mod ReaderLemmas
+pub mod ReloadingLemmas
 pub mod SizeLemmas
 pub mod SoundnessLemmas
 pub mod SubscribeLemmas
