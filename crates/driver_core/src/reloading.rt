@@ -15,14 +15,13 @@ use policy_core::Policy;
 use std::alloc::{AllocError, Global};
 
 impl Registry {
-    /// How many pairs there would be under the policy. It takes no memory.
+    /// How many pairs there would be under the policy, which is asked once for each subscription. It takes no memory.
     #[tactic(auto, unfolding(crate::specs::Pairs::pairs_of, crate::specs::Reloading::in_force))]
     fn pairs_under(&self, policy: &Policy) -> usize
         requires { self.now.epoch < 18446744073709551615 }
         ensures { result ≡ length (pairs_of (in_force self.now policy.now)) }
     {
-        self.streams
-            .pair_count(&self.clients, policy, self.epoch + 1)
+        log_readers::pair_count(&self.streams, &self.clients, policy, self.epoch + 1)
     }
 
     /// Whether there is a number for the policy, and room for the pairs that it allows. It takes no memory.

@@ -133,7 +133,7 @@ impl Play {
 
     /// Whether there are so many readers, and as many pairs.
     pub(crate) fn reads(&self, total: usize) -> bool {
-        let pairs = self.streams.pair_count(&self.clients, &self.policy, 1);
+        let pairs = log_readers::pair_count(&self.streams, &self.clients, &self.policy, 1);
         self.readers.total() == total && pairs == total
     }
 
