@@ -9,7 +9,7 @@ pub mod LogListLemmas
 pub mod OpeningLemmas
 pub mod PairLemmas
 pub mod PublishLemmas
-pub mod ReaderLemmas
+pub mod ReloadingLemmas
 pub mod SearchLemmas
 pub mod SizeLemmas
 pub mod SoundnessLemmas

@@ -15,6 +15,7 @@ use Rattle.client_registry.specs.Clients.{principal_at}
 use Rattle.log_readers.specs.Turnover.{pairs_with}
 use Rattle.policy_core.specs.declared.act.Act.TheVariants.{Image}
 use Rattle.policy_core.specs.declared.decision.Decision.{Decision}
+use Rattle.policy_core.specs.RuleList.{Rules}
 use Rattle.policy_core.specs.Rules.{verdict_of}
 use Rattle.stream_registry.specs.declared.pairs.Pair.{Pair}
 use Rattle.stream_registry.specs.declared.row.Publication.{Publication}
@@ -97,6 +98,10 @@ unfoldable pub decided_on : State → Pair → List Decision
 decided_on s pair =
     decided_to s (publication_at s.streams.publications pair.source)
     (subscription_at s.streams.subscriptions pair.subscription)
+
+-- under another policy, which goes by this number
+abbrev pub under : State → Rules → ℕ → State
+under s policy epoch = record s { policy = policy; epoch = epoch }
 
 unfoldable pub images_decided : State → List Pair → List Pair → List Decision
 images_decided s gone come = flat_map (decided_on s) gone ++ flat_map (decided_on s) come

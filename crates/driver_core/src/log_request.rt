@@ -78,17 +78,10 @@ impl Registry {
     }
 
     /// Whether the subscription of this number reads a log of this source number.
-    #[tactic(auto, unfolding(crate::specs::LogRequests::has_pair, crate::specs::Pairs::pairs_of))]
     fn has_pair(&self, source: u64, subscription: u64) -> bool
         ensures { result ≡ has_pair self.now source subscription }
     {
-        self.streams.has_pair(
-            &self.clients,
-            &self.policy,
-            self.epoch,
-            source,
-            subscription,
-        )
+        self.readers.has(&self.streams, source, subscription)
     }
 
     /// Whether the policy in force lets the client receive messages from the log of that source number, on the channel and

@@ -179,7 +179,7 @@ impl Registry {
             Event::Command { now, client, bytes } => {
                 self.outcome_of_command(alloc, *now, *client, bytes, inputs)
             }
-            Event::Reload { now, policy } => self.outcome_of_reload(alloc, *now, policy, inputs),
+            Event::Reload { policy, .. } => self.outcome_of_reload(alloc, policy, inputs),
             Event::Tick { now } => self.outcome_of_tick(alloc, *now, inputs),
         }
     }

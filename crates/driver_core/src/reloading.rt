@@ -1,27 +1,27 @@
 ghost use Rattle.driver_core.specs.Pairs.{pairs_of};
-ghost use Rattle.driver_core.specs.Reloading.{has_room_for_policy, in_force, reload};
-ghost use Rattle.driver_core.specs.Renewal.{outcome_by};
+ghost use Rattle.driver_core.specs.Reloading.{has_room_for_policy, in_force, reload, reloaded};
+ghost use Rattle.driver_core.specs.Renewal.{come_to, gone_from, outcome_by};
 ghost use Rattle.driver_core.specs.State.{at_moment};
-ghost use Rattle.driver_core.specs.Told.{told_of};
 ghost use Rattle.std.specs.Prelude.{◌≡◌, ◌<◌, length, ℕ, true, IfOk};
 
 use crate::event::Inputs;
 use crate::outcome::{Outcome, Response};
 use crate::pairs::PAIRS;
 use crate::registry::Registry;
+use crate::renewal;
 use crate::told::Told;
+use log_readers::Turnover;
 use policy_core::Policy;
 use std::alloc::{AllocError, Global};
 
 impl Registry {
-    /// How many pairs there would be under the policy. It takes no memory.
+    /// How many pairs there would be under the policy, which is asked once for each subscription. It takes no memory.
     #[tactic(auto, unfolding(crate::specs::Pairs::pairs_of, crate::specs::Reloading::in_force))]
     fn pairs_under(&self, policy: &Policy) -> usize
         requires { self.now.epoch < 18446744073709551615 }
         ensures { result ≡ length (pairs_of (in_force self.now policy.now)) }
     {
-        self.streams
-            .pair_count(&self.clients, policy, self.epoch + 1)
+        log_readers::pair_count(&self.streams, &self.clients, policy, self.epoch + 1)
     }
 
     /// Whether there is a number for the policy, and room for the pairs that it allows. It takes no memory.
@@ -32,32 +32,48 @@ impl Registry {
         self.epoch < u64::MAX && self.pairs_under(policy) <= PAIRS
     }
 
-    /// What a policy that is to be in force tells. It takes no memory.
-    #[tactic(auto, unfolding(crate::specs::Reloading::reload, crate::specs::Reloading::reloaded, crate::specs::Reloading::in_force, crate::specs::Draft::answered, crate::specs::Pairs::is_within_pairs, crate::specs::Pairs::pairs_of, crate::specs::State::at_moment))]
-    pub(crate) fn tell_reload(&self, alloc: Global, policy: &Policy) -> Told
-        ensures { (now : ℕ) → result ≡ told_of (reload (at_moment self.now now) policy.now) }
+    /// What goes and what comes where the policy is in force, under the next number. It is asked once for each
+    /// subscription.
+    #[tactic(auto, unfolding(crate::specs::Pairs::pairs_of, crate::specs::Reloading::in_force))]
+    fn turnover_under(&self, alloc: Global, policy: &Policy) -> Result<Turnover, AllocError>
+        requires { self.now.epoch < 18446744073709551615 }
+        ensures gone { IfOk result (λ turnover. turnover.gone ≡ gone_from self.now (in_force self.now policy.now)) }
+        ensures come { IfOk result (λ turnover. turnover.come ≡ come_to self.now (in_force self.now policy.now)) }
     {
-        if !self.has_room_for_policy(policy) {
-            return Told::answered(alloc, Response::PolicyFull);
-        }
-        Told::answered(alloc, Response::PolicyInForce(self.epoch + 1))
+        self.readers.turnover_under(alloc, &self.streams, &self.clients, policy, self.epoch + 1)
     }
 
-    /// What it tells, and does outside the registry, that a policy is to be in force.
-    #[tactic(auto, unfolding(crate::specs::Renewal::renewed))]
-    pub(crate) fn outcome_of_reload(
+    /// What it tells, and does outside the registry, that a policy is to be in force for which there is room.
+    fn outcome_of_reloaded(
         &self,
         alloc: Global,
-        now: u64,
         policy: &Policy,
         inputs: &Inputs,
     ) -> Result<Outcome, AllocError>
-        ensures { IfOk result (λ outcome. outcome ≡ outcome_by self.now inputs.now (reload (at_moment self.now now) policy.now)) }
+        requires { self.now.epoch < 18446744073709551615 }
+        ensures { (now : ℕ) → IfOk result (λ outcome. outcome ≡ outcome_by self.now inputs.now (reloaded (at_moment self.now now) policy.now)) }
     {
-        let mut after = self.copy(alloc)?;
-        after.go_on(now);
-        after.do_reload(policy);
-        self.renew(alloc, inputs, self.tell_reload(alloc, policy), &after)
+        let turnover = self.turnover_under(alloc, policy)?;
+        let epoch = self.epoch + 1;
+        let mut told = Told::answered(alloc, Response::PolicyInForce(epoch));
+        renewal::tell_turnover(&mut told, self, policy, epoch, inputs, &turnover)?;
+        Ok(renewal::outcome_from(told, turnover))
+    }
+
+    /// What it tells, and does outside the registry, that a policy is to be in force.
+    pub(crate) fn outcome_of_reload(
+        &self,
+        alloc: Global,
+        policy: &Policy,
+        inputs: &Inputs,
+    ) -> Result<Outcome, AllocError>
+        ensures { (now : ℕ) → IfOk result (λ outcome. outcome ≡ outcome_by self.now inputs.now (reload (at_moment self.now now) policy.now)) }
+    {
+        if !self.has_room_for_policy(policy) {
+            let told = Told::answered(alloc, Response::PolicyFull);
+            return renewal::keep_pairs(alloc, told);
+        }
+        self.outcome_of_reloaded(alloc, policy, inputs)
     }
 
     /// The policy is in force, under the next number.

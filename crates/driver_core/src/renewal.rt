@@ -1,4 +1,4 @@
-ghost use Rattle.driver_core.specs.Renewal.{available_for, come_to, decided_on, gone_from, images_decided, images_told, outcome_kept, outcome_with, position_at, unavailable_for};
+ghost use Rattle.driver_core.specs.Renewal.{available_for, come_to, decided_on, gone_from, images_decided, images_told, outcome_kept, outcome_with, position_at, unavailable_for, under};
 ghost use Rattle.std.specs.List.{flat_map};
 ghost use Rattle.std.specs.Prelude.{◌≡◌, ◌++◌, [], IfOk, OnOk};
 
@@ -9,7 +9,8 @@ use crate::registry::Registry;
 use crate::replies::{Message, Reply};
 use crate::told::Told;
 use byte_strings::Items;
-use policy_core::{Act, Decision, Request};
+use log_readers::Turnover;
+use policy_core::{Act, Decision, Policy, Request};
 use std::alloc::{AllocError, Global};
 use stream_registry::Pair;
 
@@ -119,22 +120,24 @@ fn tell_images(
     tell_all_available(messages, after, inputs.ends.as_slice(), come)
 }
 
-/// What the policy in force decides on a pair whose log and subscription are there.
+/// What a policy that goes by the number `epoch` decides on a pair whose log and subscription are there.
 #[tactic(auto, unfolding(crate::specs::Renewal::decided_on))]
 fn decide_on(
     decisions: &mut Items<Decision>,
-    after: &Registry,
+    lists: &Registry,
+    policy: &Policy,
+    epoch: u64,
     pair: Pair,
 ) -> Result<(), AllocError>
-    ensures { OnOk result (decisions.new ≡ decisions.old ++ decided_on after.now pair) }
+    ensures { OnOk result (decisions.new ≡ decisions.old ++ decided_on (under lists.now policy.now epoch) pair) }
 {
-    if after.publication(pair.source).is_none() {
+    if lists.publication(pair.source).is_none() {
         return Ok(());
     }
-    let Some(subscription) = after.subscription(pair.subscription) else {
+    let Some(subscription) = lists.subscription(pair.subscription) else {
         return Ok(());
     };
-    let Some(principal) = after.clients.principal_of(subscription.client) else {
+    let Some(principal) = lists.clients.principal_of(subscription.client) else {
         return Ok(());
     };
     let request = Request {
@@ -148,35 +151,38 @@ fn decide_on(
         act: Act::Image,
         subject: subscription.number,
         stream: subscription.stream,
-        verdict: after.policy.verdict(after.epoch, &request),
+        verdict: policy.verdict(epoch, &request),
     })
 }
 
 fn decide_on_all(
     decisions: &mut Items<Decision>,
-    after: &Registry,
+    lists: &Registry,
+    policy: &Policy,
+    epoch: u64,
     pairs: &[Pair],
 ) -> Result<(), AllocError>
-    ensures { OnOk result (decisions.new ≡ decisions.old ++ flat_map (decided_on after.now) pairs.now) }
+    ensures { OnOk result (decisions.new ≡ decisions.old ++ flat_map (decided_on (under lists.now policy.now epoch)) pairs.now) }
 {
     for pair in pairs {
-        decide_on(decisions, after, *pair)?;
+        decide_on(decisions, lists, policy, epoch, *pair)?;
     }
     Ok(())
 }
 
-/// What the policy in force decides on the images that went, and then on those that came.
+/// What the policy decides on the images that went, and then on those that came.
 #[tactic(auto, unfolding(crate::specs::Renewal::images_decided))]
 fn decide_images(
     decisions: &mut Items<Decision>,
-    after: &Registry,
-    gone: &[Pair],
-    come: &[Pair],
+    lists: &Registry,
+    policy: &Policy,
+    epoch: u64,
+    turnover: &Turnover,
 ) -> Result<(), AllocError>
-    ensures { OnOk result (decisions.new ≡ decisions.old ++ images_decided after.now gone.now come.now) }
+    ensures { OnOk result (decisions.new ≡ decisions.old ++ images_decided (under lists.now policy.now epoch) turnover.now.gone turnover.now.come) }
 {
-    decide_on_all(decisions, after, gone)?;
-    decide_on_all(decisions, after, come)
+    decide_on_all(decisions, lists, policy, epoch, turnover.gone.as_slice())?;
+    decide_on_all(decisions, lists, policy, epoch, turnover.come.as_slice())
 }
 
 /// Puts messages behind the others.
@@ -187,13 +193,6 @@ fn append(messages: &mut Items<Message>, more: &[Message]) -> Result<(), AllocEr
         messages.push(*message)?;
     }
     Ok(())
-}
-
-/// The pairs that an event takes away, and those that it brings.
-#[derive(Drop)]
-struct Turnover {
-    gone: Items<Pair>,
-    come: Items<Pair>,
 }
 
 /// Compares the pairs after an event with those before it.
@@ -208,23 +207,26 @@ fn turnover_of(before: &Registry, after: &Registry, alloc: Global) -> Result<Tur
     Ok(Turnover { gone, come })
 }
 
-/// Tells of the images that went and came, puts the later replies behind, and says what is decided on these images.
-fn tell_turnover(
+/// Tells of the images that went and came, puts the later replies behind, and says what is decided on these images by the
+/// policy that is in force then, under the number `epoch`.
+pub(crate) fn tell_turnover(
     told: &mut Told,
-    after: &Registry,
+    lists: &Registry,
+    policy: &Policy,
+    epoch: u64,
     inputs: &Inputs,
     turnover: &Turnover,
 ) -> Result<(), AllocError>
-    ensures { OnOk result (told.new ≡ record told.old { replies = told.old.replies ++ (images_told after.now inputs.now turnover.now.gone turnover.now.come ++ told.old.later); decisions = told.old.decisions ++ images_decided after.now turnover.now.gone turnover.now.come }) }
+    ensures { OnOk result (told.new ≡ record told.old { replies = told.old.replies ++ (images_told lists.now inputs.now turnover.now.gone turnover.now.come ++ told.old.later); decisions = told.old.decisions ++ images_decided (under lists.now policy.now epoch) turnover.now.gone turnover.now.come }) }
 {
     let (gone, come) = (turnover.gone.as_slice(), turnover.come.as_slice());
-    tell_images(&mut told.replies, after, inputs, gone, come)?;
+    tell_images(&mut told.replies, lists, inputs, gone, come)?;
     append(&mut told.replies, told.later.as_slice())?;
-    decide_images(&mut told.decisions, after, gone, come)
+    decide_images(&mut told.decisions, lists, policy, epoch, turnover)
 }
 
 /// The outcome that is told and turned over, where the later replies are among the others already.
-fn outcome_from(told: Told, turnover: Turnover) -> Outcome
+pub(crate) fn outcome_from(told: Told, turnover: Turnover) -> Outcome
     ensures { result ≡ record { response = told.response; replies = told.replies; decisions = told.decisions; opens = told.opens; closes = told.closes; gone = turnover.gone; come = turnover.come } }
 {
     Outcome {
@@ -251,7 +253,8 @@ impl Registry {
     {
         let turnover = turnover_of(self, after, alloc)?;
         let mut told = told;
-        tell_turnover(&mut told, after, inputs, &turnover)?;
+        let (policy, epoch) = (&after.policy, after.epoch);
+        tell_turnover(&mut told, after, policy, epoch, inputs, &turnover)?;
         Ok(outcome_from(told, turnover))
     }
 }

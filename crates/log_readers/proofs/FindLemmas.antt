@@ -1,6 +1,6 @@
 -- The numbers that stand at a log are those of its pairs.
 use Rattle.std.proofs.Common.{◌≡◌, ℕ, zero, suc, ◌<◌, ◌==◌, Bool, true, false, cond, List, [], ◌∷◌, ◌++◌, length, drop, get_or, map, filter, append-nil, refl, sym, ap, ◌∙◌, eqb-true, ne_eqb, arith}
-use Rattle.std.specs.Prelude.{◌&&◌, ◌||◌, All}
+use Rattle.std.specs.Prelude.{◌||◌}
 use Rattle.std.specs.List.{flat_map, list_any}
 use Rattle.std.proofs.lemmas.List.{map-append}
 use Rattle.std.proofs.lemmas.List.Elements.{All-weaker}

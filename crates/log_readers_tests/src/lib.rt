@@ -7,3 +7,5 @@ mod coming;
 mod keeping;
 #[cfg(test)]
 mod play;
+#[cfg(test)]
+mod reloading;

@@ -133,7 +133,7 @@ impl Play {
 
     /// Whether there are so many readers, and as many pairs.
     pub(crate) fn reads(&self, total: usize) -> bool {
-        let pairs = self.streams.pair_count(&self.clients, &self.policy, 1);
+        let pairs = log_readers::pair_count(&self.streams, &self.clients, &self.policy, 1);
         self.readers.total() == total && pairs == total
     }
 
@@ -175,6 +175,45 @@ impl Play {
         let closes = [LogPlace { source, place: 0 }];
         match self.readers.pairs_of_closing(alloc, &self.streams, &closes) {
             Ok(found) => found.as_slice() == pairs,
+            Err(_) => false,
+        }
+    }
+
+    /// Whether these are all pairs.
+    #[tactic(auto, using(log_readers::proofs::ReaderLemmas::as_many_as_logs))]
+    pub(crate) fn has_pairs(&self, alloc: Global, pairs: &[Pair]) -> bool {
+        match self.readers.pairs(alloc, &self.streams) {
+            Ok(found) => found.as_slice() == pairs,
+            Err(_) => false,
+        }
+    }
+
+    /// Whether the subscription of this number reads this log.
+    #[tactic(auto, using(log_readers::proofs::ReaderLemmas::as_many_as_logs))]
+    pub(crate) fn has(&self, source: u64, number: u64) -> bool {
+        self.readers.has(&self.streams, source, number)
+    }
+
+    /// Whether these subscriptions read this log.
+    #[tactic(auto, using(log_readers::proofs::ReaderLemmas::as_many_as_logs))]
+    pub(crate) fn is_read_by(&self, source: u64, numbers: &[u64]) -> bool {
+        self.readers.of_source(&self.streams, source) == numbers
+    }
+
+    /// Whether these pairs go and those come under this policy, of number 2.
+    #[tactic(auto, using(log_readers::proofs::ReaderLemmas::as_many_as_logs))]
+    pub(crate) fn turns_over(
+        &self,
+        alloc: Global,
+        policy: &Policy,
+        gone: &[Pair],
+        come: &[Pair],
+    ) -> bool {
+        match self
+            .readers
+            .turnover_under(alloc, &self.streams, &self.clients, policy, 2)
+        {
+            Ok(turnover) => turnover.gone.as_slice() == gone && turnover.come.as_slice() == come,
             Err(_) => false,
         }
     }

@@ -1,4 +1,3 @@
-pub mod CountLemmas
 pub mod LimitLemmas
 pub mod PageLawLemmas
 pub mod PageLemmas

@@ -8,7 +8,6 @@
 #![tactic(auto)]
 
 mod adding;
-mod counting;
 mod fault;
 mod joining;
 mod laws;

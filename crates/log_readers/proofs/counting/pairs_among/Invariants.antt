@@ -1,0 +1,13 @@
+use Rattle.std.proofs.Common.{◌≡◌, ◌*◌, ◌≤◌, length, take}
+use Rattle.std.specs.List.{flat_map}
+use Rattle.stream_registry.specs.Pairs.{pairs_at}
+use Rattle.log_readers.proofs.counting.pairs_among.Given as goal
+
+-- the pairs of the subscriptions so far
+abbrev pub invariant-loop-subscription : goal.invariant-loop-subscription
+invariant-loop-subscription l = record {
+  so_far :
+      l.pairs
+      ≡ length (flat_map (pairs_at l.clients.rows l.policy l.epoch (take l.subscription-index l.subscriptions)) l.streams.publications);
+  few : l.pairs ≤ 256 * l.subscription-index;
+}
