@@ -16,3 +16,4 @@ mod telling;
 
 pub use coming::{logs_read, pairs_of_log, pairs_of_subscription, readers_of};
 pub use readers::Readers;
+pub use telling::is_of_any;
