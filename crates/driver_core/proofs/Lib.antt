@@ -2,7 +2,9 @@ pub mod AskedLemmas
 pub mod AskingLemmas
 pub mod ComingLemmas
 pub mod EventCases
+pub mod GoneLemmas
 pub mod KeptLemmas
+pub mod LeaveLemmas
 pub mod ListLemmas
 pub mod LogListLemmas
 pub mod PairLemmas
@@ -11,5 +13,6 @@ pub mod ReaderLemmas
 pub mod SizeLemmas
 pub mod SoundnessLemmas
 pub mod SubscribeLemmas
+pub mod TickLemmas
 pub mod UnsubscribeLemmas
 pub mod VerdictLemmas
