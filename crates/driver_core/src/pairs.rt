@@ -12,12 +12,10 @@ pub(crate) const PAIRS: usize = 4096;
 
 impl Registry {
     /// Which subscription reads which log, by source and then subscription.
-    #[tactic(auto, unfolding(crate::specs::Pairs::pairs_of))]
     pub fn pairs(&self, alloc: Global) -> Result<Items<Pair>, AllocError>
         ensures { IfOk result (λ pairs. pairs ≡ pairs_of self.now) }
     {
-        self.streams
-            .pairs(alloc, &self.clients, &self.policy, self.epoch)
+        self.readers.pairs(alloc, &self.streams)
     }
 }
 
