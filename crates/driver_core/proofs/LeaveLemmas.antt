@@ -1,13 +1,12 @@
 -- Clients leave, and the driver goes: all pairs of what they had go.
-use Rattle.std.proofs.Common.{◌≡◌, ℕ, max, Bool, true, false, not, cond, List, [], filter, get_or, Option, None, Result, Ok, Err, refl, sym, subst, ap, ◌∙◌}
-use Rattle.std.proofs.lemmas.List.Elements.{All-weaker, filter_passes}
+use Rattle.std.proofs.Common.{◌≡◌, ℕ, max, Bool, true, false, not, cond, List, [], filter, get_or, Option, None, Result, Ok, Err, refl, subst, ap, ◌∙◌}
 use Rattle.driver_core.specs.declared.event.Inputs.{Inputs}
 use Rattle.driver_core.specs.declared.refused.Refused.{Refused}
 use Rattle.driver_core.specs.declared.replies.Reply.TheVariants.{OperationSuccess}
 use Rattle.driver_core.specs.Closing.{close}
 use Rattle.driver_core.specs.Commands.{at_request, heard}
 use Rattle.driver_core.specs.Deciding.{decision_by}
-use Rattle.driver_core.specs.Draft.{Draft, refused, replied, told}
+use Rattle.driver_core.specs.Draft.{Draft, replied, told}
 use Rattle.driver_core.specs.Leaving.{left}
 use Rattle.driver_core.specs.Pairs.{pairs_of}
 use Rattle.driver_core.specs.Refusing.{denied, refused_by}
@@ -47,7 +46,7 @@ left_at s client now number last up =
 
 -- ---- CLIENT_CLOSE
 
--- the lists and clients at which a client that was heard of leaves
+-- the pairs of its subscriptions go
 close_turnover : (s : State) (now handle : ℕ) (client : Client) (correlation last : ℕ) → Rises number_of 0 last s.streams.subscriptions →
     IsTurnover (pairs_of s) (pairs_of (close (at_request s now handle) client correlation).after)
     (filter (is_of_client s.streams client.number) (pairs_of s)) []

@@ -5,7 +5,6 @@ use Rattle.std.specs.List.{flat_map}
 use Rattle.std.proofs.lemmas.Bool.{le-ltb}
 use Rattle.std.proofs.lemmas.List.Elements.{filter_agree}
 use Rattle.driver_core.specs.declared.event.Inputs.{Inputs}
-use Rattle.driver_core.specs.declared.replies.Message.{Message}
 use Rattle.driver_core.specs.declared.told.Told.{Told}
 use Rattle.driver_core.specs.Leaving.{all_left, left}
 use Rattle.driver_core.specs.Pairs.{pairs_of}
@@ -21,7 +20,6 @@ use Rattle.log_readers.proofs.LateLemmas.{all_left_in_order, left_any, ticked_tu
 use Rattle.log_readers.proofs.ListLemmas.{filter_mapped, flat_alike, map_through}
 use Rattle.log_readers.proofs.RisingLemmas.{rises_kept}
 use Rattle.log_readers.proofs.TurnoverLemmas.{closed_by_source, stays_open}
-use Rattle.stream_registry.specs.declared.lingering.LogPlace.{LogPlace}
 use Rattle.stream_registry.specs.declared.pairs.Pair.{Pair}
 use Rattle.stream_registry.specs.declared.row.Publication.{Publication}
 use Rattle.stream_registry.specs.declared.row.Registration.{Registration}
@@ -126,11 +124,11 @@ closed_at s now last source up =
 
 -- ---- what goes
 
--- the registry behind it, where these are late and this is what they leave
+-- the registry behind it, by the one that those leave who are late
 abbrev behind : State → State
 behind between = record between { streams = closed between.streams between.moment }
 
--- so is the pair's subscription there
+-- the pair's subscription there
 tick_at : (s : State) (last : ℕ) (pair : Pair) → AreInOrder s.streams s.clients.rows last →
     subscription_at (tick s).after.streams.subscriptions pair.subscription
     ≡ cond (is_of_any s.streams (late s) pair) None (subscription_at s.streams.subscriptions pair.subscription)
