@@ -3,7 +3,9 @@ pub mod AskingLemmas
 pub mod AttachLemmas
 pub mod ComingLemmas
 pub mod EventCases
+pub mod GoneLemmas
 pub mod KeptLemmas
+pub mod LeaveLemmas
 pub mod ListLemmas
 pub mod LogListLemmas
 pub mod OpeningLemmas
@@ -14,5 +16,6 @@ pub mod SearchLemmas
 pub mod SizeLemmas
 pub mod SoundnessLemmas
 pub mod SubscribeLemmas
+pub mod TickLemmas
 pub mod UnsubscribeLemmas
 pub mod VerdictLemmas

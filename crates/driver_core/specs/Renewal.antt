@@ -1,5 +1,5 @@
 -- After each event the pairs are those of the lists and the policy in force. What that closes and opens is told.
-use Rattle.std.specs.Prelude.{ℕ, ◌==◌, List, [], ◌∷◌, ◌++◌, filter, find, map, Option, Some, None}
+use Rattle.std.specs.Prelude.{ℕ, ◌==◌, List, [], ◌∷◌, ◌++◌, filter, find, map, Option, Some, None, if◌then◌else◌}
 use Rattle.std.specs.List.{flat_map}
 use Rattle.driver_core.specs.declared.outcome.Outcome.{Outcome}
 use Rattle.driver_core.specs.declared.told.Told.{Told}
@@ -12,7 +12,7 @@ use Rattle.driver_core.specs.declared.replies.Reply.TheVariants.{AvailableImage,
 use Rattle.driver_core.specs.Pairs.{pairs_of, lacking}
 use Rattle.driver_core.specs.State.{State}
 use Rattle.client_registry.specs.Clients.{principal_at}
-use Rattle.log_readers.specs.Turnover.{pairs_with}
+use Rattle.log_readers.specs.Turnover.{is_of_any, pairs_with}
 use Rattle.policy_core.specs.declared.act.Act.TheVariants.{Image}
 use Rattle.policy_core.specs.declared.decision.Decision.{Decision}
 use Rattle.policy_core.specs.RuleList.{Rules}
@@ -157,9 +157,19 @@ outcome_kept told = record {
   come = [];
 }
 
+-- where these pairs go, of which is told already, and none comes
+abbrev pub outcome_gone : Told → List Pair → Outcome
+outcome_gone told gone = record (outcome_kept told) { gone = gone }
+
 -- what an event's draft tells once the pairs are renewed
 abbrev pub outcome_by : State → Inputs → Draft → Outcome
 outcome_by before inputs draft = (renewed before inputs draft).outcome
+
+-- ---- where clients go
+
+-- what is told of a pair that goes: nothing where its subscription is one of theirs
+abbrev pub unavailable_beside : State → List ℕ → Pair → List Message
+unavailable_beside s clients pair = if is_of_any s.streams clients pair then [] else unavailable_for s pair
 
 -- ---- where a subscription comes
 

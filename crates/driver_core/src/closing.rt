@@ -1,17 +1,22 @@
 ghost use Rattle.driver_core.specs.Closing.{keep_alive, close};
 ghost use Rattle.driver_core.specs.Commands.{at_asking};
+ghost use Rattle.driver_core.specs.Pairs.{pairs_of};
 ghost use Rattle.driver_core.specs.Renewal.{outcome_by};
 ghost use Rattle.driver_core.specs.Told.{told_of};
-ghost use Rattle.std.specs.Prelude.{◌≡◌, ℕ, IfOk};
+ghost use Rattle.log_readers.specs.Numbering.{Rises, number_of};
+ghost use Rattle.log_readers.specs.Turnover.{is_of_client};
+ghost use Rattle.std.specs.Prelude.{◌≡◌, ℕ, filter, IfOk};
 
 use crate::asking::Asking;
+use crate::commands::outcome_of_done;
 use crate::event::Inputs;
 use crate::outcome::{Outcome, Response};
 use crate::registry::Registry;
-use crate::replies::Reply;
 use crate::told::Told;
+use byte_strings::Items;
 use client_registry::Client;
 use std::alloc::{AllocError, Global};
+use stream_registry::Pair;
 
 impl Registry {
     /// What the command CLIENT_KEEPALIVE of a client that is there tells: nothing. It takes no memory.
@@ -28,22 +33,16 @@ impl Registry {
         ensures { self.new ≡ (keep_alive self.old).after }
     {}
 
-    /// What the command CLIENT_CLOSE of a client that is there tells.
-    #[tactic(auto, unfolding(crate::specs::Closing::close, crate::specs::Draft::replied, crate::specs::Draft::told))]
-    pub(crate) fn tell_close(
-        &self,
-        alloc: Global,
-        client: Client,
-        correlation: u64,
-    ) -> Result<Told, AllocError>
-        ensures { IfOk result (λ told. told ≡ told_of (close self.now client correlation)) }
+    /// The pairs of the client's subscriptions, by source and then subscription. Each subscription has a number of its own.
+    fn pairs_of_client(&self, alloc: Global, client: u64) -> Result<Items<Pair>, AllocError>
+        ensures exact { IfOk result (λ pairs. pairs ≡ filter (is_of_client self.now.streams client) (pairs_of self.now)) }
+        ensures order { Rises number_of 0 self.now.last_number self.now.streams.subscriptions }
     {
-        let reply = Reply::OperationSuccess { correlation };
-        Told::replied(alloc, client.number, reply)
+        self.readers.pairs_of_client(alloc, &self.streams, client)
     }
 
-    /// What the command CLIENT_CLOSE of a client that is there tells, and does outside the registry.
-    #[tactic(auto, unfolding(crate::specs::Renewal::renewed))]
+    /// What the command CLIENT_CLOSE of a client that is there tells, and does outside the registry: the pairs of its
+    /// subscriptions go, and nobody is told of them, since these are gone.
     pub(crate) fn outcome_of_close(
         &self,
         alloc: Global,
@@ -52,12 +51,8 @@ impl Registry {
     ) -> Result<Outcome, AllocError>
         ensures { IfOk result (λ outcome. outcome ≡ outcome_by self.now inputs.now (close (at_asking self.now asking) asking.client asking.correlation)) }
     {
-        let mut after = self.copy(alloc)?;
-        after.go_on(asking.now);
-        after.hear(asking.handle);
-        let told = after.tell_close(alloc, asking.client, asking.correlation)?;
-        after.do_close(asking.client);
-        self.renew(alloc, inputs, told, &after)
+        let gone = self.pairs_of_client(alloc, asking.client.number)?;
+        outcome_of_done(alloc, asking, gone)
     }
 
     /// The command CLIENT_CLOSE of a client that is there.

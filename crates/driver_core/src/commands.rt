@@ -2,9 +2,10 @@ ghost use Rattle.driver_core.specs.Commands.{requested, heard, asked, at_asking,
 ghost use Rattle.driver_core.specs.Draft.{refused};
 ghost use Rattle.driver_core.specs.Received.{channel_named};
 ghost use Rattle.driver_core.specs.Refusing.{refused_by};
-ghost use Rattle.driver_core.specs.Renewal.{outcome_by};
+ghost use Rattle.driver_core.specs.Renewal.{outcome_by, outcome_gone};
 ghost use Rattle.driver_core.specs.State.{at_moment};
-ghost use Rattle.driver_core.specs.Told.{told_of};
+ghost use Rattle.driver_core.specs.Told.{tells_reply, told_of};
+ghost use Rattle.driver_core.specs.declared.replies.Reply.TheVariants.{OperationSuccess};
 ghost use Rattle.driver_core.specs.declared.event.Inputs.{Inputs as InputsSpec};
 ghost use Rattle.std.specs.Prelude.{◌≡◌, [], is_some, true, IfOk};
 ghost use Rattle.client_registry.specs.Clients.{client_at, principal_at};
@@ -17,11 +18,29 @@ use crate::refusal::Refusal;
 use crate::refused::Refused;
 use crate::registry::Registry;
 use crate::renewal;
+use crate::replies::Reply;
 use crate::told::Told;
+use byte_strings::Items;
 use channel_uri::{Channel, UriError};
 use client_registry::Client;
 use command_codec::{Body, Command, CommandFault};
 use std::alloc::{AllocError, Global};
+use stream_registry::Pair;
+
+/// What a command tells that is done and with which these pairs go: who asked is told so, and nobody is told of the pairs.
+pub(crate) fn outcome_of_done(
+    alloc: Global,
+    asking: Asking,
+    gone: Items<Pair>,
+) -> Result<Outcome, AllocError>
+    ensures { IfOk result (λ outcome. outcome ≡ outcome_gone (tells_reply [] asking.client.number (OperationSuccess asking.correlation)) gone) }
+{
+    let reply = Reply::OperationSuccess {
+        correlation: asking.correlation,
+    };
+    let told = Told::replied(alloc, asking.client.number, reply)?;
+    renewal::go_alone(alloc, told, gone)
+}
 
 /// The refusal of bytes that are no command.
 fn refusal_for(fault: CommandFault) -> Refusal

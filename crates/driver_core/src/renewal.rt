@@ -1,4 +1,4 @@
-ghost use Rattle.driver_core.specs.Renewal.{available_for, come_to, decided_on, gone_from, images_decided, images_told, outcome_kept, outcome_with, position_at, unavailable_for, under};
+ghost use Rattle.driver_core.specs.Renewal.{available_for, come_to, decided_on, gone_from, images_decided, images_told, outcome_gone, outcome_kept, outcome_with, position_at, unavailable_for, under};
 ghost use Rattle.std.specs.List.{flat_map};
 ghost use Rattle.std.specs.Prelude.{◌≡◌, ◌++◌, [], IfOk, OnOk};
 
@@ -26,16 +26,16 @@ pub(crate) fn position_at(ends: &[End], source: u64) -> u64
     0
 }
 
-/// Tells the client of the subscription, if that is still there, that the image is gone.
+/// Tells the client of the subscription, if that is there, that the image is gone.
 #[tactic(auto, unfolding(crate::specs::Renewal::unavailable_for))]
-fn tell_unavailable(
+pub(crate) fn tell_unavailable(
     messages: &mut Items<Message>,
-    after: &Registry,
+    registry: &Registry,
     pair: Pair,
 ) -> Result<(), AllocError>
-    ensures { OnOk result (messages.new ≡ messages.old ++ unavailable_for after.now pair) }
+    ensures { OnOk result (messages.new ≡ messages.old ++ unavailable_for registry.now pair) }
 {
-    let Some(subscription) = after.subscription(pair.subscription) else {
+    let Some(subscription) = registry.subscription(pair.subscription) else {
         return Ok(());
     };
     let reply = Reply::UnavailableImage {
@@ -267,15 +267,20 @@ pub(crate) fn come_alone(alloc: Global, told: Told, come: Items<Pair>) -> Outcom
     outcome_from(told, Turnover { gone, come })
 }
 
+/// What an event tells where these pairs go, of which is told already, and none comes.
+pub(crate) fn go_alone(alloc: Global, told: Told, gone: Items<Pair>) -> Result<Outcome, AllocError>
+    ensures { IfOk result (λ outcome. outcome ≡ outcome_gone told gone) }
+{
+    let mut told = told;
+    append(&mut told.replies, told.later.as_slice())?;
+    let come = Items::new(alloc);
+    Ok(outcome_from(told, Turnover { gone, come }))
+}
+
 /// What an event tells whose own rule tells this and changes no pair.
 pub(crate) fn keep_pairs(alloc: Global, told: Told) -> Result<Outcome, AllocError>
     ensures { IfOk result (λ outcome. outcome ≡ outcome_kept told) }
 {
-    let mut told = told;
-    append(&mut told.replies, told.later.as_slice())?;
-    let turnover = Turnover {
-        gone: Items::new(alloc),
-        come: Items::new(alloc),
-    };
-    Ok(outcome_from(told, turnover))
+    let gone = Items::new(alloc);
+    go_alone(alloc, told, gone)
 }

@@ -1,18 +1,18 @@
-ghost use Rattle.driver_core.specs.Terminating.{stopped_for_good, terminate, terminating_of, termination_decision};
+ghost use Rattle.driver_core.specs.Terminating.{stopped_for_good, terminate, terminated, terminating_of, termination_decision};
 ghost use Rattle.driver_core.specs.Commands.{at_asking};
 ghost use Rattle.driver_core.specs.Renewal.{outcome_by};
-ghost use Rattle.driver_core.specs.Told.{told_of};
+ghost use Rattle.driver_core.specs.declared.event.Inputs.{Inputs as InputsSpec};
 ghost use Rattle.std.specs.Prelude.{◌≡◌, ℕ, map, IfOk};
 ghost use Rattle.stream_registry.specs.Lingering.{place_of};
 
 use crate::asking::Asking;
-use crate::deciding;
 use crate::event::Inputs;
 use crate::outcome::Outcome;
 use crate::refused::Refused;
 use crate::registry::Registry;
 use crate::replies::Reply;
 use crate::told::Told;
+use crate::{deciding, renewal};
 use byte_strings::Items;
 use channel_uri::Channel;
 use client_registry::Client;
@@ -55,29 +55,34 @@ impl Registry {
         Ok(decision)
     }
 
-    /// What the command TERMINATE_DRIVER of a client that is there tells.
-    #[tactic(auto, unfolding(crate::specs::Terminating::terminate, crate::specs::Terminating::terminated, crate::specs::Terminating::terminating_of, crate::specs::Draft::refused, crate::specs::Draft::replied, crate::specs::Draft::told))]
-    pub(crate) fn tell_terminate(
+    /// What is decided on it, once the client was heard of.
+    fn terminating_at(&self, asking: Asking) -> Result<Decision, Refused>
+        ensures { result ≡ terminating_of (at_asking self.now asking) asking.client }
+    {
+        self.terminating(asking.client)
+    }
+
+    /// What the end of the driver tells, and does outside the registry: all logs close and all pairs go, and nobody is
+    /// told of them.
+    fn outcome_of_terminated(
         &self,
         alloc: Global,
-        client: Client,
-        correlation: u64,
-    ) -> Result<Told, AllocError>
-        ensures { IfOk result (λ told. told ≡ told_of (terminate self.now client correlation)) }
+        asking: Asking,
+        decision: Decision,
+    ) -> Result<Outcome, AllocError>
+        requires { decision ≡ termination_decision (at_asking self.now asking) asking.client }
+        ensures { (inputs : InputsSpec) → IfOk result (λ outcome. outcome ≡ outcome_by self.now inputs (terminated (at_asking self.now asking) asking.client asking.correlation)) }
     {
-        match self.terminating(client) {
-            Ok(decision) => {
-                let reply = Reply::OperationSuccess { correlation };
-                let mut told = Told::replied_on(alloc, decision, client.number, reply)?;
-                told.closes = places_of(alloc, self.streams.publications())?;
-                Ok(told)
-            }
-            Err(refused) => Told::refused(alloc, client.number, correlation, refused),
-        }
+        let reply = Reply::OperationSuccess {
+            correlation: asking.correlation,
+        };
+        let mut told = Told::replied_on(alloc, decision, asking.client.number, reply)?;
+        told.closes = places_of(alloc, self.streams.publications())?;
+        let gone = self.pairs(alloc)?;
+        renewal::go_alone(alloc, told, gone)
     }
 
     /// What the command TERMINATE_DRIVER of a client that is there tells, and does outside the registry.
-    #[tactic(auto, unfolding(crate::specs::Renewal::renewed))]
     pub(crate) fn outcome_of_terminate(
         &self,
         alloc: Global,
@@ -86,12 +91,10 @@ impl Registry {
     ) -> Result<Outcome, AllocError>
         ensures { IfOk result (λ outcome. outcome ≡ outcome_by self.now inputs.now (terminate (at_asking self.now asking) asking.client asking.correlation)) }
     {
-        let mut after = self.copy(alloc)?;
-        after.go_on(asking.now);
-        after.hear(asking.handle);
-        let told = after.tell_terminate(alloc, asking.client, asking.correlation)?;
-        after.do_terminate(asking.client);
-        self.renew(alloc, inputs, told, &after)
+        match self.terminating_at(asking) {
+            Ok(decision) => self.outcome_of_terminated(alloc, asking, decision),
+            Err(refused) => self.outcome_of_refused(alloc, asking, refused),
+        }
     }
 
     /// All clients go, with all that they registered, and nobody comes any more.

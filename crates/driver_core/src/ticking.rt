@@ -1,20 +1,25 @@
 ghost use Rattle.driver_core.specs.Leaving.{all_left};
-ghost use Rattle.driver_core.specs.Renewal.{outcome_by};
+ghost use Rattle.driver_core.specs.Pairs.{pairs_of};
+ghost use Rattle.driver_core.specs.Renewal.{outcome_by, unavailable_beside};
 ghost use Rattle.driver_core.specs.State.{at_moment};
 ghost use Rattle.driver_core.specs.Ticking.{late, timeout_of, tick};
 ghost use Rattle.driver_core.specs.Told.{told_of};
-ghost use Rattle.std.specs.Prelude.{◌≡◌, map, max, IfOk};
+ghost use Rattle.log_readers.specs.Numbering.{AreInOrder};
+ghost use Rattle.log_readers.specs.Turnover.{is_going};
+ghost use Rattle.std.specs.List.{flat_map};
+ghost use Rattle.std.specs.Prelude.{◌≡◌, ◌++◌, ℕ, List, filter, map, IfOk, OnOk};
 ghost use Rattle.stream_registry.specs.Lingering.{closed, closing_of};
 
 use crate::event::Inputs;
 use crate::outcome::{Outcome, Response};
 use crate::registry::Registry;
-use crate::renewal;
+use crate::renewal::{self, tell_unavailable};
 use crate::replies::{Message, Reply};
 use crate::told::Told;
 use byte_strings::Items;
+use log_readers::is_of_any;
 use std::alloc::{AllocError, Global};
-use stream_registry::LogPlace;
+use stream_registry::{LogPlace, Pair};
 
 /// What the clients are told that are late, each over its own handle.
 fn timeouts(alloc: Global, clients: &[u64]) -> Result<Items<Message>, AllocError>
@@ -31,23 +36,12 @@ fn timeouts(alloc: Global, clients: &[u64]) -> Result<Items<Message>, AllocError
 }
 
 impl Registry {
-    /// The logs that close at this moment, once these clients went.
-    #[tactic(auto, unfolding(crate::specs::State::at_moment))]
-    fn closing_without(
-        &self,
-        alloc: Global,
-        now: u64,
-        clients: &[u64],
-    ) -> Result<Items<LogPlace>, AllocError>
-        ensures { IfOk result (λ closes. closes ≡ closing_of (all_left (at_moment self.now now) clients.now).streams (all_left (at_moment self.now now) clients.now).moment) }
+    /// The logs that close at this moment, whichever clients go at it: one that they leave alone begins to linger, and no
+    /// log lingers for too long at the moment at which it begins.
+    fn closing_without(&self, alloc: Global, now: u64) -> Result<Items<LogPlace>, AllocError>
+        ensures { (clients : List ℕ) → IfOk result (λ closes. closes ≡ closing_of (all_left (at_moment self.now now) clients).streams (all_left (at_moment self.now now) clients).moment) }
     {
-        if clients.is_empty() {
-            return self.streams.closing(alloc, self.moment.max(now));
-        }
-        let mut after = self.copy(alloc)?;
-        after.go_on(now);
-        after.leave_all(clients);
-        after.streams.closing(alloc, after.moment)
+        self.streams.closing(alloc, self.moment.max(now))
     }
 
     /// What it tells that time went on.
@@ -58,12 +52,42 @@ impl Registry {
         let late = self.clients.expired(self.moment.max(now));
         let mut told = Told::answered(alloc, Response::Nothing);
         told.later = timeouts(alloc, late.as_slice())?;
-        told.closes = self.closing_without(alloc, now, late.as_slice())?;
+        told.closes = self.closing_without(alloc, now)?;
         Ok(told)
     }
 
-    /// What it tells where clients go or logs close.
-    #[tactic(auto, unfolding(crate::specs::Renewal::renewed))]
+    /// The pairs that go where these clients and these logs go. The lists are in order.
+    fn pairs_of_going(
+        &self,
+        alloc: Global,
+        clients: &[u64],
+        closes: &[LogPlace],
+    ) -> Result<Items<Pair>, AllocError>
+        ensures exact { IfOk result (λ pairs. pairs ≡ filter (is_going self.now.streams clients.now closes.now) (pairs_of self.now)) }
+        ensures in_order { AreInOrder self.now.streams self.now.clients.rows self.now.last_number }
+    {
+        self.readers
+            .pairs_of_going(alloc, &self.streams, clients, closes)
+    }
+
+    /// Tells of these pairs that they went, where their subscriptions are none of these clients'.
+    fn tell_unavailable_beside(
+        &self,
+        messages: &mut Items<Message>,
+        clients: &[u64],
+        gone: &[Pair],
+    ) -> Result<(), AllocError>
+        ensures { OnOk result (messages.new ≡ messages.old ++ flat_map (unavailable_beside self.now clients.now) gone.now) }
+    {
+        for pair in gone {
+            if !is_of_any(&self.streams, clients, *pair) {
+                tell_unavailable(messages, self, *pair)?;
+            }
+        }
+        Ok(())
+    }
+
+    /// What it tells where clients go or logs close: of the pairs that go, those are told whose subscriptions stay.
     fn outcome_of_going(
         &self,
         alloc: Global,
@@ -74,10 +98,11 @@ impl Registry {
         requires { told ≡ told_of (tick (at_moment self.now now)) }
         ensures { IfOk result (λ outcome. outcome ≡ outcome_by self.now inputs.now (tick (at_moment self.now now))) }
     {
-        let mut after = self.copy(alloc)?;
-        after.go_on(now);
-        after.do_tick();
-        self.renew(alloc, inputs, told, &after)
+        let late = self.clients.expired(self.moment.max(now));
+        let gone = self.pairs_of_going(alloc, late.as_slice(), told.closes.as_slice())?;
+        let mut told = told;
+        self.tell_unavailable_beside(&mut told.replies, late.as_slice(), gone.as_slice())?;
+        renewal::go_alone(alloc, told, gone)
     }
 
     /// What it tells, and does outside the registry, that time goes on.

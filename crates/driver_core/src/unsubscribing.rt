@@ -9,14 +9,12 @@ ghost use Rattle.std.specs.Prelude.{◌≡◌, ℕ, true, filter, IfOk};
 ghost use Rattle.stream_registry.specs.Leaving.{has_subscription};
 
 use crate::asking::Asking;
+use crate::commands::outcome_of_done;
 use crate::event::Inputs;
 use crate::outcome::Outcome;
 use crate::refusal::Refusal;
 use crate::refused::Refused;
 use crate::registry::Registry;
-use crate::renewal;
-use crate::replies::Reply;
-use crate::told::Told;
 use byte_strings::Items;
 use client_registry::Client;
 use command_codec::Removal;
@@ -43,13 +41,8 @@ impl Registry {
         requires { has_subscription self.now.streams asking.client.number number ≡ true }
         ensures { (inputs : InputsSpec) → IfOk result (λ outcome. outcome ≡ outcome_by self.now inputs (unsubscribed (at_asking self.now asking) asking.client asking.correlation number)) }
     {
-        let reply = Reply::OperationSuccess {
-            correlation: asking.correlation,
-        };
-        let told = Told::replied(alloc, asking.client.number, reply)?;
-        let mut outcome = renewal::keep_pairs(alloc, told)?;
-        outcome.gone = self.pairs_with(alloc, number)?;
-        Ok(outcome)
+        let gone = self.pairs_with(alloc, number)?;
+        outcome_of_done(alloc, asking, gone)
     }
 
     /// What the command REMOVE_SUBSCRIPTION of a client that is there tells, and does outside the registry.

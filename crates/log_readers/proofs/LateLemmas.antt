@@ -5,7 +5,7 @@ use Rattle.std.specs.List.{list_any}
 use Rattle.std.proofs.lemmas.Bool.{or_parts}
 use Rattle.std.proofs.lemmas.List.Elements.{filter_agree}
 use Rattle.log_readers.specs.Numbering.{AreInOrder}
-use Rattle.log_readers.specs.Turnover.{IsTurnover, all_left, all_without, is_of_any, is_of_client, is_of_closing}
+use Rattle.log_readers.specs.Turnover.{IsTurnover, all_left, all_without, is_going, is_had_by, is_of_any, is_of_client, is_of_closing}
 use Rattle.stream_registry.specs.declared.pairs.Pair.{Pair}
 use Rattle.stream_registry.specs.declared.row.Subscription.{Subscription}
 use Rattle.stream_registry.specs.Leaving.{has_subscription, is_own_subscription, is_subscription_of_another, left}
@@ -48,7 +48,7 @@ left_has : (s : Streams) (gone client number now : ℕ) → has_subscription s g
 unfolding left settled
 left_has s gone client number now none = had_by_others gone client number s.subscriptions none
 
-left_any : (s : Streams) (gone now : ℕ) (late : List ℕ) (pair : Pair) → is_of_client s gone pair ≡ false →
+pub left_any : (s : Streams) (gone now : ℕ) (late : List ℕ) (pair : Pair) → is_of_client s gone pair ≡ false →
     is_of_any (left s gone now) late pair ≡ is_of_any s late pair
 left_any s gone now [] pair none = refl
 left_any s gone now (client ∷ late) pair none =
@@ -59,6 +59,50 @@ next_any : (first : Bool) (s : Streams) (gone now : ℕ) (late : List ℕ) (pair
     (not first && not (is_of_any (left s gone now) late pair)) ≡ not (first || is_of_any s late pair)
 next_any true s gone now late pair is = refl
 next_any false s gone now late pair is = ap not (left_any s gone now late pair is)
+
+-- ---- it is asked of each subscription
+
+any_of_two : {X : Type 0} (first rest : X → Bool) (xs : List X) →
+    list_any (λ x. first x || rest x) xs ≡ (list_any first xs || list_any rest xs)
+any_of_two first rest [] = refl
+any_of_two first rest (x ∷ xs) =
+    ap (λ (b : Bool). (first x || rest x) || b) (any_of_two first rest xs)
+    ∙ turned_round (first x) (rest x) (list_any first xs) (list_any rest xs)
+  where
+    turned_round : (a b c d : Bool) → ((a || b) || (c || d)) ≡ ((a || c) || (b || d))
+    turned_round true b c d = refl
+    turned_round false true true d = refl
+    turned_round false true false d = refl
+    turned_round false false c d = refl
+
+none_has : (number : ℕ) (subs : List Subscription) → list_any (is_had_by number []) subs ≡ false
+none_has number [] = refl
+none_has number (row ∷ subs) =
+    ap (λ (b : Bool). b || list_any (is_had_by number []) subs) (never (row.number == number)) ∙ none_has number subs
+  where
+    never : (b : Bool) → (b && false) ≡ false
+    never true = refl
+    never false = refl
+
+one_or_rest : (numbered mine rest : Bool) → (numbered && (mine || rest)) ≡ ((mine && numbered) || (numbered && rest))
+one_or_rest true true rest = refl
+one_or_rest true false rest = refl
+one_or_rest false true rest = refl
+one_or_rest false false rest = refl
+
+any_alike : {X : Type 0} (p q : X → Bool) (xs : List X) → ((x : X) → p x ≡ q x) → list_any p xs ≡ list_any q xs
+any_alike p q [] same = refl
+any_alike p q (x ∷ xs) same = rw (same x) (ap (λ (b : Bool). q x || b) (any_alike p q xs same))
+
+pub had_by_any : (s : Streams) (clients : List ℕ) (pair : Pair) →
+    list_any (is_had_by pair.subscription clients) s.subscriptions ≡ is_of_any s clients pair
+had_by_any s [] pair = none_has pair.subscription s.subscriptions
+had_by_any s (client ∷ clients) pair =
+    any_alike (is_had_by pair.subscription (client ∷ clients))
+    (λ row. is_own_subscription client pair.subscription row || is_had_by pair.subscription clients row) s.subscriptions
+    (λ row. one_or_rest (row.number == pair.subscription) (row.client == client) (list_any (λ one. row.client == one) clients))
+    ∙ any_of_two (is_own_subscription client pair.subscription) (is_had_by pair.subscription clients) s.subscriptions
+    ∙ ap (λ (b : Bool). is_of_client s client pair || b) (had_by_any s clients pair)
 
 -- ---- what is left of the pairs
 
@@ -76,7 +120,7 @@ module _ (policy : Rules) (epoch : ℕ) where
       (λ (pair : Pair). not (is_of_any s (client ∷ late) pair))
       (λ pair. next_any (is_of_client s client pair) s client now late pair refl) (pairs_of s clients.rows policy epoch)
 
-  all_left_in_order : (s : Streams) (clients : ClientList) (late : List ℕ) (now last : ℕ) → AreInOrder s clients.rows last →
+  pub all_left_in_order : (s : Streams) (clients : ClientList) (late : List ℕ) (now last : ℕ) → AreInOrder s clients.rows last →
       AreInOrder (all_left s late now) (all_without clients late).rows last
   all_left_in_order s clients [] now last order = order
   all_left_in_order s clients (client ∷ late) now last order =
@@ -91,8 +135,7 @@ module _ (policy : Rules) (epoch : ℕ) where
   pub ticked_turnover : (s : Streams) (clients : ClientList) (late : List ℕ) (now last : ℕ) → AreInOrder s clients.rows last →
       IsTurnover (pairs_of s clients.rows policy epoch)
       (pairs_of (closed (all_left s late now) now) (all_without clients late).rows policy epoch)
-      (filter (λ pair. is_of_any s late pair || is_of_closing (closing_of (all_left s late now) now) pair)
-      (pairs_of s clients.rows policy epoch)) []
+      (filter (is_going s late (closing_of (all_left s late now) now)) (pairs_of s clients.rows policy epoch)) []
   ticked_turnover s clients late now last order =
       let before : List Pair = pairs_of s clients.rows policy epoch in
       let closes = closing_of (all_left s late now) now in
@@ -105,7 +148,7 @@ module _ (policy : Rules) (epoch : ℕ) where
       record {
         gone = kept.gone
             ∙ filter_agree (λ (pair : Pair). not (not (is_of_any s late pair) && stays_open closes pair.source))
-            (λ (pair : Pair). is_of_any s late pair || is_of_closing closes pair)
+            (is_going s late closes)
             (λ pair. neither (is_of_any s late pair) (is_of_closing closes pair)) before;
         come = kept.come;
       }

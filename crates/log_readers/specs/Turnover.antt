@@ -1,5 +1,5 @@
 -- Which pairs one list has and another lacks, and what an event's own rows have to do with that. Own rules.
-use Rattle.std.specs.Prelude.{◌≡◌, ℕ, Bool, not, ◌==◌, ◌&&◌, List, [], ◌∷◌, ◌++◌, map, filter}
+use Rattle.std.specs.Prelude.{◌≡◌, ℕ, Bool, not, ◌==◌, ◌&&◌, ◌||◌, List, [], ◌∷◌, ◌++◌, map, filter}
 use Rattle.std.specs.List.{list_any}
 use Rattle.log_readers.specs.Readers.{all_readers}
 use Rattle.stream_registry.specs.declared.lingering.LogPlace.{LogPlace}
@@ -79,3 +79,11 @@ all_without clients (client ∷ others) = all_without (without clients client) o
 -- it is of a subscription of one of these clients
 abbrev pub is_of_any : Streams → List ℕ → Pair → Bool
 is_of_any s clients pair = list_any (λ client. is_of_client s client pair) clients
+
+-- the subscription has this number, and one of these clients has it
+abbrev pub is_had_by : ℕ → List ℕ → Subscription → Bool
+is_had_by number clients row = row.number == number && list_any (λ client. row.client == client) clients
+
+-- it goes where these clients and these logs go
+abbrev pub is_going : Streams → List ℕ → List LogPlace → Pair → Bool
+is_going s clients closes pair = is_of_any s clients pair || is_of_closing closes pair

@@ -20,3 +20,4 @@ pub use coming::{logs_read, pairs_of_log, pairs_of_subscription, readers_of};
 pub use counting::pair_count;
 pub use readers::Readers;
 pub use reloading::Turnover;
+pub use telling::is_of_any;

@@ -1,17 +1,30 @@
-//! The pairs, all and those that go with a subscription, a client or a log, from what is kept: the policy is not asked.
+//! The pairs, all and those that go with a subscription, with clients or with logs, from what is kept: the policy is not asked.
 
 ghost use Rattle.log_readers.specs.Readers.{all_readers};
-ghost use Rattle.log_readers.specs.Turnover.{is_of_client, is_of_closing, is_of_number, pair_at, told};
+ghost use Rattle.log_readers.specs.Turnover.{is_going, is_had_by, is_of_any, is_of_client, is_of_closing, is_of_number, pair_at, told};
 ghost use Rattle.client_registry.specs.declared.client.Client.{Client};
 ghost use Rattle.policy_core.specs.RuleList.{Rules};
-ghost use Rattle.std.specs.Prelude.{◌≡◌, ◌++◌, ℕ, List, IfOk, OnOk, filter, length, map, true};
+ghost use Rattle.std.specs.List.{list_any};
+ghost use Rattle.std.specs.Prelude.{◌≡◌, ◌==◌, ◌++◌, ℕ, List, IfOk, OnOk, filter, length, map, true};
 ghost use Rattle.stream_registry.specs.Pairs.{pairs_of};
 
 use crate::readers::Readers;
 use byte_strings::Items;
 use rows::{Rows, Test};
 use std::alloc::{AllocError, Global};
-use stream_registry::{LogPlace, Pair, Publication, Streams};
+use stream_registry::{LogPlace, Pair, Publication, Streams, Subscription};
+
+/// Keeps all pairs.
+#[derive(Clone, Copy)]
+struct Each;
+
+impl Test<Pair> for Each {
+    ghost keeps = { λ test pair. true };
+
+    fn keeps(&self, _pair: &Pair) -> bool {
+        true
+    }
+}
 
 /// Keeps the pairs of the subscription of this number.
 #[derive(Clone, Copy)]
@@ -43,6 +56,13 @@ impl Test<Pair> for OfClient<'_> {
     }
 }
 
+/// Whether the pair is of one of these logs.
+fn is_of_closing(closes: &[LogPlace], pair: Pair) -> bool
+    ensures { result ≡ is_of_closing closes.now pair }
+{
+    closes.iter().any(|closed| closed.source == pair.source)
+}
+
 /// Keeps the pairs of these logs.
 #[derive(Clone, Copy)]
 struct OfClosing<'a> {
@@ -53,21 +73,46 @@ impl Test<Pair> for OfClosing<'_> {
     ghost keeps = { λ test pair. is_of_closing test.closes.now pair };
 
     fn keeps(&self, pair: &Pair) -> bool {
-        self.closes
-            .iter()
-            .any(|closed| closed.source == pair.source)
+        is_of_closing(self.closes, *pair)
     }
 }
 
-/// Keeps all pairs.
+/// Whether the subscription is one of these clients'.
+fn is_of_one(subscription: &Subscription, clients: &[u64]) -> bool
+    ensures { result ≡ list_any (λ client. subscription.now.client == client) clients.now }
+{
+    clients.iter().any(|client| subscription.client == *client)
+}
+
+/// Whether the subscription of this number is one of these clients'.
+fn is_had_by_any(subscriptions: &[Subscription], number: u64, clients: &[u64]) -> bool
+    ensures { result ≡ list_any (is_had_by number clients.now) subscriptions.now }
+{
+    subscriptions
+        .iter()
+        .any(|row| row.number == number && is_of_one(row, clients))
+}
+
+/// Whether the pair is of a subscription of one of these clients.
+pub fn is_of_any(streams: &Streams, clients: &[u64], pair: Pair) -> bool
+    ensures { result ≡ is_of_any streams.now clients.now pair }
+{
+    is_had_by_any(streams.subscriptions(), pair.subscription, clients)
+}
+
+/// Keeps the pairs that go where these clients and these logs go.
 #[derive(Clone, Copy)]
-struct Every;
+struct Going<'a> {
+    streams: &'a Streams,
+    clients: &'a [u64],
+    closes: &'a [LogPlace],
+}
 
-impl Test<Pair> for Every {
-    ghost keeps = { λ test pair. true };
+impl Test<Pair> for Going<'_> {
+    ghost keeps = { λ test pair. is_going test.streams.now test.clients.now test.closes.now pair };
 
-    fn keeps(&self, _pair: &Pair) -> bool {
-        true
+    fn keeps(&self, pair: &Pair) -> bool {
+        is_of_any(self.streams, self.clients, *pair) || is_of_closing(self.closes, *pair)
     }
 }
 
@@ -136,7 +181,7 @@ impl Readers {
         requires { length self.now ≡ length streams.now.publications }
         ensures { (clients : List Client) (policy : Rules) (epoch : ℕ) → self.now ≡ all_readers streams.now clients policy epoch → IfOk result (λ pairs. pairs ≡ pairs_of streams.now clients policy epoch) }
     {
-        self.pairs_that(alloc, streams.publications(), &Every)
+        self.pairs_that(alloc, streams.publications(), &Each)
     }
 
     /// The pairs of the subscription of this number, by source.
@@ -176,5 +221,24 @@ impl Readers {
         ensures { (clients : List Client) (policy : Rules) (epoch : ℕ) → self.now ≡ all_readers streams.now clients policy epoch → IfOk result (λ pairs. pairs ≡ filter (is_of_closing closes.now) (pairs_of streams.now clients policy epoch)) }
     {
         self.pairs_that(alloc, streams.publications(), &OfClosing { closes })
+    }
+
+    /// The pairs that go where these clients and these logs go, by source and then subscription.
+    pub fn pairs_of_going(
+        &self,
+        alloc: Global,
+        streams: &Streams,
+        clients: &[u64],
+        closes: &[LogPlace],
+    ) -> Result<Items<Pair>, AllocError>
+        requires { length self.now ≡ length streams.now.publications }
+        ensures { (rows : List Client) (policy : Rules) (epoch : ℕ) → self.now ≡ all_readers streams.now rows policy epoch → IfOk result (λ pairs. pairs ≡ filter (is_going streams.now clients.now closes.now) (pairs_of streams.now rows policy epoch)) }
+    {
+        let going = Going {
+            streams,
+            clients,
+            closes,
+        };
+        self.pairs_that(alloc, streams.publications(), &going)
     }
 }
