@@ -132,19 +132,6 @@ renewed before inputs draft = record {
   };
 }
 
--- what it tells, by what its own rule tells and by the registry behind it
-abbrev pub outcome_with : State → Inputs → Told → State → Outcome
-outcome_with before inputs told after = record {
-  response = told.response;
-  replies = told.replies
-      ++ (images_told after inputs (gone_from before after) (come_to before after) ++ told.later);
-  decisions = told.decisions ++ images_decided after (gone_from before after) (come_to before after);
-  opens = told.opens;
-  closes = told.closes;
-  gone = gone_from before after;
-  come = come_to before after;
-}
-
 -- where no pair goes or comes
 abbrev pub outcome_kept : Told → Outcome
 outcome_kept told = record {

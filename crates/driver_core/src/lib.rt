@@ -1,8 +1,9 @@
 //! The registry of a driver, and what each event makes of it.
 //!
-//! `Registry::step` is one event of the conductor: a client that attaches, a command of one, a policy that is put in
-//! force, or time that goes on. What it answers is `outcome_of`, and what it leaves is `state_after`, two total functions
-//! on the registry as plain data. `Registry::list` and `Registry::value` show a client counters, and `Registry::offering`
+//! An event of the conductor is a client that attaches, a command of one, a policy that is put in force, or time that goes
+//! on. `Registry::plan` decides it and tells what goes out, as an `Entry`; the registry stays as it is. `Registry::apply`
+//! does an entry, in place and without memory. `Registry::step` is both. What is told is `outcome_of`, and what is left is
+//! `state_after`, two total functions on the registry as plain data. `Registry::list` and `Registry::value` show a client counters, and `Registry::offering`
 //! and `Registry::receiving` say what it asks of a log; none of them changes anything.
 #![tactic(auto)]
 

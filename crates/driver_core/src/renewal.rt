@@ -1,10 +1,9 @@
-ghost use Rattle.driver_core.specs.Renewal.{available_for, come_to, decided_on, gone_from, images_decided, images_told, outcome_gone, outcome_kept, outcome_with, position_at, unavailable_for, under};
+ghost use Rattle.driver_core.specs.Renewal.{available_for, decided_on, images_decided, images_told, outcome_gone, outcome_kept, position_at, unavailable_for, under};
 ghost use Rattle.std.specs.List.{flat_map};
 ghost use Rattle.std.specs.Prelude.{◌≡◌, ◌++◌, [], IfOk, OnOk};
 
 use crate::event::{End, Inputs};
 use crate::outcome::Outcome;
-use crate::pairs::lacking;
 use crate::registry::Registry;
 use crate::replies::{Message, Reply};
 use crate::told::Told;
@@ -195,18 +194,6 @@ fn append(messages: &mut Items<Message>, more: &[Message]) -> Result<(), AllocEr
     Ok(())
 }
 
-/// Compares the pairs after an event with those before it.
-fn turnover_of(before: &Registry, after: &Registry, alloc: Global) -> Result<Turnover, AllocError>
-    ensures gone { IfOk result (λ turnover. turnover.gone ≡ gone_from before.now after.now) }
-    ensures come { IfOk result (λ turnover. turnover.come ≡ come_to before.now after.now) }
-{
-    let old = before.pairs(alloc)?;
-    let new = after.pairs(alloc)?;
-    let gone = lacking(alloc, old.as_slice(), new.as_slice())?;
-    let come = lacking(alloc, new.as_slice(), old.as_slice())?;
-    Ok(Turnover { gone, come })
-}
-
 /// Tells of the images that went and came, puts the later replies behind, and says what is decided on these images by the
 /// policy that is in force then, under the number `epoch`.
 pub(crate) fn tell_turnover(
@@ -237,25 +224,6 @@ pub(crate) fn outcome_from(told: Told, turnover: Turnover) -> Outcome
         closes: told.closes,
         gone: turnover.gone,
         come: turnover.come,
-    }
-}
-
-impl Registry {
-    /// What an event tells whose own rule tells this and leaves that registry.
-    pub(crate) fn renew(
-        &self,
-        alloc: Global,
-        inputs: &Inputs,
-        told: Told,
-        after: &Registry,
-    ) -> Result<Outcome, AllocError>
-        ensures { IfOk result (λ outcome. outcome ≡ outcome_with self.now inputs.now told after.now) }
-    {
-        let turnover = turnover_of(self, after, alloc)?;
-        let mut told = told;
-        let (policy, epoch) = (&after.policy, after.epoch);
-        tell_turnover(&mut told, after, policy, epoch, inputs, &turnover)?;
-        Ok(outcome_from(told, turnover))
     }
 }
 
