@@ -34,7 +34,6 @@ impl Registry {
 
     /// What goes and what comes where the policy is in force, under the next number. It is asked once for each
     /// subscription.
-    #[tactic(auto, unfolding(crate::specs::Pairs::pairs_of, crate::specs::Reloading::in_force))]
     fn turnover_under(&self, alloc: Global, policy: &Policy) -> Result<Turnover, AllocError>
         requires { self.now.epoch < 18446744073709551615 }
         ensures gone { IfOk result (λ turnover. turnover.gone ≡ gone_from self.now (in_force self.now policy.now)) }
