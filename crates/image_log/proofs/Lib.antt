@@ -7,6 +7,7 @@ pub mod Orders
 pub mod Pairing
 pub mod Ring
 pub mod Settled
+pub mod Starts
 pub mod Taken
 pub mod Tests
 pub mod Writes

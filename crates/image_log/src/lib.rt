@@ -1,8 +1,9 @@
 //! The log of a remote stream, rebuilt from the frames that come, in any order.
 //!
 //! `ImageLog::insert` says what becomes of a frame; `contiguous` and `gap` say how far the stream is whole and what is
-//! missing; `frames_from` lends what is whole to readers; frames below the term of the slowest subscription go. Contracts
-//! see a log as a map from positions to frames whose ranges do not meet. Only `ImageLog::open` takes memory. Positions and
+//! missing; `frames_from` lends what is whole to readers; frames below the term of the slowest subscription go. `fragments` and
+//! `poll` are the two halves of a poll. Contracts see a log as the lease that it has and a map from positions to frames whose
+//! ranges do not meet. Only `ImageLog::open` takes memory. Positions and
 //! frames are those of the Aeron Transport Protocol Specification.
 #![tactic(auto)]
 

@@ -9,8 +9,8 @@ use image_log::{ImageFrame, ImageLog, Insert};
 /// A subscription reads the log from now on. The answer is its position.
 #[tactic(auto, unfolding(image_log::specs::Rebuilt::settled))]
 pub fn join(log: &mut ImageLog, subscription: u64) -> u64
-    requires { length log.old.pairs < 512 }
-    ensures { length log.new.pairs ≡ length log.old.pairs + 1 }
+    requires { length log.old.rebuilt.pairs < 512 }
+    ensures { length log.new.rebuilt.pairs ≡ length log.old.rebuilt.pairs + 1 }
 {
     log.join_pair(subscription)
 }
@@ -18,7 +18,7 @@ pub fn join(log: &mut ImageLog, subscription: u64) -> u64
 /// A subscription reads up to a position. False where it does not read the log, or must not read so far or back.
 pub fn read_to(log: &mut ImageLog, subscription: u64, position: u64) -> bool {
     match log.pair_position(subscription) {
-        Some(at) if at <= position && position <= log.contiguous() => {
+        Some(at) if at <= position && position <= log.contiguous() && log.is_start(position) => {
             log.advance(subscription, position);
             true
         }

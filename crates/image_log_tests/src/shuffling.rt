@@ -13,7 +13,7 @@ use std::alloc::Global;
 /// frame.
 #[tactic(auto, unfolding(image_log::specs::Rebuilt::after_insert))]
 pub fn hand_in(log: &mut ImageLog, position: u64, fill: u8) -> Option<Insert>
-    ensures pairs { log.new.pairs ≡ log.old.pairs }
+    ensures pairs { log.new.rebuilt.pairs ≡ log.old.rebuilt.pairs }
 {
     let ident = log.ident();
     let mut frame = [0; 64];
@@ -44,7 +44,7 @@ fn place_of(ident: &Ident, position: u64) -> Option<TermPlace> {
 fn open_in(alloc: Global, arena: &mut Arena, ident: Ident, join: u64) -> Result<ImageLog, NoRoom>
     requires terms { ident.term_length ≡ 65536 }
     requires join { (join % 32 ≡ 0) × (join < 65536) }
-    ensures pairs { IfOk result (λ log. log.pairs ≡ []) }
+    ensures pairs { IfOk result (λ log. log.rebuilt.pairs ≡ []) }
 {
     let lease = arena.lease(196_608)?;
     match ImageLog::open(alloc, lease, ident, join) {
@@ -57,7 +57,7 @@ fn open_in(alloc: Global, arena: &mut Arena, ident: Ident, join: u64) -> Result<
 pub fn open(alloc: Global, ident: Ident, join: u64) -> Result<ImageLog, NoRoom>
     requires terms { ident.term_length ≡ 65536 }
     requires join { (join % 32 ≡ 0) × (join < 65536) }
-    ensures pairs { IfOk result (λ log. log.pairs ≡ []) }
+    ensures pairs { IfOk result (λ log. log.rebuilt.pairs ≡ []) }
 {
     match Arena::new(alloc, 48) {
         Ok(mut arena) => open_in(alloc, &mut arena, ident, join),

@@ -26,7 +26,7 @@ fn is_at(log: &ImageLog, base: u64, contiguous: u64, gap: Option<(u64, u32)>) ->
 }
 
 fn fills_a_gap(log: &mut ImageLog) -> bool
-    requires { log.old.pairs ≡ [] }
+    requires { log.old.rebuilt.pairs ≡ [] }
 {
     let joined = join(log, 1) == 0 && is_at(log, 0, 0, None);
     let apart = inserts(log, &[(0, 1, Insert::Taken), (128, 3, Insert::Taken)]);
@@ -60,7 +60,7 @@ fn stands_at(log: &ImageLog, subscription: u64, position: u64) -> bool {
 }
 
 fn two_read(log: &mut ImageLog) -> bool
-    requires { log.old.pairs ≡ [] }
+    requires { log.old.rebuilt.pairs ≡ [] }
 {
     let first = join(log, 4) == 0 && hand_in(log, 0, 1) == Some(Insert::Taken);
     let second = join(log, 9) == 64 && hand_in(log, 64, 2) == Some(Insert::Taken);
@@ -100,7 +100,7 @@ fn gives_back(log: ImageLog, at: usize) -> bool {
 }
 
 fn four_terms_are_read(log: &mut ImageLog) -> bool
-    requires { log.old.pairs ≡ [] }
+    requires { log.old.rebuilt.pairs ≡ [] }
 {
     let joined = join(log, 1) == 0;
     let filled = fill(log, 1, 262_144, 4096);
@@ -216,7 +216,7 @@ fn whole_frames_are_read(rt: HostRuntime) -> Result<(), Fail> {
 }
 
 fn status_is_due_in_time(log: &mut ImageLog) -> bool
-    requires { log.old.pairs ≡ [] }
+    requires { log.old.rebuilt.pairs ≡ [] }
 {
     let joined = join(log, 1) == 0;
     let first = log.window() == 32_768 && log.status_due(0, 200);
