@@ -1,5 +1,6 @@
 -- Frames as they are handed to a log (Aeron Transport Protocol Specification, data frame and padding).
 use Rattle.std.specs.Prelude.{◌≡◌, ℕ, List, [], ◌∷◌}
+use Rattle.frame_codec.specs.declared.header.TermPlace.{TermPlace}
 use Rattle.frame_codec.specs.Fields.{number_at, signed_at}
 use Rattle.frame_codec.specs.Frame.{padded}
 use Rattle.frame_codec.specs.Position.{position_of}
@@ -14,6 +15,10 @@ span_of bytes = padded (number_at 0 bytes)
 -- the term offset that its header states
 unfoldable pub offset_of : List ℕ → ℕ
 offset_of bytes = number_at 8 bytes
+
+-- the position of a place in the stream
+abbrev pub position_in : Ident → TermPlace → ℕ
+position_in ident place = position_of ident.initial_term_id place.term_id place.term_offset ident.term_length
 
 -- a frame of the log's session and stream, at its header's position
 pub record IsFor (ident : Ident) (position : ℕ) (bytes : List ℕ) : Type 0 where

@@ -10,17 +10,21 @@
 mod handed;
 mod ident;
 mod insert;
+mod laws;
 mod log;
 mod pair;
 mod pairs;
 mod place;
+mod polling;
 mod reading;
 mod status;
 mod store;
 
 pub use ident::Ident;
 pub use insert::Insert;
+pub use laws::{frames_may_be_handed_in, polls_give_frames};
 pub use log::ImageLog;
 pub use pair::Pair;
+pub use polling::{Fragment, Fragments};
 pub use reading::{Frames, ImageFrame};
 pub use status::LastStatus;

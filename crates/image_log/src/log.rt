@@ -1,9 +1,10 @@
-ghost use Rattle.std.specs.Prelude.{◌≡◌, ◌+◌, ◌*◌, ◌%◌, ◌^◌, ◌<◌, ◌≤◌, insert, length, max, true, IfOk, IfErr, IfSome, Some};
+ghost use Rattle.std.specs.Prelude.{◌≡◌, ℕ, ◌+◌, ◌*◌, ◌%◌, ◌^◌, ◌<◌, ◌≤◌, insert, length, max, true, IfOk, IfErr, IfSome, Some};
 ghost use Rattle.log_arena.specs.Lease.{lease_bytes, lease_len};
 ghost use Rattle.image_log.specs.Frame.{framed};
 ghost use Rattle.image_log.specs.Handed.{AreFor, IsFor, offset_of, span_of};
 ghost use Rattle.image_log.specs.Order.{rank};
 ghost use Rattle.image_log.specs.Pairs.{ReadsUpTo, position_of};
+ghost use Rattle.image_log.specs.Polling.{IsAhead, behind, fragments_left, passed, polled, whole_from};
 ghost use Rattle.image_log.specs.Reading.{Adjoin, AreBetween};
 ghost use Rattle.image_log.specs.Rebuilt.{IsStart, advanced, after_insert, contiguous_of, frames_of, gap_of, insert_of, is_beyond, is_silent, joined, left, low_of, opened, reach_of, rejoined, settled, term_end, term_start, window_of};
 ghost use Rattle.image_log.specs.Status.{is_due, told};
@@ -14,7 +15,8 @@ use crate::ident::Ident;
 use crate::insert::Insert;
 use crate::pair::Pair;
 use crate::pairs::Pairs;
-use crate::reading::Frames;
+use crate::polling::{Fragments, behind_passed};
+use crate::reading::{Frames, Run};
 use crate::status::{self, LastStatus};
 use crate::store::Store;
 use log_arena::{Lease, NoMemory};
@@ -310,6 +312,53 @@ impl ImageLog {
     {
         self.pairs.advance(subscription, position);
         self.settle();
+    }
+
+    /// The frames that are whole from a position on.
+    fn run_from(&self, position: u64) -> Run<'_>
+        requires { position ≤ contiguous_of self.now.rebuilt }
+        ensures frames { result ≡ whole_from self.now.rebuilt position }
+        ensures ends { IsStart self.now.rebuilt position → (limit : ℕ)
+            → IsAhead self.now.rebuilt position (behind position (passed limit result)) }
+    {
+        let index = self.store.rank(position);
+        Run::new(&self.store, index, self.store.rank(self.contiguous))
+    }
+
+    /// The position behind the frames that a poll passes from a position on.
+    fn behind_poll(&self, position: u64, limit: usize) -> u64
+        requires to { position ≤ contiguous_of self.now.rebuilt }
+        requires start { IsStart self.now.rebuilt position }
+        ensures exact { result ≡ behind position (passed limit (whole_from self.now.rebuilt position)) }
+        ensures ahead { IsAhead self.now.rebuilt position result }
+    {
+        behind_passed(self.run_from(position), position, limit)
+    }
+
+    /// The fragments that a poll of a subscription gives, over the ends of terms: those from its position on that are whole,
+    /// at most so many. None where it does not read the log. Nothing is passed yet: [`ImageLog::poll`] does that, once they
+    /// were taken.
+    pub fn fragments(&self, subscription: u64, limit: usize) -> Fragments<'_>
+        ensures { fragments_left result ≡ (polled self.now.rebuilt subscription limit).fragments }
+    {
+        match self.pair_position(subscription) {
+            Some(position) => Fragments::new(self.run_from(position), limit),
+            None => Fragments::new(self.run_from(self.contiguous()), 0),
+        }
+    }
+
+    /// A subscription is polled: it has read the frames from its position on, until so many fragments were given or there
+    /// is no more that is whole. Pads do not count, and one behind the last fragment is left.
+    pub fn poll(&mut self, subscription: u64, limit: usize)
+        ensures { self.new ≡ record self.old { rebuilt = (polled self.old.rebuilt subscription limit).after } }
+    {
+        match self.pair_position(subscription) {
+            Some(position) => {
+                let end = self.behind_poll(position, limit);
+                self.advance(subscription, end);
+            }
+            None => {}
+        }
     }
 
     /// The sender was heard at a moment. The greatest one counts.
