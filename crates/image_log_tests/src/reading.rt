@@ -64,6 +64,32 @@ pub fn reads(log: &ImageLog, position: u64, bytes: usize, count: u64, end: u64) 
     given == count && behind == end
 }
 
+/// Whether a poll of a subscription would give fragments that end at these positions, each with 32 bytes of 7.
+pub fn gives(log: &ImageLog, subscription: u64, limit: usize, ends: &[u64]) -> bool {
+    let mut same = true;
+    let mut count: usize = 0;
+    for fragment in log.fragments(subscription, limit) {
+        same &= count < ends.len() && ends[count] == fragment.position;
+        same &= fragment.payload.len() == 32 && fragment.payload.iter().all(|b| *b == 7);
+        same &= fragment.flags == Flags::UNFRAGMENTED;
+        count = count.saturating_add(1);
+    }
+    same && count == ends.len()
+}
+
+/// Polls, and says whether that gave fragments that end at these positions and left the subscription at a position.
+pub fn polls(
+    log: &mut ImageLog,
+    subscription: u64,
+    limit: usize,
+    ends: &[u64],
+    behind: u64,
+) -> bool {
+    let given = gives(log, subscription, limit, ends);
+    log.poll(subscription, limit);
+    given && log.pair_position(subscription) == Some(behind)
+}
+
 /// How many bytes are read at a time.
 const PORTION: usize = 4096;
 
