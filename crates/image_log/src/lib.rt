@@ -1,10 +1,11 @@
 //! The log of a remote stream, rebuilt from the frames that come, in any order.
 //!
 //! `ImageLog::insert` says what becomes of a frame; `contiguous` and `gap` say how far the stream is whole and what is
-//! missing; `frames_from` lends what is whole to readers; frames below the term of the slowest subscription go. `fragments` and
-//! `poll` are the two halves of a poll. Contracts see a log as the lease that it has and a map from positions to frames whose
-//! ranges do not meet. Only `ImageLog::open` takes memory. Positions and
-//! frames are those of the Aeron Transport Protocol Specification.
+//! missing; `frames_from` lends what is whole to readers; frames below the term of the slowest subscription go.
+//! `fragments` and `poll` are the two halves of a poll. Contracts see a log as the lease that it has and a map from
+//! positions to frames whose ranges do not meet. But for `ImageLog::open` and `ImageRoom::new`, by which the memory of a log
+//! is taken beforehand, nothing here takes memory. Positions and frames are those of the Aeron Transport Protocol
+//! Specification.
 #![tactic(auto)]
 
 mod handed;
@@ -17,6 +18,7 @@ mod pairs;
 mod place;
 mod polling;
 mod reading;
+mod room;
 mod status;
 mod store;
 
@@ -27,4 +29,5 @@ pub use log::ImageLog;
 pub use pair::Pair;
 pub use polling::{Fragment, Fragments};
 pub use reading::{Frames, ImageFrame};
+pub use room::ImageRoom;
 pub use status::LastStatus;

@@ -17,6 +17,7 @@ use crate::pair::Pair;
 use crate::pairs::Pairs;
 use crate::polling::{Fragments, behind_passed};
 use crate::reading::{Frames, Run};
+use crate::room::ImageRoom;
 use crate::status::{self, LastStatus};
 use crate::store::Store;
 use log_arena::{Lease, NoMemory};
@@ -96,12 +97,22 @@ impl ImageLog {
         ensures ok { IfOk result (λ l. l ≡ record { held = held_of lease; rebuilt = opened ident join }) }
         ensures err { IfErr result (λ e. e.0 ≡ lease) }
     {
-        let pairs = match Pairs::new(alloc) {
-            Ok(pairs) => pairs,
-            Err(refused) => return Err((lease, refused)),
-        };
-        let store = Store::open(alloc, lease, join)?;
-        Ok(ImageLog {
+        match ImageRoom::new(alloc, lease.len()) {
+            Ok(room) => Ok(ImageLog::open_in(room, lease, ident, join)),
+            Err(refused) => Err((lease, refused)),
+        }
+    }
+
+    /// A log without a frame, in a lease of three terms, as [`ImageLog::open`] opens it, in memory that was taken before.
+    pub fn open_in(room: ImageRoom, lease: Lease, ident: Ident, join: u64) -> ImageLog
+        requires room { room ≡ lease_len lease }
+        requires terms { (65536 ≤ ident.term_length) × (ident.term_length ≤ 16777216) }
+        requires lease { lease_len lease ≡ 3 * ident.term_length }
+        requires join { (join % 32 ≡ 0) × (join < ident.term_length * 2 ^ 31) }
+        ensures { result ≡ record { held = held_of lease; rebuilt = opened ident join } }
+    {
+        let store = Store::open(room.places, lease, join);
+        ImageLog {
             ident,
             join,
             base: join,
@@ -109,9 +120,9 @@ impl ImageLog {
             greatest: join,
             moment: 0,
             status: None,
-            pairs,
+            pairs: room.pairs,
             store,
-        })
+        }
     }
 
     /// Which stream it is of: the one that each frame names which is kept.

@@ -6,7 +6,7 @@ mod shuffling;
 mod table;
 
 pub use reading::{fill, gives, join, polls, read_portion, read_to, reads, take_all};
-pub use shuffling::{agree, go_on, hand_in, hand_in_cell, open};
+pub use shuffling::{agree, go_on, hand_in, hand_in_cell, open, open_later};
 pub use table::{Cell, Table};
 
 #[cfg(test)]

@@ -5,7 +5,7 @@ ghost use Rattle.std.specs.Prelude.{◌≡◌, ◌%◌, ◌<◌, ◌≤◌, [], 
 use crate::reading::{join, read_portion};
 use crate::table::{Cell, Table};
 use frame_codec::{Flags, TermPlace, term_of, write_data, write_pad};
-use image_log::{Ident, ImageLog, Insert};
+use image_log::{Ident, ImageLog, ImageRoom, Insert};
 use log_arena::{Arena, NoRoom};
 use std::alloc::Global;
 
@@ -61,6 +61,37 @@ pub fn open(alloc: Global, ident: Ident, join: u64) -> Result<ImageLog, NoRoom>
 {
     match Arena::new(alloc, 48) {
         Ok(mut arena) => open_in(alloc, &mut arena, ident, join),
+        Err(_) => Err(NoRoom),
+    }
+}
+
+// As `open_in`, in memory that was taken before.
+fn open_in_room(
+    room: ImageRoom,
+    arena: &mut Arena,
+    ident: Ident,
+    join: u64,
+) -> Result<ImageLog, NoRoom>
+    requires room { room ≡ 196608 }
+    requires terms { ident.term_length ≡ 65536 }
+    requires join { (join % 32 ≡ 0) × (join < 65536) }
+    ensures pairs { IfOk result (λ log. log.rebuilt.pairs ≡ []) }
+{
+    let lease = arena.lease(196_608)?;
+    Ok(ImageLog::open_in(room, lease, ident, join))
+}
+
+/// As [`open`], with all memory taken first.
+pub fn open_later(alloc: Global, ident: Ident, join: u64) -> Result<ImageLog, NoRoom>
+    requires terms { ident.term_length ≡ 65536 }
+    requires join { (join % 32 ≡ 0) × (join < 65536) }
+    ensures pairs { IfOk result (λ log. log.rebuilt.pairs ≡ []) }
+{
+    let Ok(room) = ImageRoom::new(alloc, 196_608) else {
+        return Err(NoRoom);
+    };
+    match Arena::new(alloc, 48) {
+        Ok(mut arena) => open_in_room(room, &mut arena, ident, join),
         Err(_) => Err(NoRoom),
     }
 }

@@ -124,6 +124,15 @@ fn lease_comes_back(rt: HostRuntime) -> Result<(), Fail> {
     Ok(())
 }
 
+// A log opens in memory that was taken before, in a lease whose bytes are those of its frames.
+#[test]
+fn log_opens_in_room_that_was_taken(rt: HostRuntime) -> Result<(), Fail> {
+    let mut log = open_later(rt.alloc(), STREAM, 64)?;
+    assert!(rt; is_at(&log, 64, 64, None) && inserts(&mut log, &[(64, 7, Insert::Taken)]));
+    assert!(rt; gives_back(log, 64));
+    Ok(())
+}
+
 fn falls_silent(log: &mut ImageLog) -> bool {
     log.heard(500);
     log.heard(300);
