@@ -9,3 +9,4 @@ pub mod Numbers
 pub mod WriteBack
 pub mod FramesBack
 pub mod DatagramsBack
+pub mod Telling

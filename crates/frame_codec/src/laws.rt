@@ -10,6 +10,7 @@ ghost use Rattle.frame_codec.specs.Header.{plain_header};
 ghost use Rattle.frame_codec.specs.Nak.{nak_bytes};
 ghost use Rattle.frame_codec.specs.Position.{position_of, term_id_of};
 ghost use Rattle.frame_codec.specs.Setup.{setup_bytes};
+ghost use Rattle.frame_codec.specs.Sound.{AreOfOneTerm, AreTold};
 ghost use Rattle.frame_codec.specs.StatusMessage.{status_bytes};
 ghost use Rattle.frame_codec.specs.Written.{AreBehind, AreKept, ArePlain, IsNak, IsPlace, IsSetup, IsStatusMessage, IsWritten, StandIn, Written, all_bytes, all_frames, all_written, written_frame};
 ghost use Rattle.frame_codec.specs.declared.flags.Flags.{Flags};
@@ -57,6 +58,18 @@ pub fn frames_write_back()
 /// to the next multiple of 32; behind the last the filling may be cut off.
 pub fn frames_stand_in_datagrams()
     ensures { (bytes : List ℕ) (frames : List Sent) → packet_of bytes ≡ Ok (contents.frames frames) → StandIn frames bytes }
+{}
+
+/// Each frame of a datagram of data frames and pads is sound: its bytes are those of one data frame without its filling, or
+/// of one pad by its header alone, with a length below 2^31 at an offset that is a multiple of 32, and its header is what
+/// stands in them. So it may be handed in to a log of its session and stream.
+pub fn frames_are_told()
+    ensures { (bytes : List ℕ) (frames : List Sent) → packet_of bytes ≡ Ok (contents.frames frames) → AreTold frames }
+{}
+
+/// A datagram of data frames and pads has one frame at least, and all of them are of one session, one stream and one term.
+pub fn frames_are_of_one_term()
+    ensures { (bytes : List ℕ) (frames : List Sent) → packet_of bytes ≡ Ok (contents.frames frames) → AreOfOneTerm frames }
 {}
 
 /// Data frames and pads that are written one behind the other have the reserved values and the filling that frames are

@@ -64,14 +64,14 @@ pub before-end : (t p : ℕ) → 0 < t → p ≤ p - p % t + t
 before-end t p some = omega arith
 
 -- no frame begins between two positions where none can
-none-from : (p q low end : ℕ) (fs : List Frame) → Ordered low end fs → q ≤ low → filter (begins_within p q) fs ≡ []
+pub none-from : (p q low end : ℕ) (fs : List Frame) → Ordered low end fs → q ≤ low → filter (begins_within p q) fs ≡ []
 none-from p q low end [] o h = refl
 none-from p q low end (f ∷ fs) o h =
     let rest = none-from p q (end_of f) end fs o.3 (omega (arith, o.0, h)) in
     let past = lt_no f.position q (omega (arith, o.0, h)) in
     by_test (leb p f.position) (λ e. rw (e, past) rest) (λ e. rw e rest)
 
-none-after : (p q : ℕ) (fs : List Frame) → q ≤ p → filter (begins_within p q) fs ≡ []
+pub none-after : (p q : ℕ) (fs : List Frame) → q ≤ p → filter (begins_within p q) fs ≡ []
 none-after p q [] h = refl
 none-after p q (f ∷ fs) h =
     let rest = none-after p q fs h in
@@ -114,7 +114,7 @@ adjoin-first p q low end (f ∷ fs) o h on =
     let here : q ≤ low = subst (λ (b : Bool). q ≤ cond b (chain (end_of f) fs) low) e on in
     subst (λ (gs : List Frame). Adjoin low gs) (sym (none-from p q low end (f ∷ fs) o here)) tt)
 
-start-above : (p low end : ℕ) (fs : List Frame) → Ordered low end fs → list_any (begins_at p) fs ≡ true → low ≤ p
+pub start-above : (p low end : ℕ) (fs : List Frame) → Ordered low end fs → list_any (begins_at p) fs ≡ true → low ≤ p
 start-above p low end [] o h = absurd (cc)
 start-above p low end (f ∷ fs) o h =
     by_test (eqb f.position p)

@@ -1,5 +1,5 @@
 -- What scans of the index find.
-use Rattle.std.proofs.Common.{◌≡◌, ℕ, zero, suc, ◌+◌, ◌-◌, ◌/◌, ◌%◌, ◌^◌, ◌<◌, ◌≤◌, true, false, ltb, List, [], ◌∷◌, length, take, drop, get_or, replicate, refl, sym, ap, ap₂, ◌∙◌, subst, arith}
+use Rattle.std.proofs.Common.{◌≡◌, ℕ, zero, suc, ◌+◌, ◌-◌, ◌/◌, ◌%◌, ◌^◌, ◌<◌, ◌≤◌, Bool, true, false, ltb, List, [], ◌∷◌, length, take, drop, get_or, replicate, refl, sym, ap, ap₂, ◌∙◌, subst, arith}
 use Rattle.std.proofs.lemmas.List.{get_or-map, length-map, take_more}
 use Rattle.std.specs.List.{list_any, insert}
 use Rattle.std.proofs.lemmas.List.{length-replicate, with_items_is}
@@ -8,11 +8,11 @@ use Rattle.log_arena.specs.Lease.{lease_len, with_bytes}
 use Rattle.log_arena.specs.declared.lease.Lease.{Lease}
 use Rattle.image_log.specs.Frame.{Frame, framed, end_of, no_frame}
 use Rattle.image_log.specs.Kept.{content, contents, Fits, IsStore}
-use Rattle.image_log.specs.Order.{Ordered, rank, is_same, meets, next_from}
+use Rattle.image_log.specs.Order.{Ordered, rank, meets, next_from}
 use Rattle.image_log.specs.Stored.{frame_at, IsBlank, StandIn}
 use Rattle.image_log.specs.Writing.{written}
 use Rattle.image_log.specs.declared.place.Place.{Place}
-use Rattle.image_log.proofs.Orders.{rank-last, rank-full, takes_some, ranked_before, ranked_behind, meets_some, meets_none, same_none, length-put, count-within}
+use Rattle.image_log.proofs.Orders.{rank-last, rank-full, takes_some, ranked_before, ranked_behind, meets_some, meets_none, OnlyAt, at_none, length-put, count-within}
 use Rattle.image_log.proofs.Ring.{others_stay, contents-put, fits-put, blank-put}
 use Rattle.image_log.proofs.Tests.{by_test, is_lt, is_ge, meet_yes}
 use Rattle.image_log.proofs.Writes.{length-written, written_here, zeros_at}
@@ -54,14 +54,14 @@ rank-found p n low end bs ps r x o some within is h =
     let below : (frame_at all (r - 1)).position < p = omega (arith, at) in
     sym more ∙ sym (rank-full p low end (r - 1) all o short below) ∙ ap (λ (k : ℕ). rank p (take k all)) more
 
-pub has_one : (p low end : ℕ) (bytes : List ℕ) (fs : List Frame) (at : ℕ) → Ordered low end fs → at ≡ rank p fs → at < length fs → is_same p bytes (frame_at fs at) ≡ list_any (is_same p bytes) fs
-has_one p low end bytes fs at o is h =
-    by_test (is_same p bytes (frame_at fs at))
-    (λ e. e ∙ sym (meets_some (is_same p bytes) fs at h e))
-    (λ e. e ∙ sym (same_none p low end bytes fs o (λ _. subst (λ (n : ℕ). is_same p bytes (frame_at fs n) ≡ false) is e)))
+pub has_one : (p low end : ℕ) (t : Frame → Bool) (fs : List Frame) (at : ℕ) → OnlyAt p t → Ordered low end fs → at ≡ rank p fs → at < length fs → t (frame_at fs at) ≡ list_any t fs
+has_one p low end t fs at only o is h =
+    by_test (t (frame_at fs at))
+    (λ e. e ∙ sym (meets_some t fs at h e))
+    (λ e. e ∙ sym (at_none p low end t fs only o (λ _. subst (λ (n : ℕ). t (frame_at fs n) ≡ false) is e)))
 
-pub has_none : (p low end : ℕ) (bytes : List ℕ) (fs : List Frame) (at : ℕ) → Ordered low end fs → at ≡ rank p fs → length fs ≤ at → false ≡ list_any (is_same p bytes) fs
-has_none p low end bytes fs at o is h = sym (same_none p low end bytes fs o (λ k. absurd (omega (arith, is, h, k))))
+pub has_none : (p low end : ℕ) (t : Frame → Bool) (fs : List Frame) (at : ℕ) → OnlyAt p t → Ordered low end fs → at ≡ rank p fs → length fs ≤ at → false ≡ list_any t fs
+has_none p low end t fs at only o is h = sym (at_none p low end t fs only o (λ k. absurd (omega (arith, is, h, k))))
 
 pub meets_before : (p e : ℕ) (fs : List Frame) (at : ℕ) → p < e → at ≡ rank p fs → 0 < at → at ≤ length fs → p < end_of (frame_at fs (at - 1)) → true ≡ list_any (meets p e) fs
 meets_before p e fs at some is first within h =

@@ -2,11 +2,14 @@ pub mod Between
 pub mod Cleared
 pub mod Dropping
 pub mod Found
+pub mod FrameLaws
 pub mod Naming
 pub mod Orders
 pub mod Pairing
+pub mod Polls
 pub mod Ring
 pub mod Settled
+pub mod Starts
 pub mod Taken
 pub mod Tests
 pub mod Writes

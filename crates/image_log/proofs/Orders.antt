@@ -2,7 +2,7 @@
 use Rattle.std.proofs.Common.{◌≡◌, ℕ, zero, suc, ◌+◌, ◌*◌, ◌<◌, ◌≤◌, ◌≢◌, Bool, true, false, cond, ltb, eqb, List, [], ◌∷◌, ◌++◌, length, take, drop, refl, sym, ap, ◌∙◌, subst, arith}
 use Rattle.std.specs.List.{list_any, insert}
 use Rattle.image_log.specs.Frame.{Frame, framed, end_of}
-use Rattle.image_log.specs.Order.{Ordered, rank, is_same, meets, chain}
+use Rattle.image_log.specs.Order.{Ordered, begins_at, rank, is_same, meets, chain}
 use Rattle.image_log.specs.Stored.{frame_at}
 use Rattle.image_log.proofs.Tests.{by_test, lt_yes, lt_no, is_lt, is_ge, eq_no, is_eq, meet_behind, meet_before, apart_before, apart_behind, or_first, or_second, or_of}
 
@@ -101,32 +101,40 @@ ranked_behind p low end (f ∷ fs) (suc k) o r h =
     (λ e. let here : rank p (f ∷ fs) ≡ suc (rank p fs) = rw e refl in ranked_behind p (end_of f) end fs k o.3 (omega (arith, here)) (omega arith))
     (λ e. let above = starts_above (end_of f) end fs k o.3 (omega arith) in let first = is_ge f.position p e in omega (arith, above, first))
 
--- no frame from `low` on begins below it
-pub same_none_above : (p low end : ℕ) (bytes : List ℕ) (fs : List Frame) → Ordered low end fs → p < low → list_any (is_same p bytes) fs ≡ false
-same_none_above p low end bytes [] o h = refl
-same_none_above p low end bytes (f ∷ fs) o h =
-    let ne : f.position ≢ p = omega (arith, o.0) in
-    let first : is_same p bytes f ≡ false = rw (eq_no f.position p ne) refl in
-    or_of (is_same p bytes f) (list_any (is_same p bytes) fs) first (same_none_above p (end_of f) end bytes fs o.3 (omega (arith, o.0)))
+-- a test that only a frame at p passes
+abbrev pub OnlyAt : ℕ → (Frame → Bool) → Type 0
+OnlyAt p t = (f : Frame) → f.position ≢ p → t f ≡ false
 
--- where the frame at the rank is another one than that of p and `bytes`, no frame is that one
-pub same_none : (p low end : ℕ) (bytes : List ℕ) (fs : List Frame) → Ordered low end fs
-    → (rank p fs < length fs → is_same p bytes (frame_at fs (rank p fs)) ≡ false) → list_any (is_same p bytes) fs ≡ false
-same_none p low end bytes [] o h = refl
-same_none p low end bytes (f ∷ fs) o h =
+pub only_same : (p : ℕ) (bytes : List ℕ) → OnlyAt p (is_same p bytes)
+only_same p bytes = λ f ne. rw (eq_no f.position p ne) refl
+
+pub only_begins : (p : ℕ) → OnlyAt p (begins_at p)
+only_begins p = λ f ne. eq_no f.position p ne
+
+-- no frame from `low` on begins below it
+at_none_above : (p low end : ℕ) (t : Frame → Bool) (fs : List Frame) → OnlyAt p t → Ordered low end fs → p < low → list_any t fs ≡ false
+at_none_above p low end t [] only o h = refl
+at_none_above p low end t (f ∷ fs) only o h =
+    let ne : f.position ≢ p = omega (arith, o.0) in
+    or_of (t f) (list_any t fs) (only f ne) (at_none_above p (end_of f) end t fs only o.3 (omega (arith, o.0)))
+
+-- where the frame at the rank does not pass the test, none does
+pub at_none : (p low end : ℕ) (t : Frame → Bool) (fs : List Frame) → OnlyAt p t → Ordered low end fs
+    → (rank p fs < length fs → t (frame_at fs (rank p fs)) ≡ false) → list_any t fs ≡ false
+at_none p low end t [] only o h = refl
+at_none p low end t (f ∷ fs) only o h =
     by_test (ltb f.position p)
-    (λ t.
-    let here : rank p (f ∷ fs) ≡ suc (rank p fs) = rw t refl in
-    let below = is_lt f.position p t in
+    (λ e.
+    let here : rank p (f ∷ fs) ≡ suc (rank p fs) = rw e refl in
+    let below = is_lt f.position p e in
     let ne : f.position ≢ p = omega (arith, below) in
-    let rest = same_none p (end_of f) end bytes fs o.3
-    (λ k. subst (λ (n : ℕ). is_same p bytes (frame_at (f ∷ fs) n) ≡ false) here (h (subst (λ (n : ℕ). n < length (f ∷ fs)) (sym here) (omega (arith, k))))) in
-    let first : is_same p bytes f ≡ false = rw (eq_no f.position p ne) refl in
-    or_of (is_same p bytes f) (list_any (is_same p bytes) fs) first rest)
-    (λ t.
-    let here : rank p (f ∷ fs) ≡ zero = rw t refl in
-    let first : is_same p bytes f ≡ false = subst (λ (n : ℕ). is_same p bytes (frame_at (f ∷ fs) n) ≡ false) here (h (subst (λ (n : ℕ). n < length (f ∷ fs)) (sym here) (omega arith))) in
-    or_of (is_same p bytes f) (list_any (is_same p bytes) fs) first (same_none_above p (end_of f) end bytes fs o.3 (let first = is_ge f.position p t in omega (arith, o.1, first))))
+    let rest = at_none p (end_of f) end t fs only o.3
+    (λ k. subst (λ (n : ℕ). t (frame_at (f ∷ fs) n) ≡ false) here (h (subst (λ (n : ℕ). n < length (f ∷ fs)) (sym here) (omega (arith, k))))) in
+    or_of (t f) (list_any t fs) (only f ne) rest)
+    (λ e.
+    let here : rank p (f ∷ fs) ≡ zero = rw e refl in
+    let first : t f ≡ false = subst (λ (n : ℕ). t (frame_at (f ∷ fs) n) ≡ false) here (h (subst (λ (n : ℕ). n < length (f ∷ fs)) (sym here) (omega arith))) in
+    or_of (t f) (list_any t fs) first (at_none_above p (end_of f) end t fs only o.3 (let first = is_ge f.position p e in omega (arith, o.1, first))))
 
 -- a frame that meets none is put in its place, and they stand in order
 pub put_ordered : (p s low end : ℕ) (bytes : List ℕ) (fs : List Frame) → Ordered low end fs → low ≤ p → 32 ≤ s → p + s ≤ end

@@ -3,7 +3,7 @@ use Rattle.std.proofs.Common.{◌≡◌, ℕ, ◌+◌, ◌%◌, ◌^◌, ◌<◌
 use Rattle.std.specs.Prelude.{filter}
 use Rattle.image_log.specs.Log.{IsLog}
 use Rattle.image_log.specs.Order.{begins_from}
-use Rattle.image_log.specs.Pairs.{AreWithin, least_or}
+use Rattle.image_log.specs.Pairs.{AreStarts, AreWithin, least_or}
 use Rattle.image_log.specs.Rebuilt.{term_start}
 use Rattle.image_log.specs.Stored.{Stored}
 use Rattle.image_log.specs.declared.ident.Ident.{Ident}
@@ -11,6 +11,7 @@ use Rattle.image_log.specs.declared.pair.Pair.{Pair}
 use Rattle.image_log.proofs.Dropping.{chain-from, ends_there, in_terms_from, ordered_from, term_up}
 use Rattle.image_log.proofs.Naming.{for_filter}
 use Rattle.image_log.proofs.Pairing.{least_within}
+use Rattle.image_log.proofs.Starts.{begins_kept, starts_by}
 
 -- the new base, and where frames are kept from
 pub up_to : (ident : Ident) (join base c l : ℕ) (pairs : List Pair) (store : Stored) → IsLog ident join base c pairs store
@@ -49,13 +50,15 @@ log_settled ident join base c l pairs store new is at dropped =
       ends = ordered_from l store.low (2 ^ 58) (2 ^ 58) store.frames is.ends (omega arith);
       far = is.far;
       paired = least.2;
+      starts = starts_by c c b c store.frames (filter (begins_from l) store.frames) pairs
+          (λ q above at_q. begins_kept c l q store.frames (omega (arith, up.1, above)) at_q) least.2 is.starts;
       named = for_filter ident (begins_from l) store.frames is.named;
     })
 
 -- the log with other pairs
-pub log_paired : (ident : Ident) (join base c : ℕ) (pairs now others : List Pair) (store : Stored) → IsLog ident join base c pairs store → now ≡ others → AreWithin base c others
+pub log_paired : (ident : Ident) (join base c : ℕ) (pairs now others : List Pair) (store : Stored) → IsLog ident join base c pairs store → now ≡ others → AreWithin base c others → AreStarts c store.frames others
     → IsLog ident join base c now store
-log_paired ident join base c pairs now others store is same within =
+log_paired ident join base c pairs now others store is same within starts =
     subst (λ (ps : List Pair). IsLog ident join base c ps store) (sym same)
     (record {
       terms = is.terms;
@@ -70,5 +73,6 @@ log_paired ident join base c pairs now others store is same within =
       ends = is.ends;
       far = is.far;
       paired = within;
+      starts = starts;
       named = is.named;
     })

@@ -16,8 +16,9 @@ use Rattle.image_log.specs.declared.insert.Insert.TheVariants.{Taken, Repeat, Ov
 use Rattle.image_log.specs.declared.pair.Pair.{Pair}
 use Rattle.image_log.proofs.Dropping.{chain-within, in_terms_put}
 use Rattle.image_log.proofs.Naming.{for_put}
-use Rattle.image_log.proofs.Orders.{chain-here, chain-le, chain-other, put_ordered}
+use Rattle.image_log.proofs.Orders.{chain-here, chain-le, chain-other, put_ordered, rank-le}
 use Rattle.image_log.proofs.Pairing.{within_more}
+use Rattle.image_log.proofs.Starts.{begins_here, begins_more, starts_by}
 use Rattle.image_log.proofs.Tests.{gt_no, is_ge, le_no, le_yes, lt_no, lt_yes}
 
 abbrev first_of_five : Bool → Bool → Bool → Bool → Bool → Insert
@@ -193,6 +194,8 @@ log_here ident join base c p s at end bytes pairs store new is of spans ranked p
       ends = kept;
       far = omega (arith, e, moved, within);
       paired = within_more base c end pairs is.paired up;
+      starts = starts_by c end base c store.frames (insert store.frames at (framed p s bytes)) pairs
+          (λ q _ b. begins_here c end p s at q bytes store.frames (omega (arith, ranked, rank-le p store.frames)) here b) is.paired is.starts;
       named = for_put ident p s at bytes store.frames is.named of spans;
     })
 
@@ -224,5 +227,7 @@ log_elsewhere ident join base c p s at bytes pairs store new is of spans ranked 
       ends = kept;
       far = is.far;
       paired = is.paired;
+      starts = starts_by c c base c store.frames (insert store.frames at (framed p s bytes)) pairs
+          (λ q _ b. begins_more c at q (framed p s bytes) store.frames b) is.paired is.starts;
       named = for_put ident p s at bytes store.frames is.named of spans;
     })

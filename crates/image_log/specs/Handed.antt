@@ -1,8 +1,10 @@
 -- Frames as they are handed to a log (Aeron Transport Protocol Specification, data frame and padding).
-use Rattle.std.specs.Prelude.{◌≡◌, ℕ, ◌%◌, ◌<◌, ◌≤◌, ◌^◌, ◌⊎◌, List, [], ◌∷◌, length}
-use Rattle.frame_codec.specs.Fields.{byte_at, half_at, number_at, signed_at}
+use Rattle.std.specs.Prelude.{◌≡◌, ℕ, List, [], ◌∷◌}
+use Rattle.frame_codec.specs.declared.header.TermPlace.{TermPlace}
+use Rattle.frame_codec.specs.Fields.{number_at, signed_at}
 use Rattle.frame_codec.specs.Frame.{padded}
 use Rattle.frame_codec.specs.Position.{position_of}
+use Rattle.frame_codec.specs.Sound.{IsSound}
 use Rattle.image_log.specs.Frame.{Frame}
 use Rattle.image_log.specs.declared.ident.Ident.{Ident}
 
@@ -14,20 +16,9 @@ span_of bytes = padded (number_at 0 bytes)
 unfoldable pub offset_of : List ℕ → ℕ
 offset_of bytes = number_at 8 bytes
 
--- one data frame without its filling, or one pad by its header alone
-abbrev pub IsLaidOut : List ℕ → Type 0
-IsLaidOut bytes =
-    ((half_at 6 bytes ≡ 1) × (number_at 0 bytes ≡ length bytes))
-    ⊎ ((half_at 6 bytes ≡ 0) × (length bytes ≡ 32) × (0 < number_at 0 bytes) × (number_at 0 bytes % 32 ≡ 0))
-
--- a frame in the layout
-pub record IsSound (bytes : List ℕ) : Type 0 where
-  pub version : byte_at 4 bytes ≡ 0
-  pub header : 32 ≤ length bytes
-  pub layout : IsLaidOut bytes
-  pub short : number_at 0 bytes < 2 ^ 31
-  pub offset : number_at 8 bytes < 2 ^ 31
-  pub aligned : number_at 8 bytes % 32 ≡ 0
+-- the position of a place in the stream
+abbrev pub position_in : Ident → TermPlace → ℕ
+position_in ident place = position_of ident.initial_term_id place.term_id place.term_offset ident.term_length
 
 -- a frame of the log's session and stream, at its header's position
 pub record IsFor (ident : Ident) (position : ℕ) (bytes : List ℕ) : Type 0 where

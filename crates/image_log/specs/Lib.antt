@@ -5,6 +5,8 @@ pub mod Kept
 pub mod Log
 pub mod Order
 pub mod Pairs
+pub mod Polling
+pub mod PollLaws
 pub mod Reading
 pub mod Rebuilt
 pub mod Status

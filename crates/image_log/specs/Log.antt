@@ -2,17 +2,21 @@
 use Rattle.std.specs.Prelude.{◌≡◌, ℕ, ◌+◌, ◌*◌, ◌<◌, ◌≤◌, ◌^◌, max, List, Option}
 use Rattle.image_log.specs.Handed.{AreFor}
 use Rattle.image_log.specs.Order.{InTerms, Ordered, chain}
-use Rattle.image_log.specs.Pairs.{AreWithin}
+use Rattle.image_log.specs.Pairs.{AreStarts, AreWithin}
 use Rattle.image_log.specs.Rebuilt.{Rebuilt, term_start}
-use Rattle.image_log.specs.Stored.{Stored}
+use Rattle.image_log.specs.Stored.{Held, Stored}
 use Rattle.image_log.specs.declared.ident.Ident.{Ident}
 use Rattle.image_log.specs.declared.pair.Pair.{Pair}
 use Rattle.image_log.specs.declared.status.LastStatus.{LastStatus}
 
+-- the lease of an open log, and the map of its frames
+pub record Log : Type 0 where
+  pub held : Held
+  pub rebuilt : Rebuilt
+
 abbrev pub rebuilt_of : Ident → ℕ → ℕ → ℕ → ℕ → Option LastStatus → List Pair → Stored → Rebuilt
 rebuilt_of ident join base greatest moment status pairs store = record {
   ident = ident;
-  held = store.held;
   join = join;
   base = base;
   frames = store.frames;
@@ -21,6 +25,10 @@ rebuilt_of ident join base greatest moment status pairs store = record {
   status = status;
   pairs = pairs;
 }
+
+abbrev pub log_of : Ident → ℕ → ℕ → ℕ → ℕ → Option LastStatus → List Pair → Stored → Log
+log_of ident join base greatest moment status pairs store =
+    record { held = store.held; rebuilt = rebuilt_of ident join base greatest moment status pairs store }
 
 pub record IsLog (ident : Ident) (join base contiguous : ℕ) (pairs : List Pair) (store : Stored) : Type 0 where
   pub terms : (65536 ≤ ident.term_length) × (ident.term_length ≤ 16777216)
@@ -35,4 +43,5 @@ pub record IsLog (ident : Ident) (join base contiguous : ℕ) (pairs : List Pair
   pub ends : Ordered store.low (2 ^ 58) store.frames
   pub far : contiguous ≤ 2 ^ 58
   pub paired : AreWithin base contiguous pairs
+  pub starts : AreStarts contiguous store.frames pairs
   pub named : AreFor ident store.frames

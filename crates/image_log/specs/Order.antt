@@ -1,5 +1,6 @@
 -- Frames in the order of their positions.
-use Rattle.std.specs.Prelude.{ℕ, suc, ◌+◌, ◌%◌, ◌≤◌, ◌==◌, Bool, ◌&&◌, nat_lt, nat_le, max, min, if◌then◌else◌, List, [], ◌∷◌, bytes_eq}
+use Rattle.std.specs.Prelude.{◌≡◌, ℕ, suc, ◌+◌, ◌%◌, ◌≤◌, ◌==◌, ◌⊎◌, Bool, true, ◌&&◌, nat_lt, nat_le, max, min, if◌then◌else◌, List, [], ◌∷◌, bytes_eq}
+use Rattle.std.specs.List.{list_any}
 use Rattle.image_log.specs.Frame.{Frame, end_of}
 
 -- the frames stand in order from `low` to `end`: their ranges do not meet, and each takes 32 positions at least
@@ -38,6 +39,10 @@ begins_from low f = nat_le low f.position
 -- the frame begins at a position
 abbrev pub begins_at : ℕ → Frame → Bool
 begins_at p f = f.position == p
+
+-- a position is this one, or a frame begins there
+abbrev pub Begins : ℕ → List Frame → ℕ → Type 0
+Begins at fs p = (p ≡ at) ⊎ (list_any (begins_at p) fs ≡ true)
 
 -- the frame begins at one position or above it, and below another
 abbrev pub begins_within : ℕ → ℕ → Frame → Bool

@@ -1,7 +1,9 @@
 -- The subscriptions that read a log, and how far each has read. Own rules.
-use Rattle.std.specs.Prelude.{ℕ, ◌≤◌, ◌==◌, Bool, not, min, find, List, [], ◌∷◌, Option, Some, None, if◌then◌else◌}
+use Rattle.std.specs.Prelude.{ℕ, ◌≤◌, ◌==◌, Bool, not, min, find, map, List, [], ◌∷◌, Option, Some, None, if◌then◌else◌}
 use Rattle.std.specs.List.{fold}
 use Rattle.std.specs.Option.{option_map}
+use Rattle.image_log.specs.Frame.{Frame}
+use Rattle.image_log.specs.Order.{Begins}
 use Rattle.image_log.specs.declared.pair.Pair.{Pair}
 
 -- how far the subscription has read, if it is there
@@ -38,3 +40,21 @@ ReadsUpTo (Some at) position = at ≤ position
 abbrev pub AreWithin : ℕ → ℕ → List Pair → Type 0
 AreWithin from to [] = Unit {0}
 AreWithin from to (pair ∷ pairs) = (from ≤ pair.position) × (pair.position ≤ to) × AreWithin from to pairs
+
+-- each pair stands at this position, or where a frame begins
+abbrev pub AreStarts : ℕ → List Frame → List Pair → Type 0
+AreStarts at fs [] = Unit {0}
+AreStarts at fs (pair ∷ pairs) = Begins at fs pair.position × AreStarts at fs pairs
+
+-- where a subscription reads on: one that was there where it is, a new one at the position at which it joins
+abbrev pub reads_on : ℕ → Option ℕ → ℕ
+reads_on join None = join
+reads_on join (Some at) = at
+
+abbrev pub rejoined_one : ℕ → List Pair → ℕ → Pair
+rejoined_one join pairs subscription =
+    record { subscription = subscription; position = reads_on join (position_of pairs subscription) }
+
+-- exactly these subscriptions read from now on, in this order; all others are gone
+abbrev pub rejoined_pairs : ℕ → List Pair → List ℕ → List Pair
+rejoined_pairs join pairs subscriptions = map (rejoined_one join pairs) subscriptions

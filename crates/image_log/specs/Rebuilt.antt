@@ -1,25 +1,22 @@
 -- The log of a remote stream: a map from positions to frames whose ranges do not meet (Aeron Transport Protocol
 -- Specification, data recovery by receivers).
-use Rattle.std.specs.Prelude.{◌≡◌, ℕ, ◌+◌, ◌-◌, ◌/◌, ◌%◌, ◌⊎◌, Bool, true, ◌||◌, nat_lt, nat_le, max, min, if◌then◌else◌, Option, Some, None, List, [], ◌∷◌, ◌++◌, insert, filter, map}
-use Rattle.std.specs.List.{list_any}
+use Rattle.std.specs.Prelude.{ℕ, ◌+◌, ◌-◌, ◌/◌, ◌%◌, Bool, ◌||◌, nat_lt, nat_le, max, min, if◌then◌else◌, Option, Some, None, List, [], ◌∷◌, ◌++◌, insert, filter, map}
 use Rattle.image_log.specs.Answer.{answer_among}
 use Rattle.image_log.specs.Frame.{Frame, framed}
 use Rattle.image_log.specs.Handed.{span_of, offset_of}
-use Rattle.image_log.specs.Order.{begins_at, begins_from, begins_within, chain, next_from, rank}
-use Rattle.image_log.specs.Pairs.{is_other, least_or, moved_one}
+use Rattle.image_log.specs.Order.{Begins, begins_from, begins_within, chain, next_from, rank}
+use Rattle.image_log.specs.Pairs.{is_other, least_or, moved_one, rejoined_pairs}
 use Rattle.image_log.specs.Reading.{cut_to}
-use Rattle.image_log.specs.Stored.{Held}
 use Rattle.image_log.specs.declared.ident.Ident.{Ident}
 use Rattle.image_log.specs.declared.insert.Insert.{Insert}
 use Rattle.image_log.specs.declared.insert.Insert.TheVariants.{Taken, Repeat, Overlap, Below, Beyond}
 use Rattle.image_log.specs.declared.pair.Pair.{Pair}
 use Rattle.image_log.specs.declared.status.LastStatus.{LastStatus}
 
--- which stream it is of, in which lease; where it joined, the base, the frames in order, the greatest position heard of,
--- the moment at which the sender was heard last, the status message sent last, and the pairs
+-- which stream it is of; where it joined, the base, the frames in order, the greatest position heard of, the moment at
+-- which the sender was heard last, the status message sent last, and the pairs
 pub record Rebuilt : Type 0 where
   pub ident : Ident
-  pub held : Held
   pub join : ℕ
   pub base : ℕ
   pub frames : List Frame
@@ -93,11 +90,11 @@ frames_of r p bytes = cut_to bytes (filter (begins_within p (min (contiguous_of 
 
 -- a position from which on a reader goes: a frame begins there, or it is the contiguous position
 abbrev pub IsStart : Rebuilt → ℕ → Type 0
-IsStart r p = (p ≡ contiguous_of r) ⊎ (list_any (begins_at p) r.frames ≡ true)
+IsStart r p = Begins (contiguous_of r) r.frames p
 
 -- no frame yet
-abbrev pub opened : Held → Ident → ℕ → Rebuilt
-opened held ident join = record { ident = ident; held = held; join = join; base = join; frames = []; greatest = join; moment = 0; status = None; pairs = [] }
+abbrev pub opened : Ident → ℕ → Rebuilt
+opened ident join = record { ident = ident; join = join; base = join; frames = []; greatest = join; moment = 0; status = None; pairs = [] }
 
 -- the log with another base, without the frames below the start of its term
 abbrev pub based : Rebuilt → ℕ → Rebuilt
@@ -117,6 +114,10 @@ joined r subscription = record r { pairs = r.pairs ++ record { subscription = su
 -- without the pair of a subscription
 abbrev pub left : Rebuilt → ℕ → Rebuilt
 left r subscription = record r { pairs = filter (is_other subscription) r.pairs }
+
+-- read by exactly these subscriptions: one that was there from where it is, a new one from the contiguous position
+abbrev pub rejoined : Rebuilt → List ℕ → Rebuilt
+rejoined r subscriptions = record r { pairs = rejoined_pairs (contiguous_of r) r.pairs subscriptions }
 
 -- with the pair of a subscription moved
 abbrev pub advanced : Rebuilt → ℕ → ℕ → Rebuilt

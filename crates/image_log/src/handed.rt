@@ -3,7 +3,8 @@
 ghost use Rattle.std.specs.Prelude.{◌≡◌, ◌+◌, ◌<◌, ◌≤◌, length, true};
 ghost use Rattle.frame_codec.specs.Fields.{byte_at, half_at, number_at, signed_at};
 ghost use Rattle.frame_codec.specs.Position.{position_of};
-ghost use Rattle.image_log.specs.Handed.{IsLaidOut, IsSound, offset_of, span_of};
+ghost use Rattle.frame_codec.specs.Sound.{IsLaidOut, IsSound};
+ghost use Rattle.image_log.specs.Handed.{offset_of, span_of};
 
 use byteorder::{ByteOrder, LittleEndian};
 use frame_codec::{padded_length, position};

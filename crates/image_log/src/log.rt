@@ -1,11 +1,12 @@
-ghost use Rattle.std.specs.Prelude.{◌≡◌, ◌+◌, ◌*◌, ◌%◌, ◌^◌, ◌<◌, ◌≤◌, insert, length, max, IfOk, IfErr, IfSome, Some};
+ghost use Rattle.std.specs.Prelude.{◌≡◌, ℕ, ◌+◌, ◌*◌, ◌%◌, ◌^◌, ◌<◌, ◌≤◌, insert, length, max, true, IfOk, IfErr, IfSome, Some};
 ghost use Rattle.log_arena.specs.Lease.{lease_bytes, lease_len};
 ghost use Rattle.image_log.specs.Frame.{framed};
 ghost use Rattle.image_log.specs.Handed.{AreFor, IsFor, offset_of, span_of};
 ghost use Rattle.image_log.specs.Order.{rank};
 ghost use Rattle.image_log.specs.Pairs.{ReadsUpTo, position_of};
+ghost use Rattle.image_log.specs.Polling.{IsAhead, behind, fragments_left, passed, polled, whole_from};
 ghost use Rattle.image_log.specs.Reading.{Adjoin, AreBetween};
-ghost use Rattle.image_log.specs.Rebuilt.{IsStart, advanced, after_insert, contiguous_of, frames_of, gap_of, insert_of, is_beyond, is_silent, joined, left, low_of, opened, reach_of, settled, term_end, term_start, window_of};
+ghost use Rattle.image_log.specs.Rebuilt.{IsStart, advanced, after_insert, contiguous_of, frames_of, gap_of, insert_of, is_beyond, is_silent, joined, left, low_of, opened, reach_of, rejoined, settled, term_end, term_start, window_of};
 ghost use Rattle.image_log.specs.Status.{is_due, told};
 ghost use Rattle.image_log.specs.Stored.{IsBlank, StandIn, held_of};
 
@@ -14,7 +15,9 @@ use crate::ident::Ident;
 use crate::insert::Insert;
 use crate::pair::Pair;
 use crate::pairs::Pairs;
-use crate::reading::Frames;
+use crate::polling::{Fragments, behind_passed};
+use crate::reading::{Frames, Run};
+use crate::room::ImageRoom;
 use crate::status::{self, LastStatus};
 use crate::store::Store;
 use log_arena::{Lease, NoMemory};
@@ -45,14 +48,11 @@ pub struct ImageLog {
 }
 
 impl Model for ImageLog {
-    ghost use Rattle.image_log.specs.Order.{rank};
-    ghost use Rattle.image_log.specs.Rebuilt.{Rebuilt};
+    ghost use Rattle.image_log.specs.Log.{IsLog, Log, log_of};
 
-    ghost Value = { Rebuilt };
+    ghost Value = { Log };
 
-    ghost use Rattle.image_log.specs.Log.{IsLog, rebuilt_of};
-
-    ghost view = { λ l. rebuilt_of l.ident l.join l.base l.greatest l.moment l.status l.pairs l.store };
+    ghost view = { λ l. log_of l.ident l.join l.base l.greatest l.moment l.status l.pairs l.store };
 
     ghost invariant = { λ l. IsLog l.ident l.join l.base l.contiguous l.pairs l.store };
 }
@@ -94,15 +94,25 @@ impl ImageLog {
         requires terms { (65536 ≤ ident.term_length) × (ident.term_length ≤ 16777216) }
         requires lease { lease_len lease ≡ 3 * ident.term_length }
         requires join { (join % 32 ≡ 0) × (join < ident.term_length * 2 ^ 31) }
-        ensures ok { IfOk result (λ l. l ≡ opened (held_of lease) ident join) }
+        ensures ok { IfOk result (λ l. l ≡ record { held = held_of lease; rebuilt = opened ident join }) }
         ensures err { IfErr result (λ e. e.0 ≡ lease) }
     {
-        let pairs = match Pairs::new(alloc) {
-            Ok(pairs) => pairs,
-            Err(refused) => return Err((lease, refused)),
-        };
-        let store = Store::open(alloc, lease, join)?;
-        Ok(ImageLog {
+        match ImageRoom::new(alloc, lease.len()) {
+            Ok(room) => Ok(ImageLog::open_in(room, lease, ident, join)),
+            Err(refused) => Err((lease, refused)),
+        }
+    }
+
+    /// A log without a frame, in a lease of three terms, as [`ImageLog::open`] opens it, in memory that was taken before.
+    pub fn open_in(room: ImageRoom, lease: Lease, ident: Ident, join: u64) -> ImageLog
+        requires room { room ≡ lease_len lease }
+        requires terms { (65536 ≤ ident.term_length) × (ident.term_length ≤ 16777216) }
+        requires lease { lease_len lease ≡ 3 * ident.term_length }
+        requires join { (join % 32 ≡ 0) × (join < ident.term_length * 2 ^ 31) }
+        ensures { result ≡ record { held = held_of lease; rebuilt = opened ident join } }
+    {
+        let store = Store::open(room.places, lease, join);
+        ImageLog {
             ident,
             join,
             base: join,
@@ -110,36 +120,36 @@ impl ImageLog {
             greatest: join,
             moment: 0,
             status: None,
-            pairs,
+            pairs: room.pairs,
             store,
-        })
+        }
     }
 
     /// Which stream it is of: the one that each frame names which is kept.
     pub fn ident(&self) -> Ident
-        ensures value { result ≡ self.now.ident }
-        ensures named { AreFor self.now.ident self.now.frames }
+        ensures value { result ≡ self.now.rebuilt.ident }
+        ensures named { AreFor self.now.rebuilt.ident self.now.rebuilt.frames }
     {
         self.ident
     }
 
     /// Up to which position the stream is whole.
     pub fn contiguous(&self) -> u64
-        ensures { result ≡ contiguous_of self.now }
+        ensures { result ≡ contiguous_of self.now.rebuilt }
     {
         self.contiguous
     }
 
     /// The least position of a pair; without one, where it was last, at first the join.
     pub fn base(&self) -> u64
-        ensures { result ≡ self.now.base }
+        ensures { result ≡ self.now.rebuilt.base }
     {
         self.base
     }
 
     /// The position from which on no frame is taken.
     fn reach(&self) -> u64
-        ensures value { result ≡ reach_of self.now }
+        ensures value { result ≡ reach_of self.now.rebuilt }
         ensures fits { result < 2 ^ 63 }
     {
         self.base + window_of(self.ident.term_length)
@@ -147,7 +157,9 @@ impl ImageLog {
 
     /// A heartbeat told of the sender's position.
     pub fn beat(&mut self, position: u64)
-        ensures { self.new ≡ record self.old { greatest = max self.old.greatest position } }
+        ensures { self.new ≡ record self.old {
+          rebuilt = record self.old.rebuilt { greatest = max self.old.rebuilt.greatest position };
+        } }
     {
         self.greatest = self.greatest.max(position);
     }
@@ -155,7 +167,7 @@ impl ImageLog {
     /// The first positions that are missing, and how many, where some below the window's end are: up to the next frame,
     /// or, without one, up to the greatest position heard of.
     pub fn gap(&self) -> Option<(u64, u32)>
-        ensures { result ≡ gap_of self.now }
+        ensures { result ≡ gap_of self.now.rebuilt }
     {
         let next = self.store.next_from(self.contiguous, self.greatest);
         let end = next.min(self.reach());
@@ -170,11 +182,11 @@ impl ImageLog {
     /// at most so many bytes of a datagram, and none behind a pad. A pad takes 32 bytes there, a data frame as many as
     /// it takes positions.
     pub fn frames_from(&self, position: u64, bytes: usize) -> Frames<'_>
-        requires { position ≤ contiguous_of self.now }
-        ensures frames { result ≡ frames_of self.now position bytes }
-        ensures within { AreBetween position (contiguous_of self.now) result }
-        ensures run { IsStart self.now position → Adjoin position result }
-        ensures named { AreFor self.now.ident result }
+        requires { position ≤ contiguous_of self.now.rebuilt }
+        ensures frames { result ≡ frames_of self.now.rebuilt position bytes }
+        ensures within { AreBetween position (contiguous_of self.now.rebuilt) result }
+        ensures run { IsStart self.now.rebuilt position → Adjoin position result }
+        ensures named { AreFor self.now.rebuilt.ident result }
     {
         let end = self
             .contiguous
@@ -185,8 +197,8 @@ impl ImageLog {
 
     /// What becomes of a frame.
     fn answer(&self, position: u64, frame: &[u8]) -> Insert
-        requires { IsFor self.now.ident position frame.now }
-        ensures answer { result ≡ insert_of self.now position frame.now }
+        requires { IsFor self.now.rebuilt.ident position frame.now }
+        ensures answer { result ≡ insert_of self.now.rebuilt position frame.now }
         ensures fits { position < 2 ^ 57 }
     {
         if position < self.store.low() {
@@ -204,12 +216,13 @@ impl ImageLog {
 
     /// Keeps a frame.
     fn take(&mut self, position: u64, span: u32, frame: &[u8])
-        requires of { IsFor self.old.ident position frame.now }
+        requires of { IsFor self.old.rebuilt.ident position frame.now }
         requires span { span ≡ span_of frame.now }
-        requires taken { insert_of self.old position frame.now ≡ Insert.Taken }
+        requires taken { insert_of self.old.rebuilt position frame.now ≡ Insert.Taken }
         ensures { self.new ≡ record self.old {
-          frames
-              = insert self.old.frames (rank position self.old.frames) (framed position span frame.now);
+          rebuilt = record self.old.rebuilt {
+            frames = insert self.old.rebuilt.frames (rank position self.old.rebuilt.frames) (framed position span frame.now);
+          };
         } }
     {
         let at = self.store.rank(position);
@@ -222,9 +235,9 @@ impl ImageLog {
     /// Hands in one data frame without its filling, or one pad by its header alone, of the log's session and stream, at
     /// its header's position. A frame that is kept already stays as it is.
     pub fn insert(&mut self, position: u64, frame: &[u8]) -> Insert
-        requires { IsFor self.old.ident position frame.now }
-        ensures answer { result ≡ insert_of self.old position frame.now }
-        ensures after { self.new ≡ after_insert self.old position frame.now }
+        requires { IsFor self.old.rebuilt.ident position frame.now }
+        ensures answer { result ≡ insert_of self.old.rebuilt position frame.now }
+        ensures after { self.new ≡ record self.old { rebuilt = after_insert self.old.rebuilt position frame.now } }
     {
         let answer = self.answer(position, frame);
         let span = handed::span_of(frame);
@@ -238,7 +251,7 @@ impl ImageLog {
     /// Moves the base to the least position of a pair, and drops the frames below the start of its term.
     #[tactic(auto, unfolding(crate::specs::Rebuilt::settled))]
     fn settle(&mut self)
-        ensures { self.new ≡ settled self.old }
+        ensures { self.new ≡ record self.old { rebuilt = settled self.old.rebuilt } }
     {
         let base = self.pairs.least_or(self.base);
         let low = term_start(self.ident.term_length, base).max(self.join);
@@ -248,9 +261,9 @@ impl ImageLog {
 
     /// A subscription reads the log from now on: its position is the contiguous position, which is given back.
     pub fn join_pair(&mut self, subscription: u64) -> u64
-        requires { length self.old.pairs < 512 }
-        ensures position { result ≡ contiguous_of self.old }
-        ensures joined { self.new ≡ settled (joined self.old subscription) }
+        requires { length self.old.rebuilt.pairs < 512 }
+        ensures position { result ≡ contiguous_of self.old.rebuilt }
+        ensures joined { self.new ≡ record self.old { rebuilt = settled (joined self.old.rebuilt subscription) } }
     {
         let position = self.contiguous;
         self.pairs.join(Pair {
@@ -263,47 +276,121 @@ impl ImageLog {
 
     /// A subscription reads the log no longer.
     pub fn leave_pair(&mut self, subscription: u64)
-        ensures { self.new ≡ settled (left self.old subscription) }
+        ensures { self.new ≡ record self.old { rebuilt = settled (left self.old.rebuilt subscription) } }
     {
         self.pairs.leave(subscription);
         self.settle();
     }
 
-    /// How far a subscription has read, if it reads the log: from the base on, and not past the contiguous position.
+    /// Exactly these subscriptions read the log from now on: one that read it before from where it is, a new one from the
+    /// contiguous position. All others read it no longer.
+    pub fn rejoin(&mut self, subscriptions: &[u64])
+        requires { length subscriptions.now ≤ 512 }
+        ensures { self.new ≡ record self.old { rebuilt = settled (rejoined self.old.rebuilt subscriptions.now) } }
+    {
+        let contiguous = self.contiguous;
+        self.pairs.rejoin(subscriptions, contiguous);
+        self.settle();
+    }
+
+    /// How far a subscription has read, if it reads the log: from the base on, and not past the contiguous position. It is
+    /// that position, or the start of a frame.
     pub fn pair_position(&self, subscription: u64) -> Option<u64>
-        ensures position { result ≡ position_of self.now.pairs subscription }
-        ensures within { IfSome result (λ position. (self.now.base ≤ position) × (position ≤ contiguous_of self.now)) }
+        ensures position { result ≡ position_of self.now.rebuilt.pairs subscription }
+        ensures within { IfSome result (λ position. (self.now.rebuilt.base ≤ position) × (position ≤ contiguous_of self.now.rebuilt)) }
+        ensures starts { IfSome result (λ position. IsStart self.now.rebuilt position) }
     {
         self.pairs.position(subscription)
     }
 
+    /// Whether a subscription may stand at a position: whether it is the contiguous position, or a frame begins there.
+    pub fn is_start(&self, position: u64) -> bool
+        ensures holds { result ≡ true → IsStart self.now.rebuilt position }
+        ensures exact { IsStart self.now.rebuilt position → result ≡ true }
+    {
+        if position == self.contiguous {
+            return true;
+        }
+        self.store.begins_at(position)
+    }
+
     /// A subscription has read up to a position, which is the contiguous position or the start of a frame below it.
     pub fn advance(&mut self, subscription: u64, position: u64)
-        requires from { ReadsUpTo (position_of self.old.pairs subscription) position }
-        requires to { position ≤ contiguous_of self.old }
-        ensures { self.new ≡ settled (advanced self.old subscription position) }
+        requires from { ReadsUpTo (position_of self.old.rebuilt.pairs subscription) position }
+        requires to { position ≤ contiguous_of self.old.rebuilt }
+        requires start { IsStart self.old.rebuilt position }
+        ensures { self.new ≡ record self.old { rebuilt = settled (advanced self.old.rebuilt subscription position) } }
     {
         self.pairs.advance(subscription, position);
         self.settle();
     }
 
+    /// The frames that are whole from a position on.
+    fn run_from(&self, position: u64) -> Run<'_>
+        requires { position ≤ contiguous_of self.now.rebuilt }
+        ensures frames { result ≡ whole_from self.now.rebuilt position }
+        ensures ends { IsStart self.now.rebuilt position → (limit : ℕ)
+            → IsAhead self.now.rebuilt position (behind position (passed limit result)) }
+    {
+        let index = self.store.rank(position);
+        Run::new(&self.store, index, self.store.rank(self.contiguous))
+    }
+
+    /// The position behind the frames that a poll passes from a position on.
+    fn behind_poll(&self, position: u64, limit: usize) -> u64
+        requires to { position ≤ contiguous_of self.now.rebuilt }
+        requires start { IsStart self.now.rebuilt position }
+        ensures exact { result ≡ behind position (passed limit (whole_from self.now.rebuilt position)) }
+        ensures ahead { IsAhead self.now.rebuilt position result }
+    {
+        behind_passed(self.run_from(position), position, limit)
+    }
+
+    /// The fragments that a poll of a subscription gives, over the ends of terms: those from its position on that are whole,
+    /// at most so many. None where it does not read the log. Nothing is passed yet: [`ImageLog::poll`] does that, once they
+    /// were taken.
+    pub fn fragments(&self, subscription: u64, limit: usize) -> Fragments<'_>
+        ensures { fragments_left result ≡ (polled self.now.rebuilt subscription limit).fragments }
+    {
+        match self.pair_position(subscription) {
+            Some(position) => Fragments::new(self.run_from(position), limit),
+            None => Fragments::new(self.run_from(self.contiguous()), 0),
+        }
+    }
+
+    /// A subscription is polled: it has read the frames from its position on, until so many fragments were given or there
+    /// is no more that is whole. Pads do not count, and one behind the last fragment is left.
+    pub fn poll(&mut self, subscription: u64, limit: usize)
+        ensures { self.new ≡ record self.old { rebuilt = (polled self.old.rebuilt subscription limit).after } }
+    {
+        match self.pair_position(subscription) {
+            Some(position) => {
+                let end = self.behind_poll(position, limit);
+                self.advance(subscription, end);
+            }
+            None => {}
+        }
+    }
+
     /// The sender was heard at a moment. The greatest one counts.
     pub fn heard(&mut self, now: u64)
-        ensures { self.new ≡ record self.old { moment = max self.old.moment now } }
+        ensures { self.new ≡ record self.old {
+          rebuilt = record self.old.rebuilt { moment = max self.old.rebuilt.moment now };
+        } }
     {
         self.moment = self.moment.max(now);
     }
 
     /// Whether the sender was not heard for longer than that.
     pub fn silent(&self, now: u64, limit: u64) -> bool
-        ensures { result ≡ is_silent self.now now limit }
+        ensures { result ≡ is_silent self.now.rebuilt now limit }
     {
         now.saturating_sub(self.moment) > limit
     }
 
     /// How far above the base frames may begin: what a status message tells beside the base.
     pub fn window(&self) -> u32
-        ensures { result ≡ window_of self.now.ident.term_length }
+        ensures { result ≡ window_of self.now.rebuilt.ident.term_length }
     {
         window_of(self.ident.term_length) as u32
     }
@@ -311,7 +398,7 @@ impl ImageLog {
     /// Whether a status message is due at a moment: where none was sent yet, where the last one was sent longer ago than
     /// the interval, and where the base has moved by a quarter of the window since.
     pub fn status_due(&self, now: u64, interval: u64) -> bool
-        ensures { result ≡ is_due now interval self.now.base (window_of self.now.ident.term_length) self.now.status }
+        ensures { result ≡ is_due now interval self.now.rebuilt.base (window_of self.now.rebuilt.ident.term_length) self.now.rebuilt.status }
     {
         let window = window_of(self.ident.term_length);
         status::is_due(self.status, now, interval, self.base, window)
@@ -319,7 +406,9 @@ impl ImageLog {
 
     /// A status message was sent at a moment, with the base as it is.
     pub fn status_sent(&mut self, now: u64)
-        ensures { self.new ≡ record self.old { status = Some (told now self.old.base) } }
+        ensures { self.new ≡ record self.old {
+          rebuilt = record self.old.rebuilt { status = Some (told now self.old.rebuilt.base) };
+        } }
     {
         self.status = Some(LastStatus {
             moment: now,
@@ -331,8 +420,9 @@ impl ImageLog {
     /// zeros.
     pub fn close(self) -> Lease
         ensures held { held_of result ≡ self.held }
-        ensures stand { StandIn self.held.len self.frames (lease_bytes result) }
-        ensures blank { IsBlank self.held.len self.frames (lease_bytes result) }
+        ensures len { lease_len result ≡ 3 * self.rebuilt.ident.term_length }
+        ensures stand { StandIn self.held.len self.rebuilt.frames (lease_bytes result) }
+        ensures blank { IsBlank self.held.len self.rebuilt.frames (lease_bytes result) }
     {
         let ImageLog {
             ident: _,

@@ -2,11 +2,12 @@
 
 ghost use Rattle.std.specs.Prelude.{◌≡◌, ◌++◌, ◌∷◌, [], ◌<◌, ◌≤◌, IfOk, length, map, filter, vec_capacity};
 ghost use Rattle.std.specs.List.{fold};
-ghost use Rattle.image_log.specs.Pairs.{is_other, least_of, least_or, lesser, moved_one, position_of};
+ghost use Rattle.image_log.specs.Pairs.{is_other, least_of, least_or, lesser, moved_one, position_of, reads_on, rejoined_one, rejoined_pairs};
 
 use crate::pair::Pair;
 use std::alloc::{AllocError, Global};
 use std::marker::Model;
+use std::mem::swap;
 
 /// How many pairs a log has at most.
 const PAIRS: usize = 512;
@@ -15,6 +16,8 @@ const PAIRS: usize = 512;
 #[derive(Debug, Drop)]
 pub(crate) struct Pairs {
     rows: Vec<Pair>,
+    /// Room for as many, in which the next rows are written; what stands there does not matter.
+    spare: Vec<Pair>,
 }
 
 impl Model for Pairs {
@@ -25,7 +28,7 @@ impl Model for Pairs {
 
     ghost view = { λ pairs. pairs.rows.items };
 
-    ghost invariant = { λ pairs. 512 ≤ vec_capacity pairs.rows };
+    ghost invariant = { λ pairs. (512 ≤ vec_capacity pairs.rows) × (512 ≤ vec_capacity pairs.spare) };
 }
 
 /// The pair of this subscription is at that position now; another one stays.
@@ -56,14 +59,52 @@ fn take_away(rows: &mut Vec<Pair>, subscription: u64)
     rows.retain(|pair| pair.subscription != subscription);
 }
 
+/// How far a subscription has read, by the pairs.
+fn position_in(rows: &[Pair], subscription: u64) -> Option<u64>
+    ensures { result ≡ position_of rows.now subscription }
+{
+    for pair in rows {
+        if pair.subscription == subscription {
+            return Some(pair.position);
+        }
+    }
+    None
+}
+
+/// The pair of a subscription that reads from now on: one that was there from where it is, a new one from `join` on.
+fn rejoined_one(rows: &[Pair], subscription: u64, join: u64) -> Pair
+    ensures { result ≡ rejoined_one join rows.now subscription }
+{
+    let position = match position_in(rows, subscription) {
+        Some(position) => position,
+        None => join,
+    };
+    Pair {
+        subscription,
+        position,
+    }
+}
+
+/// Writes the pairs of exactly these subscriptions, in place of what stands there. It takes no memory.
+fn write_rejoined(spare: &mut Vec<Pair>, rows: &[Pair], subscriptions: &[u64], join: u64)
+    requires { length subscriptions.now ≤ vec_capacity spare.old }
+    ensures rows { spare.new.items ≡ rejoined_pairs join rows.now subscriptions.now }
+    ensures room { vec_capacity spare.new ≡ vec_capacity spare.old }
+{
+    spare.clear();
+    for subscription in subscriptions {
+        spare.push_reserved(rejoined_one(rows, *subscription, join));
+    }
+}
+
 impl Pairs {
     /// No pairs yet.
     pub(crate) fn new(alloc: Global) -> Result<Pairs, AllocError>
         ensures { IfOk result (λ pairs. pairs ≡ []) }
     {
-        Ok(Pairs {
-            rows: Vec::with_capacity(alloc, PAIRS)?,
-        })
+        let rows = Vec::with_capacity(alloc, PAIRS)?;
+        let spare = Vec::with_capacity(alloc, PAIRS)?;
+        Ok(Pairs { rows, spare })
     }
 
     /// Adds a pair. It takes no memory.
@@ -91,16 +132,21 @@ impl Pairs {
         move_one(self.rows.as_mut_slice(), subscription, position);
     }
 
+    /// Exactly these subscriptions read from now on: one that was there from where it is, a new one from `join` on. It takes
+    /// no memory.
+    pub(crate) fn rejoin(&mut self, subscriptions: &[u64], join: u64)
+        requires { length subscriptions.now ≤ 512 }
+        ensures { self.new ≡ rejoined_pairs join self.old subscriptions.now }
+    {
+        write_rejoined(&mut self.spare, self.rows.as_slice(), subscriptions, join);
+        swap(&mut self.rows, &mut self.spare);
+    }
+
     /// How far a subscription has read.
     pub(crate) fn position(&self, subscription: u64) -> Option<u64>
         ensures { result ≡ position_of self.now subscription }
     {
-        for pair in &self.rows {
-            if pair.subscription == subscription {
-                return Some(pair.position);
-            }
-        }
-        None
+        position_in(self.rows.as_slice(), subscription)
     }
 
     /// The least of a position and those of all pairs.

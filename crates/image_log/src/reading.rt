@@ -1,6 +1,6 @@
 //! The frames of a log, as they are read from it.
 
-ghost use Rattle.std.specs.Prelude.{◌≡◌, ◌+◌, ◌^◌, ◌<◌, ◌≤◌, length, drop};
+ghost use Rattle.std.specs.Prelude.{◌≡◌, ◌+◌, ◌^◌, ◌<◌, ◌≤◌, length, take, drop};
 ghost use Rattle.frame_codec.specs.Fields.{byte_at};
 ghost use Rattle.image_log.specs.Frame.{end_of, framed};
 ghost use Rattle.image_log.specs.Reading.{AreHeaded, flags_of, is_pad, left_of, sent_size};
@@ -156,6 +156,57 @@ impl<'a> Iterator for Frames<'a> {
         if frame.is_pad() {
             self.last = 0;
         }
+        Some(frame)
+    }
+}
+
+/// Frames in the order of their positions, over the ends of terms. They are lent by the log.
+#[derive(Drop)]
+pub(crate) struct Run<'a> {
+    store: &'a Store,
+    /// The index of the next frame.
+    index: usize,
+    /// The index behind the last frame.
+    last: usize,
+}
+
+impl<'a> Model for Run<'a> {
+    ghost use Rattle.std.specs.Prelude.{◌≤◌, List, length, take, drop};
+    ghost use Rattle.image_log.specs.Frame.{Frame};
+    ghost use Rattle.image_log.specs.Reading.{AreHeaded};
+
+    ghost Value = { List Frame };
+
+    ghost view = { λ r. drop r.index (take r.last r.store.now.frames) };
+
+    ghost invariant = { λ r. (r.last ≤ length r.store.now.frames) × AreHeaded r.store.now.frames };
+}
+
+impl<'a> Run<'a> {
+    pub(crate) fn new(store: &'a Store, index: usize, last: usize) -> Run<'a>
+        requires last { last ≤ length store.now.frames }
+        requires headers { AreHeaded store.now.frames }
+        ensures { result ≡ drop index (take last store.now.frames) }
+    {
+        Run { store, index, last }
+    }
+}
+
+impl<'a> Iterator for Run<'a> {
+    ghost use Rattle.std.specs.Iterator.{YieldsFirst, item_count};
+
+    type Item = ImageFrame<'a>;
+
+    ghost next_gives = { YieldsFirst (λ rest. rest) };
+
+    ghost remaining = { item_count (λ rest. rest) };
+
+    fn next(&mut self) -> Option<ImageFrame<'a>> {
+        if self.index >= self.last {
+            return None;
+        }
+        let frame = self.store.frame(self.index);
+        self.index += 1;
         Some(frame)
     }
 }

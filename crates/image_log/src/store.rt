@@ -1,18 +1,17 @@
-ghost use Rattle.std.specs.Prelude.{◌≡◌, ◌+◌, ◌%◌, ◌^◌, ◌<◌, ◌≤◌, length, drop, filter, insert, replicate, IfOk, IfErr};
+ghost use Rattle.std.specs.Prelude.{◌≡◌, ◌+◌, ◌/◌, ◌%◌, ◌^◌, ◌<◌, ◌≤◌, [], length, drop, filter, insert, replicate};
 ghost use Rattle.std.specs.List.{list_any};
 ghost use Rattle.std.specs.VecDeque.{deque_capacity, deque_len};
 ghost use Rattle.log_arena.specs.Lease.{lease_bytes, lease_len};
 ghost use Rattle.image_log.specs.Frame.{framed, end_of};
 ghost use Rattle.image_log.specs.Answer.{answer_among};
-ghost use Rattle.image_log.specs.Order.{Ordered, begins_from, chain, is_same, meets, next_from, rank};
+ghost use Rattle.image_log.specs.Order.{Ordered, begins_at, begins_from, chain, is_same, meets, next_from, rank};
 ghost use Rattle.image_log.specs.Stored.{IsBlank, StandIn, frame_at, held_of, stored_in};
 ghost use Rattle.image_log.specs.Writing.{written};
 
 use crate::insert::Insert;
 use crate::place::Place;
 use crate::reading::ImageFrame;
-use log_arena::{Lease, NoMemory};
-use std::alloc::Global;
+use log_arena::Lease;
 use std::collections::VecDeque;
 use std::marker::Model;
 
@@ -40,21 +39,17 @@ impl Model for Store {
 }
 
 impl Store {
-    /// No frame yet, in a lease that is cleared; none will begin below `low`. There is room for the places of all
-    /// frames that the lease can hold.
-    pub(crate) fn open(alloc: Global, lease: Lease, low: u64) -> Result<Store, (Lease, NoMemory)>
-        requires { low + lease_len lease < 2 ^ 63 }
-        ensures ok { IfOk result (λ s. s ≡ stored_in (held_of lease) low) }
-        ensures err { IfErr result (λ e. e.0 ≡ lease) }
+    /// No frame yet, in a lease that is cleared; none will begin below `low`. There is room for the places of all frames
+    /// that the lease can hold.
+    pub(crate) fn open(places: VecDeque<Place>, lease: Lease, low: u64) -> Store
+        requires none { places.items ≡ [] }
+        requires roomy { lease_len lease / 32 ≤ deque_capacity places }
+        requires high { low + lease_len lease < 2 ^ 63 }
+        ensures { result ≡ stored_in (held_of lease) low }
     {
-        match VecDeque::with_capacity(alloc, lease.len() / 32) {
-            Ok(places) => {
-                let mut lease = lease;
-                clear(lease.bytes_mut());
-                Ok(Store { lease, low, places })
-            }
-            Err(refused) => Err((lease, refused)),
-        }
+        let mut lease = lease;
+        clear(lease.bytes_mut());
+        Store { lease, low, places }
     }
 
     /// The position below which no frame begins.
@@ -134,6 +129,14 @@ impl Store {
         ensures { result ≡ list_any (is_same position bytes.now) self.now.frames }
     {
         at < self.places.len() && self.is_same(at, position, bytes)
+    }
+
+    /// Whether one of the frames begins at a position.
+    pub(crate) fn begins_at(&self, position: u64) -> bool
+        ensures { result ≡ list_any (begins_at position) self.now.frames }
+    {
+        let at = self.rank(position);
+        at < self.places.len() && self.start_of(at) == position
     }
 
     /// Whether one of the frames meets the positions from one to another. `at` is the rank of the first.

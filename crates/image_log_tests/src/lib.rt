@@ -5,8 +5,8 @@ mod reading;
 mod shuffling;
 mod table;
 
-pub use reading::{fill, join, read_portion, read_to, reads, take_all};
-pub use shuffling::{agree, go_on, hand_in, hand_in_cell, open};
+pub use reading::{fill, gives, join, polls, read_portion, read_to, reads, take_all};
+pub use shuffling::{agree, go_on, hand_in, hand_in_cell, open, open_later};
 pub use table::{Cell, Table};
 
 #[cfg(test)]

@@ -9,8 +9,8 @@ use image_log::{ImageFrame, ImageLog, Insert};
 /// A subscription reads the log from now on. The answer is its position.
 #[tactic(auto, unfolding(image_log::specs::Rebuilt::settled))]
 pub fn join(log: &mut ImageLog, subscription: u64) -> u64
-    requires { length log.old.pairs < 512 }
-    ensures { length log.new.pairs ≡ length log.old.pairs + 1 }
+    requires { length log.old.rebuilt.pairs < 512 }
+    ensures { length log.new.rebuilt.pairs ≡ length log.old.rebuilt.pairs + 1 }
 {
     log.join_pair(subscription)
 }
@@ -18,7 +18,7 @@ pub fn join(log: &mut ImageLog, subscription: u64) -> u64
 /// A subscription reads up to a position. False where it does not read the log, or must not read so far or back.
 pub fn read_to(log: &mut ImageLog, subscription: u64, position: u64) -> bool {
     match log.pair_position(subscription) {
-        Some(at) if at <= position && position <= log.contiguous() => {
+        Some(at) if at <= position && position <= log.contiguous() && log.is_start(position) => {
             log.advance(subscription, position);
             true
         }
@@ -62,6 +62,32 @@ pub fn reads(log: &ImageLog, position: u64, bytes: usize, count: u64, end: u64) 
         behind = frame.end();
     }
     given == count && behind == end
+}
+
+/// Whether a poll of a subscription would give fragments that end at these positions, each with 32 bytes of 7.
+pub fn gives(log: &ImageLog, subscription: u64, limit: usize, ends: &[u64]) -> bool {
+    let mut same = true;
+    let mut count: usize = 0;
+    for fragment in log.fragments(subscription, limit) {
+        same &= count < ends.len() && ends[count] == fragment.position;
+        same &= fragment.payload.len() == 32 && fragment.payload.iter().all(|b| *b == 7);
+        same &= fragment.flags == Flags::UNFRAGMENTED;
+        count = count.saturating_add(1);
+    }
+    same && count == ends.len()
+}
+
+/// Polls, and says whether that gave fragments that end at these positions and left the subscription at a position.
+pub fn polls(
+    log: &mut ImageLog,
+    subscription: u64,
+    limit: usize,
+    ends: &[u64],
+    behind: u64,
+) -> bool {
+    let given = gives(log, subscription, limit, ends);
+    log.poll(subscription, limit);
+    given && log.pair_position(subscription) == Some(behind)
 }
 
 /// How many bytes are read at a time.

@@ -5,7 +5,7 @@ ghost use Rattle.std.specs.Prelude.{◌≡◌, ◌%◌, ◌<◌, ◌≤◌, [], 
 use crate::reading::{join, read_portion};
 use crate::table::{Cell, Table};
 use frame_codec::{Flags, TermPlace, term_of, write_data, write_pad};
-use image_log::{Ident, ImageLog, Insert};
+use image_log::{Ident, ImageLog, ImageRoom, Insert};
 use log_arena::{Arena, NoRoom};
 use std::alloc::Global;
 
@@ -13,7 +13,7 @@ use std::alloc::Global;
 /// frame.
 #[tactic(auto, unfolding(image_log::specs::Rebuilt::after_insert))]
 pub fn hand_in(log: &mut ImageLog, position: u64, fill: u8) -> Option<Insert>
-    ensures pairs { log.new.pairs ≡ log.old.pairs }
+    ensures pairs { log.new.rebuilt.pairs ≡ log.old.rebuilt.pairs }
 {
     let ident = log.ident();
     let mut frame = [0; 64];
@@ -44,7 +44,7 @@ fn place_of(ident: &Ident, position: u64) -> Option<TermPlace> {
 fn open_in(alloc: Global, arena: &mut Arena, ident: Ident, join: u64) -> Result<ImageLog, NoRoom>
     requires terms { ident.term_length ≡ 65536 }
     requires join { (join % 32 ≡ 0) × (join < 65536) }
-    ensures pairs { IfOk result (λ log. log.pairs ≡ []) }
+    ensures pairs { IfOk result (λ log. log.rebuilt.pairs ≡ []) }
 {
     let lease = arena.lease(196_608)?;
     match ImageLog::open(alloc, lease, ident, join) {
@@ -57,10 +57,41 @@ fn open_in(alloc: Global, arena: &mut Arena, ident: Ident, join: u64) -> Result<
 pub fn open(alloc: Global, ident: Ident, join: u64) -> Result<ImageLog, NoRoom>
     requires terms { ident.term_length ≡ 65536 }
     requires join { (join % 32 ≡ 0) × (join < 65536) }
-    ensures pairs { IfOk result (λ log. log.pairs ≡ []) }
+    ensures pairs { IfOk result (λ log. log.rebuilt.pairs ≡ []) }
 {
     match Arena::new(alloc, 48) {
         Ok(mut arena) => open_in(alloc, &mut arena, ident, join),
+        Err(_) => Err(NoRoom),
+    }
+}
+
+// As `open_in`, in memory that was taken before.
+fn open_in_room(
+    room: ImageRoom,
+    arena: &mut Arena,
+    ident: Ident,
+    join: u64,
+) -> Result<ImageLog, NoRoom>
+    requires room { room ≡ 196608 }
+    requires terms { ident.term_length ≡ 65536 }
+    requires join { (join % 32 ≡ 0) × (join < 65536) }
+    ensures pairs { IfOk result (λ log. log.rebuilt.pairs ≡ []) }
+{
+    let lease = arena.lease(196_608)?;
+    Ok(ImageLog::open_in(room, lease, ident, join))
+}
+
+/// As [`open`], with all memory taken first.
+pub fn open_later(alloc: Global, ident: Ident, join: u64) -> Result<ImageLog, NoRoom>
+    requires terms { ident.term_length ≡ 65536 }
+    requires join { (join % 32 ≡ 0) × (join < 65536) }
+    ensures pairs { IfOk result (λ log. log.rebuilt.pairs ≡ []) }
+{
+    let Ok(room) = ImageRoom::new(alloc, 196_608) else {
+        return Err(NoRoom);
+    };
+    match Arena::new(alloc, 48) {
+        Ok(mut arena) => open_in_room(room, &mut arena, ident, join),
         Err(_) => Err(NoRoom),
     }
 }

@@ -26,7 +26,7 @@ fn is_at(log: &ImageLog, base: u64, contiguous: u64, gap: Option<(u64, u32)>) ->
 }
 
 fn fills_a_gap(log: &mut ImageLog) -> bool
-    requires { log.old.pairs ≡ [] }
+    requires { log.old.rebuilt.pairs ≡ [] }
 {
     let joined = join(log, 1) == 0 && is_at(log, 0, 0, None);
     let apart = inserts(log, &[(0, 1, Insert::Taken), (128, 3, Insert::Taken)]);
@@ -60,7 +60,7 @@ fn stands_at(log: &ImageLog, subscription: u64, position: u64) -> bool {
 }
 
 fn two_read(log: &mut ImageLog) -> bool
-    requires { log.old.pairs ≡ [] }
+    requires { log.old.rebuilt.pairs ≡ [] }
 {
     let first = join(log, 4) == 0 && hand_in(log, 0, 1) == Some(Insert::Taken);
     let second = join(log, 9) == 64 && hand_in(log, 64, 2) == Some(Insert::Taken);
@@ -100,7 +100,7 @@ fn gives_back(log: ImageLog, at: usize) -> bool {
 }
 
 fn four_terms_are_read(log: &mut ImageLog) -> bool
-    requires { log.old.pairs ≡ [] }
+    requires { log.old.rebuilt.pairs ≡ [] }
 {
     let joined = join(log, 1) == 0;
     let filled = fill(log, 1, 262_144, 4096);
@@ -121,6 +121,15 @@ fn terms_that_are_read_go(rt: HostRuntime) -> Result<(), Fail> {
 fn lease_comes_back(rt: HostRuntime) -> Result<(), Fail> {
     let mut log = open(rt.alloc(), STREAM, 0)?;
     assert!(rt; inserts(&mut log, &[(64, 7, Insert::Taken)]) && gives_back(log, 64));
+    Ok(())
+}
+
+// A log opens in memory that was taken before, in a lease whose bytes are those of its frames.
+#[test]
+fn log_opens_in_room_that_was_taken(rt: HostRuntime) -> Result<(), Fail> {
+    let mut log = open_later(rt.alloc(), STREAM, 64)?;
+    assert!(rt; is_at(&log, 64, 64, None) && inserts(&mut log, &[(64, 7, Insert::Taken)]));
+    assert!(rt; gives_back(log, 64));
     Ok(())
 }
 
@@ -182,6 +191,15 @@ const FRAMES: [(u64, Cell); 5] = [
     (320, Cell::Long(1)),
 ];
 
+/// As those, with the bytes that a poll's fragments have.
+const POLLED: [(u64, Cell); 5] = [
+    (0, Cell::Long(7)),
+    (64, Cell::Long(7)),
+    (128, Cell::Pad),
+    (192, Cell::Long(7)),
+    (320, Cell::Long(7)),
+];
+
 /// From a position on, within so many bytes, so many frames are read, up to an end.
 const READS: [(u64, usize, u64, u64); 7] = [
     (0, 63, 0, 0),
@@ -215,8 +233,103 @@ fn whole_frames_are_read(rt: HostRuntime) -> Result<(), Fail> {
     Ok(())
 }
 
+// The first and the last position at which a subscription may stand, and those beside them.
+fn starts(log: &ImageLog) -> bool {
+    let frames = log.is_start(0) && log.is_start(64) && log.is_start(128);
+    frames && log.is_start(256) && !log.is_start(32) && !log.is_start(257) && !log.is_start(288)
+}
+
+// Subscription 4 reads up to 64, and 9 joins there; 128 is whole.
+fn slow_and_fast_read(log: &mut ImageLog) -> bool
+    requires { log.old.rebuilt.pairs ≡ [] }
+{
+    two_read(log) && read_to(log, 9, 128) && log.contiguous() == 128
+}
+
+fn others_come(log: &mut ImageLog) -> bool {
+    log.rejoin(&[4, 5]);
+    let kept = stands_at(log, 4, 0) && log.base() == 0;
+    let others = stands_at(log, 5, 128) && log.pair_position(9) == None;
+    log.rejoin(&[5]);
+    kept && others && stands_at(log, 5, 128) && log.base() == 128
+}
+
+fn all_go_and_come(log: &mut ImageLog) -> bool {
+    log.rejoin(&[]);
+    let none = log.pair_position(5) == None && log.base() == 128;
+    log.rejoin(&[4]);
+    none && stands_at(log, 4, 128)
+}
+
+// Exactly the subscriptions that are named read on: one that was there from where it was, another from what is whole.
+#[test]
+fn named_subscriptions_read_on(rt: HostRuntime) -> Result<(), Fail> {
+    let mut log = open(rt.alloc(), STREAM, 0)?;
+    assert!(rt; slow_and_fast_read(&mut log) && others_come(&mut log) && all_go_and_come(&mut log));
+    Ok(())
+}
+
+// With a pad and a gap: polls of so many fragments, at which positions they end, and where the subscription then stands.
+fn polls_go_on(log: &mut ImageLog) -> bool {
+    let none = polls(log, 1, 0, &[], 0);
+    let one = polls(log, 1, 1, &[64], 64) && polls(log, 1, 1, &[128], 128);
+    let rest = polls(log, 1, 5, &[256], 256) && polls(log, 1, 5, &[], 256);
+    let filled = take_all(log, &[(256, Cell::Long(7))]);
+    none && one && rest && filled && polls(log, 1, 5, &[320, 384], 384)
+}
+
+// A poll is given as many fragments as it asks for of what is whole. A pad does not count, and one behind the last
+// fragment is left.
+#[test]
+fn polls_give_what_is_whole(rt: HostRuntime) -> Result<(), Fail> {
+    let mut log = open(rt.alloc(), STREAM, 0)?;
+    assert!(rt; join(&mut log, 1) == 0 && take_all(&mut log, &POLLED) && starts(&log));
+    assert!(rt; polls_go_on(&mut log) && log.base() == 384);
+    Ok(())
+}
+
+fn polls_go_into_the_next_term(log: &mut ImageLog) -> bool {
+    let filled = fill(log, 1, 65_472, 1023);
+    let frames = take_all(log, &[(65_472, Cell::Long(7)), (65_536, Cell::Long(7))]);
+    filled && frames && polls(log, 1, 9, &[65_536, 65_600], 65_600)
+}
+
+#[test]
+fn polls_go_over_the_ends_of_terms(rt: HostRuntime) -> Result<(), Fail> {
+    let mut log = open(rt.alloc(), STREAM, 0)?;
+    assert!(rt; join(&mut log, 1) == 0 && polls_go_into_the_next_term(&mut log));
+    assert!(rt; inserts(&mut log, &[(65_472, 7, Insert::Below)]));
+    Ok(())
+}
+
+// A poll of a subscription that does not read the log gives nothing, and leaves the others where they are.
+#[test]
+fn others_are_not_polled(rt: HostRuntime) -> Result<(), Fail> {
+    let mut log = open(rt.alloc(), STREAM, 0)?;
+    assert!(rt; join(&mut log, 1) == 0 && take_all(&mut log, &POLLED));
+    assert!(rt; gives(&log, 2, 5, &[]));
+    log.poll(2, 5);
+    assert!(rt; stands_at(&log, 1, 0) && log.pair_position(2) == None);
+    Ok(())
+}
+
+// Other ends, fewer and more of them, and other places are told.
+#[test]
+fn other_polls_are_told(rt: HostRuntime) -> Result<(), Fail> {
+    let mut log = open(rt.alloc(), STREAM, 0)?;
+    assert!(rt;
+        join(&mut log, 1) == 0 && take_all(&mut log, &[(0, Cell::Long(7)), (64, Cell::Short)])
+    );
+    assert!(rt;
+        !gives(&log, 1, 1, &[]) && !gives(&log, 1, 1, &[96]) && !gives(&log, 1, 1, &[64, 96])
+    );
+    assert!(rt; gives(&log, 1, 1, &[64]) && !gives(&log, 1, 2, &[64, 96]));
+    assert!(rt; !polls(&mut log, 1, 1, &[64], 96));
+    Ok(())
+}
+
 fn status_is_due_in_time(log: &mut ImageLog) -> bool
-    requires { log.old.pairs ≡ [] }
+    requires { log.old.rebuilt.pairs ≡ [] }
 {
     let joined = join(log, 1) == 0;
     let first = log.window() == 32_768 && log.status_due(0, 200);

@@ -2,7 +2,7 @@ use Rattle.std.proofs.Common.{◌≡◌, ℕ, ◌+◌, ◌*◌, ◌%◌, ◌^◌
 use Rattle.std.specs.List.{list_any, insert}
 use Rattle.image_log.specs.Frame.{framed}
 use Rattle.image_log.specs.Handed.{IsFor, offset_of}
-use Rattle.image_log.specs.Log.{IsLog}
+use Rattle.image_log.specs.Log.{IsLog, Log}
 use Rattle.image_log.specs.Order.{Ordered, meets}
 use Rattle.image_log.specs.Rebuilt.{Rebuilt, insert_of}
 use Rattle.image_log.specs.Stored.{Stored}
@@ -16,14 +16,14 @@ put-requires-clause-place c = omega (arith, rank-le c.args.position c.self.insid
 
 pub put-requires-clause-size : goal.put-requires-clause-size
 put-requires-clause-size c =
-    let fits = span_fits c.args.self.now.ident c.args.position c.args.frame.now c.requires.of in
+    let fits = span_fits c.args.self.now.rebuilt.ident c.args.position c.args.frame.now c.requires.of in
     omega (arith, fits.1, c.requires.span)
 
 pub put-requires-clause-whole : goal.put-requires-clause-whole
 put-requires-clause-whole c =
-    let of = subst (λ (r : Rebuilt). IsFor r.ident c.args.position c.args.frame.now) (sym c.self.view_is) c.requires.of in
+    let of = subst (λ (r : Rebuilt). IsFor r.ident c.args.position c.args.frame.now) (sym (ap (λ (l : Log). l.rebuilt) c.self.view_is)) c.requires.of in
     let view : Rebuilt = Rattle.image_log.specs.Log.rebuilt_of c.self.inside.ident c.self.inside.join c.self.inside.base c.self.inside.greatest c.self.inside.moment c.self.inside.status c.self.inside.pairs c.self.inside.store in
-    let facts = taken view c.args.position c.args.frame.now (subst (λ (r : Rebuilt). insert_of r c.args.position c.args.frame.now ≡ Taken) (sym c.self.view_is) c.requires.taken) in
+    let facts = taken view c.args.position c.args.frame.now (subst (λ (r : Rebuilt). insert_of r c.args.position c.args.frame.now ≡ Taken) (sym (ap (λ (l : Log). l.rebuilt) c.self.view_is)) c.requires.taken) in
     let fits = span_fits c.self.inside.ident c.args.position c.args.frame.now of in
     let whole = place_whole c.self.inside.ident c.args.position c.args.frame.now of (omega (arith, c.self.invariant.terms)) facts.2 (omega (arith, fits.0)) in
     subst (λ (n : ℕ). c.args.position % n + c.args.span ≤ n) (sym c.self.invariant.room)
@@ -31,9 +31,9 @@ put-requires-clause-whole c =
 
 pub put-requires-clause-order : goal.put-requires-clause-order
 put-requires-clause-order c =
-    let of = subst (λ (r : Rebuilt). IsFor r.ident c.args.position c.args.frame.now) (sym c.self.view_is) c.requires.of in
+    let of = subst (λ (r : Rebuilt). IsFor r.ident c.args.position c.args.frame.now) (sym (ap (λ (l : Log). l.rebuilt) c.self.view_is)) c.requires.of in
     let view : Rebuilt = Rattle.image_log.specs.Log.rebuilt_of c.self.inside.ident c.self.inside.join c.self.inside.base c.self.inside.greatest c.self.inside.moment c.self.inside.status c.self.inside.pairs c.self.inside.store in
-    let facts = taken view c.args.position c.args.frame.now (subst (λ (r : Rebuilt). insert_of r c.args.position c.args.frame.now ≡ Taken) (sym c.self.view_is) c.requires.taken) in
+    let facts = taken view c.args.position c.args.frame.now (subst (λ (r : Rebuilt). insert_of r c.args.position c.args.frame.now ≡ Taken) (sym (ap (λ (l : Log). l.rebuilt) c.self.view_is)) c.requires.taken) in
     let fits = span_fits c.self.inside.ident c.args.position c.args.frame.now of in
     let apart : list_any (meets c.args.position (c.args.position + c.args.span)) c.self.inside.store.frames ≡ false =
     subst (λ (s : ℕ). list_any (meets c.args.position (c.args.position + s)) c.self.inside.store.frames ≡ false) (sym c.requires.span) facts.3 in
@@ -56,9 +56,9 @@ chain-self-inside-requires c =
 
 pub invariant_of-self : goal.invariant_of-self
 invariant_of-self c =
-    let of = subst (λ (r : Rebuilt). IsFor r.ident c.args.position c.args.frame.now) (sym c.self.view_is) c.requires.of in
+    let of = subst (λ (r : Rebuilt). IsFor r.ident c.args.position c.args.frame.now) (sym (ap (λ (l : Log). l.rebuilt) c.self.view_is)) c.requires.of in
     let view : Rebuilt = Rattle.image_log.specs.Log.rebuilt_of c.self.inside.ident c.self.inside.join c.self.inside.base c.self.inside.greatest c.self.inside.moment c.self.inside.status c.self.inside.pairs c.self.inside.store in
-    let facts = taken view c.args.position c.args.frame.now (subst (λ (r : Rebuilt). insert_of r c.args.position c.args.frame.now ≡ Taken) (sym c.self.view_is) c.requires.taken) in
+    let facts = taken view c.args.position c.args.frame.now (subst (λ (r : Rebuilt). insert_of r c.args.position c.args.frame.now ≡ Taken) (sym (ap (λ (l : Log). l.rebuilt) c.self.view_is)) c.requires.taken) in
     let fits = span_fits c.self.inside.ident c.args.position c.args.frame.now of in
     let apart : list_any (meets c.args.position (c.args.position + c.args.span)) c.self.inside.store.frames ≡ false =
     subst (λ (s : ℕ). list_any (meets c.args.position (c.args.position + s)) c.self.inside.store.frames ≡ false) (sym c.requires.span) facts.3 in
@@ -81,9 +81,9 @@ invariant_of-self c =
 
 pub invariant_of-self-else-position-self : goal.invariant_of-self-else-position-self
 invariant_of-self-else-position-self c =
-    let of = subst (λ (r : Rebuilt). IsFor r.ident c.args.position c.args.frame.now) (sym c.self.view_is) c.requires.of in
+    let of = subst (λ (r : Rebuilt). IsFor r.ident c.args.position c.args.frame.now) (sym (ap (λ (l : Log). l.rebuilt) c.self.view_is)) c.requires.of in
     let view : Rebuilt = Rattle.image_log.specs.Log.rebuilt_of c.self.inside.ident c.self.inside.join c.self.inside.base c.self.inside.greatest c.self.inside.moment c.self.inside.status c.self.inside.pairs c.self.inside.store in
-    let facts = taken view c.args.position c.args.frame.now (subst (λ (r : Rebuilt). insert_of r c.args.position c.args.frame.now ≡ Taken) (sym c.self.view_is) c.requires.taken) in
+    let facts = taken view c.args.position c.args.frame.now (subst (λ (r : Rebuilt). insert_of r c.args.position c.args.frame.now ≡ Taken) (sym (ap (λ (l : Log). l.rebuilt) c.self.view_is)) c.requires.taken) in
     let fits = span_fits c.self.inside.ident c.args.position c.args.frame.now of in
     let apart : list_any (meets c.args.position (c.args.position + c.args.span)) c.self.inside.store.frames ≡ false =
     subst (λ (s : ℕ). list_any (meets c.args.position (c.args.position + s)) c.self.inside.store.frames ≡ false) (sym c.requires.span) facts.3 in

@@ -2,6 +2,7 @@ use Rattle.std.proofs.Common.{◌+◌, ap, ◌∙◌, subst, arith}
 use Rattle.image_log.specs.Order.{Ordered}
 use Rattle.image_log.specs.Stored.{Stored}
 use Rattle.image_log.proofs.Found.{counted, has_one, has_none}
+use Rattle.image_log.proofs.Orders.{only_same}
 use Rattle.image_log.proofs.Tests.{lt_no}
 use Rattle.image_log.proofs.store.Store.has.Goals as goal
 
@@ -9,10 +10,10 @@ pub returns-then-at-len : goal.returns-then-at-len
 returns-then-at-len c =
     let n = counted _ _ _ _ (ap (λ (s : Stored). s.frames) c.self.view_is) in
     let order = subst (λ (s : Stored). Ordered s.low (s.low + s.held.len) s.frames) c.self.view_is c.self.invariant.order in
-    c.is_same.ensures ∙ has_one _ _ _ _ _ _ order c.requires (omega (arith, n, c.len.ensures, c.if-at-len.true, c.self.inside.places.ok))
+    c.is_same.ensures ∙ has_one _ _ _ _ _ _ (only_same c.args.position c.args.bytes.now) order c.requires (omega (arith, n, c.len.ensures, c.if-at-len.true, c.self.inside.places.ok))
 
 pub returns-else-at-len : goal.returns-else-at-len
 returns-else-at-len c =
     let n = counted _ _ _ _ (ap (λ (s : Stored). s.frames) c.self.view_is) in
     let order = subst (λ (s : Stored). Ordered s.low (s.low + s.held.len) s.frames) c.self.view_is c.self.invariant.order in
-    lt_no _ _ c.if-at-len.false ∙ has_none _ _ _ _ _ _ order c.requires (omega (arith, n, c.len.ensures, c.if-at-len.false, c.self.inside.places.ok))
+    lt_no _ _ c.if-at-len.false ∙ has_none _ _ _ _ _ _ (only_same c.args.position c.args.bytes.now) order c.requires (omega (arith, n, c.len.ensures, c.if-at-len.false, c.self.inside.places.ok))
