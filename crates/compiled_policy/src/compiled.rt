@@ -8,8 +8,8 @@ use std::alloc::{AllocError, Global};
 use std::marker::Model;
 
 /// A policy and its number, made ready. What it decides of a request takes time by the rules of the request's act and
-/// medium that speak of everybody or of its principal, and of its stream or of several, however many others there are.
-/// There is room for 1,024 rules, whatever policy it is.
+/// medium that speak of everybody or of its principal, and of its stream alone or of several, however many others there
+/// are. There is room for 1,024 rules, whatever policy it is.
 #[derive(Debug, Drop)]
 pub struct Compiled {
     policy: Policy,
@@ -70,7 +70,8 @@ impl Compiled {
         self.epoch
     }
 
-    /// What the policy decides of `request`: the word of the first rule that matches, or the default. It takes no memory.
+    /// What the policy decides of `request`: the word of the first rule that matches, or the default. It takes no
+    /// memory.
     pub fn verdict(&self, request: &Request<'_>) -> Verdict
         ensures { result ≡ verdict_of self.now.policy self.now.epoch (question_of request.now) }
     {

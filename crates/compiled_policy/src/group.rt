@@ -3,7 +3,8 @@ ghost use Rattle.std.specs.Prelude.{◌≡◌, ◌<◌};
 
 use policy_core::{Principals, Rule};
 
-/// The group of this principal, or of everybody, on this stream alone, or on more. Many principals or streams share one.
+/// The group of this principal, or of everybody, on this stream alone, or on more. Many principals or streams share
+/// one, which costs time and decides nothing.
 pub(crate) fn group_of(principal: Option<u32>, stream: Option<i32>) -> usize
     ensures value { result ≡ group_of principal stream }
     ensures small { result < 3073 }
