@@ -8,6 +8,8 @@ mod audits;
 #[cfg(test)]
 mod clients;
 #[cfg(test)]
+mod compilations;
+#[cfg(test)]
 mod counts;
 #[cfg(test)]
 mod policies;

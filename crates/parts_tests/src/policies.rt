@@ -8,7 +8,7 @@ use rows::Twin;
 use std::alloc::Global;
 
 /// A rule on these streams of a channel, about every act.
-fn rule(
+pub(crate) fn rule(
     principals: Principals,
     channel: &str,
     low: i32,

@@ -49,16 +49,16 @@ pub struct Rule {
 }
 
 impl Rule {
-    /// Whether the rule speaks of `request`.
+    /// Whether the rule speaks of `request`. The pattern, which costs most, is asked last.
     #[tactic(auto, unfolding(crate::specs::Rule::matches))]
     pub fn matches(&self, request: &Request<'_>) -> bool
         ensures { result ≡ matches self.now (question_of request.now) }
     {
         self.principals.include(request.principal)
             && self.acts.hold(request.act)
-            && self.channel.covers(request.channel)
             && self.low <= request.stream
             && request.stream <= self.high
+            && self.channel.covers(request.channel)
     }
 }
 

@@ -1,0 +1,4 @@
+pub mod GroupLemmas
+pub mod ChainLemmas
+pub mod FollowLemmas
+pub mod IndexLemmas
