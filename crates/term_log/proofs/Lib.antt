@@ -5,6 +5,7 @@ pub mod Held
 pub mod Nears
 pub mod Places
 pub mod Polls
+pub mod Sends
 pub mod Sizes
 pub mod Standing
 pub mod Stands

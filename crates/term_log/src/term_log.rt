@@ -11,6 +11,7 @@ ghost use Rattle.term_log.specs.Polling.{fragments_left};
 ghost use Rattle.term_log.specs.Ranges.{GivesOver, over_left};
 ghost use Rattle.term_log.specs.Reading.{GivesFrom, frames_left};
 ghost use Rattle.term_log.specs.Sender.{after_setup, after_status, budget_of, is_past, is_setup_due, later_of, sending, status_of};
+ghost use Rattle.term_log.specs.SenderSteps.{IsStartIn, datagram_cut, elicited, heard, sent_to, setup_cut};
 ghost use Rattle.term_log.specs.Whole.{Carries, Fetches, Offers, Stands, fresh, polled, rejoined, rejoined_kept};
 
 use crate::appender::Appender;
@@ -298,6 +299,8 @@ impl TermLog {
     pub fn sender_position(&self) -> u64
         ensures value { result ≡ self.now.sender.position }
         ensures within { result ≤ self.now.kept.tail }
+        ensures held { self.now.kept.ident.kind ≡ LogKind.Udp → low_of self.now.kept ≤ result }
+        ensures start { IsStartIn self.now result }
     {
         self.sender.position()
     }
@@ -306,7 +309,8 @@ impl TermLog {
     pub fn sent(&mut self, position: u64)
         requires from { self.old.sender.position ≤ position }
         requires to { position ≤ self.old.kept.tail }
-        ensures { self.new ≡ record self.old { sender = record self.old.sender { position = position } } }
+        ensures exact { self.new ≡ record self.old { sender = record self.old.sender { position = position } } }
+        ensures whole { IsStartIn self.old position → Carries self.old self.new (sent_to position) }
     {
         self.sender.sent(position);
     }
@@ -319,6 +323,7 @@ impl TermLog {
     pub fn status(&mut self, now: u64, position: u64, window: u32) -> Status
         ensures answer { result ≡ status_of self.old.sender position (min window (self.old.kept.ident.term_length / 2)) }
         ensures after { self.new ≡ record self.old { sender = after_status result now self.old.sender } }
+        ensures whole { Carries self.old self.new (heard now position window) }
     {
         let half = self.appender.ident().term_length / 2;
         self.sender.status(now, position, window.min(half))
@@ -326,7 +331,8 @@ impl TermLog {
 
     /// A SETUP is asked for, whether the log is connected or not.
     pub fn elicit(&mut self)
-        ensures { self.new ≡ record self.old { sender = record self.old.sender { elicited = true } } }
+        ensures exact { self.new ≡ record self.old { sender = record self.old.sender { elicited = true } } }
+        ensures whole { Carries self.old self.new elicited }
     {
         self.sender.elicit();
     }
@@ -354,7 +360,8 @@ impl TermLog {
 
     /// A SETUP was cut at the moment `now`, in nanoseconds, whoever got it. It answers all that asked for one.
     pub fn setup_sent(&mut self, now: u64)
-        ensures { self.new ≡ record self.old { sender = after_setup now self.old.sender } }
+        ensures exact { self.new ≡ record self.old { sender = after_setup now self.old.sender } }
+        ensures whole { Carries self.old self.new (setup_cut now) }
     {
         self.sender.setup_sent(now);
     }
@@ -369,9 +376,10 @@ impl TermLog {
 
     /// A datagram of frames, or a heartbeat, was cut at the moment `now`, in nanoseconds, whoever got it.
     pub fn datagram_sent(&mut self, now: u64)
-        ensures { self.new ≡ record self.old {
+        ensures exact { self.new ≡ record self.old {
           sender = record self.old.sender { datagram = later_of self.old.sender.datagram now };
         } }
+        ensures whole { Carries self.old self.new (datagram_cut now) }
     {
         self.sender.datagram_sent(now);
     }
