@@ -1,5 +1,6 @@
 pub mod Appending
 pub mod Cuts
+pub mod Ends
 pub mod Fronts
 pub mod Held
 pub mod Nears

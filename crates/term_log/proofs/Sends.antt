@@ -1,16 +1,20 @@
 -- What a log stands for as its sender goes on.
-use Rattle.std.proofs.Common.{◌≡◌, ℕ, ◌/◌, ◌≤◌, true, min, refl, sym, ap, subst, ◌∙◌}
+use Rattle.std.proofs.Common.{◌≡◌, ℕ, ◌+◌, ◌-◌, ◌/◌, ◌%◌, ◌≤◌, true, false, List, [], ◌∷◌, ◌++◌, min, refl, sym, ap, subst, ◌∙◌, arith, append_assoc}
+use Rattle.std.specs.Prelude.{nat_lt, nat_le, if◌then◌else◌}
 use Rattle.term_log.specs.declared.ident.Ident.{Ident}
 use Rattle.term_log.specs.declared.ident.LogKind.{LogKind}
 use Rattle.term_log.specs.declared.ident.LogKind.TheVariants.{Ipc, Udp}
 use Rattle.term_log.specs.declared.status.Status.{Status}
-use Rattle.term_log.specs.declared.status.Status.TheVariants.{Accepted, OutOfWindow}
+use Rattle.term_log.specs.Frames.{Frame, span, total}
 use Rattle.term_log.specs.Kept.{Kept}
 use Rattle.term_log.specs.Log.{Log, IsSenderNear, low_of}
+use Rattle.term_log.specs.Reading.{Given, all_given, spans, sent_size, of_term, within, GivesFrom}
 use Rattle.term_log.specs.Sender.{Sending, status_of, after_status, after_setup, later_of}
-use Rattle.term_log.specs.SenderSteps.{IsStartIn, sent_to, heard, elicited, setup_cut, datagram_cut}
-use Rattle.term_log.specs.Whole.{Whole, IsStart, Stands, Carries}
+use Rattle.term_log.specs.SenderSteps.{IsStartIn, ReadsFrom, frames_for, sent_to, heard, elicited, setup_cut, datagram_cut}
+use Rattle.term_log.specs.Whole.{Whole, IsStart, Stands, Carries, frames_behind}
+use Rattle.term_log.proofs.Held.{total_both}
 use Rattle.term_log.proofs.Nears.{near_held}
+use Rattle.term_log.proofs.Standing.{start_from}
 
 -- ---- where the sender stands
 
@@ -83,3 +87,80 @@ pub datagram_stands : (old new : Log) (now : ℕ) → new ≡ record old { sende
     → Carries old new (datagram_cut now)
 unfolding datagram_cut
 datagram_stands old new now new_is = carries_noted old new (λ i s. record s { datagram = later_of s.datagram now }) new_is (λ i s. refl)
+
+-- ---- what is read for the next datagram
+
+-- a list begins with another one
+record Begins (front all : List Frame) : Type 0 where
+  rest : List Frame
+  is : all ≡ front ++ rest
+
+begins_both : (front middle all : List Frame) → Begins front middle → Begins middle all → Begins front all
+begins_both front middle all first second =
+    record {
+      rest = first.rest ++ second.rest;
+      is = second.is ∙ ap (λ (fs : List Frame). fs ++ second.rest) first.is ∙ append_assoc front first.rest second.rest;
+    }
+
+begins_within : (budget : ℕ) (fs : List Frame) → Begins (within budget fs) fs
+begins_within budget [] = record { rest = []; is = refl }
+begins_within budget (f ∷ fs) =
+    let others = begins_within (budget - sent_size f) fs in
+    elim (nat_lt budget (sent_size f)) as (λ b. Begins (if b then [] else f ∷ within (budget - sent_size f) fs) (f ∷ fs)) [
+      | true ↦ record { rest = f ∷ fs; is = refl }
+      | false ↦ record { rest = others.rest; is = ap (λ (gs : List Frame). f ∷ gs) others.is }
+    ]
+
+begins_term : (term position : ℕ) (fs : List Frame) → Begins (of_term term position fs) fs
+begins_term term position [] = record { rest = []; is = refl }
+begins_term term position (f ∷ fs) =
+    let others = begins_term term (position + span f) fs in
+    elim (nat_le term (position % term + span f)) as (λ b. Begins (f ∷ (if b then [] else of_term term (position + span f) fs)) (f ∷ fs)) [
+      | true ↦ record { rest = fs; is = refl }
+      | false ↦ record { rest = others.rest; is = ap (λ (gs : List Frame). f ∷ gs) others.is }
+    ]
+
+begins_for : (w : Whole) (position budget : ℕ) → Begins (frames_for w position budget) (frames_behind position w.ident.start w.frames)
+unfolding frames_for
+begins_for w position budget =
+    let behind : List Frame = frames_behind position w.ident.start w.frames in
+    let here : List Frame = of_term w.ident.term_length position behind in
+    begins_both (within budget here) here behind (begins_within budget here) (begins_term w.ident.term_length position behind)
+
+spans_given : (i : Ident) (position : ℕ) (fs : List Frame) → spans (all_given i position fs) ≡ total fs
+spans_given i position [] = refl
+spans_given i position (f ∷ fs) = omega (arith, spans_given i (position + span f) fs)
+
+pub reads_whole : (l : Log) (position budget : ℕ) (left : List Given) → GivesFrom l.kept position budget left → ReadsFrom l position budget left
+unfolding frames_for
+reads_whole l position budget left gives =
+    record {
+      on = λ w s start.
+          let from = start_from l w position s start in
+          let fs : List Frame = frames_for w position budget in
+          let is : left ≡ all_given w.ident position fs =
+          gives.on from.before from.after from.stands from.kept_place
+          ∙ ap (λ (i : Ident). all_given i position (within budget (of_term i.term_length position from.after))) s.ident
+          ∙ ap (λ (gs : List Frame). all_given w.ident position (within budget (of_term w.ident.term_length position gs))) (sym from.behind) in
+          (is, ap spans is ∙ spans_given w.ident position fs);
+    }
+
+-- behind what is read a frame begins, or nothing is
+pub reads_to : (l : Log) (position budget : ℕ) (left : List Given) → GivesFrom l.kept position budget left → IsStartIn l position
+    → IsStartIn l (position + spans left)
+reads_to l position budget left gives starts =
+    record {
+      on = λ w s.
+          let start = starts.on w s in
+          let from = start_from l w position s start in
+          let fs : List Frame = frames_for w position budget in
+          let read = ((reads_whole l position budget left gives).on w s start).1 in
+          let front = begins_for w position budget in
+          let place = from.place in
+          record {
+            before = from.before ++ fs;
+            after = front.rest;
+            is = from.whole ∙ ap (λ (gs : List Frame). from.before ++ gs) (sym from.behind ∙ front.is) ∙ sym (append_assoc from.before fs front.rest);
+            place = omega (arith, place, read, total_both from.before fs);
+          };
+    }

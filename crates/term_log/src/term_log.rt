@@ -1,7 +1,7 @@
 //! The log of a publication.
 
 ghost use Rattle.log_arena.specs.Lease.{lease_bytes, lease_home, lease_len, lease_place};
-ghost use Rattle.std.specs.Prelude.{◌≡◌, ◌+◌, ◌*◌, ◌/◌, ◌%◌, ◌<◌, ◌≤◌, ◌++◌, ◌∷◌, [], IfErr, IfOk, IfSome, List, length, map, min, filter, replicate, true};
+ghost use Rattle.std.specs.Prelude.{◌≡◌, ◌+◌, ◌*◌, ◌/◌, ◌%◌, ◌<◌, ◌≤◌, ◌++◌, ◌∷◌, [], All, IfErr, IfOk, IfSome, List, length, map, min, filter, replicate, true};
 ghost use Rattle.term_log.specs.Frames.{Frame};
 ghost use Rattle.term_log.specs.Ident.{IsIdent};
 ghost use Rattle.term_log.specs.Kept.{StandsFor, after_frames, opened};
@@ -9,9 +9,9 @@ ghost use Rattle.term_log.specs.Log.{HasRoom, appended, connected_of, greatest_m
 ghost use Rattle.term_log.specs.Pairs.{ReadsUpTo, is_other, moved_one, position_of};
 ghost use Rattle.term_log.specs.Polling.{fragments_left};
 ghost use Rattle.term_log.specs.Ranges.{GivesOver, over_left};
-ghost use Rattle.term_log.specs.Reading.{GivesFrom, frames_left};
+ghost use Rattle.term_log.specs.Reading.{AreFrom, EndsBy, GivesFrom, frames_left, spans};
 ghost use Rattle.term_log.specs.Sender.{after_setup, after_status, budget_of, is_past, is_setup_due, later_of, sending, status_of};
-ghost use Rattle.term_log.specs.SenderSteps.{IsStartIn, datagram_cut, elicited, heard, sent_to, setup_cut};
+ghost use Rattle.term_log.specs.SenderSteps.{IsStartIn, ReadsFrom, datagram_cut, elicited, heard, sent_to, setup_cut};
 ghost use Rattle.term_log.specs.Whole.{Carries, Fetches, Offers, Stands, fresh, polled, rejoined, rejoined_kept};
 
 use crate::appender::Appender;
@@ -141,14 +141,19 @@ impl TermLog {
     pub fn frames_from(&self, position: u64, bytes: usize) -> Frames<'_>
         requires low { low_of self.now.kept ≤ position }
         requires high { position ≤ self.now.kept.tail }
-        ensures { GivesFrom self.now.kept position bytes (frames_left result) }
+        ensures gives { GivesFrom self.now.kept position bytes (frames_left result) }
+        ensures behind { AreFrom position (frames_left result) }
+        ensures within { position + spans (frames_left result) ≤ self.now.kept.tail }
+        ensures whole { ReadsFrom self.now position bytes (frames_left result) }
+        ensures end { IsStartIn self.now position → IsStartIn self.now (position + spans (frames_left result)) }
     {
         self.appender.frames_from(position, bytes)
     }
 
     /// The frames that are held and have a position in common with a range: so many positions from `position` on.
     pub fn frames_over(&self, position: u64, size: u64) -> FramesOver<'_>
-        ensures { GivesOver self.now.kept position size (over_left result) }
+        ensures gives { GivesOver self.now.kept position size (over_left result) }
+        ensures within { All (EndsBy self.now.kept.tail) (over_left result) }
     {
         self.appender.frames_over(self.low(), position, size)
     }

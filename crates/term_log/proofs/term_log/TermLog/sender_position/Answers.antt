@@ -1,7 +1,5 @@
-use Rattle.std.proofs.Common.{◌≡◌, ap, subst, ◌∙◌, sym, arith}
-use Rattle.term_log.specs.declared.ident.LogKind.{LogKind}
+use Rattle.std.proofs.Common.{ap, arith}
 use Rattle.term_log.specs.Log.{Log}
-use Rattle.term_log.specs.SenderSteps.{IsStartIn}
 use Rattle.term_log.proofs.Nears.{sender_within}
 use Rattle.term_log.proofs.Sends.{sender_held, sender_starts}
 use Rattle.term_log.proofs.term_log.TermLog.sender_position.Goals as goal
