@@ -9,3 +9,5 @@ pub mod Numbers
 pub mod WriteBack
 pub mod FramesBack
 pub mod DatagramsBack
+pub mod FlagLemmas
+pub mod FlagsRead

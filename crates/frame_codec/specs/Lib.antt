@@ -13,3 +13,4 @@ pub mod Datagram
 pub mod Writing
 pub mod Position
 pub mod Written
+pub mod FlagLaws
