@@ -187,6 +187,7 @@ impl Appender {
         ensures gives { GivesFrom self.now position budget (frames_left result) }
         ensures behind { AreFrom position (frames_left result) }
         ensures within { position + spans (frames_left result) ≤ self.now.tail }
+        ensures fits { position + spans (frames_left result) < 2 ^ 64 }
     {
         let term_length = u64::from(self.ident.term_length);
         let offset = position % term_length;

@@ -1,7 +1,7 @@
 //! The log of a publication.
 
 ghost use Rattle.log_arena.specs.Lease.{lease_bytes, lease_home, lease_len, lease_place};
-ghost use Rattle.std.specs.Prelude.{◌≡◌, ◌+◌, ◌*◌, ◌/◌, ◌%◌, ◌<◌, ◌≤◌, ◌++◌, ◌∷◌, [], All, IfErr, IfOk, IfSome, List, length, map, min, filter, replicate, true};
+ghost use Rattle.std.specs.Prelude.{◌≡◌, ◌+◌, ◌*◌, ◌/◌, ◌%◌, ◌^◌, ◌<◌, ◌≤◌, ◌++◌, ◌∷◌, [], All, IfErr, IfOk, IfSome, List, length, map, min, filter, replicate, true};
 ghost use Rattle.term_log.specs.Frames.{Frame};
 ghost use Rattle.term_log.specs.Ident.{IsIdent};
 ghost use Rattle.term_log.specs.Kept.{StandsFor, after_frames, opened};
@@ -144,6 +144,7 @@ impl TermLog {
         ensures gives { GivesFrom self.now.kept position bytes (frames_left result) }
         ensures behind { AreFrom position (frames_left result) }
         ensures within { position + spans (frames_left result) ≤ self.now.kept.tail }
+        ensures fits { position + spans (frames_left result) < 2 ^ 64 }
         ensures whole { ReadsFrom self.now position bytes (frames_left result) }
         ensures end { IsStartIn self.now position → IsStartIn self.now (position + spans (frames_left result)) }
     {

@@ -72,3 +72,11 @@ returns-clause-within c =
     let end : c.min-end.result ≡ min s.tail (position - position % t + t) = c.min-end.ensures in
     let row = row_from (frames_left c.new.result) position (c.min-end.result - position) c.min-end.result c.args.budget c.part-bytes.result.now c.new.ensures c.part-bytes.ensures.size (omega (arith, high, rest, end)) in
     rw (← c.self.view_is) (omega (arith, row.1, end))
+
+pub returns-clause-fits : goal.returns-clause-fits
+returns-clause-fits c =
+    let s = c.self.inside in
+    let within = rw (← c.self.view_is) at (returns-clause-within c) in
+    let high = c.self.invariant.high in
+    let term_high = c.self.invariant.ident.term_high in
+    omega (arith, within, high, term_high)
