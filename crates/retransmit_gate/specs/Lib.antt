@@ -1,3 +1,4 @@
 pub mod Gate
 pub mod Moment
 pub mod Nakker
+pub mod ResendLaws
