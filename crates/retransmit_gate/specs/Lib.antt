@@ -2,3 +2,4 @@ pub mod Gate
 pub mod Moment
 pub mod Nakker
 pub mod ResendLaws
+pub mod NakLaws

@@ -1,7 +1,8 @@
-//! What holds of all ranges, and of all NAKs that come: each function does nothing, and its clause is the law.
+//! What holds of all ranges, of all NAKs that come and of all ticks: each function does nothing, and its clause is the law.
 
 ghost use Rattle.std.specs.Prelude.{◌↔◌, ◌<◌, ◌≤◌, ℕ, IsTrue};
 ghost use Rattle.retransmit_gate.specs.Gate.{meets};
+ghost use Rattle.retransmit_gate.specs.NakLaws.{GapsAreAskedExactly, GapsStandSomewhere};
 ghost use Rattle.retransmit_gate.specs.ResendLaws.{ResendsAreApart, ResendsAreFew, ResendsExactly, ResendsWereAsked};
 ghost use Rattle.retransmit_gate.specs.declared.resent.Resent.{Resent};
 
@@ -30,4 +31,15 @@ pub fn resends_are_few()
 /// Whatever NAKs come, only ranges of NAKs are sent again, each within the window that its NAK came with.
 pub fn resends_were_asked_for()
     ensures { ResendsWereAsked }
+{}
+
+/// Behind any ticks, a tick gives a NAK exactly of a gap that it has, and that was there before: past the delay since the
+/// gap was first seen, where it was not asked for since, and else past the repeat since it was last asked for.
+pub fn gaps_are_asked_exactly()
+    ensures { GapsAreAskedExactly }
+{}
+
+/// Behind any ticks, a gap at any position is a new one, or was seen and not asked for, or was asked for.
+pub fn gaps_stand_somewhere()
+    ensures { GapsStandSomewhere }
 {}
