@@ -1,4 +1,4 @@
-ghost use Rattle.frame_codec.specs.Flags.{contains};
+ghost use Rattle.frame_codec.specs.Flags.{asks_for_setup, begins_message, contains, ends_message, ends_stream};
 ghost use Rattle.std.specs.Prelude.{◌≡◌};
 
 /// The flags of a frame. Bits without a name here are kept as they came.
@@ -26,5 +26,37 @@ impl Flags {
         ensures { result ≡ contains self flags }
     {
         self.bits & flags.bits == flags.bits
+    }
+
+    /// Whether a data frame begins a message: bit 0x80.
+    #[tactic(auto, using(crate::proofs::FlagLemmas::highest_bit))]
+    pub fn begins_message(self) -> bool
+        ensures { result ≡ begins_message self }
+    {
+        self.contains(Flags::BEGIN)
+    }
+
+    /// Whether a data frame ends a message: bit 0x40.
+    #[tactic(auto, using(crate::proofs::FlagLemmas::second_bit))]
+    pub fn ends_message(self) -> bool
+        ensures { result ≡ ends_message self }
+    {
+        self.contains(Flags::END)
+    }
+
+    /// Whether a data frame or heartbeat is of a stream that has ended: bit 0x20.
+    #[tactic(auto, using(crate::proofs::FlagLemmas::third_bit))]
+    pub fn ends_stream(self) -> bool
+        ensures { result ≡ ends_stream self }
+    {
+        self.contains(Flags::END_OF_STREAM)
+    }
+
+    /// Whether a status message asks for a SETUP: bit 0x80.
+    #[tactic(auto, using(crate::proofs::FlagLemmas::highest_bit))]
+    pub fn asks_for_setup(self) -> bool
+        ensures { result ≡ asks_for_setup self }
+    {
+        self.contains(Flags::SEND_SETUP)
     }
 }

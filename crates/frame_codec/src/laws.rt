@@ -5,6 +5,7 @@ ghost use Rattle.std.specs.Int.{w32};
 ghost use Rattle.frame_codec.specs.Datagram as contents;
 ghost use Rattle.frame_codec.specs.Datagram.{packet_of};
 ghost use Rattle.frame_codec.specs.Fields.{IsBytes, number_at};
+ghost use Rattle.frame_codec.specs.FlagLaws.{FlagsAreRead, FlagsAreWritten};
 ghost use Rattle.frame_codec.specs.Frame.{Sent, beat_bytes};
 ghost use Rattle.frame_codec.specs.Header.{plain_header};
 ghost use Rattle.frame_codec.specs.Nak.{nak_bytes};
@@ -108,6 +109,15 @@ pub fn status_messages_write_back()
 pub fn setups_write_back()
     ensures { (bytes : List ℕ) (setup : Setup) → IsBytes bytes → packet_of bytes ≡ Ok (contents.setup setup)
         → number_at 0 bytes ≡ 40 → setup.flags.bits ≡ 0 → setup.ttl ≡ pos 0 → setup_bytes setup ++ drop 40 bytes ≡ bytes }
+{}
+
+/// The flags of what is read and written are the sixth byte of its frame, in which [`Flags::begins_message`] and its like
+/// name a bit each.
+///
+/// [`Flags::begins_message`]: crate::Flags::begins_message
+pub fn flags_are_the_sixth_byte()
+    ensures read { FlagsAreRead }
+    ensures written { FlagsAreWritten }
 {}
 
 /// The place of a position is the place that it is the position of; ids of terms wrap.

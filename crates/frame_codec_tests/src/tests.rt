@@ -247,9 +247,7 @@ fn is_data_written() -> bool {
 }
 
 fn is_of_one_frame(flags: Flags) -> bool {
-    flags.contains(Flags::BEGIN)
-        && flags.contains(Flags::END)
-        && !flags.contains(Flags::END_OF_STREAM)
+    flags.begins_message() && flags.ends_message() && !flags.ends_stream()
 }
 
 #[test]
@@ -367,7 +365,7 @@ fn is_reserved_value_read() -> bool {
 #[test]
 fn every_byte_of_a_field_counts(rt: HostRuntime) {
     assert!(rt; is_status(&FULL_STATUS, FULL_STATUS_FIELDS));
-    assert!(rt; FULL_STATUS_FIELDS.flags.contains(Flags::SEND_SETUP));
+    assert!(rt; FULL_STATUS_FIELDS.flags.asks_for_setup());
     assert!(rt; is_reserved_value_read());
 }
 

@@ -1,1 +1,4 @@
 pub mod GateLemmas
+pub mod ResendLemmas
+pub mod NakLemmas
+pub mod NakStands

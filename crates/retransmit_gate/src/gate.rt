@@ -91,8 +91,10 @@ fn decide(
 
 impl Gate {
     /// The gate of a log of which nothing was sent again. A range that was sent again lingers for `linger` nanoseconds.
+    #[tactic(auto, unfolding(crate::specs::Gate::kept_of))]
     pub fn new(linger: u64) -> Gate
-        ensures { result ≡ opened linger }
+        ensures opened { result ≡ opened linger }
+        ensures all { result ≡ kept_of (opened linger) }
     {
         Gate {
             linger,
@@ -100,6 +102,7 @@ impl Gate {
             resent: ResentList::new(),
         }
     }
+
     /// Decides a NAK that came at the moment `now`, in nanoseconds, of `length` bytes from `position` on. `window` is
     /// the range of positions that may be sent again. A range that is sent again lingers from then on.
     ///

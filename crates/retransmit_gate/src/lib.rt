@@ -13,6 +13,10 @@ mod resent;
 
 pub use answer::Answer;
 pub use gate::Gate;
-pub use laws::ranges_meet_where_they_share_a_position;
+pub use laws::{
+    gaps_are_asked_exactly, gaps_stand_somewhere, ranges_are_resent_exactly,
+    ranges_meet_where_they_share_a_position, resends_are_a_linger_apart, resends_are_few,
+    resends_were_asked_for,
+};
 pub use nakker::{Missing, Nak, Nakker};
 pub use resent::Resent;

@@ -16,7 +16,7 @@ use Rattle.frame_codec.specs.Writing.{front_bytes, number_bytes, signed_bytes}
 use Rattle.frame_codec.proofs.WritingLemmas.{length-header_bytes}
 use Rattle.term_log.specs.declared.ident.Ident.{Ident}
 use Rattle.term_log.specs.Ident.{IsIdent, place_at}
-use Rattle.term_log.specs.Frames.{Frame, fragment, pad, pad_flags, front_of, IsFrame}
+use Rattle.term_log.specs.Frames.{Frame, fragment, pad, pad_flags, span, front_of, IsFrame}
 use Rattle.term_log.specs.Reading.{given, sent_size, first_of}
 use Rattle.term_log.proofs.Sizes.{length-data_bytes, length-pad_bytes}
 
@@ -64,14 +64,14 @@ data_first position bytes header payload filling rest flags long fits whole size
     rw (le-ltb (length bytes) 32 enough, ne_eqb (slice_index bytes 6) 0 other, stated, le-ltb n 32 above, le-ltb (length bytes) (padded n) within, sent, part, bits) refl
 
 pad_first : (position size : ℕ) (bytes header rest : List ℕ) → length header ≡ 32 → bytes ≡ header ++ rest
-    → slice_index bytes 6 ≡ 0 → little_number 4 bytes ≡ size
+    → slice_index bytes 6 ≡ 0 → little_number 4 bytes ≡ size → size ≤ length bytes
     → first_of position bytes ≡ Some (record { position = position; frame = pad size; bytes = header })
 unfolding first_of
-pad_first position size bytes header rest long whole kind stated =
+pad_first position size bytes header rest long whole kind stated within =
     let total : length bytes ≡ length header + length rest = ap (length {A = ℕ}) whole ∙ length-append header rest in
     let enough : 32 ≤ length bytes = omega (arith, long, total) in
     let sent : take 32 bytes ≡ header = ap (take 32) whole ∙ take_at header rest 32 long in
-    rw (le-ltb (length bytes) 32 enough, eq-eqb (slice_index bytes 6) 0 kind, sent, stated) refl
+    rw (le-ltb (length bytes) 32 enough, eq-eqb (slice_index bytes 6) 0 kind, stated, le-ltb (length bytes) size within, sent) refl
 
 -- ---- one frame as it was appended
 
@@ -92,22 +92,22 @@ data_again flags place payload rest position fits =
     (ap (λ (b : List ℕ). slice_index b 5) split ∙ header_flags h tail)
     (ap (little_number 4) split ∙ header_length h tail (omega (arith, own, fits)) ∙ own)
 
-pad_again : (place : TermPlace) (size position : ℕ) (rest : List ℕ) → size < 256 ^ 4
+pad_again : (place : TermPlace) (size position : ℕ) (rest : List ℕ) → size < 256 ^ 4 → size ≤ 32 + length rest
     → first_of position (pad_bytes pad_flags place size ++ rest) ≡ Some (record { position = position; frame = pad size; bytes = pad_bytes pad_flags place size })
 unfolding pad_bytes
-pad_again place size position rest fits =
+pad_again place size position rest fits within =
     let h : Header = plain_header Pad size pad_flags place in
     pad_first position size (header_bytes h ++ rest) (header_bytes h) rest (length-header_bytes h) refl
-    (pad_kind size pad_flags place rest) (header_length h rest fits)
+    (pad_kind size pad_flags place rest) (header_length h rest fits) (omega (arith, within, length-append (header_bytes h) rest, length-header_bytes h))
 
-pub first_again : (i : Ident) (position : ℕ) (f : Frame) (rest : List ℕ) → IsIdent i → IsFrame i position f
+pub first_again : (i : Ident) (position : ℕ) (f : Frame) (rest : List ℕ) → IsIdent i → IsFrame i position f → span f ≤ sent_size f + length rest
     → first_of position (front_of i position f ++ rest) ≡ Some (given i position f)
-first_again i position (fragment flags payload) rest sound is =
+first_again i position (fragment flags payload) rest sound is within =
     let mtu_high = sound.mtu_high in
     data_again flags (place_at i position) payload rest position (omega (arith, is.0))
-first_again i position (pad size) rest sound is =
+first_again i position (pad size) rest sound is within =
     let term_high = sound.term_high in
-    pad_again (place_at i position) size position rest (omega (arith, is.1))
+    pad_again (place_at i position) size position rest (omega (arith, is.1)) within
 
 pub length-front : (i : Ident) (position : ℕ) (f : Frame) → length (front_of i position f) ≡ sent_size f
 length-front i position (fragment flags payload) = length-data_bytes flags (place_at i position) payload

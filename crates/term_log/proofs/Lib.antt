@@ -1,10 +1,12 @@
 pub mod Appending
 pub mod Cuts
+pub mod Ends
 pub mod Fronts
 pub mod Held
 pub mod Nears
 pub mod Places
 pub mod Polls
+pub mod Sends
 pub mod Sizes
 pub mod Standing
 pub mod Stands

@@ -144,7 +144,7 @@ first_least start tail term r pairs now d is same near some =
     omega arith
 
 -- what is within a term of the tail is held
-near_held : (start tail term position : ℕ) → IsNear start tail term position → max start ((tail / term - 2) * term) ≤ position
+pub near_held : (start tail term position : ℕ) → IsNear start tail term position → max start ((tail / term - 2) * term) ≤ position
 near_held start tail term position near =
     let split = div-add-mod' tail term in
     elim (tail / term) as (λ (q : ℕ). q * term + tail % term ≡ tail → max start ((q - 2) * term) ≤ position) [

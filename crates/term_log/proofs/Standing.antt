@@ -160,7 +160,7 @@ rejoin_stands l subscriptions =
 
 -- ---- polls
 
--- where a subscription that reads a whole log reads it
+-- where a whole log is read
 pub record From (l : Log) (w : Whole) (at : ℕ) : Type 0 where
   pub before : List Frame
   pub after : List Frame
@@ -170,11 +170,8 @@ pub record From (l : Log) (w : Whole) (at : ℕ) : Type 0 where
   pub kept_place : at ≡ l.kept.ident.start + total before
   pub behind : frames_behind at w.ident.start w.frames ≡ after
 
-pub reads_from : (l : Log) (w : Whole) (subscription at : ℕ) → Stands l w → position_of l.pairs subscription ≡ Some at → From l w at
-reads_from l w subscription at s is =
-    let here : position_of w.pairs subscription ≡ Some at = ap (λ (pairs : List Pair). position_of pairs subscription) (sym s.pairs) ∙ is in
-    let start : IsStart w.ident.start w.frames at =
-    subst (λ (o : Option ℕ). IfSome o (IsStart w.ident.start w.frames)) here (found_start w.ident.start subscription w.frames w.pairs s.read) in
+pub start_from : (l : Log) (w : Whole) (at : ℕ) → Stands l w → IsStart w.ident.start w.frames at → From l w at
+start_from l w at s start =
     let stands = subst (λ (fs : List Frame). StandsFor l.kept fs) start.is s.frames in
     let begin : l.kept.ident.start ≡ w.ident.start = ap (λ (i : Ident). i.start) s.ident in
     let place = start.place in
@@ -190,6 +187,12 @@ reads_from l w subscription at s is =
       behind = ap₂ (λ (p : ℕ) (fs : List Frame). frames_behind at p fs) (sym begin) start.is
           ∙ behind_start l.kept.ident l.kept.ident.start at start.before start.after run kept_place;
     }
+
+pub reads_from : (l : Log) (w : Whole) (subscription at : ℕ) → Stands l w → position_of l.pairs subscription ≡ Some at → From l w at
+reads_from l w subscription at s is =
+    let here : position_of w.pairs subscription ≡ Some at = ap (λ (pairs : List Pair). position_of pairs subscription) (sym s.pairs) ∙ is in
+    start_from l w at s
+    (subst (λ (o : Option ℕ). IfSome o (IsStart w.ident.start w.frames)) here (found_start w.ident.start subscription w.frames w.pairs s.read))
 
 pub polled_is : (w : Whole) (l : Log) (subscription limit : ℕ) (o : Option ℕ) → Stands l w → position_of l.pairs subscription ≡ o
     → polled w subscription limit ≡ polled_from w subscription limit o

@@ -2,7 +2,7 @@
 use Rattle.std.proofs.Common.{◌≡◌, ℕ, zero, suc, ◌+◌, ◌-◌, ◌%◌, ◌<◌, ◌≤◌, Bool, true, false, cond, List, [], ◌∷◌, ◌++◌, length, take, drop, Option, Some, None, refl, sym, ap, ap₂, subst, ◌∙◌, arith, length-append, append_assoc}
 use Rattle.std.specs.Prelude.{replicate, slice_index, nat_lt, nat_le, ◌==◌, if◌then◌else◌, IfSome}
 use Rattle.std.proofs.lemmas.Bool.Decides.{nat_tests}
-use Rattle.std.proofs.lemmas.List.{nil_from_length, length-drop, length-take-le, take_all, take_at, take-append-drop, drop_at}
+use Rattle.std.proofs.lemmas.List.{nil_from_length, length-drop, length-take-le, take_all, take_at, take-append-drop, drop_at, length-replicate}
 use Rattle.std.proofs.Math.Seq.{take-append-add}
 use Rattle.byteorder.specs.Endian.{little_number}
 use Rattle.frame_codec.specs.Frame.{padded}
@@ -10,7 +10,7 @@ use Rattle.term_log.specs.declared.ident.Ident.{Ident}
 use Rattle.term_log.specs.Ident.{IsIdent}
 use Rattle.term_log.specs.declared.reading.Frames.{Frames}
 use Rattle.term_log.specs.Frames.{Frame, fragment, pad, span, front_of, bytes_of, run_of, IsFrame, IsRun}
-use Rattle.term_log.specs.Reading.{Given, given, all_given, sent_size, of_term, within, pad_at, fragment_at, first_of, admitted, behind, and_then, frames_in, frames_left, sent_bytes}
+use Rattle.term_log.specs.Reading.{Given, given, all_given, sent_size, of_term, within, pad_at, pad_of, fragment_at, first_of, admitted, behind, and_then, frames_in, frames_left, sent_bytes}
 use Rattle.term_log.proofs.Fronts.{first_again, length-front}
 use Rattle.term_log.proofs.Places.{mod_within}
 use Rattle.term_log.proofs.Stands.{frame_fits, length-bytes}
@@ -25,12 +25,16 @@ unfolding first_of
 first_less position bytes =
     let n : ℕ = little_number 4 bytes in
     let found : Option Given = Some (fragment_at n position bytes) in
-    elim (nat_lt (length bytes) 32) as (λ b. nat_lt (length bytes) 32 ≡ b → IfSome (cond b None (cond (slice_index bytes 6 == 0) (Some (pad_at position bytes)) (cond (nat_lt n 32) None (cond (nat_lt (length bytes) (padded n)) None found)))) (IsLess bytes)) [
+    elim (nat_lt (length bytes) 32) as (λ b. nat_lt (length bytes) 32 ≡ b → IfSome (cond b None (cond (slice_index bytes 6 == 0) (pad_of position bytes) (cond (nat_lt n 32) None (cond (nat_lt (length bytes) (padded n)) None found)))) (IsLess bytes)) [
       | true ↦ λ short. tt
       | false ↦ λ long.
           let enough : 32 ≤ length bytes = grind (arith, nat_tests, long) in
-          elim (slice_index bytes 6 == 0) as (λ b. IfSome (cond b (Some (pad_at position bytes)) (cond (nat_lt n 32) None (cond (nat_lt (length bytes) (padded n)) None found))) (IsLess bytes)) [
-            | true ↦ omega (arith, enough)
+          elim (slice_index bytes 6 == 0) as (λ b. IfSome (cond b (pad_of position bytes) (cond (nat_lt n 32) None (cond (nat_lt (length bytes) (padded n)) None found))) (IsLess bytes)) [
+            | true ↦
+                elim (nat_lt (length bytes) n) as (λ b. IfSome (cond b None (Some (pad_at position bytes))) (IsLess bytes)) [
+                  | true ↦ tt
+                  | false ↦ omega (arith, enough)
+                ]
             | false ↦
                 elim (nat_lt n 32) as (λ b. nat_lt n 32 ≡ b → IfSome (cond b None (cond (nat_lt (length bytes) (padded n)) None found)) (IsLess bytes)) [
                   | true ↦ λ less. tt
@@ -184,8 +188,10 @@ reads_back i position n e budget (f ∷ fs) bytes sound run whole end enough =
     parts ∙ append_assoc (front_of i position f) filling (tail_bytes i position f fs) in
     let here : e - length bytes ≡ position = omega (arith, end) in
     let front = length-front i position f in
+    let fills : length filling ≡ span f - length (front_of i position f) = length-replicate {A = ℕ} (span f - length (front_of i position f)) 0 in
+    let range : span f ≤ size + length (filling ++ tail_bytes i position f fs) = omega (arith, front, fills, length-append filling (tail_bytes i position f fs)) in
     let first : admitted budget (first_of (e - length bytes) bytes) ≡ cond (nat_lt budget size) None (Some g) =
-    ap (admitted budget) (ap₂ first_of here split ∙ first_again i position f (filling ++ tail_bytes i position f fs) sound run.0)
+    ap (admitted budget) (ap₂ first_of here split ∙ first_again i position f (filling ++ tail_bytes i position f fs) sound run.0 range)
     ∙ ap (λ (k : ℕ). cond (nat_lt budget k) None (Some g)) front in
     let others = behind_frame i position e (budget - size) f fs bytes sound run.0 parts
     (λ before next next_is count. reads_back i (position + span f) (length next) e (budget - size) fs next sound run.1 next_is (omega (arith, end, count)) (omega arith)) in
@@ -213,12 +219,16 @@ unfolding first_of
 first_front position bytes =
     let n : ℕ = little_number 4 bytes in
     let found : Option Given = Some (fragment_at n position bytes) in
-    elim (nat_lt (length bytes) 32) as (λ b. nat_lt (length bytes) 32 ≡ b → IfSome (cond b None (cond (slice_index bytes 6 == 0) (Some (pad_at position bytes)) (cond (nat_lt n 32) None (cond (nat_lt (length bytes) (padded n)) None found)))) (IsFront bytes)) [
+    elim (nat_lt (length bytes) 32) as (λ b. nat_lt (length bytes) 32 ≡ b → IfSome (cond b None (cond (slice_index bytes 6 == 0) (pad_of position bytes) (cond (nat_lt n 32) None (cond (nat_lt (length bytes) (padded n)) None found)))) (IsFront bytes)) [
       | true ↦ λ short. tt
       | false ↦ λ long.
           let enough : 32 ≤ length bytes = grind (arith, nat_tests, long) in
-          elim (slice_index bytes 6 == 0) as (λ b. IfSome (cond b (Some (pad_at position bytes)) (cond (nat_lt n 32) None (cond (nat_lt (length bytes) (padded n)) None found))) (IsFront bytes)) [
-            | true ↦ taken_front 32 bytes enough
+          elim (slice_index bytes 6 == 0) as (λ b. IfSome (cond b (pad_of position bytes) (cond (nat_lt n 32) None (cond (nat_lt (length bytes) (padded n)) None found))) (IsFront bytes)) [
+            | true ↦
+                elim (nat_lt (length bytes) n) as (λ b. IfSome (cond b None (Some (pad_at position bytes))) (IsFront bytes)) [
+                  | true ↦ tt
+                  | false ↦ taken_front 32 bytes enough
+                ]
             | false ↦
                 elim (nat_lt n 32) as (λ b. IfSome (cond b None (cond (nat_lt (length bytes) (padded n)) None found)) (IsFront bytes)) [
                   | true ↦ tt

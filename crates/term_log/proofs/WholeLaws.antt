@@ -4,8 +4,7 @@ use Rattle.term_log.specs.Frames.{Frame, fragment, pad, span, total}
 use Rattle.term_log.specs.Log.{Log}
 use Rattle.term_log.specs.Pairs.{position_of}
 use Rattle.term_log.specs.Polling.{passed, fragments_of}
-use Rattle.term_log.specs.Sender.{Sending}
-use Rattle.term_log.specs.Whole.{Whole, frames_behind, Poll, polled_from, IsStart, Stands}
+use Rattle.term_log.specs.Whole.{Whole, frames_behind, Poll, polled_from, Stands}
 use Rattle.term_log.specs.PollLaws.{AreFragmentsOf, PollsGiveFrames}
 use Rattle.term_log.proofs.Cuts.{total-append}
 use Rattle.term_log.proofs.Polls.{left_behind, passed_split}
@@ -45,18 +44,3 @@ pub polled_are_frames : PollsGiveFrames
 polled_are_frames l w subscription limit s =
     subst (λ (p : Poll). AreFragmentsOf w p.fragments) (sym (polled_is w l subscription limit (position_of l.pairs subscription) s refl))
     (polled_by l w subscription limit (position_of l.pairs subscription) s refl)
-
--- ---- what the sender notes
-
--- it keeps something else, and stands where a frame begins
-pub noted_stands : (l : Log) (w : Whole) (kept : Sending) → Stands l w → IsStart w.ident.start w.frames kept.position
-    → Stands (record l { sender = kept }) (record w { sender = kept })
-noted_stands l w kept s start =
-    record {
-      ident = s.ident;
-      frames = s.frames;
-      pairs = s.pairs;
-      sender = refl;
-      read = s.read;
-      sent = start;
-    }

@@ -11,4 +11,5 @@ pub mod Reading
 pub mod Ranges
 pub mod Polling
 pub mod Whole
+pub mod SenderSteps
 pub mod PollLaws

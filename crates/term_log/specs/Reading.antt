@@ -1,6 +1,6 @@
 -- Frames that are read from a log: what is given of them, and how many bytes of each are sent. The transport's padding
 -- is sent as its header alone (Aeron Transport Protocol Specification, padding); the rest are own rules.
-use Rattle.std.specs.Prelude.{◌≡◌, ℕ, suc, zero, ◌+◌, ◌-◌, ◌%◌, ◌==◌, nat_lt, nat_le, if◌then◌else◌, List, [], ◌∷◌, ◌++◌, length, take, drop, slice_index, Option, Some, None}
+use Rattle.std.specs.Prelude.{◌≡◌, ◌≤◌, ℕ, suc, zero, ◌+◌, ◌-◌, ◌%◌, ◌==◌, nat_lt, nat_le, if◌then◌else◌, List, [], ◌∷◌, ◌++◌, length, take, drop, slice_index, Option, Some, None}
 use Rattle.byteorder.specs.Endian.{little_number}
 use Rattle.frame_codec.specs.Frame.{padded}
 use Rattle.term_log.specs.declared.ident.Ident.{Ident}
@@ -33,6 +33,20 @@ given i position f = record { position = position; frame = f; bytes = front_of i
 abbrev pub all_given : Ident → ℕ → List Frame → List Given
 all_given i position [] = []
 all_given i position (f ∷ fs) = given i position f ∷ all_given i (position + span f) fs
+
+-- how many positions frames take
+abbrev pub spans : List Given → ℕ
+spans [] = 0
+spans (g ∷ gs) = span g.frame + spans gs
+
+-- the first begins at that position, and each other one where the one before it ends
+abbrev pub AreFrom : ℕ → List Given → Type 0
+AreFrom position [] = Unit {0}
+AreFrom position (g ∷ gs) = (g.position ≡ position) × AreFrom (position + span g.frame) gs
+
+-- a frame ends there or below
+abbrev pub EndsBy : ℕ → Given → Type 0
+EndsBy end g = g.position + span g.frame ≤ end
 
 -- the bytes of frames that are sent, one behind the other
 abbrev pub sent_bytes : List Given → List ℕ
@@ -80,11 +94,15 @@ fragment_at size position bytes = record {
   bytes = take (padded size) bytes;
 }
 
--- the frame at the front, if all that is sent of it is there
+-- a pad, if all of its range is there
+abbrev pub pad_of : ℕ → List ℕ → Option Given
+pad_of position bytes = if nat_lt (length bytes) (little_number 4 bytes) then None else Some (pad_at position bytes)
+
+-- the frame at the front, if all of its range is there
 unfoldable pub first_of : ℕ → List ℕ → Option Given
 first_of position bytes =
     if nat_lt (length bytes) 32 then None
-    else if slice_index bytes 6 == 0 then Some (pad_at position bytes)
+    else if slice_index bytes 6 == 0 then pad_of position bytes
     else if nat_lt (little_number 4 bytes) 32 then None
     else if nat_lt (length bytes) (padded (little_number 4 bytes)) then None
     else Some (fragment_at (little_number 4 bytes) position bytes)

@@ -2,14 +2,14 @@
 
 ghost use Rattle.frame_codec.specs.Frame.{padded};
 ghost use Rattle.log_arena.specs.Lease.{lease_bytes, lease_home, lease_len, lease_place};
-ghost use Rattle.std.specs.Prelude.{◌≡◌, ℕ, ◌+◌, ◌-◌, ◌*◌, ◌%◌, ◌^◌, ◌<◌, ◌≤◌, ◌==◌, ◌++◌, List, length, min, replicate};
+ghost use Rattle.std.specs.Prelude.{◌≡◌, ℕ, ◌+◌, ◌-◌, ◌*◌, ◌%◌, ◌^◌, ◌<◌, ◌≤◌, ◌==◌, ◌++◌, All, List, length, min, replicate};
 ghost use Rattle.term_log.specs.Buffers.{Buffers, settled};
 ghost use Rattle.term_log.specs.Cut.{cut};
 ghost use Rattle.term_log.specs.Frames.{Frame, fragment, pad, total};
 ghost use Rattle.term_log.specs.Ident.{IsIdent, greatest_position, payload_length, place_at};
 ghost use Rattle.term_log.specs.Log.{low_of};
 ghost use Rattle.term_log.specs.Ranges.{GivesOver, over_left};
-ghost use Rattle.term_log.specs.Reading.{GivesAll, GivesFrom, frames_left};
+ghost use Rattle.term_log.specs.Reading.{AreFrom, EndsBy, GivesAll, GivesFrom, frames_left, spans};
 ghost use Rattle.term_log.specs.Kept.{Kept, after_frame, after_frames, offset_of, opened, rest_of};
 
 use crate::buffers::TermBuffers;
@@ -184,7 +184,10 @@ impl Appender {
     pub(crate) fn frames_from(&self, position: u64, budget: usize) -> Frames<'_>
         requires low { low_of self.now ≤ position }
         requires high { position ≤ self.now.tail }
-        ensures { GivesFrom self.now position budget (frames_left result) }
+        ensures gives { GivesFrom self.now position budget (frames_left result) }
+        ensures behind { AreFrom position (frames_left result) }
+        ensures within { position + spans (frames_left result) ≤ self.now.tail }
+        ensures fits { position + spans (frames_left result) < 2 ^ 64 }
     {
         let term_length = u64::from(self.ident.term_length);
         let offset = position % term_length;
@@ -216,6 +219,7 @@ impl Appender {
         requires low { low_of self.now ≤ position }
         requires high { position ≤ self.now.tail }
         ensures all { GivesAll self.now position (frames_left result.0 ++ frames_left result.1 ++ frames_left result.2) }
+        ensures within { All (EndsBy self.now.tail) (frames_left result.0 ++ frames_left result.1 ++ frames_left result.2) }
         ensures sound { IsIdent self.now.ident }
     {
         let budget = self.ident.term_length as usize;
@@ -232,7 +236,8 @@ impl Appender {
     pub(crate) fn frames_over(&self, low: u64, position: u64, size: u64) -> FramesOver<'_>
         requires exact { low ≡ low_of self.now }
         requires within { low ≤ self.now.tail }
-        ensures { GivesOver self.now position size (over_left result) }
+        ensures gives { GivesOver self.now position size (over_left result) }
+        ensures within { All (EndsBy self.now.tail) (over_left result) }
     {
         let (first, second, third) = self.terms_from(low);
         FramesOver::new(first, second, third, position, size)

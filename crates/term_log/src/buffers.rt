@@ -136,7 +136,8 @@ impl TermBuffers {
     pub(crate) fn part(&self, base: usize, offset: usize, count: usize) -> &[u8]
         requires base { IsBase self.now.term_length base }
         requires within { offset + count ≤ self.now.term_length }
-        ensures { result.now ≡ take count (drop (base + offset) self.now.bytes) }
+        ensures bytes { result.now ≡ take count (drop (base + offset) self.now.bytes) }
+        ensures size { length result.now ≡ count }
     {
         let behind = 3 * self.term_length - self.end;
         let at = if base < behind {

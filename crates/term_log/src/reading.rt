@@ -5,7 +5,7 @@ ghost use Rattle.frame_codec.specs.Frame.{padded};
 ghost use Rattle.std.specs.Prelude.{◌≡◌, ◌+◌, ◌-◌, ◌≤◌, length};
 ghost use Rattle.std.specs.Option.{option_map};
 ghost use Rattle.term_log.specs.Frames.{span};
-ghost use Rattle.term_log.specs.Reading.{admitted, behind, first_of, fragment_at, frame_of, frames_left, given_of, pad_at, sent_bytes};
+ghost use Rattle.term_log.specs.Reading.{admitted, behind, first_of, fragment_at, frame_of, frames_left, given_of, pad_of, sent_bytes, spans};
 
 use byteorder::{ByteOrder, LittleEndian};
 use frame_codec::{Flags, Header, padded_length};
@@ -48,16 +48,20 @@ impl<'a> LogFrame<'a> {
     }
 }
 
-/// The pad at the front.
-fn pad_at(position: u64, bytes: &[u8]) -> LogFrame<'_>
+/// The pad at the front, if all of its range is there.
+fn pad_at(position: u64, bytes: &[u8]) -> Option<LogFrame<'_>>
     requires { 32 ≤ length bytes.now }
-    ensures { given_of result ≡ pad_at position bytes.now }
+    ensures { option_map given_of result ≡ pad_of position bytes.now }
 {
-    LogFrame {
-        position,
-        content: Content::Pad(LittleEndian::read_u32(bytes)),
-        bytes: &bytes[..Header::SIZE],
+    let size = LittleEndian::read_u32(bytes);
+    if (bytes.len() as u64) < u64::from(size) {
+        return None;
     }
+    Some(LogFrame {
+        position,
+        content: Content::Pad(size),
+        bytes: &bytes[..Header::SIZE],
+    })
 }
 
 /// The data frame of that length at the front.
@@ -77,7 +81,7 @@ fn fragment_at(size: u32, position: u64, bytes: &[u8]) -> LogFrame<'_>
     }
 }
 
-/// The frame at the front, if all that is sent of it is there.
+/// The frame at the front, if all of its range is there.
 #[tactic(auto, unfolding(crate::specs::Reading::first_of))]
 fn first(position: u64, bytes: &[u8]) -> Option<LogFrame<'_>>
     ensures { option_map given_of result ≡ first_of position bytes.now }
@@ -86,7 +90,7 @@ fn first(position: u64, bytes: &[u8]) -> Option<LogFrame<'_>>
         return None;
     }
     if bytes[6] == 0 {
-        return Some(pad_at(position, bytes));
+        return pad_at(position, bytes);
     }
     let size = LittleEndian::read_u32(bytes);
     if size < 32 {
@@ -141,6 +145,18 @@ impl<'a> Frames<'a> {
         ensures { result.now ≡ sent_bytes (frames_left self.now) }
     {
         front_of(self, self.rest)
+    }
+
+    /// How many positions all frames take that are still to come.
+    pub fn span(&self) -> u64
+        ensures { result ≡ spans (frames_left self.now) }
+    {
+        let mut span = 0;
+        let mut later = *self;
+        while let Some(frame) = later.next() {
+            span += frame.span();
+        }
+        span
     }
 
     /// The next frame, if the budget admits it.

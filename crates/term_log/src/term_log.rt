@@ -1,7 +1,7 @@
 //! The log of a publication.
 
 ghost use Rattle.log_arena.specs.Lease.{lease_bytes, lease_home, lease_len, lease_place};
-ghost use Rattle.std.specs.Prelude.{◌≡◌, ◌+◌, ◌*◌, ◌/◌, ◌%◌, ◌<◌, ◌≤◌, ◌++◌, ◌∷◌, [], IfErr, IfOk, IfSome, List, length, map, min, filter, replicate, true};
+ghost use Rattle.std.specs.Prelude.{◌≡◌, ◌+◌, ◌*◌, ◌/◌, ◌%◌, ◌^◌, ◌<◌, ◌≤◌, ◌++◌, ◌∷◌, [], All, IfErr, IfOk, IfSome, List, length, map, min, filter, replicate, true};
 ghost use Rattle.term_log.specs.Frames.{Frame};
 ghost use Rattle.term_log.specs.Ident.{IsIdent};
 ghost use Rattle.term_log.specs.Kept.{StandsFor, after_frames, opened};
@@ -9,8 +9,9 @@ ghost use Rattle.term_log.specs.Log.{HasRoom, appended, connected_of, greatest_m
 ghost use Rattle.term_log.specs.Pairs.{ReadsUpTo, is_other, moved_one, position_of};
 ghost use Rattle.term_log.specs.Polling.{fragments_left};
 ghost use Rattle.term_log.specs.Ranges.{GivesOver, over_left};
-ghost use Rattle.term_log.specs.Reading.{GivesFrom, frames_left};
+ghost use Rattle.term_log.specs.Reading.{AreFrom, EndsBy, GivesFrom, frames_left, spans};
 ghost use Rattle.term_log.specs.Sender.{after_setup, after_status, budget_of, is_past, is_setup_due, later_of, sending, status_of};
+ghost use Rattle.term_log.specs.SenderSteps.{IsStartIn, ReadsFrom, datagram_cut, elicited, heard, sent_to, setup_cut};
 ghost use Rattle.term_log.specs.Whole.{Carries, Fetches, Offers, Stands, fresh, polled, rejoined, rejoined_kept};
 
 use crate::appender::Appender;
@@ -140,14 +141,20 @@ impl TermLog {
     pub fn frames_from(&self, position: u64, bytes: usize) -> Frames<'_>
         requires low { low_of self.now.kept ≤ position }
         requires high { position ≤ self.now.kept.tail }
-        ensures { GivesFrom self.now.kept position bytes (frames_left result) }
+        ensures gives { GivesFrom self.now.kept position bytes (frames_left result) }
+        ensures behind { AreFrom position (frames_left result) }
+        ensures within { position + spans (frames_left result) ≤ self.now.kept.tail }
+        ensures fits { position + spans (frames_left result) < 2 ^ 64 }
+        ensures whole { ReadsFrom self.now position bytes (frames_left result) }
+        ensures end { IsStartIn self.now position → IsStartIn self.now (position + spans (frames_left result)) }
     {
         self.appender.frames_from(position, bytes)
     }
 
     /// The frames that are held and have a position in common with a range: so many positions from `position` on.
     pub fn frames_over(&self, position: u64, size: u64) -> FramesOver<'_>
-        ensures { GivesOver self.now.kept position size (over_left result) }
+        ensures gives { GivesOver self.now.kept position size (over_left result) }
+        ensures within { All (EndsBy self.now.kept.tail) (over_left result) }
     {
         self.appender.frames_over(self.low(), position, size)
     }
@@ -298,6 +305,8 @@ impl TermLog {
     pub fn sender_position(&self) -> u64
         ensures value { result ≡ self.now.sender.position }
         ensures within { result ≤ self.now.kept.tail }
+        ensures held { self.now.kept.ident.kind ≡ LogKind.Udp → low_of self.now.kept ≤ result }
+        ensures start { IsStartIn self.now result }
     {
         self.sender.position()
     }
@@ -306,7 +315,8 @@ impl TermLog {
     pub fn sent(&mut self, position: u64)
         requires from { self.old.sender.position ≤ position }
         requires to { position ≤ self.old.kept.tail }
-        ensures { self.new ≡ record self.old { sender = record self.old.sender { position = position } } }
+        ensures exact { self.new ≡ record self.old { sender = record self.old.sender { position = position } } }
+        ensures whole { IsStartIn self.old position → Carries self.old self.new (sent_to position) }
     {
         self.sender.sent(position);
     }
@@ -319,6 +329,7 @@ impl TermLog {
     pub fn status(&mut self, now: u64, position: u64, window: u32) -> Status
         ensures answer { result ≡ status_of self.old.sender position (min window (self.old.kept.ident.term_length / 2)) }
         ensures after { self.new ≡ record self.old { sender = after_status result now self.old.sender } }
+        ensures whole { Carries self.old self.new (heard now position window) }
     {
         let half = self.appender.ident().term_length / 2;
         self.sender.status(now, position, window.min(half))
@@ -326,7 +337,8 @@ impl TermLog {
 
     /// A SETUP is asked for, whether the log is connected or not.
     pub fn elicit(&mut self)
-        ensures { self.new ≡ record self.old { sender = record self.old.sender { elicited = true } } }
+        ensures exact { self.new ≡ record self.old { sender = record self.old.sender { elicited = true } } }
+        ensures whole { Carries self.old self.new elicited }
     {
         self.sender.elicit();
     }
@@ -354,7 +366,8 @@ impl TermLog {
 
     /// A SETUP was cut at the moment `now`, in nanoseconds, whoever got it. It answers all that asked for one.
     pub fn setup_sent(&mut self, now: u64)
-        ensures { self.new ≡ record self.old { sender = after_setup now self.old.sender } }
+        ensures exact { self.new ≡ record self.old { sender = after_setup now self.old.sender } }
+        ensures whole { Carries self.old self.new (setup_cut now) }
     {
         self.sender.setup_sent(now);
     }
@@ -369,9 +382,10 @@ impl TermLog {
 
     /// A datagram of frames, or a heartbeat, was cut at the moment `now`, in nanoseconds, whoever got it.
     pub fn datagram_sent(&mut self, now: u64)
-        ensures { self.new ≡ record self.old {
+        ensures exact { self.new ≡ record self.old {
           sender = record self.old.sender { datagram = later_of self.old.sender.datagram now };
         } }
+        ensures whole { Carries self.old self.new (datagram_cut now) }
     {
         self.sender.datagram_sent(now);
     }

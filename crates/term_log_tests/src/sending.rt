@@ -33,8 +33,9 @@ fn opens_by_status(log: &mut TermLog) -> bool {
     let closed = !log.connected(0, TIMEOUT) && log.send_budget() == 0;
     let taken = log.status(0, 0, 32_768) == Status::Accepted(32_768);
     let open = log.connected(0, TIMEOUT) && log.send_budget() == 1408;
-    let offered = log.offer(b"x") == Offer::At(64);
-    closed && taken && open && offered && log.sender_position() == 0 && log.tail() == 64
+    let offered = log.offer(b"x") == Offer::At(64) && log.sender_position() == 0;
+    let sent = send(log) == 64 && log.sender_position() == 64;
+    closed && taken && open && offered && sent && log.tail() == 64
 }
 
 #[test]

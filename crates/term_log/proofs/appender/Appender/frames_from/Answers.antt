@@ -4,6 +4,7 @@ use Rattle.term_log.specs.Buffers.{IsBase}
 use Rattle.term_log.specs.Kept.{Kept}
 use Rattle.term_log.specs.Reading.{frames_left}
 use Rattle.std.proofs.lemmas.Nat.{div-add-mod', mul-le}
+use Rattle.term_log.proofs.Ends.{row_from}
 use Rattle.term_log.proofs.Held.{base_is, term_near, gives_from}
 use Rattle.term_log.proofs.appender.Appender.frames_from.Goals as goal
 
@@ -21,8 +22,8 @@ part-bytes-requires-clause-base c =
     subst (λ (t : ℕ). IsBase s.buffers.term_length (c.args.position - c.args.position % t + 2 * t - (s.tail - s.tail % t))) (sym is)
     (subst (λ (t : ℕ). IsBase t base) (sym same) here)
 
-pub returns : goal.returns
-returns c =
+pub returns-clause-gives : goal.returns-clause-gives
+returns-clause-gives c =
     let s = c.self.inside in
     let k : Kept = record { ident = s.ident; tail = s.tail; messages = s.messages; buffers = s.buffers } in
     let position : ℕ = c.args.position in
@@ -45,4 +46,37 @@ returns c =
     let rest : position % term < term = omega arith in
     rw (← c.self.view_is)
     (gives_from k position c.args.budget (position - position % t + 2 * t - (s.tail - s.tail % t) + position % t) (c.min-end.result - position) c.min-end.result
-    c.part-bytes.result.now (frames_left c.new.result) c.self.invariant.ident (omega arith) (omega arith) (omega arith) c.part-bytes.ensures c.new.ensures)
+    c.part-bytes.result.now (frames_left c.new.result) c.self.invariant.ident (omega arith) (omega arith) (omega arith) c.part-bytes.ensures.bytes c.new.ensures)
+
+pub returns-clause-behind : goal.returns-clause-behind
+returns-clause-behind c =
+    let s = c.self.inside in
+    let position : ℕ = c.args.position in
+    let high = rw (← c.self.view_is) at c.requires.high in
+    let t : ℕ = c.from-term_length.result in
+    let term_low = c.self.invariant.ident.term_low in
+    let is : t ≡ s.ident.term_length = c.from-term_length.ensures in
+    let rest : position % t < t = omega arith in
+    let end : c.min-end.result ≡ min s.tail (position - position % t + t) = c.min-end.ensures in
+    (row_from (frames_left c.new.result) position (c.min-end.result - position) c.min-end.result c.args.budget c.part-bytes.result.now c.new.ensures c.part-bytes.ensures.size (omega (arith, high, rest, end))).0
+
+pub returns-clause-within : goal.returns-clause-within
+returns-clause-within c =
+    let s = c.self.inside in
+    let position : ℕ = c.args.position in
+    let high = rw (← c.self.view_is) at c.requires.high in
+    let t : ℕ = c.from-term_length.result in
+    let term_low = c.self.invariant.ident.term_low in
+    let is : t ≡ s.ident.term_length = c.from-term_length.ensures in
+    let rest : position % t < t = omega arith in
+    let end : c.min-end.result ≡ min s.tail (position - position % t + t) = c.min-end.ensures in
+    let row = row_from (frames_left c.new.result) position (c.min-end.result - position) c.min-end.result c.args.budget c.part-bytes.result.now c.new.ensures c.part-bytes.ensures.size (omega (arith, high, rest, end)) in
+    rw (← c.self.view_is) (omega (arith, row.1, end))
+
+pub returns-clause-fits : goal.returns-clause-fits
+returns-clause-fits c =
+    let s = c.self.inside in
+    let within = rw (← c.self.view_is) at (returns-clause-within c) in
+    let high = c.self.invariant.high in
+    let term_high = c.self.invariant.ident.term_high in
+    omega (arith, within, high, term_high)

@@ -7,8 +7,8 @@ use Rattle.term_log.proofs.Turns.{part_later, part_before}
 use Rattle.term_log.proofs.buffers.TermBuffers.part.Goals as goal
 use Rattle.term_log.proofs.buffers.TermBuffers.part.Goals.{then-base-behind, else-base-behind}
 
-pub returns : goal.returns
-returns c =
+pub returns-clause-bytes : goal.returns-clause-bytes
+returns-clause-bytes c =
     let s = c.self.inside in
     let count : ℕ = c.args.count in
     let base : ℕ = c.args.base in
