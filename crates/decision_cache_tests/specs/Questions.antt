@@ -1,4 +1,4 @@
-use Rattle.std.specs.Prelude.{ℤ, pos}
+use Rattle.std.specs.Prelude.{pos}
 use Rattle.channel_uri.specs.Channel.{Shape}
 use Rattle.policy_core.specs.Question.{Question}
 use Rattle.decision_cache.specs.declared.key.Key.{Key}

@@ -76,6 +76,22 @@ fn policies_in_turn(rt: HostRuntime) {
     assert_eq!(rt; are_in_turn(rt.alloc()), Some(true));
 }
 
+/// Whether all verdicts are as wanted, however many of them found memory to be kept.
+fn answers_stand(alloc: Global) -> Option<bool> {
+    let mut desk = desk(alloc)?;
+    desk.reload(policy(alloc, true)?).ok()?;
+    desk.reload(policy(alloc, false)?).ok()?;
+    let first = are_decided(&mut desk, 1, true);
+    let second = are_decided(&mut desk, 2, false);
+    Some(first && second && are_decided(&mut desk, 1, true))
+}
+
+// Where an allocation is refused there is no desk, or a verdict is not kept: no answer is another one.
+#[test]
+fn refused_stores_leave_the_answers(rt: HostRuntime) {
+    assert!(rt; answers_stand(rt.alloc()) != Some(false));
+}
+
 /// Whether what differs from a verdict that is held in one part of the key alone is decided anew, and the same is found.
 fn are_told_apart(alloc: Global) -> Option<bool> {
     let mut desk = desk(alloc)?;
