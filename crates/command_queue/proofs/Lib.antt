@@ -1,0 +1,3 @@
+mod Lists
+mod Moves
+mod Steps

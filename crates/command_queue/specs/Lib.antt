@@ -1,0 +1,4 @@
+pub mod Letters
+pub mod Sent
+pub mod Taken
+pub mod Views

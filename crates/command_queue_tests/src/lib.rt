@@ -1,0 +1,5 @@
+//! Tests of `command_queue`.
+#![tactic(auto)]
+
+#[cfg(test)]
+mod tests;

@@ -1,0 +1,3 @@
+mod Acts
+mod Keys
+mod Sound

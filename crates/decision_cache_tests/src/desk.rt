@@ -1,0 +1,73 @@
+ghost use Rattle.std.specs.Prelude.{◌≡◌, ◌++◌, ◌∷◌, [], IfOk, OnOk};
+
+use channel_uri::Channel;
+use decision_cache::{Cache, Numbered, cached_verdicts_stay_sound};
+use policy_core::{Act, Policy, Request, Verdict};
+use std::alloc::{AllocError, Global};
+use std::marker::Model;
+
+/// Policies, each under the number of its place, counted from 1, and the verdicts that were decided by them. Each
+/// subject is the stream of its number on one channel.
+#[derive(Drop)]
+pub struct Desk {
+    cache: Cache,
+    channel: Channel,
+    policies: Vec<Policy>,
+}
+
+impl Model for Desk {
+    ghost use Rattle.std.specs.Prelude.{List};
+    ghost use Rattle.policy_core.specs.RuleList.{Rules};
+    ghost use Rattle.decision_cache.specs.Entries.{IsSoundIn};
+    ghost use Rattle.decision_cache_tests.specs.Questions.{question_on};
+
+    ghost Value = { List Rules };
+
+    ghost view = { λ desk. desk.policies.items };
+
+    ghost invariant = { λ desk. IsSoundIn desk.policies.items (question_on desk.channel) desk.cache };
+}
+
+impl Desk {
+    /// No policy, and no verdict.
+    pub fn new(alloc: Global, channel: Channel) -> Result<Desk, AllocError>
+        ensures { IfOk result (λ desk. desk ≡ []) }
+    {
+        cached_verdicts_stay_sound();
+        let cache = Cache::new(alloc)?;
+        Ok(Desk {
+            cache,
+            channel,
+            policies: Vec::new(alloc),
+        })
+    }
+
+    /// Puts one more policy in force, under the next number. No verdict is thrown away.
+    pub fn reload(&mut self, policy: Policy) -> Result<(), AllocError>
+        ensures { OnOk result (self.new ≡ self.old ++ policy ∷ []) }
+    {
+        cached_verdicts_stay_sound();
+        self.policies.push(policy)?;
+        Ok(())
+    }
+
+    /// How many verdicts are held.
+    pub fn held(&self) -> usize {
+        self.cache.len()
+    }
+
+    /// What the policy of this number decides, from the cache where it is there; `None` where there is no such policy.
+    pub fn ask(&mut self, epoch: u64, subject: u16, principal: u32, act: Act) -> Option<Verdict> {
+        let place = (epoch as usize).checked_sub(1)?;
+        let policy = self.policies.get(place)?;
+        let request = Request {
+            principal,
+            act,
+            channel: &self.channel,
+            stream: i32::from(subject),
+        };
+        cached_verdicts_stay_sound();
+        let numbered = Numbered { policy, epoch };
+        Some(self.cache.verdict(&numbered, u64::from(subject), &request))
+    }
+}
