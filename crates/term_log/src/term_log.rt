@@ -137,7 +137,8 @@ impl TermLog {
 
     /// The frames from a position on that is not below [`TermLog::low`], and that is a frame's start or the tail: the
     /// longest run of whole frames, all of one term, of which at most so many bytes are sent. It ends behind a pad. Of a
-    /// pad its header alone is sent.
+    /// pad its header alone is sent. They end at or below the tail, and a sender that has sent them may say so by
+    /// [`TermLog::sent`].
     pub fn frames_from(&self, position: u64, bytes: usize) -> Frames<'_>
         requires low { low_of self.now.kept ≤ position }
         requires high { position ≤ self.now.kept.tail }
@@ -301,7 +302,8 @@ impl TermLog {
         }
     }
 
-    /// The position up to which the sender has sent.
+    /// The position up to which the sender has sent: where a frame begins, or the tail. Over UDP it is held, since no offer
+    /// goes on further than it allows. A log over IPC has no sender, and leaves the position behind.
     pub fn sender_position(&self) -> u64
         ensures value { result ≡ self.now.sender.position }
         ensures within { result ≤ self.now.kept.tail }
