@@ -3,6 +3,7 @@
 use crate::play::{Play, all_allowed, image_denied, pair, wanted};
 use channel_uri::Channel;
 use log_readers::{logs_read, pairs_of_log, pairs_of_subscription, readers_of};
+use policy_core::Policy;
 use std::alloc::Global;
 use std::test::Fail;
 use stream_registry::{Pair, Wish};
@@ -23,12 +24,20 @@ fn would_read(alloc: Global, play: &Play, client: u64, pairs: &[Pair]) -> bool {
     }
 }
 
+/// Whether subscriptions of the two clients would have these pairs, where `image` is denied to the second.
+fn subscriptions_would_read(alloc: Global, first: &[Pair], second: &[Pair]) -> Result<bool, Fail> {
+    let mut play = Play::new(alloc, image_denied(alloc)?)?;
+    Ok(
+        play.publishes(3, 1)
+            && play.publishes(4, 2)
+            && would_read(alloc, &play, 1, first)
+            && would_read(alloc, &play, 2, second),
+    )
+}
+
 #[test]
 fn a_subscription_has_pairs(rt: HostRuntime) -> Result<(), Fail> {
-    let mut play = Play::new(rt.alloc(), image_denied(rt.alloc())?)?;
-    assert!(rt; play.publishes(3, 1) && play.publishes(4, 2));
-    assert!(rt; would_read(rt.alloc(), &play, 1, &[pair(3, 9), pair(4, 9)]));
-    assert!(rt; would_read(rt.alloc(), &play, 2, &[]));
+    assert!(rt; subscriptions_would_read(rt.alloc(), &[pair(3, 9), pair(4, 9)], &[])?);
     Ok(())
 }
 
@@ -42,13 +51,17 @@ fn would_be_read(alloc: Global, play: &Play, pairs: &[Pair]) -> bool {
     }
 }
 
+/// Whether a log would have these pairs beside two subscriptions, under this policy.
+fn is_read_under(alloc: Global, policy: Policy, pairs: &[Pair]) -> Result<bool, Fail> {
+    let mut play = Play::new(alloc, policy)?;
+    Ok(play.subscribes(1, 1) && play.subscribes(2, 2) && would_be_read(alloc, &play, pairs))
+}
+
 #[test]
 fn a_log_has_pairs(rt: HostRuntime) -> Result<(), Fail> {
-    let mut play = Play::new(rt.alloc(), image_denied(rt.alloc())?)?;
-    assert!(rt; play.subscribes(1, 1) && play.subscribes(2, 2));
-    assert!(rt; would_be_read(rt.alloc(), &play, &[pair(9, 1)]));
-    let mut other = Play::new(rt.alloc(), all_allowed(rt.alloc())?)?;
-    assert!(rt; other.subscribes(1, 1) && other.subscribes(2, 2));
-    assert!(rt; would_be_read(rt.alloc(), &other, &[pair(9, 1), pair(9, 2)]));
+    let denied = image_denied(rt.alloc())?;
+    assert!(rt; is_read_under(rt.alloc(), denied, &[pair(9, 1)])?);
+    let all = all_allowed(rt.alloc())?;
+    assert!(rt; is_read_under(rt.alloc(), all, &[pair(9, 1), pair(9, 2)])?);
     Ok(())
 }
