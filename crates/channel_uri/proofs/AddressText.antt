@@ -15,11 +15,11 @@ use Rattle.channel_uri.specs.Syntax.{cut}
 use Rattle.channel_uri.proofs.Cuts.{cut_parts}
 use Rattle.channel_uri.proofs.NumberLemmas.{decimals}
 
-next_some : {A B : Type 0} (o : Option A) (next : A → Option B) (y : B) → o >>? next ≡ Some y → (x : A) × (o ≡ Some x) × (next x ≡ Some y)
+pub next_some : {A B : Type 0} (o : Option A) (next : A → Option B) (y : B) → o >>? next ≡ Some y → (x : A) × (o ≡ Some x) × (next x ≡ Some y)
 next_some None next y e = absurd cc
 next_some (Some x) next y e = (x, refl, e)
 
-some_is : {A : Type 0} (x y : A) (o : Option A) → o ≡ Some x → o ≡ Some y → x ≡ y
+pub some_is : {A : Type 0} (x y : A) (o : Option A) → o ≡ Some x → o ≡ Some y → x ≡ y
 some_is x y o first second = cc
 
 -- ---- decimals
@@ -44,7 +44,7 @@ below_from : (b : Bool) (limit found number : ℕ) → nat_lt found limit ≡ b 
 below_from true limit found number is e = (some_is found number _ refl e, ltb-true found limit is)
 below_from false limit found number is e = absurd cc
 
-below_is : (limit : ℕ) (o : Option ℕ) (number : ℕ) → below limit o ≡ Some number → (o ≡ Some number) × (number < limit)
+pub below_is : (limit : ℕ) (o : Option ℕ) (number : ℕ) → below limit o ≡ Some number → (o ≡ Some number) × (number < limit)
 below_is limit None number e = absurd cc
 below_is limit (Some found) number e =
     let kept = below_from (nat_lt found limit) limit found number refl e in
@@ -54,7 +54,7 @@ starts_zero : (text : List ℕ) → 1 < length text → get_or text 0 0 ≡ 48 �
 starts_zero [] long zero_first = absurd (omega (arith, long))
 starts_zero (x ∷ xs) long zero_first = rw zero_first refl
 
-plain_from : (long zeros : Bool) (text : List ℕ) (o : Option ℕ) (number : ℕ) → nat_lt 1 (length text) ≡ long → starts_with nat_eq text (codes "0") ≡ zeros →
+pub plain_from : (long zeros : Bool) (text : List ℕ) (o : Option ℕ) (number : ℕ) → nat_lt 1 (length text) ≡ long → starts_with nat_eq text (codes "0") ≡ zeros →
     cond long (cond zeros None o) o ≡ Some number → (o ≡ Some number) × (get_or text 0 0 ≡ 48 → length text ≤ 1)
 plain_from true true text o number is zeros e = absurd cc
 plain_from true false text o number is zeros e =
@@ -85,7 +85,7 @@ port_from : (b : Bool) (port kept : ℕ) → cond {A = Option ℕ} b None (Some 
 port_from true port kept e = absurd cc
 port_from false port kept e = some_is port kept _ refl e
 
-dotted : (a b c d : List ℕ) → a ++ 46 ∷ (b ++ 46 ∷ (c ++ 46 ∷ d)) ≡ ((((((a ++ codes ".") ++ b) ++ codes ".") ++ c) ++ codes ".") ++ d)
+pub dotted : (a b c d : List ℕ) → a ++ 46 ∷ (b ++ 46 ∷ (c ++ 46 ∷ d)) ≡ ((((((a ++ codes ".") ++ b) ++ codes ".") ++ c) ++ codes ".") ++ d)
 dotted a b c d =
     sym
     (append_assoc ((((a ++ codes ".") ++ b) ++ codes ".") ++ c) (codes ".") d

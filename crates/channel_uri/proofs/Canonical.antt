@@ -25,7 +25,7 @@ ok_is x y r first second = cc
 
 -- ---- what is read of an address
 
-localhost : (value : List ℕ) → starts_with nat_eq value (codes "localhost:") ≡ true → value ≡ codes "localhost:" ++ drop 10 value
+pub localhost : (value : List ℕ) → starts_with nat_eq value (codes "localhost:") ≡ true → value ≡ codes "localhost:" ++ drop 10 value
 localhost value is = (starts_is Decides-eqb value (codes "localhost:") _ refl).0 is
 
 abbrev read_as : Bool → List ℕ → List ℕ
@@ -77,7 +77,7 @@ value_size key value = where_size (bytes_eq key (codes "endpoint")) (bytes_eq ke
 
 -- ---- pairs that are kept
 
-record IsKept (pair : Pair) : Type 0 where
+pub record IsKept (pair : Pair) : Type 0 where
   pub named : (length pair.0 == 0) ≡ false
   pub no_equals : Lacks 61 pair.0
   pub no_bar : Lacks 124 pair.0
@@ -211,7 +211,7 @@ text_size true (pair ∷ pairs) =
 text_size false (pair ∷ pairs) =
     omega (arith, length-append pair.0 (61 ∷ (pair.1 ++ pairs_text false pairs)), length-append pair.1 (pairs_text false pairs), text_size false pairs)
 
-canonical_size : (spy : Bool) (media : Media) (keys : List Pair) →
+pub canonical_size : (spy : Bool) (media : Media) (keys : List Pair) →
     length (canonical_of (record { spy = spy; media = media; keys = keys })) ≡ cond spy 10 0 + 6 + length (name_of media) + pairs_size keys
 unfolding canonical_of
 canonical_size true media keys =
@@ -287,6 +287,14 @@ unfolding denotes
 assembled text after rest word tail channel short spied scheme halved media keys sound =
     rw (short, spied, scheme, halved, media, keys, sound) refl
 
+-- a channel whose keys are sound and in order is read back from its canonical text, unless that is too long
+pub written_back : (channel : Shape) → nat_lt 1024 (length (canonical_of channel)) ≡ false → media_of channel.spy (name_of channel.media) ≡ Ok channel.media →
+    AllByRecursion IsKept channel.keys → InByteOrder channel.keys → first_fault channel.keys ≡ None → denotes (canonical_of channel) ≡ Ok channel
+written_back channel short media each order sound =
+    assembled (canonical_of channel) (codes "aeron:" ++ (name_of channel.media ++ pairs_text true channel.keys)) (name_of channel.media ++ pairs_text true channel.keys)
+    (name_of channel.media) (tail_of channel.keys) channel short (unspied_back channel.spy channel.media channel.keys) refl (halves_back channel.media channel.keys)
+    media (keys_back channel.keys each order) sound
+
 pub canonical_denotes : CanonicalDenotes
 canonical_denotes text channel e =
     let from = parsed text channel e in
@@ -302,7 +310,5 @@ canonical_denotes text channel e =
     record {
       in_order = keys.order;
       read_back =
-          assembled (canonical_of channel) (codes "aeron:" ++ (name_of channel.media ++ pairs_text true channel.keys)) (name_of channel.media ++ pairs_text true channel.keys)
-          (name_of channel.media) (tail_of channel.keys) channel short (unspied_back channel.spy channel.media channel.keys) refl (halves_back channel.media channel.keys)
-          (ap (media_of channel.spy) (sym word) ∙ from.media) (keys_back channel.keys keys.each keys.order) from.sound;
+          written_back channel short (ap (media_of channel.spy) (sym word) ∙ from.media) keys.each keys.order from.sound;
     }

@@ -1,7 +1,9 @@
+pub mod AddressBack
 pub mod AddressText
 pub mod Canonical
 pub mod Cuts
 pub mod EndingLemmas
+pub mod EndpointText
 pub mod LastValue
 pub mod NumberLemmas
 pub mod Parsed

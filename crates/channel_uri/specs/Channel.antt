@@ -1,10 +1,12 @@
 -- What a text denotes as a channel (Aeron wiki, channel configuration).
-use Rattle.std.specs.Prelude.{ℕ, Bool, false, List, [], Result, Ok, Err, nat_lt, length, codes, if◌then◌else◌}
+use Rattle.std.specs.Prelude.{◌≡◌, ℕ, Bool, false, List, [], ◌∷◌, ◌++◌, Result, Ok, Err, nat_lt, length, codes, if◌then◌else◌}
 use Rattle.std.specs.Str.{bytes_eq}
+use Rattle.channel_uri.specs.declared.address.Address.{Address}
 use Rattle.channel_uri.specs.declared.error.UriError.{UriError}
 use Rattle.channel_uri.specs.declared.error.UriError.TheVariants.{TooLong, BadMedia}
 use Rattle.channel_uri.specs.declared.media.Media.{Media}
 use Rattle.channel_uri.specs.declared.media.Media.TheVariants.{Udp, Ipc, Counter}
+use Rattle.channel_uri.specs.Address.{IsEndpoint, address_text}
 use Rattle.channel_uri.specs.Keys.{Pair}
 use Rattle.channel_uri.specs.Syntax.{◌>>=◌, unspied, behind_scheme, halves, keys_of}
 use Rattle.channel_uri.specs.Values.{first_fault, checked}
@@ -40,3 +42,13 @@ counter_shape = record { spy = false; media = Counter; keys = [] }
 -- shared memory without any key
 abbrev pub ipc_shape : Shape
 ipc_shape = record { spy = false; media = Ipc; keys = [] }
+
+-- datagrams to this address
+abbrev pub endpoint_shape : Address → Shape
+endpoint_shape address = record { spy = false; media = Udp; keys = (codes "endpoint", address_text address) ∷ [] }
+
+-- it is what its text denotes
+abbrev pub EndpointsAreDenoted : Type 0
+EndpointsAreDenoted =
+    (address : Address) → IsEndpoint address →
+    denotes (codes "aeron:udp?endpoint=" ++ address_text address) ≡ Ok (endpoint_shape address)

@@ -1,14 +1,59 @@
-ghost use Rattle.channel_uri.specs.Address.{address_of, first_octet_of, octets_of, plain_below, port_of};
-ghost use Rattle.std.specs.Prelude.{◌≡◌};
+ghost use Rattle.channel_uri.specs.Address.{address_of, address_text, first_octet_of, octets_of, plain_below, port_of};
+ghost use Rattle.std.specs.Fmt.{decimal};
+ghost use Rattle.std.specs.Prelude.{◌≡◌, ◌+◌, ◌≤◌, ◌++◌, Some, length};
 
 use crate::number::number_below;
 use crate::syntax::cut;
+use arrayvec::ArrayString;
+use byte_strings::ShortText;
+use itoa::Buffer;
+use std::fmt;
 
 /// An address of the Internet Protocol, version 4, and a port of the User Datagram Protocol.
 #[derive(Clone, Copy, Debug, PartialEq, Eq)]
 pub struct Address {
     pub octets: [u8; 4],
     pub port: u16,
+}
+
+/// How long the longest text of an address is: `255.255.255.255:65535`.
+const LONGEST: usize = 21;
+
+/// Appends one of the four numbers, and the mark behind it.
+fn push_octet(text: &mut ArrayString<LONGEST>, octet: u8, mark: &str)
+    requires mark { length mark.now ≡ 1 }
+    requires room { length text.old.bytes + 4 ≤ 21 }
+    ensures text { text.new.bytes ≡ text.old.bytes ++ decimal octet ++ mark.now }
+    ensures few { length text.new.bytes ≤ length text.old.bytes + 4 }
+{
+    let mut buffer = Buffer::new();
+    text.push_str(buffer.format(octet));
+    text.push_str(mark);
+}
+
+impl Address {
+    /// The address as it is written: four numbers with dots between them, `:` and the port, none with leading zeros.
+    pub fn text(&self) -> ShortText<21>
+        ensures { result ≡ address_text self.now }
+    {
+        let [a, b, c, d] = self.octets;
+        let mut text = ArrayString::new();
+        push_octet(&mut text, a, ".");
+        push_octet(&mut text, b, ".");
+        push_octet(&mut text, c, ".");
+        push_octet(&mut text, d, ":");
+        let mut buffer = Buffer::new();
+        text.push_str(buffer.format(self.port));
+        ShortText::new(text.as_str())
+    }
+}
+
+impl fmt::Display for Address {
+    ghost output = { λ address. Some (address_text address) };
+
+    fn fmt<W: fmt::Write>(&self, f: &mut fmt::Formatter<W>) -> fmt::Result {
+        f.write_str(self.text().as_str())
+    }
 }
 
 /// A decimal below the limit that begins with no zero but `0` itself.

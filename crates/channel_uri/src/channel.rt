@@ -6,6 +6,7 @@ ghost use Rattle.std.specs.Option.{option_map};
 ghost use Rattle.std.specs.Prelude.{◌≡◌, ◌++◌, IfOk, OnOk, true, option_copied};
 ghost use Rattle.std.specs.String.{string_bytes};
 
+use crate::address::Address;
 use crate::error::UriError;
 use crate::keys::Keys;
 use crate::media::Media;
@@ -49,7 +50,7 @@ fn media_of(spy: bool, word: &str) -> Result<Media, UriError>
 
 impl Channel {
     ghost use Rattle.channel_uri.specs.Canonical.{canonical_of};
-    ghost use Rattle.channel_uri.specs.Channel.{denotes, counter_shape, ipc_shape};
+    ghost use Rattle.channel_uri.specs.Channel.{denotes, counter_shape, endpoint_shape, ipc_shape};
     ghost use Rattle.channel_uri.specs.Place.{spot_of, spot_at};
 
     /// Reads a channel's text: `aeron:udp` or `aeron:ipc`, for a spy of `udp` behind `aeron-spy:`, and then perhaps a
@@ -96,6 +97,17 @@ impl Channel {
             spy: false,
             media: Media::Ipc,
             keys: Keys::new(),
+        }
+    }
+
+    /// Datagrams to this address: the channel of the text `aeron:udp?endpoint=` and the address. It takes no memory.
+    pub fn at_endpoint(address: &Address) -> Channel
+        ensures { result ≡ endpoint_shape address.now }
+    {
+        Channel {
+            spy: false,
+            media: Media::Udp,
+            keys: Keys::one("endpoint", address.text().as_str()),
         }
     }
 

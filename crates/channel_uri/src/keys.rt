@@ -1,6 +1,6 @@
 ghost use Rattle.channel_uri.specs.Keys.{value_at};
 ghost use Rattle.std.specs.Option.{option_copied};
-ghost use Rattle.std.specs.Prelude.{◌≡◌, ◌<◌, [], length, slice_index_or};
+ghost use Rattle.std.specs.Prelude.{◌≡◌, ◌+◌, ◌<◌, ◌≤◌, [], ◌∷◌, length, slice_index_or};
 
 use crate::table::Table;
 use std::marker::Model;
@@ -34,6 +34,16 @@ impl Keys {
     pub(crate) fn of(table: Table) -> Keys
         ensures { result ≡ table.pairs }
     {
+        Keys { table }
+    }
+
+    /// One key with its value.
+    pub(crate) fn one(key: &str, value: &str) -> Keys
+        requires { length key.now + length value.now ≤ 1024 }
+        ensures { result ≡ (key.now, value.now) ∷ [] }
+    {
+        let mut table = Table::new();
+        table.put(key, "", value);
         Keys { table }
     }
 

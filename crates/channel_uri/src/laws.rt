@@ -1,5 +1,6 @@
-ghost use Rattle.channel_uri.specs.Address.{AddressesHaveOneText};
+ghost use Rattle.channel_uri.specs.Address.{AddressesAreReadBack, AddressesHaveOneText};
 ghost use Rattle.channel_uri.specs.Canonical.{CanonicalDenotes};
+ghost use Rattle.channel_uri.specs.Channel.{EndpointsAreDenoted};
 ghost use Rattle.channel_uri.specs.Keys.{LastValueStands};
 ghost use Rattle.channel_uri.specs.Parameters.{StatedIsRead, ValuesKeepTheirRules};
 
@@ -26,4 +27,14 @@ pub fn canonical_denotes()
 /// A text that is an address is the one way to write it, so places with equal addresses have equal texts.
 pub fn addresses_have_one_text()
     ensures { AddressesHaveOneText }
+{}
+
+/// An address that a channel may name is read back from what it is written as, and no text is another address.
+pub fn addresses_are_read_back()
+    ensures { AddressesAreReadBack }
+{}
+
+/// The channel of an address that a channel may name is what its text denotes.
+pub fn endpoints_are_denoted()
+    ensures { EndpointsAreDenoted }
 {}

@@ -28,8 +28,8 @@ pub use error::UriError;
 pub use key::Key;
 pub use keys::Keys;
 pub use laws::{
-    addresses_have_one_text, canonical_denotes, last_value_stands, stated_is_read,
-    values_keep_their_rules,
+    addresses_are_read_back, addresses_have_one_text, canonical_denotes, endpoints_are_denoted,
+    last_value_stands, stated_is_read, values_keep_their_rules,
 };
 pub use media::Media;
 pub use pattern::Pattern;
