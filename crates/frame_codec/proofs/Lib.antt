@@ -5,6 +5,7 @@ pub mod FlagsRead
 pub mod FramesAgain
 pub mod FramesBack
 pub mod FramesLemmas
+pub mod JoinLemmas
 pub mod Numbers
 pub mod PositionLemmas
 pub mod Readers

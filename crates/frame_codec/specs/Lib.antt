@@ -7,6 +7,7 @@ pub mod Frame
 pub mod FrameType
 pub mod Frames
 pub mod Header
+pub mod Join
 pub mod Nak
 pub mod Position
 pub mod Setup

@@ -8,6 +8,7 @@ ghost use Rattle.frame_codec.specs.Fields.{IsBytes, number_at};
 ghost use Rattle.frame_codec.specs.FlagLaws.{FlagsAreRead, FlagsAreWritten};
 ghost use Rattle.frame_codec.specs.Frame.{Sent, beat_bytes};
 ghost use Rattle.frame_codec.specs.Header.{plain_header};
+ghost use Rattle.frame_codec.specs.Join.{JoinsAreSound};
 ghost use Rattle.frame_codec.specs.Nak.{nak_bytes};
 ghost use Rattle.frame_codec.specs.Position.{position_of, term_id_of};
 ghost use Rattle.frame_codec.specs.Setup.{setup_bytes};
@@ -131,4 +132,9 @@ pub fn places_are_told_by_positions()
 pub fn positions_are_told_by_places()
     ensures { (initial : ℤ) (position size : ℕ) → FitsSigned w32 initial → 0 < size → position < size * 2 ^ 32
         → position_of initial (term_id_of initial position size) (position % size) size ≡ position }
+{}
+
+/// An image joins at the start of a frame, below the greatest position, in a stream of sizes that a log may have.
+pub fn joins_are_sound()
+    ensures { JoinsAreSound }
 {}

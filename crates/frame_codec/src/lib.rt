@@ -13,6 +13,7 @@ mod frame;
 mod frame_type;
 mod frames;
 mod header;
+mod join;
 mod laws;
 mod nak;
 mod positions;
@@ -26,11 +27,12 @@ pub use flags::Flags;
 pub use frame::{Frame, write_beat, write_data, write_pad};
 pub use frames::{Frames, padded_length};
 pub use header::{Header, Kind, TermPlace};
+pub use join::Join;
 pub use laws::{
     datagrams_write_back, flags_are_the_sixth_byte, frames_are_of_one_term, frames_are_told,
     frames_read_back, frames_stand_in_datagrams, frames_write_back, heartbeats_read_back,
-    heartbeats_write_back, naks_read_back, naks_write_back, places_are_told_by_positions,
-    positions_are_told_by_places, setups_read_back, setups_write_back, status_messages_read_back,
+    heartbeats_write_back, joins_are_sound, naks_read_back, naks_write_back,
+    places_are_told_by_positions, positions_are_told_by_places, setups_read_back, setups_write_back, status_messages_read_back,
     status_messages_write_back, written_frames_are_plain,
 };
 pub use nak::{Nak, write_nak};
