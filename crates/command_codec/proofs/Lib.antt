@@ -10,6 +10,7 @@ pub mod AddCounterLemmas
 pub mod SetCounterLemmas
 pub mod TerminateDriverLemmas
 pub mod CommandLemmas
+pub mod DestinationLemmas
 pub mod ErrorReplyLemmas
 pub mod AvailableImageLemmas
 pub mod PublicationReadyLemmas

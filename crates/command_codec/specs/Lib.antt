@@ -6,6 +6,7 @@ pub mod AddSubscription
 pub mod Removal
 pub mod AddCounter
 pub mod SetCounter
+pub mod Destination
 pub mod TerminateDriver
 pub mod Command
 pub mod ErrorReply

@@ -2,6 +2,7 @@
 
 ghost use Rattle.std.specs.Prelude.{◌≡◌, ◌↔◌, Ok, Some, List, ℕ, ℤ};
 ghost use Rattle.command_codec.specs.Command.{IsCommand, command_bytes, command_of, correlation_of};
+ghost use Rattle.command_codec.specs.Destination.{DestinationsReadBack};
 ghost use Rattle.command_codec.specs.ErrorCode.{code_number, code_of};
 ghost use Rattle.command_codec.specs.Fields.{IsBytes};
 ghost use Rattle.command_codec.specs.Reply.{IsReply, reply_bytes, reply_of};
@@ -19,6 +20,12 @@ pub fn commands_read_back()
 pub fn commands_write_back()
     ensures { (bytes : List ℕ) (command : Command) → IsBytes bytes → command_of bytes ≡ Ok command
         → (command_bytes command ≡ bytes) × IsCommand command }
+{}
+
+/// The fields of a command on a destination are read again as they were written, and have one spelling. (No type number
+/// leads to them yet: such a command is still `Unknown`.)
+pub fn destinations_read_back()
+    ensures { DestinationsReadBack }
 {}
 
 /// The correlation id that an error tells of is the command's, where the bytes are a command.

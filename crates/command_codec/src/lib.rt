@@ -12,6 +12,7 @@ mod available_image;
 mod client_timeout;
 mod command;
 mod counter_ready;
+mod destination;
 mod error_code;
 mod error_reply;
 mod fault;
@@ -34,12 +35,13 @@ pub use available_image::AvailableImage;
 pub use client_timeout::ClientTimeout;
 pub use command::{Body, Command};
 pub use counter_ready::CounterReady;
+pub use destination::Destination;
 pub use error_code::ErrorCode;
 pub use error_reply::ErrorReply;
 pub use fault::CommandFault;
 pub use laws::{
     codes_are_told_by_their_numbers, commands_read_back, commands_write_back,
-    correlation_is_in_place, replies_read_back, replies_write_back,
+    correlation_is_in_place, destinations_read_back, replies_read_back, replies_write_back,
 };
 pub use operation_success::OperationSuccess;
 pub use publication_ready::PublicationReady;
