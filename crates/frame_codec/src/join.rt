@@ -46,11 +46,7 @@ fn mtu_of(stated: i32) -> Option<u32>
         return None;
     }
     let length = stated as u32;
-    if length % 32 == 0 {
-        Some(length)
-    } else {
-        None
-    }
+    if length % 32 == 0 { Some(length) } else { None }
 }
 
 /// Whether frames may begin there.

@@ -32,8 +32,9 @@ pub use laws::{
     datagrams_write_back, flags_are_the_sixth_byte, frames_are_of_one_term, frames_are_told,
     frames_read_back, frames_stand_in_datagrams, frames_write_back, heartbeats_read_back,
     heartbeats_write_back, joins_are_sound, naks_read_back, naks_write_back,
-    places_are_told_by_positions, positions_are_told_by_places, setups_read_back, setups_write_back, status_messages_read_back,
-    status_messages_write_back, written_frames_are_plain,
+    places_are_told_by_positions, positions_are_told_by_places, setups_read_back,
+    setups_write_back, status_messages_read_back, status_messages_write_back,
+    written_frames_are_plain,
 };
 pub use nak::{Nak, write_nak};
 pub use positions::{position, term_of};
