@@ -24,9 +24,9 @@ use Rattle.policy_core.specs.declared.act.Act.TheVariants.{Offer as ToOffer, Rec
 use Rattle.stream_registry.specs.declared.pairs.Pair.{Pair}
 use Rattle.stream_registry.specs.declared.row.Subscription.{Subscription}
 use Rattle.stream_registry.specs.Pairs.{is_of}
-use Rattle.term_log.specs.declared.pair.Pair.{Pair as Reader}
+use Rattle.log_pairs.specs.declared.pair.Pair.{Pair as Reader}
 use Rattle.term_log.specs.Log.{greatest_message}
-use Rattle.term_log.specs.Pairs.{position_of}
+use Rattle.log_pairs.specs.Pairs.{position_of}
 use Rattle.term_log.specs.Whole.{is_connected}
 
 -- ---- a move of one log

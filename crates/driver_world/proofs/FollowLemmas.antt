@@ -34,9 +34,9 @@ use Rattle.stream_registry.specs.declared.lingering.LogPlace.{LogPlace}
 use Rattle.stream_registry.specs.declared.pairs.Pair.{Pair}
 use Rattle.stream_registry.specs.declared.row.Publication.{Publication}
 use Rattle.term_log.specs.declared.ident.Ident.{Ident}
-use Rattle.term_log.specs.declared.pair.Pair.{Pair as Reader}
+use Rattle.log_pairs.specs.declared.pair.Pair.{Pair as Reader}
 use Rattle.term_log.specs.Log.{greatest_message}
-use Rattle.term_log.specs.Pairs.{position_of, moved_one, rejoined_pairs}
+use Rattle.log_pairs.specs.Pairs.{position_of, moved_one, rejoined_pairs}
 use Rattle.term_log.specs.Whole.{tail_of, is_connected, offered, polled, polled_from, rejoined}
 
 -- the registry is sound, and the logs follow it

@@ -39,13 +39,15 @@ use Rattle.term_log.specs.Cut.{cut}
 use Rattle.term_log.specs.Frames.{Frame, fragment, span, total}
 use Rattle.term_log.specs.Ident.{payload_length}
 use Rattle.term_log.specs.Log.{appended_at, greatest_message}
-use Rattle.term_log.specs.Pairs.{position_of}
+use Rattle.log_pairs.specs.Pairs.{position_of}
 use Rattle.term_log.specs.PollLaws.{AreFragmentsOf}
-use Rattle.term_log.specs.Polling.{Fetched, passed}
+use Rattle.log_pairs.specs.Polling.{Fetched, Polled as Passed, behind as behind_all, fragments_of, passed}
+use Rattle.log_pairs.proofs.Pairing.{at_found, at_map, at_rejoined}
+use Rattle.term_log.specs.Polling.{polled_run}
 use Rattle.term_log.specs.Whole.{Whole, tail_of, answer_to, is_connected, offered, rejoined, frames_behind, polled_from, polled, IsStart, AreStarts}
 use Rattle.term_log.proofs.Held.{total_both}
-use Rattle.term_log.proofs.Polls.{left_behind, passed_split}
-use Rattle.term_log.proofs.Standing.{starts_more, found_start, rejoined_starts, moved_starts}
+use Rattle.term_log.proofs.Polls.{Taken, behind_taken, taken as taken_from}
+use Rattle.term_log.proofs.Standing.{end_start, starts_more}
 use Rattle.term_log.proofs.WholeLaws.{fragments_are}
 
 -- ---- polls of a whole log
@@ -85,20 +87,17 @@ behind_start w at start =
 
 -- what is passed from there, and what is left
 passed_behind : (w : Whole) (limit at : ℕ) (from : Behind w.ident.start at w.frames) →
-    w.frames
-    ≡ from.before
-    ++ (passed limit (frames_behind at w.ident.start w.frames)
-    ++ left_behind limit (frames_behind at w.ident.start w.frames))
-passed_behind w limit at from =
-    from.is ∙ ap (λ (fs : List Frame). from.before ++ fs) (passed_split limit (frames_behind at w.ident.start w.frames))
+    (t : Taken at limit (frames_behind at w.ident.start w.frames)) → w.frames ≡ from.before ++ (t.front ++ t.rest)
+passed_behind w limit at from t = from.is ∙ ap (λ (fs : List Frame). from.before ++ fs) t.is
 
 polled_from_frames : (w : Whole) (subscription limit : ℕ) (o : Option ℕ) → IfSome o (IsStart w.ident.start w.frames) →
     AreFragmentsOf w (polled_from w subscription limit o).fragments
 polled_from_frames w subscription limit None start = tt
 polled_from_frames w subscription limit (Some at) start =
     let from = behind_start w at start in
-    let fs : List Frame = frames_behind at w.ident.start w.frames in
-    fragments_are w at from.before (passed limit fs) (left_behind limit fs) (passed_behind w limit at from) from.place
+    let t = taken_from at limit (frames_behind at w.ident.start w.frames) in
+    subst (λ (fs : List Passed). AreFragmentsOf w (fragments_of fs)) (sym t.passes)
+    (fragments_are w at from.before t.front t.rest (passed_behind w limit at from t) from.place)
 
 -- each fragment that is polled is a frame of the log
 polled_frames : (w : Whole) (subscription limit : ℕ) → AreStarts w.ident.start w.frames w.pairs →
@@ -106,7 +105,7 @@ polled_frames : (w : Whole) (subscription limit : ℕ) → AreStarts w.ident.sta
 unfolding polled
 polled_frames w subscription limit starts =
     polled_from_frames w subscription limit (position_of w.pairs subscription)
-    (found_start w.ident.start subscription w.frames w.pairs starts)
+    (at_found (IsStart w.ident.start w.frames) subscription w.pairs starts)
 
 -- ---- the logs whose fragments were granted
 
@@ -149,7 +148,8 @@ rejoined_owns : (granted : ℕ → List Frame) (pairs : List Pair) (log : WholeL
 unfolding rejoined
 rejoined_owns granted pairs log owns = record {
   read =
-      rejoined_starts log.whole.ident.start log.whole.frames log.whole.pairs (readers_of pairs log.source) owns.read;
+      at_rejoined (IsStart log.whole.ident.start log.whole.frames) (tail_of log.whole) log.whole.pairs
+      (readers_of pairs log.source) owns.read (end_start log.whole.ident.start log.whole.frames);
   owned = owns.owned;
 }
 
@@ -160,19 +160,20 @@ polled_from_owns granted subscription limit log None start owns = owns
 polled_from_owns granted subscription limit log (Some at) start owns =
     let w : Whole = log.whole in
     let from = behind_start w at start in
-    let behind' : List Frame = frames_behind at w.ident.start w.frames in
-    let fs : List Frame = passed limit behind' in
-    let split : w.frames ≡ (from.before ++ fs) ++ left_behind limit behind' =
-    passed_behind w limit at from ∙ sym (append_assoc from.before fs (left_behind limit behind')) in
+    let later : List Frame = frames_behind at w.ident.start w.frames in
+    let t = taken_from at limit later in
+    let end : ℕ = behind_all at (passed limit (polled_run at later)) in
+    let split : w.frames ≡ (from.before ++ t.front) ++ t.rest =
+    passed_behind w limit at from t ∙ sym (append_assoc from.before t.front t.rest) in
     let place = from.place in
-    let stands : IsStart w.ident.start w.frames (at + total fs) = record {
-      before = from.before ++ fs;
-      after = left_behind limit behind';
+    let stands : IsStart w.ident.start w.frames end = record {
+      before = from.before ++ t.front;
+      after = t.rest;
       is = split;
-      place = omega (arith, place, total_both from.before fs);
+      place = omega (arith, place, behind_taken at limit later t, total_both from.before t.front);
     } in
     record {
-      read = moved_starts w.ident.start subscription (at + total fs) w.frames w.pairs owns.read stands;
+      read = at_map (IsStart w.ident.start w.frames) subscription end w.pairs owns.read stands;
       owned = owns.owned;
     }
 
@@ -181,7 +182,7 @@ given_owns : (granted : ℕ → List Frame) (subscription limit : ℕ) (log : Wh
 unfolding polled
 given_owns granted subscription limit log owns =
     polled_from_owns granted subscription limit log (position_of log.whole.pairs subscription)
-    (found_start log.whole.ident.start subscription log.whole.frames log.whole.pairs owns.read) owns
+    (at_found (IsStart log.whole.ident.start log.whole.frames) subscription log.whole.pairs owns.read) owns
 
 -- a fragment is appended only where the log answers a position, and is a part of the message then
 record IsPut (offer : Offer) (i : Ident) (message : List ℕ) (frame : Frame) : Type 0 where

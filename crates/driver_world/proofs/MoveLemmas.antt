@@ -14,8 +14,8 @@ use Rattle.term_log.specs.declared.offer.Offer.{Offer}
 use Rattle.term_log.specs.Frames.{Frame}
 use Rattle.term_log.specs.Kept.{after_frames}
 use Rattle.term_log.specs.Log.{Log, greatest_message, connected_of}
-use Rattle.term_log.specs.Pairs.{position_of}
-use Rattle.term_log.specs.Polling.{Fetched}
+use Rattle.log_pairs.specs.Pairs.{position_of}
+use Rattle.log_pairs.specs.Polling.{Fetched}
 use Rattle.term_log.specs.Whole.{Whole, Stands, Carries, Offers, Fetches, is_connected, polled}
 use Rattle.term_log.proofs.Appending.{after_frames_home}
 

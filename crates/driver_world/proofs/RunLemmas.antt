@@ -22,7 +22,7 @@ use Rattle.driver_world.specs.Moves.{WholeLog, Move, MovesFirst, offer_move, off
 use Rattle.driver_world.specs.Standing.{Held, StandsForEnd, Takes, Serves, Runs, Continues}
 use Rattle.driver_world.proofs.StandLemmas.{gives_first, moves_first}
 use Rattle.term_log.specs.Log.{greatest_message}
-use Rattle.term_log.specs.Pairs.{position_of}
+use Rattle.log_pairs.specs.Pairs.{position_of}
 use Rattle.term_log.specs.Whole.{is_connected}
 
 -- ---- answers that are not want of memory

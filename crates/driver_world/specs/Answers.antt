@@ -15,7 +15,7 @@ use Rattle.driver_world.specs.declared.answer.Offered.{Offered}
 use Rattle.driver_world.specs.declared.answer.Offered.TheVariants as offered
 use Rattle.term_log.specs.declared.offer.Offer.{Offer}
 use Rattle.term_log.specs.declared.offer.Offer.TheVariants as offer
-use Rattle.term_log.specs.Polling.{Fetched}
+use Rattle.log_pairs.specs.Polling.{Fetched}
 
 -- what an event is answered
 abbrev pub answered_by : Response → List Message → Answer

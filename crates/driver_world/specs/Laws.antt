@@ -41,7 +41,7 @@ use Rattle.term_log.specs.Frames.{Frame, fragment}
 use Rattle.term_log.specs.Ident.{payload_length}
 use Rattle.term_log.specs.Log.{greatest_message}
 use Rattle.term_log.specs.PollLaws.{IsFragmentOf}
-use Rattle.term_log.specs.Polling.{Fetched}
+use Rattle.log_pairs.specs.Polling.{Fetched}
 use Rattle.term_log.specs.Whole.{answer_to, is_connected, offered, polled}
 
 -- whatever happened since a driver was opened with sound settings

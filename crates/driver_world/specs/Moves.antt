@@ -10,7 +10,7 @@ use Rattle.driver_world.specs.declared.answer.Offered.TheVariants.{Closed, TooLo
 use Rattle.driver_world.specs.Answers.{offered_as, fragment_of}
 use Rattle.driver_world.specs.Held.{HeldLog, HeldLogs, LiesAsBefore, held_at, with_held}
 use Rattle.term_log.specs.Log.{Log, greatest_message}
-use Rattle.term_log.specs.Pairs.{position_of}
+use Rattle.log_pairs.specs.Pairs.{position_of}
 use Rattle.term_log.specs.Whole.{Whole, Stands, answer_to, is_connected, offered, polled}
 
 -- a log by its source number, as if all its frames were kept

@@ -1,6 +1,6 @@
 -- Frames that were read may be handed in, and what polls give are frames.
 use Rattle.std.proofs.Common.{◌≡◌, ℕ, ℤ, ◌-◌, Bool, eqb, List, [], ◌∷◌, Option, None, Some, refl, sym, ap, ap₂, ◌∙◌}
-use Rattle.std.specs.Prelude.{filter}
+use Rattle.std.specs.Prelude.{filter, map}
 use Rattle.frame_codec.specs.declared.header.Header.{Header}
 use Rattle.frame_codec.specs.Frame.{Sent}
 use Rattle.frame_codec.specs.Header.{header_of}
@@ -8,12 +8,13 @@ use Rattle.frame_codec.specs.Position.{position_of as position_at}
 use Rattle.frame_codec.specs.Sound.{IsTold}
 use Rattle.image_log.specs.Frame.{Frame}
 use Rattle.image_log.specs.Handed.{IsFor, position_in}
-use Rattle.image_log.specs.Pairs.{position_of}
 use Rattle.image_log.specs.PollLaws.{AreFragmentsOf, IsFragmentOf, PollsGiveFrames}
-use Rattle.image_log.specs.Polling.{Fetched, fragments_of, passed, polled, polled_from}
+use Rattle.image_log.specs.Polling.{fetched, polled, polled_frame, polled_from}
 use Rattle.image_log.specs.Reading.{is_pad}
 use Rattle.image_log.specs.Rebuilt.{Rebuilt}
 use Rattle.image_log.specs.declared.ident.Ident.{Ident}
+use Rattle.log_pairs.specs.Pairs.{position_of}
+use Rattle.log_pairs.specs.Polling.{Fetched, fragments_of, passed}
 use Rattle.image_log.proofs.Tests.{by_test}
 
 pub handed : (ident : Ident) (frame : Sent) → IsTold frame → frame.header.place.session_id ≡ ident.session_id → frame.header.place.stream_id ≡ ident.stream_id
@@ -44,17 +45,17 @@ more_all : (g : Frame) (fs : List Frame) (given : List Fetched) → AreFragments
 more_all g fs [] are = tt
 more_all g fs (f ∷ given) are = (more_one g fs f are.0, more_all g fs given are.1)
 
-fragments_are : (u : Frame → Bool) (limit : ℕ) (fs : List Frame) → AreFragmentsOf fs (fragments_of (passed limit (filter u fs)))
+fragments_are : (u : Frame → Bool) (limit : ℕ) (fs : List Frame) → AreFragmentsOf fs (fragments_of (passed limit (map polled_frame (filter u fs))))
 fragments_are u limit [] = tt
 fragments_are u limit (f ∷ fs) =
-    let rest : (n : ℕ) → AreFragmentsOf (f ∷ fs) (fragments_of (passed n (filter u fs))) = λ n. more_all f fs (fragments_of (passed n (filter u fs))) (fragments_are u n fs) in
+    let rest : (n : ℕ) → AreFragmentsOf (f ∷ fs) (fragments_of (passed n (map polled_frame (filter u fs)))) = λ n. more_all f fs (fragments_of (passed n (map polled_frame (filter u fs)))) (fragments_are u n fs) in
     by_test (u f)
     (λ e. by_test (eqb limit 0)
     (λ z. rw (e, z) tt)
     (λ z. by_test (is_pad f)
     (λ t. rw (e, z, t) (rest (limit - 0)))
     (λ t.
-    let first : IsFragmentOf (f ∷ fs) (Rattle.image_log.specs.Polling.fetched f) = record { before = []; frame = f; after = fs; is = refl; fragment = t; given = refl } in
+    let first : IsFragmentOf (f ∷ fs) (fetched f) = record { before = []; frame = f; after = fs; is = refl; fragment = t; given = refl } in
     rw (e, z, t) (first, rest (limit - 1)))))
     (λ e. rw e (rest limit))
 

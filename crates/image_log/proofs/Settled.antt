@@ -3,11 +3,12 @@ use Rattle.std.proofs.Common.{◌≡◌, ℕ, ◌+◌, ◌%◌, ◌^◌, ◌<◌
 use Rattle.std.specs.Prelude.{filter}
 use Rattle.image_log.specs.Log.{IsLog}
 use Rattle.image_log.specs.Order.{begins_from}
-use Rattle.image_log.specs.Pairs.{AreStarts, AreWithin, least_or}
+use Rattle.image_log.specs.Pairs.{AreStarts, AreWithin}
 use Rattle.image_log.specs.Rebuilt.{term_start}
 use Rattle.image_log.specs.Stored.{Stored}
 use Rattle.image_log.specs.declared.ident.Ident.{Ident}
-use Rattle.image_log.specs.declared.pair.Pair.{Pair}
+use Rattle.log_pairs.specs.Pairs.{least_or}
+use Rattle.log_pairs.specs.declared.pair.Pair.{Pair}
 use Rattle.image_log.proofs.Dropping.{chain-from, ends_there, in_terms_from, ordered_from, term_up}
 use Rattle.image_log.proofs.Naming.{for_filter}
 use Rattle.image_log.proofs.Pairing.{least_within}

@@ -1,12 +1,12 @@
 -- Pairs stand where frames begin.
-use Rattle.std.proofs.Common.{◌≡◌, ℕ, zero, suc, ◌≤◌, inl, inr, Bool, true, false, cond, ◌||◌, eqb, leb, List, [], ◌∷◌, ◌++◌, Some, length, map, refl, sym, ◌∙◌, subst, arith}
+use Rattle.std.proofs.Common.{◌≡◌, ℕ, zero, suc, ◌≤◌, inl, inr, Bool, true, ◌||◌, eqb, leb, List, [], ◌∷◌, length, refl, sym, ◌∙◌, subst, arith}
 use Rattle.std.specs.List.{list_any, insert}
-use Rattle.std.specs.Prelude.{filter, find, IfSome, ◌==◌}
-use Rattle.std.specs.Option.{option_map}
+use Rattle.std.specs.Prelude.{filter}
 use Rattle.image_log.specs.Frame.{Frame, framed}
 use Rattle.image_log.specs.Order.{Begins, begins_at, begins_from}
-use Rattle.image_log.specs.Pairs.{AreStarts, AreWithin, is_other, moved_one, position_of, reads_on, rejoined_pairs}
-use Rattle.image_log.specs.declared.pair.Pair.{Pair}
+use Rattle.image_log.specs.Pairs.{AreStarts, AreWithin, IsWithin}
+use Rattle.log_pairs.specs.declared.pair.Pair.{Pair}
+use Rattle.log_pairs.proofs.Pairing.{at_both}
 use Rattle.image_log.proofs.Tests.{by_test, eq_yes, is_eq, le_yes}
 
 -- ---- frames that come and go
@@ -49,70 +49,5 @@ begins_kept c l q fs h b = elim b [ inl e ↦ inl e | inr some ↦ inr (any_kept
 
 pub starts_by : (c d from to : ℕ) (fs gs : List Frame) (pairs : List Pair) → ((q : ℕ) → from ≤ q → Begins c fs q → Begins d gs q)
     → AreWithin from to pairs → AreStarts c fs pairs → AreStarts d gs pairs
-starts_by c d from to fs gs [] go within are = tt
-starts_by c d from to fs gs (p ∷ pairs) go within are = (go p.position within.0 are.0, starts_by c d from to fs gs pairs go within.2 are.1)
-
-pub starts_push : (c : ℕ) (fs : List Frame) (pairs : List Pair) (pair : Pair) → AreStarts c fs pairs → Begins c fs pair.position → AreStarts c fs (pairs ++ pair ∷ [])
-starts_push c fs [] pair are b = (b, tt)
-starts_push c fs (p ∷ pairs) pair are b = (are.0, starts_push c fs pairs pair are.1 b)
-
-pub starts_filter : (c subscription : ℕ) (fs : List Frame) (pairs : List Pair) → AreStarts c fs pairs → AreStarts c fs (filter (is_other subscription) pairs)
-starts_filter c subscription fs [] are = tt
-starts_filter c subscription fs (p ∷ pairs) are =
-    let rest = starts_filter c subscription fs pairs are.1 in
-    elim (is_other subscription p) as (λ b. AreStarts c fs (cond b (p ∷ filter (is_other subscription) pairs) (filter (is_other subscription) pairs))) [
-      | true ↦ (are.0, rest)
-      | false ↦ rest
-    ]
-
-pub starts_map : (c subscription position : ℕ) (fs : List Frame) (pairs : List Pair) → AreStarts c fs pairs → Begins c fs position
-    → AreStarts c fs (map (moved_one subscription position) pairs)
-starts_map c subscription position fs [] are b = tt
-starts_map c subscription position fs (p ∷ pairs) are b =
-    let first : Begins c fs (moved_one subscription position p).position =
-    elim (p.subscription == subscription) as (λ x. Begins c fs (cond x (record p { position = position }) p).position) [
-      | true ↦ b
-      | false ↦ are.0
-    ] in
-    (first, starts_map c subscription position fs pairs are.1 b)
-
-pub pair_starts : (c subscription : ℕ) (fs : List Frame) (pairs : List Pair) → AreStarts c fs pairs
-    → IfSome (position_of pairs subscription) (λ position. Begins c fs position)
-pair_starts c subscription fs [] are = tt
-pair_starts c subscription fs (p ∷ pairs) are =
-    elim (p.subscription == subscription) as (λ b. IfSome (option_map (λ (pair : Pair). pair.position) (cond b (Some p) (find (λ (pair : Pair). pair.subscription == subscription) pairs)))
-    (λ position. Begins c fs position)) [
-      | true ↦ are.0
-      | false ↦ pair_starts c subscription fs pairs are.1
-    ]
-
--- ---- pairs of the subscriptions that read from now on
-
-reads_begins : (c subscription : ℕ) (fs : List Frame) (pairs : List Pair) → AreStarts c fs pairs → Begins c fs (reads_on c (position_of pairs subscription))
-reads_begins c subscription fs [] are = inl refl
-reads_begins c subscription fs (p ∷ pairs) are =
-    elim (p.subscription == subscription) as (λ b. Begins c fs (reads_on c (option_map (λ (pair : Pair). pair.position) (cond b (Some p) (find (λ (pair : Pair). pair.subscription == subscription) pairs))))) [
-      | true ↦ are.0
-      | false ↦ reads_begins c subscription fs pairs are.1
-    ]
-
-reads_within : (from to subscription : ℕ) (pairs : List Pair) → AreWithin from to pairs → from ≤ to
-    → (from ≤ reads_on to (position_of pairs subscription)) × (reads_on to (position_of pairs subscription) ≤ to)
-reads_within from to subscription [] are h = (h, omega arith)
-reads_within from to subscription (p ∷ pairs) are h =
-    elim (p.subscription == subscription) as (λ b.
-    (from ≤ reads_on to (option_map (λ (pair : Pair). pair.position) (cond b (Some p) (find (λ (pair : Pair). pair.subscription == subscription) pairs))))
-    × (reads_on to (option_map (λ (pair : Pair). pair.position) (cond b (Some p) (find (λ (pair : Pair). pair.subscription == subscription) pairs))) ≤ to)) [
-      | true ↦ (are.0, are.1)
-      | false ↦ reads_within from to subscription pairs are.2 h
-    ]
-
-pub starts_rejoined : (c : ℕ) (fs : List Frame) (pairs : List Pair) (subscriptions : List ℕ) → AreStarts c fs pairs → AreStarts c fs (rejoined_pairs c pairs subscriptions)
-starts_rejoined c fs pairs [] are = tt
-starts_rejoined c fs pairs (s ∷ subscriptions) are = (reads_begins c s fs pairs are, starts_rejoined c fs pairs subscriptions are)
-
-pub within_rejoined : (from to : ℕ) (pairs : List Pair) (subscriptions : List ℕ) → AreWithin from to pairs → from ≤ to → AreWithin from to (rejoined_pairs to pairs subscriptions)
-within_rejoined from to pairs [] are h = tt
-within_rejoined from to pairs (s ∷ subscriptions) are h =
-    let one = reads_within from to s pairs are h in
-    (one.0, one.1, within_rejoined from to pairs subscriptions are h)
+starts_by c d from to fs gs pairs go within are =
+    at_both (IsWithin from to) (Begins c fs) (Begins d gs) (λ q near begins. go q near.0 begins) pairs within are

@@ -13,11 +13,12 @@ use Rattle.image_log.specs.Rebuilt.{Rebuilt, after_insert, contiguous_of, frames
 use Rattle.image_log.specs.declared.ident.Ident.{Ident}
 use Rattle.image_log.specs.declared.insert.Insert.{Insert}
 use Rattle.image_log.specs.declared.insert.Insert.TheVariants.{Taken, Repeat, Overlap, Below, Beyond}
-use Rattle.image_log.specs.declared.pair.Pair.{Pair}
+use Rattle.image_log.specs.Pairs.{IsWithin}
+use Rattle.log_pairs.specs.declared.pair.Pair.{Pair}
 use Rattle.image_log.proofs.Dropping.{chain-within, in_terms_put}
 use Rattle.image_log.proofs.Naming.{for_put}
 use Rattle.image_log.proofs.Orders.{chain-here, chain-le, chain-other, put_ordered, rank-le}
-use Rattle.image_log.proofs.Pairing.{within_more}
+use Rattle.log_pairs.proofs.Pairing.{at_weaker}
 use Rattle.image_log.proofs.Starts.{begins_here, begins_more, starts_by}
 use Rattle.image_log.proofs.Tests.{gt_no, is_ge, le_no, le_yes, lt_no, lt_yes}
 
@@ -193,7 +194,7 @@ log_here ident join base c p s at end bytes pairs store new is of spans ranked p
       whole = in_terms_put ident.term_length p s at bytes store.frames is.whole whole;
       ends = kept;
       far = omega (arith, e, moved, within);
-      paired = within_more base c end pairs is.paired up;
+      paired = at_weaker (IsWithin base c) (IsWithin base end) (λ q near. (near.0, omega (arith, near.1, up))) pairs is.paired;
       starts = starts_by c end base c store.frames (insert store.frames at (framed p s bytes)) pairs
           (λ q _ b. begins_here c end p s at q bytes store.frames (omega (arith, ranked, rank-le p store.frames)) here b) is.paired is.starts;
       named = for_put ident p s at bytes store.frames is.named of spans;

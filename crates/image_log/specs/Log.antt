@@ -6,8 +6,8 @@ use Rattle.image_log.specs.Pairs.{AreStarts, AreWithin}
 use Rattle.image_log.specs.Rebuilt.{Rebuilt, term_start}
 use Rattle.image_log.specs.Stored.{Held, Stored}
 use Rattle.image_log.specs.declared.ident.Ident.{Ident}
-use Rattle.image_log.specs.declared.pair.Pair.{Pair}
 use Rattle.image_log.specs.declared.status.LastStatus.{LastStatus}
+use Rattle.log_pairs.specs.declared.pair.Pair.{Pair}
 
 -- the lease of an open log, and the map of its frames
 pub record Log : Type 0 where

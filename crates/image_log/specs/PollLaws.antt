@@ -1,9 +1,10 @@
 -- What polls give of a log.
 use Rattle.std.specs.Prelude.{◌≡◌, ℕ, false, List, [], ◌∷◌, ◌++◌}
 use Rattle.image_log.specs.Frame.{Frame}
-use Rattle.image_log.specs.Polling.{Fetched, fetched, polled}
+use Rattle.image_log.specs.Polling.{fetched, polled}
 use Rattle.image_log.specs.Reading.{is_pad}
 use Rattle.image_log.specs.Rebuilt.{Rebuilt}
+use Rattle.log_pairs.specs.Polling.{Fetched}
 
 -- a fragment is what one of the frames gives, which is no pad
 pub record IsFragmentOf (fs : List Frame) (f : Fetched) : Type 0 where

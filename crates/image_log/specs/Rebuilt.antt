@@ -5,13 +5,13 @@ use Rattle.image_log.specs.Answer.{answer_among}
 use Rattle.image_log.specs.Frame.{Frame, framed}
 use Rattle.image_log.specs.Handed.{span_of, offset_of}
 use Rattle.image_log.specs.Order.{Begins, begins_from, begins_within, chain, next_from, rank}
-use Rattle.image_log.specs.Pairs.{is_other, least_or, moved_one, rejoined_pairs}
 use Rattle.image_log.specs.Reading.{cut_to}
 use Rattle.image_log.specs.declared.ident.Ident.{Ident}
 use Rattle.image_log.specs.declared.insert.Insert.{Insert}
 use Rattle.image_log.specs.declared.insert.Insert.TheVariants.{Taken, Repeat, Overlap, Below, Beyond}
-use Rattle.image_log.specs.declared.pair.Pair.{Pair}
 use Rattle.image_log.specs.declared.status.LastStatus.{LastStatus}
+use Rattle.log_pairs.specs.Pairs.{is_other, least_or, moved_one, rejoined_pairs}
+use Rattle.log_pairs.specs.declared.pair.Pair.{Pair}
 
 -- which stream it is of; where it joined, the base, the frames in order, the greatest position heard of, the moment at
 -- which the sender was heard last, the status message sent last, and the pairs

@@ -1,26 +1,26 @@
-ghost use Rattle.std.specs.Prelude.{◌≡◌, ℕ, ◌+◌, ◌*◌, ◌%◌, ◌^◌, ◌<◌, ◌≤◌, insert, length, max, true, IfOk, IfErr, IfSome, Some};
+ghost use Rattle.std.specs.Prelude.{◌≡◌, ℕ, ◌+◌, ◌*◌, ◌%◌, ◌^◌, ◌<◌, ◌≤◌, insert, length, map, max, true, IfOk, IfErr, IfSome, Some};
 ghost use Rattle.log_arena.specs.Lease.{lease_bytes, lease_len};
 ghost use Rattle.image_log.specs.Frame.{framed};
 ghost use Rattle.image_log.specs.Handed.{AreFor, IsFor, offset_of, span_of};
 ghost use Rattle.image_log.specs.Order.{rank};
-ghost use Rattle.image_log.specs.Pairs.{ReadsUpTo, position_of};
-ghost use Rattle.image_log.specs.Polling.{IsAhead, behind, fragments_left, passed, polled, whole_from};
+ghost use Rattle.image_log.specs.Polling.{IsAhead, polled, polled_frame, whole_from};
 ghost use Rattle.image_log.specs.Reading.{Adjoin, AreBetween};
 ghost use Rattle.image_log.specs.Rebuilt.{IsStart, advanced, after_insert, contiguous_of, frames_of, gap_of, insert_of, is_beyond, is_silent, joined, left, low_of, opened, reach_of, rejoined, settled, term_end, term_start, window_of};
 ghost use Rattle.image_log.specs.Status.{is_due, told};
 ghost use Rattle.image_log.specs.Stored.{IsBlank, StandIn, held_of};
+ghost use Rattle.log_pairs.specs.Pairs.{ReadsUpTo, position_of};
+ghost use Rattle.log_pairs.specs.Polling.{behind, passed};
 
 use crate::handed;
 use crate::ident::Ident;
 use crate::insert::Insert;
-use crate::pair::Pair;
-use crate::pairs::Pairs;
-use crate::polling::{Fragments, behind_passed};
+use crate::polling::Fragments;
 use crate::reading::{Frames, Run};
 use crate::room::ImageRoom;
 use crate::status::{self, LastStatus};
 use crate::store::Store;
 use log_arena::{Lease, NoMemory};
+use log_pairs::{Pair, Pairs, behind_passed};
 use std::alloc::Global;
 use std::marker::Model;
 
@@ -330,7 +330,7 @@ impl ImageLog {
         requires { position ≤ contiguous_of self.now.rebuilt }
         ensures frames { result ≡ whole_from self.now.rebuilt position }
         ensures ends { IsStart self.now.rebuilt position → (limit : ℕ)
-            → IsAhead self.now.rebuilt position (behind position (passed limit result)) }
+            → IsAhead self.now.rebuilt position (behind position (passed limit (map polled_frame result))) }
     {
         let index = self.store.rank(position);
         Run::new(&self.store, index, self.store.rank(self.contiguous))
@@ -340,7 +340,7 @@ impl ImageLog {
     fn behind_poll(&self, position: u64, limit: usize) -> u64
         requires to { position ≤ contiguous_of self.now.rebuilt }
         requires start { IsStart self.now.rebuilt position }
-        ensures exact { result ≡ behind position (passed limit (whole_from self.now.rebuilt position)) }
+        ensures exact { result ≡ behind position (passed limit (map polled_frame (whole_from self.now.rebuilt position))) }
         ensures ahead { IsAhead self.now.rebuilt position result }
     {
         behind_passed(self.run_from(position), position, limit)
@@ -350,7 +350,7 @@ impl ImageLog {
     /// at most so many. None where it does not read the log. Nothing is passed yet: [`ImageLog::poll`] does that, once they
     /// were taken.
     pub fn fragments(&self, subscription: u64, limit: usize) -> Fragments<'_>
-        ensures { fragments_left result ≡ (polled self.now.rebuilt subscription limit).fragments }
+        ensures { result ≡ (polled self.now.rebuilt subscription limit).fragments }
     {
         match self.pair_position(subscription) {
             Some(position) => Fragments::new(self.run_from(position), limit),

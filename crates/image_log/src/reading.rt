@@ -162,7 +162,7 @@ impl<'a> Iterator for Frames<'a> {
 
 /// Frames in the order of their positions, over the ends of terms. They are lent by the log.
 #[derive(Drop)]
-pub(crate) struct Run<'a> {
+pub struct Run<'a> {
     store: &'a Store,
     /// The index of the next frame.
     index: usize,

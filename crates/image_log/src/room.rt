@@ -1,8 +1,8 @@
 ghost use Rattle.std.specs.Prelude.{◌≡◌, IfOk};
 
-use crate::pairs::Pairs;
 use crate::place::Place;
 use log_arena::NoMemory;
+use log_pairs::Pairs;
 use std::alloc::Global;
 use std::collections::VecDeque;
 use std::marker::Model;

@@ -12,6 +12,8 @@ mod compilations;
 #[cfg(test)]
 mod counts;
 #[cfg(test)]
+mod pairs;
+#[cfg(test)]
 mod policies;
 #[cfg(test)]
 mod resends;

@@ -1,82 +1,26 @@
 -- Positions stay within a term of the tail.
-use Rattle.std.proofs.Common.{◌≡◌, ℕ, zero, suc, ◌+◌, ◌*◌, ◌-◌, ◌/◌, ◌%◌, ◌<◌, ◌≤◌, true, false, cond, List, [], ◌∷◌, ◌++◌, Option, None, Some, length, get_or, map, min, sym, ap, ◌∙◌, subst, arith}
-use Rattle.std.specs.Prelude.{filter, find, ◌==◌}
-use Rattle.std.specs.Option.{option_map}
+use Rattle.std.proofs.Common.{◌≡◌, ℕ, zero, suc, ◌+◌, ◌*◌, ◌-◌, ◌/◌, ◌%◌, ◌<◌, ◌≤◌, List, [], ◌∷◌, Option, None, Some, length, get_or, min, sym, ap, ◌∙◌, subst, arith}
 use Rattle.term_log.specs.declared.ident.Ident.{Ident}
 use Rattle.term_log.specs.declared.ident.LogKind.{LogKind}
 use Rattle.term_log.specs.declared.ident.LogKind.TheVariants.{Ipc, Udp}
-use Rattle.term_log.specs.declared.pair.Pair.{Pair}
+use Rattle.log_pairs.specs.Pairs.{position_of, least_of, ReadsUpTo}
+use Rattle.log_pairs.specs.declared.pair.Pair.{Pair}
+use Rattle.log_pairs.proofs.Pairing.{at_below, at_found, least_le}
 use Rattle.term_log.specs.Frames.{Frame, total}
 use Rattle.term_log.specs.Ident.{greatest_position}
 use Rattle.term_log.specs.Kept.{Kept, after_frames}
-use Rattle.term_log.specs.Pairs.{position_of, is_other, moved_one, least_of, reads_on, rejoined_pairs, IsNear, AreNear, ReadsUpTo}
+use Rattle.term_log.specs.Pairs.{IsNear, AreNear}
 use Rattle.std.specs.Prelude.{IfSome, max}
 use Rattle.std.proofs.lemmas.Nat.{div-add-mod', mul-le}
 use Rattle.term_log.specs.Log.{Log, IsLog, IsSenderNear, limit_among, limit_of}
 use Rattle.term_log.proofs.Appending.{tail_after, ident_after}
 
-pub least_le : (first : ℕ) (pairs : List Pair) → least_of first pairs ≤ first
-least_le first [] = omega arith
-least_le first (pair ∷ pairs) = omega (arith, least_le (min first pair.position) pairs)
-
-pub near_push : (start tail term : ℕ) (pairs : List Pair) (pair : Pair) → AreNear start tail term pairs → IsNear start tail term pair.position
-    → AreNear start tail term (pairs ++ pair ∷ [])
-near_push start tail term [] pair near is = (is, tt)
-near_push start tail term (p ∷ pairs) pair near is = (near.0, near_push start tail term pairs pair near.1 is)
-
-pub near_filter : (start tail term subscription : ℕ) (pairs : List Pair) → AreNear start tail term pairs
-    → AreNear start tail term (filter (is_other subscription) pairs)
-near_filter start tail term subscription [] near = tt
-near_filter start tail term subscription (p ∷ pairs) near =
-    let rest = near_filter start tail term subscription pairs near.1 in
-    elim (is_other subscription p) as (λ b. AreNear start tail term (cond b (p ∷ filter (is_other subscription) pairs) (filter (is_other subscription) pairs))) [
-      | true ↦ (near.0, rest)
-      | false ↦ rest
-    ]
-
-pub near_map : (start tail term subscription position : ℕ) (pairs : List Pair) → AreNear start tail term pairs → IsNear start tail term position
-    → AreNear start tail term (map (moved_one subscription position) pairs)
-near_map start tail term subscription position [] near is = tt
-near_map start tail term subscription position (p ∷ pairs) near is =
-    let first : IsNear start tail term (moved_one subscription position p).position =
-    elim (p.subscription == subscription) as (λ b. IsNear start tail term (cond b (record p { position = position }) p).position) [
-      | true ↦ is
-      | false ↦ near.0
-    ] in
-    (first, near_map start tail term subscription position pairs near.1 is)
-
-near_found : (start tail term subscription : ℕ) (pairs : List Pair) → AreNear start tail term pairs
-    → IfSome (position_of pairs subscription) (IsNear start tail term)
-near_found start tail term subscription [] near = tt
-near_found start tail term subscription (p ∷ pairs) near =
-    let rest = near_found start tail term subscription pairs near.1 in
-    elim (p.subscription == subscription) as (λ b. IfSome (option_map (λ (pair : Pair). pair.position) (cond b (Some p) (find (λ (pair : Pair). pair.subscription == subscription) pairs))) (IsNear start tail term)) [
-      | true ↦ near.0
-      | false ↦ rest
-    ]
-
-pub near_rejoined : (start tail term new : ℕ) (pairs : List Pair) (subscriptions : List ℕ) → AreNear start tail term pairs → IsNear start tail term new
-    → AreNear start tail term (rejoined_pairs new pairs subscriptions)
-near_rejoined start tail term new pairs [] near is = tt
-near_rejoined start tail term new pairs (s ∷ subscriptions) near is =
-    let first : IsNear start tail term (reads_on new (position_of pairs s)) =
-    elim (position_of pairs s) as (λ (o : Option ℕ). IfSome o (IsNear start tail term) → IsNear start tail term (reads_on new o)) [
-      | None ↦ (λ none. is)
-      | Some at ↦ (λ here. here)
-    ]
-    (near_found start tail term s pairs near) in
-    (first, near_rejoined start tail term new pairs subscriptions near is)
-
 -- a position before the tail to which a pair may move
 pub near_ahead : (start tail term subscription position : ℕ) (pairs : List Pair) → AreNear start tail term pairs
     → ReadsUpTo (position_of pairs subscription) position → position ≤ tail → IsNear start tail term position
-near_ahead start tail term subscription position [] near reads before = absurd reads
-near_ahead start tail term subscription position (p ∷ pairs) near reads before =
-    elim (p.subscription == subscription) as (λ b. ReadsUpTo (option_map (λ (pair : Pair). pair.position) (cond b (Some p) (find (λ (pair : Pair). pair.subscription == subscription) pairs))) position → IsNear start tail term position) [
-      | true ↦ (λ r. (omega (arith, r, near.0.0), before, omega (arith, r, near.0.2)))
-      | false ↦ (λ r. near_ahead start tail term subscription position pairs near.1 r before)
-    ]
-    reads
+near_ahead start tail term subscription position pairs near reads before =
+    let b = at_below (IsNear start tail term) subscription position pairs near reads in
+    (omega (arith, b.is.0, b.below), before, omega (arith, b.is.2, b.below))
 
 near_grows : (start tail term first half x : ℕ) (pairs : List Pair) → AreNear start tail term pairs → tail < least_of first pairs + half
     → 2 * half ≤ term → 2 * x ≤ term → AreNear start (tail + x) term pairs
@@ -156,12 +100,12 @@ near_held start tail term position near =
     ]
     split
 
+found_held : (start tail term : ℕ) (o : Option ℕ) → IfSome o (IsNear start tail term)
+    → IfSome o (λ position. (max start ((tail / term - 2) * term) ≤ position) × (position ≤ tail))
+found_held start tail term None near = tt
+found_held start tail term (Some at) near = (near_held start tail term at near, near.1)
+
 pub pair_held : (start tail term subscription : ℕ) (pairs : List Pair) → AreNear start tail term pairs
     → IfSome (position_of pairs subscription) (λ position. (max start ((tail / term - 2) * term) ≤ position) × (position ≤ tail))
-pair_held start tail term subscription [] near = tt
-pair_held start tail term subscription (p ∷ pairs) near =
-    elim (p.subscription == subscription) as (λ b. IfSome (option_map (λ (pair : Pair). pair.position) (cond b (Some p) (find (λ (pair : Pair). pair.subscription == subscription) pairs)))
-    (λ position. (max start ((tail / term - 2) * term) ≤ position) × (position ≤ tail))) [
-      | true ↦ (near_held start tail term p.position near.0, near.0.1)
-      | false ↦ pair_held start tail term subscription pairs near.1
-    ]
+pair_held start tail term subscription pairs near =
+    found_held start tail term (position_of pairs subscription) (at_found (IsNear start tail term) subscription pairs near)

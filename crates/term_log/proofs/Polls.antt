@@ -1,75 +1,77 @@
--- The fragments of frames that a poll passes.
-use Rattle.std.proofs.Common.{◌≡◌, ℕ, ◌+◌, ◌-◌, ◌≤◌, true, false, List, [], ◌∷◌, ◌++◌, map, refl, ap, ap₂, ◌∙◌, arith}
-use Rattle.std.specs.Prelude.{◌==◌, if◌then◌else◌}
+-- The frames that a poll passes.
+use Rattle.std.proofs.Common.{◌≡◌, ℕ, ◌+◌, ◌-◌, ◌^◌, ◌<◌, Bool, true, false, List, [], ◌∷◌, ◌++◌, map, min, max, refl, ap, ap₂, ◌∙◌, arith}
+use Rattle.std.specs.Prelude.{◌==◌}
+use Rattle.log_pairs.specs.Polling.{Fetched, Polled, behind, counted, fragments_of, passed}
 use Rattle.term_log.specs.declared.ident.Ident.{Ident}
 use Rattle.term_log.specs.Frames.{Frame, span, total}
 use Rattle.term_log.specs.Kept.{Kept}
 use Rattle.term_log.specs.Reading.{Given, all_given, GivesAll}
-use Rattle.term_log.specs.Polling.{Fetched, counted, passed, with_fragment, fragments_of, frame_given, fetched, GivesFragments, PassesTo}
+use Rattle.term_log.specs.Polling.{polled_frame, polled_given, polled_run, GivesFragments, PassesTo}
 use Rattle.term_log.proofs.Held.{total_both}
 
-pub frames_given : (i : Ident) (position : ℕ) (fs : List Frame) → map frame_given (all_given i position fs) ≡ fs
-frames_given i position [] = refl
-frames_given i position (f ∷ fs) = ap (λ (gs : List Frame). f ∷ gs) (frames_given i (position + span f) fs)
+-- the frames that a poll passes, and those that it leaves
+pub record Taken (position limit : ℕ) (fs : List Frame) : Type 0 where
+  pub front : List Frame
+  pub rest : List Frame
+  pub is : fs ≡ front ++ rest
+  pub passes : passed limit (polled_run position fs) ≡ polled_run position front
 
-pub fetched_zero : (tail room limit : ℕ) (fs : List Frame) → limit ≡ 0 → fetched tail room limit fs ≡ []
-fetched_zero tail room limit [] zero = refl
-fetched_zero tail room limit (f ∷ fs) zero = rw (zero) refl
+taken_by : (position limit : ℕ) (f : Frame) (fs : List Frame) → Taken (position + span f) (limit - counted (polled_frame (position + span f) f)) fs
+    → (b : Bool) → (limit == 0) ≡ b → Taken position limit (f ∷ fs)
+taken_by position limit f fs more true e = record { front = []; rest = f ∷ fs; is = refl; passes = rw (e) refl }
+taken_by position limit f fs more false e = record {
+  front = f ∷ more.front;
+  rest = more.rest;
+  is = ap (λ (gs : List Frame). f ∷ gs) more.is;
+  passes = rw (e) (ap (λ (gs : List Polled). polled_frame (position + span f) f ∷ gs) more.passes);
+}
 
-pub passed_zero : (limit : ℕ) (fs : List Frame) → limit ≡ 0 → passed limit fs ≡ []
-passed_zero limit [] zero = refl
-passed_zero limit (f ∷ fs) zero = rw (zero) refl
+pub taken : (position limit : ℕ) (fs : List Frame) → Taken position limit fs
+taken position limit [] = record { front = []; rest = []; is = refl; passes = refl }
+taken position limit (f ∷ fs) =
+    taken_by position limit f fs (taken (position + span f) (limit - counted (polled_frame (position + span f) f)) fs) (limit == 0) refl
 
--- the frames that a poll leaves
-abbrev pub left_behind : ℕ → List Frame → List Frame
-left_behind limit [] = []
-left_behind limit (f ∷ fs) = if limit == 0 then f ∷ fs else left_behind (limit - counted f) fs
+pub behind_run : (position : ℕ) (fs : List Frame) → behind position (polled_run position fs) ≡ position + total fs
+behind_run position [] = omega arith
+behind_run position (f ∷ fs) = omega (arith, behind_run (position + span f) fs)
 
-pub passed_split : (limit : ℕ) (fs : List Frame) → fs ≡ passed limit fs ++ left_behind limit fs
-passed_split limit [] = refl
-passed_split limit (f ∷ fs) =
-    let rest = passed_split (limit - counted f) fs in
-    elim (limit == 0) as (λ b. f ∷ fs ≡ (if b then [] else f ∷ passed (limit - counted f) fs) ++ (if b then f ∷ fs else left_behind (limit - counted f) fs)) [
-      | true ↦ refl
-      | false ↦ ap (λ (gs : List Frame). f ∷ gs) rest
-    ]
+-- the position behind the frames that a poll passes is that behind the front
+pub behind_taken : (position limit : ℕ) (fs : List Frame) (t : Taken position limit fs)
+    → behind position (passed limit (polled_run position fs)) ≡ position + total t.front
+behind_taken position limit fs t = ap (behind position) t.passes ∙ behind_run position t.front
 
-pub passed_less : (limit : ℕ) (fs : List Frame) → total (passed limit fs) ≤ total fs
-passed_less limit fs = omega (arith, ap total (passed_split limit fs), total_both (passed limit fs) (left_behind limit fs))
+-- no end is cut of frames that end where a position can be
+polled_all : (i : Ident) (position : ℕ) (fs : List Frame) → position + total fs < 2 ^ 64 → map polled_given (all_given i position fs) ≡ polled_run position fs
+polled_all i position [] fits = refl
+polled_all i position (f ∷ fs) fits =
+    let here : min (position + span f) (2 ^ 64 - 1) ≡ position + span f = omega arith in
+    ap₂ (λ (end : ℕ) (others : List Polled). polled_frame end f ∷ others) here (polled_all i (position + span f) fs (omega (arith, fits)))
 
-fetched_is : (tail room limit position : ℕ) (fs : List Frame) → total fs ≤ room → room + position ≡ tail
-    → fetched tail room limit fs ≡ fragments_of position (passed limit fs)
-fetched_is tail room limit position [] fits is = refl
-fetched_is tail room limit position (f ∷ fs) fits is =
-    let rest = fetched_is tail (room - span f) (limit - counted f) (position + span f) fs (omega arith) (omega arith) in
-    let here : tail - (room - span f) ≡ position + span f = omega arith in
-    elim (limit == 0) as (λ b. (if b then [] else with_fragment (tail - (room - span f)) f (fetched tail (room - span f) (limit - counted f) fs))
-    ≡ fragments_of position (if b then [] else f ∷ passed (limit - counted f) fs)) [
-      | true ↦ refl
-      | false ↦ ap₂ (λ (p : ℕ) (others : List Fetched). with_fragment p f others) here rest
-    ]
+-- all frames from a position on, as they are read
+run_is : (k : Kept) (position : ℕ) (all : List Given) (before after : List Frame) → all ≡ all_given k.ident position after → position ≡ k.ident.start + total before
+    → k.tail ≡ k.ident.start + total (before ++ after) → k.tail < 2 ^ 64 → map polled_given all ≡ polled_run position after
+run_is k position all before after is place tail fits =
+    ap (λ (gs : List Given). map polled_given gs) is
+    ∙ polled_all k.ident position after (omega (arith, place, tail, fits, total_both before after))
 
-pub gives_fragments : (k : Kept) (position limit tail room : ℕ) (all : List Given) (left : List Fetched) → tail ≡ k.tail → room + position ≡ tail
-    → GivesAll k position all → left ≡ fetched tail room limit (map frame_given all) → GivesFragments k position limit left
-gives_fragments k position limit tail room all left tail_is room_is gives left_is =
+pub gives_fragments : (k : Kept) (position limit : ℕ) (all : List Given) (left : List Fetched) → k.tail < 2 ^ 64
+    → GivesAll k position all → left ≡ fragments_of (passed limit (map polled_given all)) → GivesFragments k position limit left
+gives_fragments k position limit all left fits gives left_is =
     record {
       on = λ before after s place.
-          let tail_at = s.tail in
-          left_is
-          ∙ ap (λ (gs : List Given). fetched tail room limit (map frame_given gs)) (gives.on before after s place)
-          ∙ ap (fetched tail room limit) (frames_given k.ident position after)
-          ∙ fetched_is tail room limit position after (omega (arith, total_both before after)) room_is;
+          left_is ∙ ap (λ (fs : List Polled). fragments_of (passed limit fs)) (run_is k position all before after (gives.on before after s place) place s.tail fits);
     }
 
-pub passes_to : (k : Kept) (position limit room end : ℕ) (all : List Given) → room + position ≡ k.tail
-    → GivesAll k position all → end + (room - total (passed limit (map frame_given all))) ≡ k.tail → PassesTo k position limit end
-passes_to k position limit room end all room_is gives end_is =
+pub passes_to : (k : Kept) (position limit end : ℕ) (all : List Given) → k.tail < 2 ^ 64 → GivesAll k position all
+    → end ≡ min (max (behind position (passed limit (map polled_given all))) position) k.tail → PassesTo k position limit end
+passes_to k position limit end all fits gives end_is =
     record {
       on = λ before after s place.
-          let tail_at = s.tail in
-          let both = total_both before after in
-          let frames : map frame_given all ≡ after = ap (map frame_given) (gives.on before after s place) ∙ frames_given k.ident position after in
-          let count : total (passed limit (map frame_given all)) ≡ total (passed limit after) = ap (λ (fs : List Frame). total (passed limit fs)) frames in
-          let less = passed_less limit after in
-          omega arith;
+          let t = taken position limit after in
+          let run = run_is k position all before after (gives.on before after s place) place s.tail fits in
+          let same : behind position (passed limit (map polled_given all)) ≡ behind position (passed limit (polled_run position after)) =
+          ap (λ (fs : List Polled). behind position (passed limit fs)) run in
+          let there = behind_taken position limit after t in
+          let parts = ap total t.is in
+          omega (arith, end_is, same, there, parts, place, s.tail, total_both before after, total_both t.front t.rest);
     }

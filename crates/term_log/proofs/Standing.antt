@@ -1,22 +1,23 @@
 -- Which logs stand for which whole logs.
 use Rattle.std.proofs.Common.{◌≡◌, ℕ, ◌+◌, ◌/◌, true, false, cond, List, [], ◌∷◌, ◌++◌, Option, Some, None, map, refl, sym, ap, ap₂, ◌∙◌, subst, arith, append_assoc}
-use Rattle.std.specs.Prelude.{◌==◌, nat_le, IfSome, find}
-use Rattle.std.specs.Option.{option_map}
+use Rattle.std.specs.Prelude.{nat_le, IfSome}
 use Rattle.std.proofs.lemmas.Bool.Decides.{nat_tests}
 use Rattle.std.proofs.lemmas.List.{append-nil}
 use Rattle.term_log.specs.declared.ident.Ident.{Ident}
 use Rattle.term_log.specs.declared.offer.Offer.{Offer}
-use Rattle.term_log.specs.declared.pair.Pair.{Pair}
+use Rattle.log_pairs.specs.Pairs.{position_of, moved_one, rejoined_pairs}
+use Rattle.log_pairs.specs.Polling.{Fetched, Polled, behind, passed, fragments_of}
+use Rattle.log_pairs.specs.declared.pair.Pair.{Pair}
+use Rattle.log_pairs.proofs.Pairing.{at_found, at_map, at_rejoined, at_weaker}
 use Rattle.term_log.specs.Frames.{Frame, span, total, IsRun}
 use Rattle.term_log.specs.Kept.{Kept, StandsFor, after_frames}
 use Rattle.term_log.specs.Log.{Log, limit_among, limit_of, connected_of, answer_of, offer_of, appended, appended_at}
-use Rattle.term_log.specs.Pairs.{position_of, moved_one, reads_on, rejoined_pairs}
-use Rattle.term_log.specs.Polling.{Fetched, passed, fragments_of, GivesFragments, PassesTo}
+use Rattle.term_log.specs.Polling.{polled_run, GivesFragments, PassesTo}
 use Rattle.term_log.specs.Sender.{Sending, sending}
 use Rattle.term_log.specs.Whole.{Whole, tail_of, limit_at, is_connected, fresh, answer_to, offered, rejoined, rejoined_kept, frames_behind, Poll, passes, polled_from, polled, IsStart, AreStarts, Stands, Carries, Offers, Fetches}
 use Rattle.term_log.proofs.Appending.{ident_after}
 use Rattle.term_log.proofs.Held.{run_front, total_both}
-use Rattle.term_log.proofs.Polls.{left_behind, passed_split}
+use Rattle.term_log.proofs.Polls.{behind_taken, taken}
 use Rattle.term_log.proofs.Terms.{some_span}
 
 -- ---- where frames begin
@@ -34,41 +35,8 @@ start_more position at fs gs s =
     }
 
 pub starts_more : (position : ℕ) (fs gs : List Frame) (pairs : List Pair) → AreStarts position fs pairs → AreStarts position (fs ++ gs) pairs
-starts_more position fs gs [] starts = tt
-starts_more position fs gs (p ∷ pairs) starts = (start_more position p.position fs gs starts.0, starts_more position fs gs pairs starts.1)
-
-pub found_start : (position subscription : ℕ) (fs : List Frame) (pairs : List Pair) → AreStarts position fs pairs
-    → IfSome (position_of pairs subscription) (IsStart position fs)
-found_start position subscription fs [] starts = tt
-found_start position subscription fs (p ∷ pairs) starts =
-    let rest = found_start position subscription fs pairs starts.1 in
-    elim (p.subscription == subscription) as (λ b. IfSome (option_map (λ (pair : Pair). pair.position) (cond b (Some p) (find (λ (pair : Pair). pair.subscription == subscription) pairs))) (IsStart position fs)) [
-      | true ↦ starts.0
-      | false ↦ rest
-    ]
-
-pub rejoined_starts : (position : ℕ) (fs : List Frame) (pairs : List Pair) (subscriptions : List ℕ) → AreStarts position fs pairs
-    → AreStarts position fs (rejoined_pairs (position + total fs) pairs subscriptions)
-rejoined_starts position fs pairs [] starts = tt
-rejoined_starts position fs pairs (s ∷ subscriptions) starts =
-    let first : IsStart position fs (reads_on (position + total fs) (position_of pairs s)) =
-    elim (position_of pairs s) as (λ (o : Option ℕ). IfSome o (IsStart position fs) → IsStart position fs (reads_on (position + total fs) o)) [
-      | None ↦ (λ none. end_start position fs)
-      | Some at ↦ (λ start. start)
-    ]
-    (found_start position s fs pairs starts) in
-    (first, rejoined_starts position fs pairs subscriptions starts)
-
-pub moved_starts : (position subscription at : ℕ) (fs : List Frame) (pairs : List Pair) → AreStarts position fs pairs → IsStart position fs at
-    → AreStarts position fs (map (moved_one subscription at) pairs)
-moved_starts position subscription at fs [] starts start = tt
-moved_starts position subscription at fs (p ∷ pairs) starts start =
-    let first : IsStart position fs (moved_one subscription at p).position =
-    elim (p.subscription == subscription) as (λ b. IsStart position fs (cond b (record p { position = at }) p).position) [
-      | true ↦ start
-      | false ↦ starts.0
-    ] in
-    (first, moved_starts position subscription at fs pairs starts.1 start)
+starts_more position fs gs pairs starts =
+    at_weaker (IsStart position fs) (IsStart position (fs ++ gs)) (λ q start. start_more position q fs gs start) pairs starts
 
 -- the frames that do not begin before a frame's start are those behind it
 behind_start : (i : Ident) (position at : ℕ) (before after : List Frame) → IsRun i position before → at ≡ position + total before
@@ -153,7 +121,7 @@ rejoin_stands l subscriptions =
             frames = s.frames;
             pairs = ap₂ (λ (t : ℕ) (pairs : List Pair). rejoined_pairs t pairs subscriptions) (tail_stands l w s) s.pairs;
             sender = s.sender;
-            read = rejoined_starts w.ident.start w.frames w.pairs subscriptions s.read;
+            read = at_rejoined (IsStart w.ident.start w.frames) (tail_of w) w.pairs subscriptions s.read (end_start w.ident.start w.frames);
             sent = s.sent;
           };
     }
@@ -192,7 +160,7 @@ pub reads_from : (l : Log) (w : Whole) (subscription at : ℕ) → Stands l w �
 reads_from l w subscription at s is =
     let here : position_of w.pairs subscription ≡ Some at = ap (λ (pairs : List Pair). position_of pairs subscription) (sym s.pairs) ∙ is in
     start_from l w at s
-    (subst (λ (o : Option ℕ). IfSome o (IsStart w.ident.start w.frames)) here (found_start w.ident.start subscription w.frames w.pairs s.read))
+    (subst (λ (o : Option ℕ). IfSome o (IsStart w.ident.start w.frames)) here (at_found (IsStart w.ident.start w.frames) subscription w.pairs s.read))
 
 pub polled_is : (w : Whole) (l : Log) (subscription limit : ℕ) (o : Option ℕ) → Stands l w → position_of l.pairs subscription ≡ o
     → polled w subscription limit ≡ polled_from w subscription limit o
@@ -207,7 +175,7 @@ fetches l subscription limit at left is gives =
       on = λ w s.
           let from = reads_from l w subscription at s is in
           gives.on from.before from.after from.stands from.kept_place
-          ∙ ap (λ (fs : List Frame). fragments_of at (passed limit fs)) (sym from.behind)
+          ∙ ap (λ (fs : List Frame). fragments_of (passed limit (polled_run at fs))) (sym from.behind)
           ∙ sym (ap (λ (p : Poll). p.fragments) (polled_is w l subscription limit (Some at) s is));
     }
 
@@ -228,27 +196,25 @@ poll_stands l new subscription limit at end is to new_is =
     record {
       on = λ w s.
           let from = reads_from l w subscription at s is in
-          let fs : List Frame = passed limit (frames_behind at w.ident.start w.frames) in
-          let end_is : end ≡ at + total fs =
-          to.on from.before from.after from.stands from.kept_place ∙ ap (λ (gs : List Frame). at + total (passed limit gs)) (sym from.behind) in
-          let rest : List Frame = left_behind limit (frames_behind at w.ident.start w.frames) in
-          let split : w.frames ≡ (from.before ++ fs) ++ rest =
-          from.whole
-          ∙ ap (λ (gs : List Frame). from.before ++ gs) (sym from.behind ∙ passed_split limit (frames_behind at w.ident.start w.frames))
-          ∙ sym (append_assoc from.before fs rest) in
-          let place = from.place in
-          let start : IsStart w.ident.start w.frames (at + total fs) = record {
-            before = from.before ++ fs;
-            after = rest;
+          let later : List Frame = frames_behind at w.ident.start w.frames in
+          let t = taken at limit later in
+          let fs : List Polled = passed limit (polled_run at later) in
+          let end_is : end ≡ behind at fs =
+          to.on from.before from.after from.stands from.kept_place ∙ ap (λ (gs : List Frame). behind at (passed limit (polled_run at gs))) (sym from.behind) in
+          let split : w.frames ≡ (from.before ++ t.front) ++ t.rest =
+          from.whole ∙ ap (λ (gs : List Frame). from.before ++ gs) (sym from.behind ∙ t.is) ∙ sym (append_assoc from.before t.front t.rest) in
+          let start : IsStart w.ident.start w.frames (behind at fs) = record {
+            before = from.before ++ t.front;
+            after = t.rest;
             is = split;
-            place = omega (arith, total_both from.before fs);
+            place = omega (arith, from.place, behind_taken at limit later t, total_both from.before t.front);
           } in
           let after : Stands new (passes w subscription at fs).after = record {
             ident = ap (λ (x : Log). x.kept.ident) new_is ∙ s.ident;
             frames = subst (λ (k : Kept). StandsFor k w.frames) (sym (ap (λ (x : Log). x.kept) new_is)) s.frames;
             pairs = ap (λ (x : Log). x.pairs) new_is ∙ ap₂ (λ (e : ℕ) (pairs : List Pair). map (moved_one subscription e) pairs) end_is s.pairs;
             sender = ap (λ (x : Log). x.sender) new_is ∙ s.sender;
-            read = moved_starts w.ident.start subscription (at + total fs) w.frames w.pairs s.read start;
+            read = at_map (IsStart w.ident.start w.frames) subscription (behind at fs) w.pairs s.read start;
             sent = s.sent;
           } in
           subst (λ (p : Poll). Stands new p.after) (sym (polled_is w l subscription limit (Some at) s is)) after;

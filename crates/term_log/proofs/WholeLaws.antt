@@ -1,19 +1,20 @@
 -- What holds of whole logs and of what polls give of them.
 use Rattle.std.proofs.Common.{◌≡◌, ℕ, ◌+◌, List, [], ◌∷◌, ◌++◌, Option, Some, None, refl, sym, ap, ◌∙◌, subst, arith, append_assoc}
+use Rattle.log_pairs.specs.Pairs.{position_of}
+use Rattle.log_pairs.specs.Polling.{Polled, fragments_of}
 use Rattle.term_log.specs.Frames.{Frame, fragment, pad, span, total}
 use Rattle.term_log.specs.Log.{Log}
-use Rattle.term_log.specs.Pairs.{position_of}
-use Rattle.term_log.specs.Polling.{passed, fragments_of}
+use Rattle.term_log.specs.Polling.{polled_run}
 use Rattle.term_log.specs.Whole.{Whole, frames_behind, Poll, polled_from, Stands}
 use Rattle.term_log.specs.PollLaws.{AreFragmentsOf, PollsGiveFrames}
 use Rattle.term_log.proofs.Cuts.{total-append}
-use Rattle.term_log.proofs.Polls.{left_behind, passed_split}
+use Rattle.term_log.proofs.Polls.{taken}
 use Rattle.term_log.proofs.Standing.{reads_from, polled_is}
 
 -- ---- each fragment that a poll gives is a frame of the log
 
 pub fragments_are : (w : Whole) (at : ℕ) (before fs rest : List Frame) → w.frames ≡ before ++ (fs ++ rest)
-    → at ≡ w.ident.start + total before → AreFragmentsOf w (fragments_of at fs)
+    → at ≡ w.ident.start + total before → AreFragmentsOf w (fragments_of (polled_run at fs))
 fragments_are w at before [] rest is place = tt
 fragments_are w at before (fragment flags payload ∷ fs) rest is place =
     let f : Frame = fragment flags payload in
@@ -35,10 +36,9 @@ polled_by l w subscription limit None s is = tt
 polled_by l w subscription limit (Some at) s is =
     let from = reads_from l w subscription at s is in
     let behind : List Frame = frames_behind at w.ident.start w.frames in
-    let rest : List Frame = left_behind limit behind in
-    let split : w.frames ≡ from.before ++ (passed limit behind ++ rest) =
-    from.whole ∙ ap (λ (fs : List Frame). from.before ++ fs) (sym from.behind ∙ passed_split limit behind) in
-    fragments_are w at from.before (passed limit behind) rest split from.place
+    let t = taken at limit behind in
+    let split : w.frames ≡ from.before ++ (t.front ++ t.rest) = from.whole ∙ ap (λ (fs : List Frame). from.before ++ fs) (sym from.behind ∙ t.is) in
+    subst (λ (fs : List Polled). AreFragmentsOf w (fragments_of fs)) (sym t.passes) (fragments_are w at from.before t.front t.rest split from.place)
 
 pub polled_are_frames : PollsGiveFrames
 polled_are_frames l w subscription limit s =

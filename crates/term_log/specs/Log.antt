@@ -2,17 +2,18 @@
 -- position (Aeron Transport Protocol Specification, positions, and flow control by a limit).
 use Rattle.std.specs.Prelude.{ℕ, ◌+◌, ◌-◌, ◌*◌, ◌/◌, ◌%◌, ◌<◌, ◌≤◌, ◌^◌, Bool, true, false, not, List, [], ◌∷◌, length, min, max, nat_lt, nat_le, if◌then◌else◌, refl}
 use Rattle.std.specs.Coded.{Coded, code_by, coded×, coded_list}
+use Rattle.log_pairs.specs.Pairs.{pair_code, least_of}
+use Rattle.log_pairs.specs.declared.pair.Pair.{Pair}
 use Rattle.term_log.specs.declared.ident.Ident.{Ident}
 use Rattle.term_log.specs.declared.ident.LogKind.{LogKind}
 use Rattle.term_log.specs.declared.ident.LogKind.TheVariants.{Ipc, Udp}
-use Rattle.term_log.specs.declared.pair.Pair.{Pair}
 use Rattle.term_log.specs.declared.offer.Offer.{Offer}
 use Rattle.term_log.specs.declared.offer.Offer.TheVariants.{At, TooLong, MaxPosition, BackPressured, AdminAction}
 use Rattle.term_log.specs.Ident.{greatest_position, payload_length}
 use Rattle.term_log.specs.Frames.{Frame, pad, total}
 use Rattle.term_log.specs.Cut.{cut}
 use Rattle.term_log.specs.Kept.{Kept, kept_code, rest_of, offset_of}
-use Rattle.term_log.specs.Pairs.{pair_code, least_of, IsNear, AreNear}
+use Rattle.term_log.specs.Pairs.{IsNear, AreNear}
 use Rattle.term_log.specs.Sender.{Sending, sending_code, is_past}
 
 -- what is kept of all frames, the subscriptions that read, and what the sender keeps

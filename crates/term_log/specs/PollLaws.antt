@@ -1,8 +1,8 @@
 -- What polls give of a log.
 use Rattle.std.specs.Prelude.{◌≡◌, ℕ, ◌+◌, List, [], ◌∷◌, ◌++◌}
+use Rattle.log_pairs.specs.Polling.{Fetched}
 use Rattle.term_log.specs.Frames.{Frame, fragment, span, total}
 use Rattle.term_log.specs.Log.{Log}
-use Rattle.term_log.specs.Polling.{Fetched}
 use Rattle.term_log.specs.Whole.{Whole, polled, Stands}
 
 -- a fragment is a frame of the log, with its flags and what it carries, that ends at the fragment's position

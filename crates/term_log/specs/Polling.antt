@@ -1,67 +1,36 @@
--- What a poll passes of the frames from a position on, and what it gives of them. Own rules.
-use Rattle.std.specs.Prelude.{◌≡◌, ℕ, ◌+◌, ◌-◌, ◌==◌, if◌then◌else◌, List, [], ◌∷◌, ◌++◌, map}
-use Rattle.frame_codec.specs.declared.flags.Flags.{Flags}
-use Rattle.term_log.specs.declared.polling.Fragment.{Fragment}
-use Rattle.term_log.specs.declared.polling.Fragments.{Fragments}
+-- The frames of a log as a poll comes to them, and what it gives of them. Own rules.
+use Rattle.std.specs.Prelude.{◌≡◌, ℕ, ◌+◌, ◌-◌, ◌^◌, min, Option, Some, None, List, [], ◌∷◌, ◌++◌}
+use Rattle.log_pairs.specs.Polling.{Fetched, Polled, behind, fragments_of, passed}
 use Rattle.term_log.specs.Frames.{Frame, fragment, pad, span, total}
 use Rattle.term_log.specs.Kept.{Kept, StandsFor}
-use Rattle.term_log.specs.Ranges.{over_left}
 use Rattle.term_log.specs.Reading.{Given}
 
--- a fragment that a poll gives: the position behind its frame, the frame's flags, and what it carries
-pub record Fetched : Type 0 where
-  pub position : ℕ
-  pub flags : Flags
-  pub payload : List ℕ
+-- the fragment of a frame that ends at a position; a pad gives none
+abbrev pub fetched : ℕ → Frame → Option Fetched
+fetched end (fragment flags payload) = Some (record { position = end; flags = flags; payload = payload })
+fetched end (pad size) = None
 
--- how many fragments a frame gives: a pad gives none
-abbrev pub counted : Frame → ℕ
-counted (fragment flags payload) = 1
-counted (pad size) = 0
+abbrev pub polled_frame : ℕ → Frame → Polled
+polled_frame end f = record { end = end; fragment = fetched end f }
 
--- the frames that are passed, one behind the other until so many fragments were given; none behind the last of them
-abbrev pub passed : ℕ → List Frame → List Frame
-passed limit [] = []
-passed limit (f ∷ fs) = if limit == 0 then [] else f ∷ passed (limit - counted f) fs
-
--- what a frame gives that ends at a position, in front of what others give
-abbrev pub with_fragment : ℕ → Frame → List Fetched → List Fetched
-with_fragment position (fragment flags payload) others =
-    record { position = position; flags = flags; payload = payload } ∷ others
-with_fragment position (pad size) others = others
-
--- the fragments of frames, the first of them at that position
-abbrev pub fragments_of : ℕ → List Frame → List Fetched
-fragments_of position [] = []
-fragments_of position (f ∷ fs) = with_fragment (position + span f) f (fragments_of (position + span f) fs)
+-- frames one behind the other, the first of them at that position
+abbrev pub polled_run : ℕ → List Frame → List Polled
+polled_run position [] = []
+polled_run position (f ∷ fs) = polled_frame (position + span f) f ∷ polled_run (position + span f) fs
 
 -- ---- what calls give, of all frames from a position on, whichever the log stands for
 
 -- the fragments of those that a poll passes
 pub record GivesFragments (k : Kept) (position limit : ℕ) (left : List Fetched) : Type 0 where
   pub on : (before after : List Frame) → StandsFor k (before ++ after) → position ≡ k.ident.start + total before
-      → left ≡ fragments_of position (passed limit after)
+      → left ≡ fragments_of (passed limit (polled_run position after))
 
 -- the position behind those that a poll passes
 pub record PassesTo (k : Kept) (position limit end : ℕ) : Type 0 where
   pub on : (before after : List Frame) → StandsFor k (before ++ after) → position ≡ k.ident.start + total before
-      → end ≡ position + total (passed limit after)
+      → end ≡ behind position (passed limit (polled_run position after))
 
--- ---- of any frames that are read
+-- ---- of any frames that are read, whose ends are cut to what a position can be
 
-abbrev pub frame_given : Given → Frame
-frame_given g = g.frame
-
--- the fragments of frames, of which the first begins so many positions before the tail
-abbrev pub fetched : ℕ → ℕ → ℕ → List Frame → List Fetched
-fetched tail room limit [] = []
-fetched tail room limit (f ∷ fs) =
-    if limit == 0 then []
-    else with_fragment (tail - (room - span f)) f (fetched tail (room - span f) (limit - counted f) fs)
-
-abbrev pub fetched_of : Fragment → Fetched
-fetched_of f = record { position = f.position; flags = f.flags; payload = f.payload.now }
-
--- the fragments that are still to come
-unfoldable pub fragments_left : Fragments → List Fetched
-fragments_left f = fetched f.tail f.room f.limit (map frame_given (over_left f.frames))
+abbrev pub polled_given : Given → Polled
+polled_given g = polled_frame (min (g.position + span g.frame) (2 ^ 64 - 1)) g.frame

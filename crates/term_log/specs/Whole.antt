@@ -1,13 +1,14 @@
 -- A log as if all frames that were ever appended to it were kept: what becomes of it, and which log stands for it.
 use Rattle.std.specs.Prelude.{◌≡◌, ℕ, ◌+◌, ◌/◌, Bool, not, List, [], ◌∷◌, ◌++◌, map, nat_le, Option, Some, None, if◌then◌else◌}
+use Rattle.log_pairs.specs.Pairs.{AreAt, position_of, moved_one, rejoined_pairs}
+use Rattle.log_pairs.specs.Polling.{Fetched, Polled, behind, passed, fragments_of}
+use Rattle.log_pairs.specs.declared.pair.Pair.{Pair}
 use Rattle.term_log.specs.declared.ident.Ident.{Ident}
 use Rattle.term_log.specs.declared.offer.Offer.{Offer}
-use Rattle.term_log.specs.declared.pair.Pair.{Pair}
 use Rattle.term_log.specs.Frames.{Frame, span, total}
 use Rattle.term_log.specs.Kept.{StandsFor}
 use Rattle.term_log.specs.Log.{Log, limit_among, connected_among, answer_of, appended_at}
-use Rattle.term_log.specs.Pairs.{position_of, moved_one, rejoined_pairs}
-use Rattle.term_log.specs.Polling.{Fetched, passed, fragments_of}
+use Rattle.term_log.specs.Polling.{polled_run}
 use Rattle.term_log.specs.Sender.{Sending, sending, is_past}
 
 -- what it was made for, all frames that were ever appended, who reads it with their positions, and what its sender keeps
@@ -62,17 +63,17 @@ pub record Poll : Type 0 where
   pub after : Whole
 
 -- these frames are passed from a position on
-abbrev pub passes : Whole → ℕ → ℕ → List Frame → Poll
+abbrev pub passes : Whole → ℕ → ℕ → List Polled → Poll
 passes w subscription at frames = record {
-  fragments = fragments_of at frames;
-  after = record w { pairs = map (moved_one subscription (at + total frames)) w.pairs };
+  fragments = fragments_of frames;
+  after = record w { pairs = map (moved_one subscription (behind at frames)) w.pairs };
 }
 
 -- a subscription that does not read the log is given nothing
 abbrev pub polled_from : Whole → ℕ → ℕ → Option ℕ → Poll
 polled_from w subscription limit None = record { fragments = []; after = w }
 polled_from w subscription limit (Some at) =
-    passes w subscription at (passed limit (frames_behind at w.ident.start w.frames))
+    passes w subscription at (passed limit (polled_run at (frames_behind at w.ident.start w.frames)))
 
 -- A poll of a subscription: from its position on frame by frame, until so many fragments were given or there are no
 -- more. Pads are passed uncounted; it then stands behind what was passed.
@@ -89,8 +90,7 @@ pub record IsStart (position : ℕ) (frames : List Frame) (at : ℕ) : Type 0 wh
   pub place : at ≡ position + total before
 
 abbrev pub AreStarts : ℕ → List Frame → List Pair → Type 0
-AreStarts position frames [] = Unit {0}
-AreStarts position frames (pair ∷ pairs) = IsStart position frames pair.position × AreStarts position frames pairs
+AreStarts position frames pairs = AreAt (IsStart position frames) pairs
 
 -- the log holds of all frames what has to be held, and keeps all else; who reads or sends stands where a frame begins
 pub record Stands (l : Log) (w : Whole) : Type 0 where

@@ -247,7 +247,8 @@ impl Appender {
     pub(crate) fn frames_behind(&self, position: u64) -> FramesOver<'_>
         requires low { low_of self.now ≤ position }
         requires high { position ≤ self.now.tail }
-        ensures { GivesAll self.now position (over_left result) }
+        ensures all { GivesAll self.now position (over_left result) }
+        ensures fits { self.now.tail < 2 ^ 64 }
     {
         let (first, second, third) = self.terms_from(position);
         FramesOver::new(first, second, third, position, self.tail - position)

@@ -1,75 +1,58 @@
-//! The fragments that a poll gives.
+//! The frames that a poll passes.
 
-ghost use Rattle.std.specs.Prelude.{◌≡◌, ◌-◌, ◌≤◌, map};
-ghost use Rattle.term_log.specs.Frames.{total};
+ghost use Rattle.log_pairs.specs.Polling.{fetched_of, polled_by};
+ghost use Rattle.std.specs.Prelude.{◌≡◌, ◌≤◌, map};
 ghost use Rattle.term_log.specs.Log.{low_of};
-ghost use Rattle.term_log.specs.Polling.{GivesFragments, PassesTo, counted, fetched, fragments_left, frame_given, passed};
+ghost use Rattle.term_log.specs.Polling.{GivesFragments, PassesTo, polled_given};
 ghost use Rattle.term_log.specs.Ranges.{over_left};
-ghost use Rattle.term_log.specs.Reading.{frame_of};
+ghost use Rattle.term_log.specs.Reading.{given_of};
 
 use crate::appender::Appender;
 use crate::ranges::FramesOver;
 use crate::reading::{Content, LogFrame};
-use frame_codec::Flags;
-
-/// A fragment of a message that a poll gives, whose bytes the log lends.
-#[derive(Clone, Copy, Debug)]
-pub struct Fragment<'a> {
-    /// The position behind its frame.
-    pub position: u64,
-    /// The flags of its frame.
-    pub flags: Flags,
-    pub payload: &'a [u8],
-}
+use log_pairs::{Fragment, PolledFrame, PolledFrames, behind_passed};
 
 /// The fragments that a poll gives, in order. The log lends their bytes.
-#[derive(Clone, Copy, Debug)]
-pub struct Fragments<'a> {
-    /// The frames up to the tail.
-    frames: FramesOver<'a>,
-    tail: u64,
-    /// How many positions there are from the next frame up to the tail.
-    room: u64,
-    /// How many fragments are given at most.
-    limit: usize,
+pub type Fragments<'a> = log_pairs::Fragments<FramesOver<'a>>;
+
+/// A frame as a poll comes to it.
+fn polled_frame<'a>(frame: &LogFrame<'a>) -> PolledFrame<Fragment<'a>>
+    ensures { polled_by fetched_of result ≡ polled_given (given_of frame.now) }
+{
+    let end = frame.position.saturating_add(frame.span());
+    let fragment = match frame.content {
+        Content::Fragment(flags, payload) => Some(Fragment {
+            position: end,
+            flags,
+            payload,
+        }),
+        Content::Pad(_) => None,
+    };
+    PolledFrame { end, fragment }
 }
 
-/// How many more fragments are given behind a frame.
-fn limit_behind(limit: usize, frame: &LogFrame<'_>) -> usize
-    ensures { result ≡ limit - counted (frame_of frame.now.content) }
-{
-    match frame.content {
-        Content::Fragment(_, _) => limit.saturating_sub(1),
-        Content::Pad(_) => limit,
-    }
-}
+impl<'a> PolledFrames for FramesOver<'a> {
+    type Fragment = Fragment<'a>;
 
-/// How many positions there are up to the tail from behind the frames that a poll passes, where so many were in front of
-/// them.
-fn room_behind(frames: FramesOver<'_>, room: u64, limit: usize) -> u64
-    ensures { result ≡ room - total (passed limit (map frame_given (over_left frames.entry))) }
-{
-    let mut frames = frames;
-    let mut room = room;
-    let mut limit = limit;
-    while let Some(frame) = frames.next() {
-        if limit == 0 {
-            return room;
+    ghost fetched = { fetched_of };
+
+    ghost frames = { λ over. map polled_given (over_left over) };
+
+    fn next_frame(&mut self) -> Option<PolledFrame<Fragment<'a>>> {
+        match self.next() {
+            Some(frame) => Some(polled_frame(&frame)),
+            None => None,
         }
-        room = room.saturating_sub(frame.span());
-        limit = limit_behind(limit, &frame);
     }
-    room
 }
 
 /// The fragments that a poll gives from a position on that is held: a frame's start or the tail.
 pub(crate) fn fragments_from(log: &Appender, position: u64, limit: usize) -> Fragments<'_>
     requires low { low_of log.now ≤ position }
     requires high { position ≤ log.now.tail }
-    ensures { GivesFragments log.now position limit (fragments_left result) }
+    ensures { GivesFragments log.now position limit result }
 {
-    let tail = log.tail();
-    Fragments::new(log.frames_behind(position), tail, tail - position, limit)
+    Fragments::new(log.frames_behind(position), limit)
 }
 
 /// The position behind the frames that a poll passes from a position on that is held: a frame's start or the tail.
@@ -80,51 +63,7 @@ pub(crate) fn end_of(log: &Appender, position: u64, limit: usize) -> u64
     ensures ahead { position ≤ result }
     ensures within { result ≤ log.now.tail }
 {
-    let tail = log.tail();
-    tail - room_behind(log.frames_behind(position), tail - position, limit)
-}
-
-impl<'a> Fragments<'a> {
-    /// Those of the frames up to the tail, of which the first begins so many positions before it.
-    #[tactic(auto, unfolding(crate::specs::Polling::fragments_left))]
-    fn new(frames: FramesOver<'a>, tail: u64, room: u64, limit: usize) -> Fragments<'a>
-        ensures { fragments_left result ≡ fetched tail room limit (map frame_given (over_left frames.entry)) }
-    {
-        Fragments {
-            frames,
-            tail,
-            room,
-            limit,
-        }
-    }
-}
-
-impl<'a> Iterator for Fragments<'a> {
-    ghost use Rattle.term_log.specs.Polling.{fetched_of, fragments_left};
-    ghost use Rattle.std.specs.Iterator.{YieldsFirstBy, item_count};
-
-    type Item = Fragment<'a>;
-
-    ghost next_gives = { YieldsFirstBy fetched_of fragments_left };
-
-    ghost remaining = { item_count fragments_left };
-
-    #[tactic(auto, unfolding(crate::specs::Polling::fragments_left))]
-    fn next(&mut self) -> Option<Fragment<'a>> {
-        if self.limit == 0 {
-            return None;
-        }
-        while let Some(frame) = self.frames.next() {
-            self.room = self.room.saturating_sub(frame.span());
-            if let Content::Fragment(flags, payload) = frame.content {
-                self.limit -= 1;
-                return Some(Fragment {
-                    position: self.tail.saturating_sub(self.room),
-                    flags,
-                    payload,
-                });
-            }
-        }
-        None
-    }
+    // The frames end from the position on up to the tail, so that the bounds change nothing.
+    let end = behind_passed(log.frames_behind(position), position, limit);
+    end.max(position).min(log.tail())
 }

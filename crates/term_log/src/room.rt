@@ -1,7 +1,7 @@
 ghost use Rattle.std.specs.Prelude.{◌≡◌, [], IfOk};
 
-use crate::pairs::Pairs;
 use log_arena::NoMemory;
+use log_pairs::Pairs;
 use std::alloc::Global;
 use std::marker::Model;
 
@@ -13,7 +13,7 @@ pub struct LogRoom {
 
 impl Model for LogRoom {
     ghost use Rattle.std.specs.Prelude.{◌≡◌, [], List};
-    ghost use Rattle.term_log.specs.declared.pair.Pair.{Pair};
+    ghost use Rattle.log_pairs.specs.declared.pair.Pair.{Pair};
 
     ghost Value = { List Pair };
 

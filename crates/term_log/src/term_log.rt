@@ -1,13 +1,12 @@
 //! The log of a publication.
 
 ghost use Rattle.log_arena.specs.Lease.{lease_bytes, lease_home, lease_len, lease_place};
+ghost use Rattle.log_pairs.specs.Pairs.{ReadsUpTo, is_other, moved_one, position_of};
 ghost use Rattle.std.specs.Prelude.{◌≡◌, ◌+◌, ◌*◌, ◌/◌, ◌%◌, ◌^◌, ◌<◌, ◌≤◌, ◌++◌, ◌∷◌, [], All, IfErr, IfOk, IfSome, List, length, map, min, filter, replicate, true};
 ghost use Rattle.term_log.specs.Frames.{Frame};
 ghost use Rattle.term_log.specs.Ident.{IsIdent};
 ghost use Rattle.term_log.specs.Kept.{StandsFor, after_frames, opened};
 ghost use Rattle.term_log.specs.Log.{HasRoom, appended, connected_of, greatest_message, limit_of, low_of, offer_of};
-ghost use Rattle.term_log.specs.Pairs.{ReadsUpTo, is_other, moved_one, position_of};
-ghost use Rattle.term_log.specs.Polling.{fragments_left};
 ghost use Rattle.term_log.specs.Ranges.{GivesOver, over_left};
 ghost use Rattle.term_log.specs.Reading.{AreFrom, EndsBy, GivesFrom, frames_left, spans};
 ghost use Rattle.term_log.specs.Sender.{after_setup, after_status, budget_of, is_past, is_setup_due, later_of, sending, status_of};
@@ -18,8 +17,6 @@ use crate::appender::Appender;
 use crate::cutting::size_of;
 use crate::ident::{Ident, LogKind};
 use crate::offer::Offer;
-use crate::pair::Pair;
-use crate::pairs::Pairs;
 use crate::polling::{Fragments, end_of, fragments_from};
 use crate::ranges::FramesOver;
 use crate::reading::Frames;
@@ -28,6 +25,7 @@ use crate::sender::Sender;
 use crate::status::Status;
 use frame_codec::Header;
 use log_arena::{Lease, NoMemory};
+use log_pairs::{Pair, Pairs};
 use std::alloc::Global;
 use std::marker::Model;
 
@@ -278,7 +276,7 @@ impl TermLog {
     /// The fragments that a poll of a subscription gives, over the ends of terms: those from its position on, at most so
     /// many. None where it does not read the log. Nothing is passed yet: [`TermLog::poll`] does that, once they were taken.
     pub fn fragments(&self, subscription: u64, limit: usize) -> Fragments<'_>
-        ensures { Fetches self.now subscription limit (fragments_left result) }
+        ensures { Fetches self.now subscription limit result }
     {
         match self.pair_position(subscription) {
             Some(position) => fragments_from(&self.appender, position, limit),

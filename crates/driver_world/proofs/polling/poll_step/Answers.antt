@@ -3,7 +3,7 @@ use Rattle.driver_core.specs.LogRequests.{receiving_of}
 use Rattle.driver_world.specs.Held.{HeldLog}
 use Rattle.driver_world.specs.Memory.{Gives}
 use Rattle.driver_world.specs.Moves.{CopiesFetched, poll_move}
-use Rattle.term_log.specs.Pairs.{position_of}
+use Rattle.log_pairs.specs.Pairs.{position_of}
 use Rattle.driver_world.proofs.HeldLemmas.{err_given}
 use Rattle.driver_world.proofs.MoveLemmas.{some_position, poll_given, poll_gives, polled_lies}
 use Rattle.driver_world.proofs.polling.poll_step.Goals as goal

@@ -1,11 +1,12 @@
 use Rattle.std.proofs.Common.{◌≡◌, ℕ, ◌≤◌, ap, ◌∙◌, subst, sym}
 use Rattle.image_log.specs.Log.{rebuilt_of, Log}
 use Rattle.image_log.specs.Order.{Begins, chain}
-use Rattle.image_log.specs.Pairs.{ReadsUpTo, position_of}
+use Rattle.image_log.specs.Pairs.{IsWithin}
 use Rattle.image_log.specs.Rebuilt.{IsStart, Rebuilt, contiguous_of}
-use Rattle.image_log.proofs.Pairing.{within_ahead, within_map}
+use Rattle.log_pairs.specs.Pairs.{ReadsUpTo, position_of}
+use Rattle.log_pairs.proofs.Pairing.{at_map}
+use Rattle.image_log.proofs.Pairing.{within_ahead}
 use Rattle.image_log.proofs.Settled.{log_paired}
-use Rattle.image_log.proofs.Starts.{starts_map}
 use Rattle.image_log.proofs.log.ImageLog.advance.Goals as goal
 
 pub invariant_of-self : goal.invariant_of-self
@@ -21,5 +22,5 @@ invariant_of-self c =
     (subst (λ (r : Rebuilt). IsStart r c.args.position) (sym (ap (λ (l : Log). l.rebuilt) c.self.view_is)) c.requires.start) in
     let ahead = within_ahead s.base s.contiguous c.args.subscription c.args.position s.pairs c.self.invariant.paired from in
     log_paired s.ident s.join s.base s.contiguous s.pairs c.advance.new.self _ s.store c.self.invariant c.advance.ensures
-    (within_map s.base s.contiguous c.args.subscription c.args.position s.pairs c.self.invariant.paired ahead to)
-    (starts_map s.contiguous c.args.subscription c.args.position s.store.frames s.pairs c.self.invariant.starts begins)
+    (at_map (IsWithin s.base s.contiguous) c.args.subscription c.args.position s.pairs c.self.invariant.paired (ahead, to))
+    (at_map (Begins s.contiguous s.store.frames) c.args.subscription c.args.position s.pairs c.self.invariant.starts begins)

@@ -3,8 +3,8 @@ use Rattle.std.specs.Prelude.{IfSome}
 use Rattle.image_log.specs.Log.{rebuilt_of, Log}
 use Rattle.image_log.specs.Order.{Begins, chain}
 use Rattle.image_log.specs.Rebuilt.{IsStart, Rebuilt, contiguous_of}
-use Rattle.image_log.proofs.Pairing.{pair_within}
-use Rattle.image_log.proofs.Starts.{pair_starts}
+use Rattle.image_log.specs.Pairs.{IsWithin}
+use Rattle.log_pairs.proofs.Pairing.{at_found}
 use Rattle.image_log.proofs.log.ImageLog.pair_position.Goals as goal
 
 pub returns-clause-within : goal.returns-clause-within
@@ -15,7 +15,7 @@ returns-clause-within c =
     subst (λ (r : Rebuilt). IfSome c.position.result (λ (position : ℕ). (r.base ≤ position) × (position ≤ contiguous_of r))) (ap (λ (l : Log). l.rebuilt) c.self.view_is)
     (subst (λ (k : ℕ). IfSome c.position.result (λ (position : ℕ). (s.base ≤ position) × (position ≤ k))) at
     (subst (λ (o : Option ℕ). IfSome o (λ (position : ℕ). (s.base ≤ position) × (position ≤ s.contiguous))) (sym c.position.ensures)
-    (pair_within s.base s.contiguous c.args.subscription s.pairs c.self.invariant.paired)))
+    (at_found (IsWithin s.base s.contiguous) c.args.subscription s.pairs c.self.invariant.paired)))
 
 pub returns-clause-starts : goal.returns-clause-starts
 returns-clause-starts c =
@@ -25,4 +25,4 @@ returns-clause-starts c =
     subst (λ (r : Rebuilt). IfSome c.position.result (λ (position : ℕ). IsStart r position)) (ap (λ (l : Log). l.rebuilt) c.self.view_is)
     (subst (λ (k : ℕ). IfSome c.position.result (λ (position : ℕ). Begins k s.store.frames position)) at
     (subst (λ (o : Option ℕ). IfSome o (λ (position : ℕ). Begins s.contiguous s.store.frames position)) (sym c.position.ensures)
-    (pair_starts s.contiguous c.args.subscription s.store.frames s.pairs c.self.invariant.starts)))
+    (at_found (Begins s.contiguous s.store.frames) c.args.subscription s.pairs c.self.invariant.starts)))

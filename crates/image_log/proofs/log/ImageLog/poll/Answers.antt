@@ -1,6 +1,6 @@
 use Rattle.std.proofs.Common.{◌≡◌, ℕ, None, Some, Option, sym, ap, ◌∙◌, subst}
 use Rattle.image_log.specs.Log.{Log}
-use Rattle.image_log.specs.Pairs.{ReadsUpTo, position_of}
+use Rattle.log_pairs.specs.Pairs.{ReadsUpTo, position_of}
 use Rattle.image_log.specs.Polling.{Poll}
 use Rattle.image_log.specs.Rebuilt.{advanced, settled}
 use Rattle.image_log.proofs.Polls.{polled_none, polled_some}

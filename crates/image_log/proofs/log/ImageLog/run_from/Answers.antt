@@ -1,11 +1,12 @@
 -- The frames between two ranks are those that are whole from a position on.
 use Rattle.std.proofs.Common.{◌≡◌, ℕ, ◌+◌, ◌≤◌, List, take, drop, sym, ap, ap₂, ◌∙◌, subst, arith}
-use Rattle.std.specs.Prelude.{filter}
+use Rattle.std.specs.Prelude.{filter, map}
 use Rattle.image_log.specs.Frame.{Frame}
 use Rattle.image_log.specs.Log.{Log, rebuilt_of}
 use Rattle.image_log.specs.Order.{Begins, begins_within, chain}
-use Rattle.image_log.specs.Polling.{behind, passed, whole_from}
+use Rattle.image_log.specs.Polling.{polled_frame, whole_from}
 use Rattle.image_log.specs.Rebuilt.{IsStart, Rebuilt, contiguous_of}
+use Rattle.log_pairs.specs.Polling.{behind, passed}
 use Rattle.image_log.proofs.Between.{between-ranks}
 use Rattle.image_log.proofs.Naming.{headed}
 use Rattle.image_log.proofs.Orders.{rank-le}
@@ -49,9 +50,9 @@ returns-clause-ends c = λ start limit.
     c.new.ensures
     ∙ ap₂ (λ (j k : ℕ). drop j (take k fs)) c.rank-index.ensures c.rank.ensures
     ∙ sym (between-ranks p s.contiguous s.store.low (s.store.low + s.store.held.len) fs c.self.invariant.order to) in
-    let q : ℕ = behind p (passed limit c.new.result) in
+    let q : ℕ = behind p (passed limit (map polled_frame c.new.result)) in
     let ends : EndsWithin p s.contiguous fs q =
-    subst (λ (gs : List Frame). EndsWithin p s.contiguous fs (behind p (passed limit gs))) (sym same)
+    subst (λ (gs : List Frame). EndsWithin p s.contiguous fs (behind p (passed limit (map polled_frame gs)))) (sym same)
     (poll_ends p s.contiguous s.store.low (s.store.low + s.store.held.len) limit fs c.self.invariant.order c.self.invariant.chained to begins) in
     record {
       ahead = ends.0;

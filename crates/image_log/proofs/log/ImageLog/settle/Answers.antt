@@ -1,6 +1,6 @@
 use Rattle.std.proofs.Common.{◌≡◌, ℕ, max, sym, ap, ◌∙◌, subst, arith}
 use Rattle.image_log.specs.Log.{IsLog}
-use Rattle.image_log.specs.Pairs.{least_or}
+use Rattle.log_pairs.specs.Pairs.{least_or}
 use Rattle.image_log.specs.Rebuilt.{term_start}
 use Rattle.image_log.proofs.Settled.{log_settled, up_to}
 use Rattle.image_log.proofs.log.ImageLog.settle.Goals as goal

@@ -6,8 +6,8 @@ use Rattle.term_log.specs.Reading.{frames_left}
 use Rattle.term_log.proofs.Terms.{gives_behind}
 use Rattle.term_log.proofs.appender.Appender.frames_behind.Goals as goal
 
-pub returns : goal.returns
-returns c =
+pub returns-clause-all : goal.returns-clause-all
+returns-clause-all c =
     let s = c.self.inside in
     let k : Kept = record { ident = s.ident; tail = s.tail; messages = s.messages; buffers = s.buffers } in
     let high = rw (← c.self.view_is) at c.requires.high in

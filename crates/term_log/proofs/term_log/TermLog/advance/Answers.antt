@@ -1,7 +1,8 @@
 use Rattle.std.proofs.Common.{List, sym, subst}
-use Rattle.term_log.specs.declared.pair.Pair.{Pair}
-use Rattle.term_log.specs.Pairs.{AreNear}
-use Rattle.term_log.proofs.Nears.{near_map, near_ahead}
+use Rattle.log_pairs.specs.declared.pair.Pair.{Pair}
+use Rattle.term_log.specs.Pairs.{AreNear, IsNear}
+use Rattle.log_pairs.proofs.Pairing.{at_map}
+use Rattle.term_log.proofs.Nears.{near_ahead}
 use Rattle.term_log.proofs.term_log.TermLog.advance.Goals as goal
 
 pub invariant_of-self : goal.invariant_of-self
@@ -14,7 +15,7 @@ invariant_of-self c =
     record {
       high = c.self.invariant.high;
       near = subst (λ (pairs : List Pair). AreNear i.start s.appender.tail i.term_length pairs) (sym c.advance.ensures)
-          (near_map i.start s.appender.tail i.term_length c.args.subscription c.args.position s.pairs near
+          (at_map (IsNear i.start s.appender.tail i.term_length) c.args.subscription c.args.position s.pairs near
           (near_ahead i.start s.appender.tail i.term_length c.args.subscription c.args.position s.pairs near from to));
       sender_near = c.self.invariant.sender_near;
     }

@@ -1,7 +1,7 @@
 use Rattle.std.proofs.Common.{List, sym, subst, arith}
-use Rattle.term_log.specs.declared.pair.Pair.{Pair}
-use Rattle.term_log.specs.Pairs.{AreNear}
-use Rattle.term_log.proofs.Nears.{near_push}
+use Rattle.log_pairs.specs.declared.pair.Pair.{Pair}
+use Rattle.term_log.specs.Pairs.{AreNear, IsNear}
+use Rattle.log_pairs.proofs.Pairing.{at_push}
 use Rattle.term_log.proofs.term_log.TermLog.join_pair.Goals as goal
 
 pub invariant_of-self : goal.invariant_of-self
@@ -13,6 +13,6 @@ invariant_of-self c =
     record {
       high = c.self.invariant.high;
       near = subst (λ (pairs : List Pair). AreNear i.start s.appender.tail i.term_length pairs) (sym c.join.ensures)
-          (near_push i.start s.appender.tail i.term_length s.pairs (record { subscription = c.args.subscription; position = c.tail-position.result }) c.self.invariant.near (omega arith, omega arith, omega arith));
+          (at_push (IsNear i.start s.appender.tail i.term_length) s.pairs (record { subscription = c.args.subscription; position = c.tail-position.result }) c.self.invariant.near (omega arith, omega arith, omega arith));
       sender_near = c.self.invariant.sender_near;
     }

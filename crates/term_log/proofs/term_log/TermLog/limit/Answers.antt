@@ -1,6 +1,7 @@
 use Rattle.std.proofs.Common.{◌≡◌, ap, arith}
 use Rattle.term_log.specs.declared.ident.Ident.{Ident}
-use Rattle.term_log.proofs.Nears.{least_le, first_least, sender_within}
+use Rattle.log_pairs.proofs.Pairing.{least_le}
+use Rattle.term_log.proofs.Nears.{first_least, sender_within}
 use Rattle.term_log.proofs.term_log.TermLog.limit.Goals as goal
 
 pub overflow_add-result : goal.overflow_add-result

@@ -1,6 +1,6 @@
 use Rattle.std.proofs.Common.{◌≡◌, None, Some, map, sym, ◌∙◌, rules}
 use Rattle.term_log.specs.Log.{Log}
-use Rattle.term_log.specs.Pairs.{position_of, moved_one}
+use Rattle.log_pairs.specs.Pairs.{position_of, moved_one}
 use Rattle.term_log.proofs.Standing.{poll_stands, poll_none_stands}
 use Rattle.term_log.proofs.term_log.TermLog.poll.Goals as goal
 

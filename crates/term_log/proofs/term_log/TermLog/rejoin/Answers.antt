@@ -1,9 +1,9 @@
 use Rattle.std.proofs.Common.{◌≡◌, List, sym, subst, rules, arith}
-use Rattle.term_log.specs.declared.pair.Pair.{Pair}
+use Rattle.log_pairs.specs.declared.pair.Pair.{Pair}
 use Rattle.term_log.specs.Log.{Log}
-use Rattle.term_log.specs.Pairs.{AreNear}
+use Rattle.term_log.specs.Pairs.{AreNear, IsNear}
 use Rattle.term_log.specs.Whole.{Carries, rejoined, rejoined_kept}
-use Rattle.term_log.proofs.Nears.{near_rejoined}
+use Rattle.log_pairs.proofs.Pairing.{at_rejoined}
 use Rattle.term_log.proofs.Standing.{rejoin_stands}
 use Rattle.term_log.proofs.term_log.TermLog.rejoin.Goals as goal
 
@@ -16,7 +16,7 @@ invariant_of-self c =
     record {
       high = c.self.invariant.high;
       near = subst (λ (pairs : List Pair). AreNear i.start s.appender.tail i.term_length pairs) (sym c.rejoin.ensures)
-          (near_rejoined i.start s.appender.tail i.term_length c.tail-tail.result s.pairs c.args.subscriptions.now c.self.invariant.near (omega arith, omega arith, omega arith));
+          (at_rejoined (IsNear i.start s.appender.tail i.term_length) c.tail-tail.result s.pairs c.args.subscriptions.now c.self.invariant.near (omega arith, omega arith, omega arith));
       sender_near = c.self.invariant.sender_near;
     }
 

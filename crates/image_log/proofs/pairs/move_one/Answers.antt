@@ -1,8 +1,0 @@
-use Rattle.std.proofs.Common.{arith}
-use Rattle.std.proofs.lemmas.Grind.{common_steps}
-use Rattle.std.proofs.lemmas.List.Edits.{map_over_more}
-use Rattle.image_log.specs.Pairs.{moved_one}
-use Rattle.image_log.proofs.pairs.move_one.Goals as goal
-
-pub loop-pair-preserved : goal.loop-pair-preserved
-loop-pair-preserved c = grind (arith, common_steps, map_over_more (moved_one c.args.subscription c.args.position))

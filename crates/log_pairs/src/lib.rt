@@ -1,0 +1,16 @@
+//! Who reads a log, and how far: what the log of a publication and that of a remote stream have in common.
+//!
+//! [`Pairs`] is the list of the subscriptions that read a log, each with its position, in room for 512 that is reserved.
+//! [`Fragments`] and [`behind_passed`] are the two halves of a poll, over [`PolledFrames`]: each log says from where its
+//! frames are read. But for [`Pairs::new`] nothing here takes memory.
+#![tactic(auto)]
+
+mod fragment;
+mod pair;
+mod pairs;
+mod polling;
+
+pub use fragment::{Fragment, PolledFrame};
+pub use pair::Pair;
+pub use pairs::Pairs;
+pub use polling::{Fragments, PolledFrames, behind_passed};

@@ -1,7 +1,0 @@
-use Rattle.std.proofs.Common.{◌≡◌, drop}
-use Rattle.term_log.specs.Pairs.{position_of}
-use Rattle.term_log.proofs.pairs.position_in.Given as goal
-
--- the pairs that are left decide
-abbrev pub invariant-loop-pair : goal.invariant-loop-pair
-invariant-loop-pair l = position_of (drop l.pair-index l.rows) l.subscription ≡ position_of l.rows l.subscription
