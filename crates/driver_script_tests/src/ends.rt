@@ -56,26 +56,3 @@ impl Write for Choppy {
         Ok(())
     }
 }
-
-/// Takes so many bytes, and then fails.
-#[derive(Drop)]
-pub struct Narrow {
-    pub taken: Vec<u8>,
-    pub left: usize,
-}
-
-impl Write for Narrow {
-    fn write(&mut self, buf: &[u8]) -> io::Result<usize> {
-        if self.left == 0 && !buf.is_empty() {
-            return Err(io::ErrorKind::Other.into());
-        }
-        let count = self.left.min(buf.len());
-        self.taken.extend_from_slice(&buf[..count])?;
-        self.left -= count;
-        Ok(count)
-    }
-
-    fn flush(&mut self) -> io::Result<()> {
-        Ok(())
-    }
-}

@@ -1,6 +1,6 @@
 //! What tests ask of texts and of scripts. Where no memory is there, nothing is as a test expects.
 
-use crate::ends::Narrow;
+use crate::ends::Choppy;
 use driver_script::{MayFail, RunFault, script};
 use std::alloc::Global;
 use std::fmt;
@@ -13,16 +13,13 @@ pub(crate) fn is_shown<T: fmt::Display>(alloc: Global, value: &T, text: &str) ->
     }
 }
 
-/// What a script writes to a writer that takes this many bytes.
+/// What a script writes to a writer that takes this many bytes, and then fails.
 pub(crate) fn run_into(
     alloc: Global,
     script: &str,
     room: usize,
 ) -> (Result<script::Ended, RunFault>, Vec<u8>) {
-    let mut writer = MayFail(Narrow {
-        taken: Vec::new(alloc),
-        left: room,
-    });
+    let mut writer = MayFail(Choppy::new(alloc, room, true));
     let mut reader = script.as_bytes();
     let ended = script::run(alloc, &mut reader, &mut writer);
     (ended, writer.0.taken)

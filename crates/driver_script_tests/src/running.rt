@@ -1,4 +1,4 @@
-use crate::ends::{LineFeeds, Narrow};
+use crate::ends::{Choppy, LineFeeds};
 use crate::play::run_into;
 use driver_script::{MayFail, RunFault, script};
 use std::alloc::Global;
@@ -21,20 +21,15 @@ fn has_a_front(alloc: Global, room: usize) -> bool {
 
 #[test]
 fn a_writer_that_fails_has_a_front(rt: HostRuntime) {
-    assert!(rt; has_a_front(rt.alloc(), 0));
-    assert!(rt; has_a_front(rt.alloc(), 5));
-    assert!(rt; has_a_front(rt.alloc(), 11));
-    assert!(rt; has_a_front(rt.alloc(), 20));
+    assert!(rt; has_a_front(rt.alloc(), 0) && has_a_front(rt.alloc(), 5));
+    assert!(rt; has_a_front(rt.alloc(), 11) && has_a_front(rt.alloc(), 20));
     assert!(rt; !has_a_front(rt.alloc(), 1000));
 }
 
 /// Whether a reader that fails behind so many bytes ends the script by this fault, and nothing is written.
 fn fails_to_read(alloc: Global, left: usize, fault: RunFault) -> bool {
     let mut reader = MayFail(LineFeeds { left, fails: true });
-    let mut writer = MayFail(Narrow {
-        taken: Vec::new(alloc),
-        left: 1000,
-    });
+    let mut writer = MayFail(Choppy::new(alloc, 1000, true));
     let ended = script::run(alloc, &mut reader, &mut writer);
     ended == Err(fault) && writer.0.taken.is_empty()
 }

@@ -2,12 +2,8 @@
 #![tactic(auto)]
 
 #[cfg(test)]
-mod conductor;
-#[cfg(test)]
-mod looks;
+mod deeds;
 #[cfg(test)]
 mod outcomes;
-#[cfg(test)]
-mod received;
 #[cfg(test)]
 mod worlds;

@@ -1,194 +1,346 @@
-//! What events do outside the registry: which logs they open and close, which pairs go and come, and what was decided.
+//! What events tell beside their replies: which logs they open and close, which pairs go and come, and what was decided.
 
-use crate::conductor::{Conductor, Deciding, Deed, Opening, Renewal};
-use driver_core::Settings;
+use crate::deeds::{
+    Deed, PUBLISH, PUBLISH_ALONE, SUBSCRIBE, TERMINATE, UNPUBLISH_2, UNSUBSCRIBE_3, event,
+};
+use driver_core::{Inputs, Outcome, Registry, Settings};
 use policy_core::{Act, Decision, Policy, Verdict};
-use std::test::Fail;
+use std::alloc::{AllocError, Global};
 use stream_registry::{LogPlace, Pair};
+
+/// An event, the log that opens by it, those that close, the pairs that go, those that come, what the policy decides, in
+/// turn, and the pairs that are there behind it.
+type Row = (
+    Deed,
+    Option<LogPlace>,
+    &'static [LogPlace],
+    &'static [Pair],
+    &'static [Pair],
+    &'static [Decision],
+    &'static [Pair],
+);
+
+const FIRST_LOG: LogPlace = LogPlace {
+    source: 2,
+    place: 0,
+};
+
+const SECOND_LOG: LogPlace = LogPlace {
+    source: 5,
+    place: 48,
+};
+
+/// Pairs of the first log.
+const FIRST: Pair = Pair {
+    source: 2,
+    subscription: 1,
+};
+
+const THIRD: Pair = Pair {
+    source: 2,
+    subscription: 3,
+};
+
+const FOURTH: Pair = Pair {
+    source: 2,
+    subscription: 4,
+};
+
+/// Pairs of the second log.
+const OTHER_FIRST: Pair = Pair {
+    source: 5,
+    subscription: 1,
+};
+
+const OTHER_FOURTH: Pair = Pair {
+    source: 5,
+    subscription: 4,
+};
+
+const OTHERS: [Pair; 2] = [OTHER_FIRST, OTHER_FOURTH];
+
+const ALL: [Pair; 4] = [FIRST, FOURTH, OTHER_FIRST, OTHER_FOURTH];
+
+/// What policy 1 decides by its default, which allows, for principal 7 on stream 10.
+const PUBLISHED: Decision = Decision {
+    principal: 7,
+    act: Act::PublishExclusive,
+    subject: 0,
+    stream: 10,
+    verdict: Verdict {
+        allow: true,
+        rule: None,
+        epoch: 1,
+    },
+};
+
+const SUBSCRIBED: Decision = Decision {
+    act: Act::Subscribe,
+    ..PUBLISHED
+};
+
+/// Of the image of subscription 1.
+const IMAGE: Decision = Decision {
+    act: Act::Image,
+    subject: 1,
+    ..PUBLISHED
+};
+
+/// Policy 2 denies.
+const DENIED: Verdict = Verdict {
+    allow: false,
+    rule: None,
+    epoch: 2,
+};
+
+/// Policy 3 allows.
+const ALLOWED: Verdict = Verdict {
+    allow: true,
+    rule: None,
+    epoch: 3,
+};
 
 /// The greatest time for which a log lingers, in nanoseconds.
 const LINGER: u64 = 5_000_000_000;
 
-const FIRST: LogPlace = LogPlace {
-    source: 1,
-    place: 0,
-};
-
-const SECOND: LogPlace = LogPlace {
-    source: 3,
-    place: 48,
-};
-
-const THIRD: LogPlace = LogPlace {
-    source: 4,
-    place: 0,
-};
-
-/// Where two logs have room.
-const OPENINGS: [Opening<'static>; 11] = [
-    (Deed::Attach, None, &[]),
-    (Deed::Publish(10), Some(FIRST), &[]),
-    // The second time it is joined.
-    (Deed::Publish(10), None, &[]),
-    (Deed::Publish(11), Some(SECOND), &[]),
-    // There is no room for a third one.
-    (Deed::Publish(12), None, &[]),
-    (Deed::Unpublish(1), None, &[]),
-    (Deed::Unpublish(2), None, &[]),
-    (Deed::Tick(LINGER), None, &[]),
-    (Deed::Tick(LINGER + 1), None, &[FIRST]),
-    (Deed::Publish(12), Some(THIRD), &[]),
-    (Deed::Terminate, None, &[SECOND, THIRD]),
-];
-
-#[test]
-fn logs_open_and_close(rt: HostRuntime) -> Result<(), Fail> {
-    let mut settings = Settings::default();
-    settings.arena_pages = 96;
-    let policy = Policy::new(Vec::new(rt.alloc()), true)?;
-    let mut conductor = Conductor::set_to(rt.alloc(), settings, policy)?;
-    assert!(rt; conductor.opens_all(&OPENINGS));
-    Ok(())
-}
-
-#[test]
-fn openings_are_told_apart(rt: HostRuntime) -> Result<(), Fail> {
-    let mut conductor = Conductor::new(rt.alloc())?;
-    assert!(rt; conductor.takes(&[Deed::Attach]));
-    assert!(rt; !conductor.opens_all(&[(Deed::Publish(10), Some(SECOND), &[])]));
-    assert!(rt; !conductor.opens_all(&[(Deed::Terminate, None, &[])]));
-    Ok(())
-}
-
-fn pair(source: u64, subscription: u64) -> Pair {
-    Pair {
-        source,
-        subscription,
-    }
-}
-
-const FIRST_READ: [Renewal<'static>; 2] = [
-    (Deed::Attach, &[], &[], &[]),
-    (Deed::Subscribe, &[], &[], &[]),
-];
-
-#[test]
-fn pairs_go_and_come(rt: HostRuntime) -> Result<(), Fail> {
-    let mut conductor = Conductor::new(rt.alloc())?;
-    assert!(rt; conductor.renews_all(&FIRST_READ));
-    let one = [pair(2, 1)];
-    let two = [pair(2, 1), pair(2, 3)];
-    let own = [pair(4, 1), pair(4, 3)];
-    let all = [pair(2, 1), pair(2, 3), pair(4, 1), pair(4, 3)];
-    let came: [Renewal<'_>; 3] = [
-        (Deed::Publish(10), &[], &one, &one),
-        (Deed::Subscribe, &[], &two[1..], &two),
-        (Deed::PublishAlone, &[], &own, &all),
-    ];
-    assert!(rt; conductor.renews_all(&came));
-    // One who joins a log is no reader of it, and another stream is another log. Pairs go with their subscription,
-    // which no reply tells.
-    let left = [pair(2, 3), pair(4, 3)];
-    let renewed: [Renewal<'_>; 6] = [
-        (Deed::Publish(10), &[], &[], &all),
-        (Deed::Publish(11), &[], &[], &all),
-        (Deed::Reload(false), &all, &[], &[]),
-        (Deed::Reload(true), &[], &all, &all),
-        (Deed::Unsubscribe(1), &[all[0], all[2]], &[], &left),
-        (Deed::Terminate, &left, &[], &[]),
-    ];
-    assert!(rt; conductor.renews_all(&renewed));
-    Ok(())
-}
-
-#[test]
-fn renewals_are_told_apart(rt: HostRuntime) -> Result<(), Fail> {
-    let mut conductor = Conductor::new(rt.alloc())?;
-    let read = [Deed::Attach, Deed::Publish(10), Deed::Subscribe];
-    assert!(rt; conductor.takes(&read));
-    let one = [pair(1, 2)];
-    let two = [pair(1, 2), pair(1, 3)];
-    assert!(rt; !conductor.renews_all(&[(Deed::Subscribe, &[], &[], &two)]));
-    assert!(rt; !conductor.renews_all(&[(Deed::Unsubscribe(3), &[], &[], &one)]));
-    assert!(rt; !conductor.renews_all(&[(Deed::Tick(0), &[], &[], &two)]));
-    Ok(())
-}
-
-/// What the policy of that number decides by its default for principal 7 on stream 10.
-fn decision(act: Act, subject: u64, allow: bool, epoch: u64) -> Decision {
-    Decision {
-        principal: 7,
-        act,
-        subject,
-        stream: 10,
-        verdict: Verdict {
-            allow,
-            rule: None,
-            epoch,
-        },
-    }
-}
-
-/// Images are decided behind the command; those of a subscription that goes are not.
-#[test]
-fn events_are_decided(rt: HostRuntime) -> Result<(), Fail> {
-    let mut conductor = Conductor::new(rt.alloc())?;
-    assert!(rt; conductor.takes(&[Deed::Attach]));
-    let subscribe = decision(Act::Subscribe, 0, true, 1);
-    let publish = decision(Act::PublishExclusive, 0, true, 1);
-    let allowed: [Deciding<'_>; 5] = [
-        (Deed::Subscribe, &[subscribe]),
-        (
-            Deed::PublishAlone,
-            &[publish, decision(Act::Image, 1, true, 1)],
-        ),
-        (
-            Deed::Subscribe,
-            &[subscribe, decision(Act::Image, 3, true, 1)],
-        ),
-        (Deed::Unsubscribe(3), &[]),
-        (
-            Deed::Subscribe,
-            &[subscribe, decision(Act::Image, 4, true, 1)],
-        ),
-    ];
-    assert!(rt; conductor.decides_all(&allowed));
+/// One client's events. Images are decided behind the command; those of a subscription that goes, or of a log that
+/// closes, are not.
+const ROWS: [Row; 16] = [
+    (Deed::Attach, None, &[], &[], &[], &[], &[]),
+    (SUBSCRIBE, None, &[], &[], &[], &[SUBSCRIBED], &[]),
+    (
+        PUBLISH_ALONE,
+        Some(FIRST_LOG),
+        &[],
+        &[],
+        &[FIRST],
+        &[PUBLISHED, IMAGE],
+        &[FIRST],
+    ),
+    (
+        SUBSCRIBE,
+        None,
+        &[],
+        &[],
+        &[THIRD],
+        &[
+            SUBSCRIBED,
+            Decision {
+                subject: 3,
+                ..IMAGE
+            },
+        ],
+        &[FIRST, THIRD],
+    ),
+    (UNSUBSCRIBE_3, None, &[], &[THIRD], &[], &[], &[FIRST]),
+    (
+        SUBSCRIBE,
+        None,
+        &[],
+        &[],
+        &[FOURTH],
+        &[
+            SUBSCRIBED,
+            Decision {
+                subject: 4,
+                ..IMAGE
+            },
+        ],
+        &[FIRST, FOURTH],
+    ),
     // The policy takes both images away.
-    let taken = [
-        decision(Act::Image, 1, false, 2),
-        decision(Act::Image, 4, false, 2),
-    ];
-    let denied: [Deciding<'_>; 3] = [
-        (Deed::Reload(false), &taken),
-        (Deed::Publish(10), &[decision(Act::Publish, 0, false, 2)]),
-        (
-            Deed::PublishAlone,
-            &[decision(Act::PublishExclusive, 0, false, 2)],
-        ),
-    ];
-    assert!(rt; conductor.decides_all(&denied));
-    Ok(())
+    (
+        Deed::Reload(false),
+        None,
+        &[],
+        &[FIRST, FOURTH],
+        &[],
+        &[
+            Decision {
+                verdict: DENIED,
+                ..IMAGE
+            },
+            Decision {
+                subject: 4,
+                verdict: DENIED,
+                ..IMAGE
+            },
+        ],
+        &[],
+    ),
+    (
+        PUBLISH_ALONE,
+        None,
+        &[],
+        &[],
+        &[],
+        &[Decision {
+            verdict: DENIED,
+            ..PUBLISHED
+        }],
+        &[],
+    ),
+    (
+        PUBLISH,
+        None,
+        &[],
+        &[],
+        &[],
+        &[Decision {
+            act: Act::Publish,
+            verdict: DENIED,
+            ..PUBLISHED
+        }],
+        &[],
+    ),
+    (
+        Deed::Reload(true),
+        None,
+        &[],
+        &[],
+        &[FIRST, FOURTH],
+        &[
+            Decision {
+                verdict: ALLOWED,
+                ..IMAGE
+            },
+            Decision {
+                subject: 4,
+                verdict: ALLOWED,
+                ..IMAGE
+            },
+        ],
+        &[FIRST, FOURTH],
+    ),
+    (
+        PUBLISH,
+        Some(SECOND_LOG),
+        &[],
+        &[],
+        &OTHERS,
+        &[
+            Decision {
+                act: Act::Publish,
+                verdict: ALLOWED,
+                ..PUBLISHED
+            },
+            Decision {
+                verdict: ALLOWED,
+                ..IMAGE
+            },
+            Decision {
+                subject: 4,
+                verdict: ALLOWED,
+                ..IMAGE
+            },
+        ],
+        &ALL,
+    ),
+    // Who joins a log is no reader of it.
+    (
+        PUBLISH,
+        None,
+        &[],
+        &[],
+        &[],
+        &[Decision {
+            act: Act::Publish,
+            verdict: ALLOWED,
+            ..PUBLISHED
+        }],
+        &ALL,
+    ),
+    (UNPUBLISH_2, None, &[], &[], &[], &[], &ALL),
+    (Deed::Tick(LINGER), None, &[], &[], &[], &[], &ALL),
+    (
+        Deed::Tick(LINGER + 1),
+        None,
+        &[FIRST_LOG],
+        &[FIRST, FOURTH],
+        &[],
+        &[],
+        &OTHERS,
+    ),
+    (
+        TERMINATE,
+        None,
+        &[SECOND_LOG],
+        &OTHERS,
+        &[],
+        &[Decision {
+            act: Act::Terminate,
+            stream: 0,
+            verdict: ALLOWED,
+            ..PUBLISHED
+        }],
+        &[],
+    ),
+];
+
+fn is_told(outcome: &Outcome, row: &Row) -> bool {
+    outcome.opens == row.1
+        && outcome.closes.as_slice() == row.2
+        && outcome.gone.as_slice() == row.3
+        && outcome.come.as_slice() == row.4
+        && outcome.decisions.as_slice() == row.5
 }
 
-/// The last log closes by a tick, with its images.
-const CLOSING: [Deciding<'static>; 2] = [(Deed::Unpublish(2), &[]), (Deed::Tick(LINGER + 1), &[])];
+/// Whether the row's event comes to the row.
+fn comes_to(alloc: Global, registry: &mut Registry, row: &Row) -> Result<bool, AllocError> {
+    let event = event(alloc, row.0)?;
+    let outcome = registry.step(alloc, &event, &Inputs::none(alloc))?;
+    Ok(is_told(&outcome, row) && registry.pairs(alloc)?.as_slice() == row.6)
+}
 
-#[test]
-fn an_image_that_no_policy_takes_is_not_decided(rt: HostRuntime) -> Result<(), Fail> {
-    let mut conductor = Conductor::new(rt.alloc())?;
-    let read = [Deed::Attach, Deed::Subscribe, Deed::Publish(10)];
-    assert!(rt; conductor.takes(&read));
-    assert!(rt; conductor.decides_all(&CLOSING));
-    assert!(rt; conductor.renews_all(&[(Deed::Tick(LINGER + 1), &[], &[], &[])]));
-    assert!(rt; !conductor.decides_all(&[(Deed::Subscribe, &[])]));
-    Ok(())
+/// Whether it does so at a copy of the registry.
+fn copy_comes_to(alloc: Global, registry: &Registry, row: &Row) -> Result<bool, AllocError> {
+    let mut copy = registry.copy(alloc)?;
+    comes_to(alloc, &mut copy, row)
+}
+
+/// Whether the rows' events come to the rows, one behind the other, where everything is allowed.
+fn come_to(alloc: Global, rows: &[Row]) -> Result<bool, AllocError> {
+    let policy = Policy::new(Vec::new(alloc), true)?;
+    let mut registry = Registry::new(alloc, Settings::default(), policy, &[])?;
+    for row in rows {
+        if !copy_comes_to(alloc, &registry, row)? || !comes_to(alloc, &mut registry, row)? {
+            return Ok(false);
+        }
+    }
+    Ok(true)
+}
+
+/// Whether a row that differs in one place is told from what the events come to.
+fn tells(alloc: Global, other: Row) -> bool {
+    come_to(alloc, &[ROWS[0], ROWS[1], other]) == Ok(false)
 }
 
 #[test]
-fn ample_memory(rt: HostRuntime) -> Result<(), Fail> {
-    let mut conductor = Conductor::new(rt.alloc())?;
-    assert!(rt; conductor.takes(&[Deed::Attach]));
-    assert!(rt; conductor.agrees(Deed::Subscribe, Deed::Subscribe, 1));
-    assert!(rt; !conductor.agrees(Deed::Subscribe, Deed::Publish(10), 1));
-    Ok(())
+fn ample_memory(rt: HostRuntime) {
+    assert!(rt; come_to(rt.alloc(), &ROWS) == Ok(true));
+    let (deed, opens, closes, gone, come, decisions, pairs) = ROWS[2];
+    assert!(rt;
+        tells(
+            rt.alloc(),
+            (deed, None, closes, gone, come, decisions, pairs)
+        )
+    );
+    assert!(rt;
+        tells(
+            rt.alloc(),
+            (deed, opens, closes, gone, &[], decisions, pairs)
+        )
+    );
+    assert!(rt;
+        tells(
+            rt.alloc(),
+            (deed, opens, closes, gone, come, &[PUBLISHED], pairs)
+        )
+    );
+    assert!(rt;
+        tells(
+            rt.alloc(),
+            (deed, opens, closes, gone, come, decisions, &[])
+        )
+    );
 }

@@ -1,99 +1,85 @@
 //! A driver with logs: runs of it, and the pages that no log has.
 
-ghost use Rattle.std.specs.Prelude.{◌<◌, ◌≤◌};
-
-use crate::conductor::{Deed, event};
-use byte_strings::Items;
+use crate::deeds::{Deed, PUBLISH_ALONE, UNPUBLISH_2, event};
 use driver_core::Settings;
 use driver_world::{Answer, Step, World};
 use policy_core::Policy;
 use std::alloc::{AllocError, Global};
-use std::test::Fail;
 
-/// A driver whose logs share so many pages, where everything is allowed.
-fn with_pages(alloc: Global, arena_pages: u32) -> Result<World, Fail>
-    requires { (0 < arena_pages) × (arena_pages ≤ 65536) }
-{
-    let mut settings = Settings::default();
-    settings.arena_pages = arena_pages;
-    let policy = Policy::new(Vec::new(alloc), true)?;
-    Ok(World::new(alloc, settings, policy, &[])?)
-}
+/// Events; of each the id of the client that came by it, if it was one; and the runs of pages that are free of logs
+/// behind all of them, as their places and lengths in bytes.
+type Row = (
+    &'static [Deed],
+    &'static [Option<u64>],
+    &'static [(usize, usize)],
+);
 
-fn step(alloc: Global, deed: Deed) -> Result<Step, AllocError> {
-    Ok(Step::Conductor(event(alloc, deed)?))
-}
-
-/// Whether the steps are answered so.
-fn runs_to(alloc: Global, world: &mut World, steps: &[Step], answers: &[Answer]) -> bool {
-    match world.run(alloc, steps) {
-        Ok(given) => given.as_slice() == answers,
-        Err(_) => false,
-    }
-}
-
-#[test]
-fn no_steps_give_no_answers(rt: HostRuntime) -> Result<(), Fail> {
-    let mut world = with_pages(rt.alloc(), 1)?;
-    assert!(rt; runs_to(rt.alloc(), &mut world, &[], &[]));
-    Ok(())
-}
-
-#[test]
-fn each_step_is_answered_in_its_turn(rt: HostRuntime) -> Result<(), Fail> {
-    let mut world = with_pages(rt.alloc(), 1)?;
-    let steps = vec![in rt.alloc();
-        step(rt.alloc(), Deed::Attach)?,
-        step(rt.alloc(), Deed::Tick(5))?,
-    ]?;
-    let nobody = Answer::Replies(Items::new(rt.alloc()));
-    assert!(rt;
-        runs_to(
-            rt.alloc(),
-            &mut world,
-            &steps,
-            &[Answer::Attached(1), nobody]
-        )
-    );
-    assert!(rt; !runs_to(rt.alloc(), &mut world, &steps[..1], &[Answer::Attached(1)]));
-    Ok(())
-}
-
-/// Whether each step leaves these runs of pages free of logs, as their places and lengths in bytes.
-fn leaves(alloc: Global, world: &mut World, deed: Deed, runs: &[(usize, usize)]) -> bool {
-    match step(alloc, deed) {
-        Ok(step) => {
-            let _answer = world.step(alloc, &step);
-            world.holes() == runs
-        }
-        Err(_) => false,
-    }
-}
-
-/// A log has 48 pages, the one that lingers too.
-const HOLES: [(Deed, &[(usize, usize)]); 7] = [
-    (Deed::Attach, &[(0, 393_216)]),
-    (Deed::PublishAlone, &[(196_608, 196_608)]),
-    (Deed::PublishAlone, &[]),
-    (Deed::Unpublish(1), &[]),
-    (Deed::Tick(5_000_000_000), &[]),
-    (Deed::Tick(5_000_000_001), &[(0, 196_608)]),
-    (Deed::PublishAlone, &[]),
+/// In 96 pages. A log has 48 of them, the one that lingers too.
+const ROWS: [Row; 7] = [
+    (&[], &[], &[(0, 393_216)]),
+    (
+        &[Deed::Attach, Deed::Tick(0), Deed::Attach],
+        &[Some(1), None, Some(2)],
+        &[(0, 393_216)],
+    ),
+    (
+        &[Deed::Tick(0), PUBLISH_ALONE],
+        &[None; 2],
+        &[(196_608, 196_608)],
+    ),
+    (&[PUBLISH_ALONE], &[None], &[]),
+    (&[UNPUBLISH_2, Deed::Tick(5_000_000_000)], &[None; 2], &[]),
+    (&[Deed::Tick(5_000_000_001)], &[None], &[(196_608, 196_608)]),
+    (&[PUBLISH_ALONE], &[None], &[]),
 ];
 
-fn leaves_all(alloc: Global, world: &mut World, rows: &[(Deed, &[(usize, usize)])]) -> bool {
-    for &(deed, runs) in rows {
-        if !leaves(alloc, world, deed, runs) {
+/// The client that came by a step.
+fn comer(answer: Option<&Answer>) -> Option<u64> {
+    match answer {
+        Some(Answer::Attached(client)) => Some(*client),
+        _ => None,
+    }
+}
+
+/// Whether there is an answer to each step, in the steps' order.
+fn are_answered(answers: &[Answer], comers: &[Option<u64>]) -> bool {
+    let mut at = 0usize;
+    for wanted in comers {
+        if comer(answers.get(at)) != *wanted {
             return false;
         }
+        at = at.wrapping_add(1);
     }
-    true
+    answers.len() == comers.len()
+}
+
+fn runs_to(alloc: Global, world: &mut World, row: &Row) -> Result<bool, AllocError> {
+    let mut steps = Vec::new(alloc);
+    for &deed in row.0 {
+        steps.push(Step::Conductor(event(alloc, deed)?))?;
+    }
+    let answers = world.run(alloc, steps.as_slice())?;
+    Ok(are_answered(answers.as_slice(), row.1) && world.holes() == row.2)
+}
+
+/// Whether the rows' events come to the rows, one behind the other, where everything is allowed.
+fn run_to(alloc: Global, rows: &[Row]) -> Result<bool, AllocError> {
+    let mut settings = Settings::default();
+    settings.arena_pages = 96;
+    let policy = Policy::new(Vec::new(alloc), true)?;
+    let mut world = World::new(alloc, settings, policy, &[])?;
+    for row in rows {
+        if !runs_to(alloc, &mut world, row)? {
+            return Ok(false);
+        }
+    }
+    Ok(true)
 }
 
 #[test]
-fn pages_without_a_log_are_the_holes(rt: HostRuntime) -> Result<(), Fail> {
-    let mut world = with_pages(rt.alloc(), 96)?;
-    assert!(rt; leaves_all(rt.alloc(), &mut world, &HOLES));
-    assert!(rt; !leaves_all(rt.alloc(), &mut world, &[(Deed::Tick(0), &[(0, 196_608)])]));
-    Ok(())
+fn runs_leave_the_pages_without_a_log(rt: HostRuntime) {
+    assert!(rt; run_to(rt.alloc(), &ROWS) == Ok(true));
+    assert!(rt; run_to(rt.alloc(), &[(&[Deed::Attach], &[None], &[(0, 393_216)])]) == Ok(false));
+    assert!(rt; run_to(rt.alloc(), &[(&[Deed::Attach], &[], &[(0, 393_216)])]) == Ok(false));
+    assert!(rt; run_to(rt.alloc(), &[(&[], &[], &[(0, 196_608)])]) == Ok(false));
 }

@@ -10,6 +10,4 @@ pub use shuffling::{agree, go_on, hand_in, hand_in_cell, open, open_later};
 pub use table::{Cell, Table};
 
 #[cfg(test)]
-mod differing;
-#[cfg(test)]
 mod tests;

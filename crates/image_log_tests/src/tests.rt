@@ -2,6 +2,7 @@ ghost use Rattle.std.specs.Prelude.{◌≡◌, []};
 
 use super::*;
 use image_log::{Ident, ImageLog, Insert};
+use std::alloc::Global;
 use std::test::Fail;
 
 // Session 9, stream 10: terms of 64 KiB from term 5 on.
@@ -50,8 +51,8 @@ fn goes_on_to_the_next_term(log: &mut ImageLog) -> bool {
 #[test]
 fn image_log_inserts(rt: HostRuntime) -> Result<(), Fail> {
     let mut log = open(rt.alloc(), STREAM, 0)?;
-    assert!(rt; fills_a_gap(&mut log) && inserts(&mut log, &INSERTS));
-    assert!(rt; goes_on_to_the_next_term(&mut log));
+    let filled = fills_a_gap(&mut log) && inserts(&mut log, &INSERTS);
+    assert!(rt; filled && goes_on_to_the_next_term(&mut log));
     Ok(())
 }
 
@@ -128,8 +129,8 @@ fn lease_comes_back(rt: HostRuntime) -> Result<(), Fail> {
 #[test]
 fn log_opens_in_room_that_was_taken(rt: HostRuntime) -> Result<(), Fail> {
     let mut log = open_later(rt.alloc(), STREAM, 64)?;
-    assert!(rt; is_at(&log, 64, 64, None) && inserts(&mut log, &[(64, 7, Insert::Taken)]));
-    assert!(rt; gives_back(log, 64));
+    let opened = is_at(&log, 64, 64, None) && inserts(&mut log, &[(64, 7, Insert::Taken)]);
+    assert!(rt; opened && gives_back(log, 64));
     Ok(())
 }
 
@@ -219,17 +220,21 @@ fn reads_each(log: &ImageLog, rows: &[(u64, usize, u64, u64)]) -> bool {
     same
 }
 
+// Frames in another order, and reads of one frame too few, of another end, and from behind the contiguous position.
+fn tells_other_reads(log: &mut ImageLog) -> bool {
+    let order = take_all(log, &[(384, Cell::Short), (320, Cell::Short)]);
+    let few = reads_each(log, &[READS[0], (0, 160, 2, 192)]);
+    let end = reads_each(log, &[(0, 160, 3, 160), READS[1]]);
+    !(order | few | end | reads(log, 288, 1024, 0, 288))
+}
+
 // What is whole is read frame by frame: up to the contiguous position or the end of a term, within so many bytes, and
 // nothing behind a pad, which takes 32 of them.
 #[test]
 fn whole_frames_are_read(rt: HostRuntime) -> Result<(), Fail> {
     let mut log = open(rt.alloc(), STREAM, 0)?;
-    assert!(rt; take_all(&mut log, &FRAMES) && reads_each(&log, &READS));
-    assert!(rt; !take_all(&mut log, &[(384, Cell::Short), (320, Cell::Short)]));
-    assert!(rt; !reads_each(&log, &[READS[0], (0, 160, 2, 192)]));
-    assert!(rt;
-        !reads_each(&log, &[(0, 160, 3, 160), READS[1]]) && !reads(&log, 288, 1024, 0, 288)
-    );
+    let read = take_all(&mut log, &FRAMES) && reads_each(&log, &READS);
+    assert!(rt; read && tells_other_reads(&mut log));
     Ok(())
 }
 
@@ -283,48 +288,44 @@ fn polls_go_on(log: &mut ImageLog) -> bool {
 #[test]
 fn polls_give_what_is_whole(rt: HostRuntime) -> Result<(), Fail> {
     let mut log = open(rt.alloc(), STREAM, 0)?;
-    assert!(rt; join(&mut log, 1) == 0 && take_all(&mut log, &POLLED) && starts(&log));
-    assert!(rt; polls_go_on(&mut log) && log.base() == 384);
+    let begun = join(&mut log, 1) == 0 && take_all(&mut log, &POLLED) && starts(&log);
+    assert!(rt; begun && polls_go_on(&mut log) && log.base() == 384);
     Ok(())
 }
 
 fn polls_go_into_the_next_term(log: &mut ImageLog) -> bool {
     let filled = fill(log, 1, 65_472, 1023);
     let frames = take_all(log, &[(65_472, Cell::Long(7)), (65_536, Cell::Long(7))]);
-    filled && frames && polls(log, 1, 9, &[65_536, 65_600], 65_600)
+    let polled = polls(log, 1, 9, &[65_536, 65_600], 65_600);
+    filled && frames && polled && inserts(log, &[(65_472, 7, Insert::Below)])
 }
 
 #[test]
 fn polls_go_over_the_ends_of_terms(rt: HostRuntime) -> Result<(), Fail> {
     let mut log = open(rt.alloc(), STREAM, 0)?;
     assert!(rt; join(&mut log, 1) == 0 && polls_go_into_the_next_term(&mut log));
-    assert!(rt; inserts(&mut log, &[(65_472, 7, Insert::Below)]));
     Ok(())
+}
+
+fn other_stays(log: &mut ImageLog) -> bool {
+    let none = gives(log, 2, 5, &[]);
+    log.poll(2, 5);
+    none && stands_at(log, 1, 0) && log.pair_position(2) == None
+}
+
+// Other ends, fewer and more of them, and other places are told.
+fn tells_other_polls(log: &mut ImageLog) -> bool {
+    let ends = gives(log, 1, 1, &[]) | gives(log, 1, 1, &[96]) | gives(log, 1, 1, &[64, 96]);
+    let same = gives(log, 1, 1, &[64]);
+    same & !ends & !polls(log, 1, 1, &[64], 96)
 }
 
 // A poll of a subscription that does not read the log gives nothing, and leaves the others where they are.
 #[test]
 fn others_are_not_polled(rt: HostRuntime) -> Result<(), Fail> {
     let mut log = open(rt.alloc(), STREAM, 0)?;
-    assert!(rt; join(&mut log, 1) == 0 && take_all(&mut log, &POLLED));
-    assert!(rt; gives(&log, 2, 5, &[]));
-    log.poll(2, 5);
-    assert!(rt; stands_at(&log, 1, 0) && log.pair_position(2) == None);
-    Ok(())
-}
-
-// Other ends, fewer and more of them, and other places are told.
-#[test]
-fn other_polls_are_told(rt: HostRuntime) -> Result<(), Fail> {
-    let mut log = open(rt.alloc(), STREAM, 0)?;
-    assert!(rt;
-        join(&mut log, 1) == 0 && take_all(&mut log, &[(0, Cell::Long(7)), (64, Cell::Short)])
-    );
-    assert!(rt;
-        !gives(&log, 1, 1, &[]) && !gives(&log, 1, 1, &[96]) && !gives(&log, 1, 1, &[64, 96])
-    );
-    assert!(rt; gives(&log, 1, 1, &[64]) && !gives(&log, 1, 2, &[64, 96]));
-    assert!(rt; !polls(&mut log, 1, 1, &[64], 96));
+    let begun = join(&mut log, 1) == 0 && take_all(&mut log, &POLLED);
+    assert!(rt; begun && other_stays(&mut log) && tells_other_polls(&mut log));
     Ok(())
 }
 
@@ -354,9 +355,19 @@ fn status_messages_are_due(rt: HostRuntime) -> Result<(), Fail> {
     Ok(())
 }
 
+// A table with a frame that the log does not have.
+fn other_table_agrees(alloc: Global) -> Result<bool, Fail> {
+    let mut log = open(alloc, STREAM, 0)?;
+    join(&mut log, 1);
+    let mut table = Table::new(alloc, 16_384)?;
+    table.insert(64, Cell::Short);
+    Ok(go_on(&mut log, &mut table, 100))
+}
+
 #[test]
 fn shuffled_frames(rt: HostRuntime) -> Result<(), Fail> {
-    assert!(rt; agree(rt.alloc(), STREAM, 5000)?);
+    assert!(rt; agree(rt.alloc(), STREAM, 5000)? && !agree(rt.alloc(), STREAM, 100)?);
+    assert!(rt; !other_table_agrees(rt.alloc())?);
     Ok(())
 }
 
@@ -389,7 +400,7 @@ fn tells_other_fillings(log: &mut ImageLog) -> bool {
 fn other_answers_are_told(rt: HostRuntime) -> Result<(), Fail> {
     let mut log = open(rt.alloc(), STREAM, 0)?;
     join(&mut log, 1);
-    assert!(rt; tells_other_answers(&mut log) && tells_other_bytes());
-    assert!(rt; tells_other_fillings(&mut log));
+    let told = tells_other_answers(&mut log) && tells_other_bytes();
+    assert!(rt; told && tells_other_fillings(&mut log));
     Ok(())
 }

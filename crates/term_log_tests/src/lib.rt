@@ -12,10 +12,6 @@ pub use reading::{begin_at, gives_all, gives_rows};
 pub use stepping::send;
 
 #[cfg(test)]
-mod differing;
-#[cfg(test)]
-mod polling;
-#[cfg(test)]
 mod sending;
 #[cfg(test)]
 mod tests;

@@ -24,42 +24,10 @@ pub(crate) fn ident(kind: LogKind, start: u64) -> Ident
     }
 }
 
-// Messages at the edges of a frame, the greatest one, and one that is too long.
-fn takes_messages(log: &mut TermLog, bytes: &[u8; 8193]) -> bool
-    requires { log.old.pairs ≡ [] }
-{
-    let joined = log.join_pair(1) == 0 && log.greatest_message() == 8192;
-    let whole = log.offer(&bytes[..1376]) == Offer::At(1408);
-    let cut = log.offer(&bytes[..1377]) == Offer::At(2880);
-    let greatest = log.offer(&bytes[..8192]) == Offer::At(11264);
-    let long = log.offer(bytes.as_slice()) == Offer::TooLong;
-    joined && whole && cut && greatest && long
-}
-
-// The same messages in a list.
-fn list_of_messages(alloc: Global, bytes: &[u8; 8193]) -> Result<Plain, AllocError> {
-    let mut plain = Plain::new(alloc);
-    plain.put_message(&bytes[..1376])?;
-    plain.put_message(&bytes[..1377])?;
-    plain.put_message(&bytes[..8192])?;
-    Ok(plain)
-}
-
 // Whether a log's lease holds what the list does.
 fn keeps_list(log: TermLog, plain: &Plain) -> bool {
     let lease = log.close();
     is_held(lease.bytes(), plain)
-}
-
-#[test]
-fn message_fragments(rt: HostRuntime) -> Result<(), Fail> {
-    let bytes = [9; 8193];
-    let mut log = opened(rt.alloc(), ident(LogKind::Ipc, 0))?;
-    assert!(rt; takes_messages(&mut log, &bytes));
-    assert!(rt; log.tail() == 11264 && log.messages() == 3 && log.limit() == 32768);
-    let plain = list_of_messages(rt.alloc(), &bytes)?;
-    assert!(rt; plain.tail() == 11264 && keeps_list(log, &plain));
-    Ok(())
 }
 
 /// The header of the first frame with `abc`, as the transport's specification lays it out.
@@ -75,23 +43,52 @@ fn begins_with_abc(bytes: &[u8]) -> bool {
         && rest.iter().skip(3).all(|byte| *byte == 0)
 }
 
-// The bytes of a log with one message.
-fn lease_begins_with_abc(mut log: TermLog) -> bool {
+// Whether the bytes of a log with one message are those of this list, and not of that one.
+fn lease_begins_with_abc(mut log: TermLog, plain: &Plain, other: &Plain) -> bool {
     let offered = log.offer(b"abc") == Offer::At(64);
     let lease = log.close();
-    offered && begins_with_abc(lease.bytes())
+    let bytes = lease.bytes();
+    offered && begins_with_abc(bytes) && is_held(bytes, plain) && !is_held(bytes, other)
+}
+
+fn list_of(alloc: Global, message: &[u8]) -> Result<Plain, AllocError> {
+    let mut plain = Plain::new(alloc);
+    plain.put_message(message)?;
+    Ok(plain)
 }
 
 // The first bytes of a log, and of a list, as they are laid out by the transport's specification.
 #[test]
 fn bytes_of_a_frame(rt: HostRuntime) -> Result<(), Fail> {
     let log = opened(rt.alloc(), ident(LogKind::Udp, 0))?;
-    assert!(rt; lease_begins_with_abc(log));
-    let mut plain = Plain::new(rt.alloc());
-    plain.put_message(b"abc")?;
+    let plain = list_of(rt.alloc(), b"abc")?;
+    let other = list_of(rt.alloc(), b"abd")?;
     assert!(rt; plain.tail() == 64 && begins_with_abc(plain.bytes.as_slice()));
-    plain.put_message(b"")?;
-    assert!(rt; !begins_with_abc(plain.bytes.as_slice()) && !begins_with_abc(&HEADER));
+    assert!(rt; !begins_with_abc(other.bytes.as_slice()) && !begins_with_abc(&HEADER));
+    assert!(rt; lease_begins_with_abc(log, &plain, &other));
+    Ok(())
+}
+
+// Whether a log gives the frames of a list with this message.
+fn gives_message(alloc: Global, log: &TermLog, message: &[u8]) -> Result<bool, AllocError> {
+    let plain = list_of(alloc, message)?;
+    Ok(gives_all(log, &plain, 1408))
+}
+
+// A log of one message, and lists with it, with another byte, with a byte less, and with a frame more.
+fn tells_lists(alloc: Global, log: &mut TermLog) -> Result<bool, AllocError> {
+    let offered = log.offer(b"abc") == Offer::At(64);
+    let same = gives_message(alloc, log, b"abc")?;
+    let byte = gives_message(alloc, log, b"abd")?;
+    let less = gives_message(alloc, log, b"ab")?;
+    let more = gives_message(alloc, log, [7; 1377].as_slice())?;
+    Ok(offered && same && !byte && !less && !more)
+}
+
+#[test]
+fn other_lists_are_told(rt: HostRuntime) -> Result<(), Fail> {
+    let mut log = opened(rt.alloc(), ident(LogKind::Udp, 0))?;
+    assert!(rt; tells_lists(rt.alloc(), &mut log)?);
     Ok(())
 }
 
@@ -266,19 +263,19 @@ fn meets_each(log: &TermLog, rows: &[(u64, u64, &[u64])]) -> bool {
     same
 }
 
-/// Ranges with a frame changed, one too few, one too many, and in another order.
-const OTHER_RANGES: [(u64, u64, &[u64]); 5] = [
+/// With a frame changed, one too few, one too many, and in another order.
+const OTHER_RANGES: [(u64, u64, &[u64]); 4] = [
     (65_599, 2, &[65_536, 65_632]),
     (65_599, 2, &[65_536]),
     (65_599, 2, &[65_536, 65_600, 65_600]),
     (65_599, 2, &[65_600, 65_536]),
-    (65_600, 0, &[65_600]),
 ];
 
-fn tells_other_ranges(log: &TermLog) -> bool {
+// Whether each of these rows is told from what the log gives.
+fn tells_each(log: &TermLog, rows: &[(u64, u64, &[u64])]) -> bool {
     let mut told = true;
-    for (position, size, wanted) in OTHER_RANGES {
-        told &= !begin_at(log.frames_over(position, size), wanted);
+    for row in rows {
+        told &= !meets_each(log, &[*row]);
     }
     told
 }
@@ -287,7 +284,6 @@ fn tells_other_ranges(log: &TermLog) -> bool {
 #[test]
 fn frames_over_a_range(rt: HostRuntime) -> Result<(), Fail> {
     let log = padded_log(rt.alloc())?;
-    assert!(rt; meets_each(&log, &RANGES) && tells_other_ranges(&log));
-    assert!(rt; !meets_each(&log, &[RANGES[1], OTHER_RANGES[0], RANGES[2]]));
+    assert!(rt; meets_each(&log, &RANGES) && tells_each(&log, &OTHER_RANGES));
     Ok(())
 }
