@@ -39,7 +39,7 @@ impl Registry {
             act,
             subject: number,
             stream,
-            verdict: self.policy.verdict(self.epoch, &request),
+            verdict: self.compiled.verdict(&request),
         }
     }
 
