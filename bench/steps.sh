@@ -2,7 +2,7 @@
 # Compares the steps of driver_world with plain Rust: `bench/steps.sh`, with `rt` and `rustc` on the path.
 set -e
 cd "$(dirname "$0")"
-needed='byte_strings channel_uri client_registry command_codec counters driver_core driver_world frame_codec log_arena log_readers
+needed='byte_strings channel_uri client_registry command_codec compiled_policy counters decision_cache driver_core driver_world frame_codec log_arena log_readers
 policy_core rows stream_registry term_log'
 mkdir -p out/crates/driver_world_c/src
 for crate in $needed; do

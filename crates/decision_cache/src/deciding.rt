@@ -3,6 +3,7 @@ ghost use Rattle.policy_core.specs.RuleList.{Rules};
 ghost use Rattle.policy_core.specs.Rules.{verdict_of};
 ghost use Rattle.std.specs.Prelude.{◌≡◌, ℕ};
 
+use compiled_policy::Compiled;
 use policy_core::{Policy, Request, Verdict};
 
 /// A policy under a number: whatever decides as the policy does.
@@ -42,5 +43,19 @@ impl Decides for Numbered<'_> {
 
     fn verdict(&self, request: &Request<'_>) -> Verdict {
         self.policy.verdict(self.epoch, request)
+    }
+}
+
+impl Decides for Compiled {
+    ghost rules = { λ compiled. compiled.policy };
+
+    ghost number = { λ compiled. compiled.epoch };
+
+    fn epoch(&self) -> u64 {
+        Compiled::epoch(self)
+    }
+
+    fn verdict(&self, request: &Request<'_>) -> Verdict {
+        Compiled::verdict(self, request)
     }
 }

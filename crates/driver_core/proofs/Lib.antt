@@ -1,6 +1,7 @@
 pub mod AskedLemmas
 pub mod AskingLemmas
 pub mod AttachLemmas
+pub mod CacheLemmas
 pub mod ComingLemmas
 pub mod EventCases
 pub mod GoneLemmas
@@ -15,6 +16,7 @@ pub mod ReloadingLemmas
 pub mod SearchLemmas
 pub mod SizeLemmas
 pub mod SoundnessLemmas
+pub mod StayLemmas
 pub mod SubscribeLemmas
 pub mod TickLemmas
 pub mod UnsubscribeLemmas

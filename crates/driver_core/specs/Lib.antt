@@ -1,4 +1,5 @@
 pub mod Attaching
+pub mod Cached
 pub mod Change
 pub mod Closing
 pub mod Commands

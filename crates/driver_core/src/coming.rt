@@ -82,7 +82,7 @@ impl Registry {
             act: Act::Image,
             subject: wish.number,
             stream: wish.stream,
-            verdict: self.policy.verdict(self.epoch, &request),
+            verdict: self.compiled.verdict(&request),
         }
     }
 

@@ -28,6 +28,6 @@ pub(crate) fn decide(
         act,
         subject: 0,
         stream,
-        verdict: registry.policy.verdict(registry.epoch, &request),
+        verdict: registry.compiled.verdict(&request),
     }
 }

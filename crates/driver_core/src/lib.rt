@@ -9,6 +9,7 @@
 
 mod asking;
 mod attaching;
+mod cached;
 mod closing;
 mod coming;
 mod commands;
@@ -41,6 +42,7 @@ mod unpublishing;
 mod unsubscribing;
 mod view;
 
+pub use cached::cached_verdicts_stay_right;
 pub use entry::Entry;
 pub use event::{End, Event, Inputs};
 pub use listing::{Listed, ListedCounter, Shown};

@@ -104,7 +104,7 @@ fn publication_verdict(registry: &Registry, principal: u32, publication: &Public
         channel: &publication.channel,
         stream: publication.stream,
     };
-    registry.policy.verdict(registry.epoch, &request)
+    registry.compiled.verdict(&request)
 }
 
 /// Puts the row before the first one of a greater number.
@@ -173,7 +173,7 @@ impl Registry {
         };
         let shown = self
             .counters
-            .visible(alloc, &self.policy, client.principal)?;
+            .visible(alloc, self.compiled.policy(), client.principal)?;
         let mut rows = rows_of(alloc, shown.as_slice())?;
         let publications = self.streams.publications();
         put_publications(&mut rows, self, alloc, client.principal, publications)?;
@@ -198,7 +198,7 @@ impl Registry {
             channel: &channel,
             stream: counter.type_id,
         };
-        let verdict = self.policy.verdict(self.epoch, &request);
+        let verdict = self.compiled.verdict(&request);
         value_under(verdict, counter.value)
     }
 }

@@ -39,7 +39,7 @@ impl Registry {
             act,
             subject: number,
             stream,
-            verdict: self.policy.verdict(self.epoch, &request),
+            verdict: self.compiled.verdict(&request),
         }
     }
 
@@ -78,7 +78,7 @@ impl Registry {
     }
 
     /// Whether the subscription of this number reads a log of this source number.
-    fn has_pair(&self, source: u64, subscription: u64) -> bool
+    pub(crate) fn has_pair(&self, source: u64, subscription: u64) -> bool
         ensures { result ≡ has_pair self.now source subscription }
     {
         self.readers.has(&self.streams, source, subscription)

@@ -139,8 +139,8 @@ impl Registry {
         self.readers.pair_count_with_publication(
             &self.streams,
             &self.clients,
-            &self.policy,
-            self.epoch,
+            self.compiled.policy(),
+            self.compiled.epoch(),
             self.next_number(),
             client,
             wanted,
@@ -330,8 +330,8 @@ impl Registry {
         self.readers.add_publication(
             &self.streams,
             &self.clients,
-            &self.policy,
-            self.epoch,
+            self.compiled.policy(),
+            self.compiled.epoch(),
             number,
             client,
             wanted,

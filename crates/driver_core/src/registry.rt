@@ -6,6 +6,7 @@ use crate::outcome::Outcome;
 use crate::peer::Peer;
 use crate::settings::Settings;
 use client_registry::Clients;
+use compiled_policy::Compiled;
 use counters::Counters;
 use log_readers::Readers;
 use policy_core::Policy;
@@ -19,8 +20,8 @@ use stream_registry::{Measures, Streams};
 pub struct Registry {
     pub(crate) settings: Settings,
     pub(crate) peers: Vec<Peer>,
-    pub(crate) policy: Policy,
-    pub(crate) epoch: u64,
+    /// The policy in force and its number.
+    pub(crate) compiled: Compiled,
     pub(crate) moment: u64,
     pub(crate) clients: Clients,
     pub(crate) streams: Streams,
@@ -40,8 +41,8 @@ impl Model for Registry {
     ghost view = { λ registry. record {
       settings = registry.settings;
       peers = registry.peers.items;
-      policy = registry.policy;
-      epoch = registry.epoch;
+      policy = registry.compiled.policy;
+      epoch = registry.compiled.epoch;
       moment = registry.moment;
       clients = registry.clients;
       streams = registry.streams;
@@ -51,7 +52,7 @@ impl Model for Registry {
     } };
 
     ghost invariant = { λ registry.
-        IsKept registry.streams registry.clients.rows registry.policy registry.epoch registry.last_number registry.readers };
+        IsKept registry.streams registry.clients.rows registry.compiled.policy registry.compiled.epoch registry.last_number registry.readers };
 }
 
 impl Registry {
@@ -78,8 +79,7 @@ impl Registry {
         Ok(Registry {
             settings,
             peers: Vec::from_slice(alloc, peers)?,
-            policy,
-            epoch: 1,
+            compiled: Compiled::build(alloc, policy, 1)?,
             moment: 0,
             clients: Clients::new(alloc, settings.client_liveness)?,
             streams: Streams::new(alloc, measures, settings.first_session)?,
@@ -97,8 +97,7 @@ impl Registry {
         Ok(Registry {
             settings: self.settings,
             peers: Vec::from_slice(alloc, self.peers.as_slice())?,
-            policy: self.policy.copy(alloc)?,
-            epoch: self.epoch,
+            compiled: self.compiled.copy(alloc)?,
             moment: self.moment,
             clients: self.clients.copy(alloc)?,
             streams: self.streams.copy(alloc)?,

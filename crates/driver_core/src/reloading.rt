@@ -21,7 +21,7 @@ impl Registry {
         requires { self.now.epoch < 18446744073709551615 }
         ensures { result ≡ length (pairs_of (in_force self.now policy.now)) }
     {
-        log_readers::pair_count(&self.streams, &self.clients, policy, self.epoch + 1)
+        log_readers::pair_count(&self.streams, &self.clients, policy, self.compiled.epoch() + 1)
     }
 
     /// Whether there is a number for the policy, and room for the pairs that it allows. It takes no memory.
@@ -29,7 +29,7 @@ impl Registry {
     fn has_room_for_policy(&self, policy: &Policy) -> bool
         ensures { result ≡ has_room_for_policy self.now policy.now }
     {
-        self.epoch < u64::MAX && self.pairs_under(policy) <= PAIRS
+        self.compiled.epoch() < u64::MAX && self.pairs_under(policy) <= PAIRS
     }
 
     /// What goes and what comes where the policy is in force, under the next number. It is asked once for each
@@ -39,7 +39,7 @@ impl Registry {
         ensures gone { IfOk result (λ turnover. turnover.gone ≡ gone_from self.now (in_force self.now policy.now)) }
         ensures come { IfOk result (λ turnover. turnover.come ≡ come_to self.now (in_force self.now policy.now)) }
     {
-        self.readers.turnover_under(alloc, &self.streams, &self.clients, policy, self.epoch + 1)
+        self.readers.turnover_under(alloc, &self.streams, &self.clients, policy, self.compiled.epoch() + 1)
     }
 
     /// What it tells, and does outside the registry, that a policy is to be in force for which there is room.
@@ -53,7 +53,7 @@ impl Registry {
         ensures { (now : ℕ) → IfOk result (λ outcome. outcome ≡ outcome_by self.now inputs.now (reloaded (at_moment self.now now) policy.now)) }
     {
         let turnover = self.turnover_under(alloc, policy)?;
-        let epoch = self.epoch + 1;
+        let epoch = self.compiled.epoch() + 1;
         let mut told = Told::answered(alloc, Response::PolicyInForce(epoch));
         renewal::tell_turnover(&mut told, self, policy, epoch, inputs, &turnover)?;
         Ok(renewal::outcome_from(told, turnover))
@@ -81,10 +81,10 @@ impl Registry {
         requires { self.old.epoch < 18446744073709551615 }
         ensures { self.new ≡ in_force self.old policy.now }
     {
-        self.policy.set_from(policy);
-        self.epoch += 1;
+        let epoch = self.compiled.epoch() + 1;
+        self.compiled.compile(policy, epoch);
         self.readers
-            .ask_again(&self.streams, &self.clients, &self.policy, self.epoch);
+            .ask_again(&self.streams, &self.clients, policy, epoch);
     }
 
     /// Puts a policy in force, unless there would be too many pairs.

@@ -67,8 +67,8 @@ impl Registry {
         self.readers.pair_count_with_subscription(
             &self.streams,
             &self.clients,
-            &self.policy,
-            self.epoch,
+            self.compiled.policy(),
+            self.compiled.epoch(),
             &wish,
         )
     }
@@ -130,8 +130,8 @@ impl Registry {
             alloc,
             &self.streams,
             &self.clients,
-            &self.policy,
-            self.epoch,
+            self.compiled.policy(),
+            self.compiled.epoch(),
             wish,
         )?;
         let ends = inputs.ends.as_slice();
@@ -229,8 +229,8 @@ impl Registry {
         self.readers.add_subscription(
             &self.streams,
             &self.clients,
-            &self.policy,
-            self.epoch,
+            self.compiled.policy(),
+            self.compiled.epoch(),
             &wish,
         );
         self.streams

@@ -10,7 +10,7 @@ invariant_of-self c =
       | in-Ok w ↦
           let is : c.admit.new.self ≡ admitted c.self.inside.clients c.args.principal c.self.inside.moment = search rules in
           rw is
-          (kept_admitted c.self.inside.streams c.self.inside.clients c.self.inside.policy c.self.inside.epoch c.self.inside.last_number c.self.inside.readers
+          (kept_admitted c.self.inside.streams c.self.inside.clients c.self.inside.compiled.policy c.self.inside.compiled.epoch c.self.inside.last_number c.self.inside.readers
           c.args.principal c.self.inside.moment c.self.invariant)
       | in-Err w ↦
           let is : c.admit.new.self ≡ c.self.inside.clients = search rules in

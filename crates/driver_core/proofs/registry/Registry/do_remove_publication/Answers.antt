@@ -10,7 +10,7 @@ invariant_of-self c =
       | in-Ok w ↦
           let is : c.remove_publication.new.self ≡ unregistered c.self.inside.streams c.args.client.number c.args.fields.registration c.self.inside.moment = search rules in
           rw is
-          (kept_unregistered c.self.inside.streams c.self.inside.clients.rows c.self.inside.policy c.self.inside.epoch c.self.inside.last_number
+          (kept_unregistered c.self.inside.streams c.self.inside.clients.rows c.self.inside.compiled.policy c.self.inside.compiled.epoch c.self.inside.last_number
           c.args.client.number c.args.fields.registration c.self.inside.moment c.self.inside.readers c.self.invariant)
       | in-Err w ↦
           let is : c.remove_publication.new.self ≡ c.self.inside.streams = search rules in

@@ -7,9 +7,9 @@ pub invariant_of-self : goal.invariant_of-self
 invariant_of-self c =
     let there : has_subscription c.self.inside.streams c.args.client.number c.args.fields.registration ≡ true = search rules in
     let rows : c.remove_subscription.new.self ≡ unsubscribed c.self.inside.streams c.args.client.number c.args.fields.registration = search rules in
-    let after = c.remove_subscription-in-Ok.ensures.kept c.self.inside.streams c.self.inside.clients.rows c.self.inside.policy
-    c.self.inside.epoch c.args.client.number 0 c.self.inside.last_number c.self.invariant.order.numbers there c.self.invariant.exact
+    let after = c.remove_subscription-in-Ok.ensures.kept c.self.inside.streams c.self.inside.clients.rows c.self.inside.compiled.policy
+    c.self.inside.compiled.epoch c.args.client.number 0 c.self.inside.last_number c.self.invariant.order.numbers there c.self.invariant.exact
     in
     rw rows
-    (kept_unsubscribed c.self.inside.streams c.self.inside.clients.rows c.self.inside.policy c.self.inside.epoch c.self.inside.last_number
+    (kept_unsubscribed c.self.inside.streams c.self.inside.clients.rows c.self.inside.compiled.policy c.self.inside.compiled.epoch c.self.inside.last_number
     c.args.client.number c.args.fields.registration c.self.inside.readers c.remove_subscription-in-Ok.new.self c.self.invariant after)

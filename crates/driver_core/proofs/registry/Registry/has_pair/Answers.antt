@@ -5,12 +5,12 @@ use Rattle.driver_core.proofs.registry.Registry.has_pair.Goals as goal
 
 pub has-requires : goal.has-requires
 has-requires c =
-    kept_length c.self.inside.streams c.self.inside.clients.rows c.self.inside.policy c.self.inside.epoch c.self.inside.last_number
+    kept_length c.self.inside.streams c.self.inside.clients.rows c.self.inside.compiled.policy c.self.inside.compiled.epoch c.self.inside.last_number
     c.self.inside.readers c.self.invariant
 
 pub returns : goal.returns
 unfolding has_pair pairs_of
 returns c =
     rw (← c.self.view_is)
-    (c.has.ensures c.self.inside.clients.rows c.self.inside.policy c.self.inside.epoch 0 c.self.inside.last_number
+    (c.has.ensures c.self.inside.clients.rows c.self.inside.compiled.policy c.self.inside.compiled.epoch 0 c.self.inside.last_number
     c.self.invariant.order.sources c.self.invariant.exact)

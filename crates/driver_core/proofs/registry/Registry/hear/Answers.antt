@@ -5,5 +5,5 @@ use Rattle.driver_core.proofs.registry.Registry.hear.Goals as goal
 pub invariant_of-self : goal.invariant_of-self
 invariant_of-self c =
     rw c.touch.ensures
-    (kept_touched c.self.inside.streams c.self.inside.clients c.self.inside.policy c.self.inside.epoch c.self.inside.last_number c.self.inside.readers
+    (kept_touched c.self.inside.streams c.self.inside.clients c.self.inside.compiled.policy c.self.inside.compiled.epoch c.self.inside.last_number c.self.inside.readers
     c.args.handle c.self.inside.moment c.self.invariant)

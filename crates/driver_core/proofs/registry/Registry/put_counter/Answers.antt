@@ -4,5 +4,5 @@ use Rattle.driver_core.proofs.registry.Registry.put_counter.Goals as goal
 
 pub invariant_of-self : goal.invariant_of-self
 invariant_of-self c =
-    kept_later c.self.inside.streams c.self.inside.clients.rows c.self.inside.policy c.self.inside.epoch c.self.inside.last_number
+    kept_later c.self.inside.streams c.self.inside.clients.rows c.self.inside.compiled.policy c.self.inside.compiled.epoch c.self.inside.last_number
     (c.self.inside.last_number + 1) c.self.inside.readers c.self.invariant (omega arith)

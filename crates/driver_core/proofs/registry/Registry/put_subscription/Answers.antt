@@ -14,7 +14,7 @@ invariant_of-self c =
     ap (λ (s : State). is_some (principal_at s.clients.rows c.args.client)) c.self.view_is ∙ c.requires.owned
     in
     let rows : c.add_subscription-2.new.self ≡ subscribed c.self.inside.streams (c.self.inside.last_number + 1) c.args.client c.args.channel.now c.args.stream = search rules in
-    let after : c.add_subscription.new.self ≡ all_readers (subscribed c.self.inside.streams (c.self.inside.last_number + 1) c.args.client c.args.channel.now c.args.stream) c.self.inside.clients.rows c.self.inside.policy c.self.inside.epoch = search rules in
+    let after : c.add_subscription.new.self ≡ all_readers (subscribed c.self.inside.streams (c.self.inside.last_number + 1) c.args.client c.args.channel.now c.args.stream) c.self.inside.clients.rows c.self.inside.compiled.policy c.self.inside.compiled.epoch = search rules in
     rw (number, rows)
-    (kept_subscribed c.self.inside.streams c.self.inside.clients.rows c.self.inside.policy c.self.inside.epoch c.self.inside.last_number
+    (kept_subscribed c.self.inside.streams c.self.inside.clients.rows c.self.inside.compiled.policy c.self.inside.compiled.epoch c.self.inside.last_number
     c.args.client c.args.channel.now c.args.stream c.self.inside.readers c.add_subscription.new.self c.self.invariant owned after)

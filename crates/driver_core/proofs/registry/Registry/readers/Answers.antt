@@ -6,7 +6,7 @@ use Rattle.driver_core.proofs.registry.Registry.readers.Goals as goal
 
 pub of_source-requires : goal.of_source-requires
 of_source-requires c =
-    kept_length c.self.inside.streams c.self.inside.clients.rows c.self.inside.policy c.self.inside.epoch c.self.inside.last_number
+    kept_length c.self.inside.streams c.self.inside.clients.rows c.self.inside.compiled.policy c.self.inside.compiled.epoch c.self.inside.last_number
     c.self.inside.readers c.self.invariant
 
 pub returns : goal.returns
@@ -14,5 +14,5 @@ unfolding pairs_of readers_of
 returns c =
     rw (← c.self.view_is)
     (c.put.ensures
-    ∙ c.of_source.ensures.exact c.self.inside.clients.rows c.self.inside.policy c.self.inside.epoch 0 c.self.inside.last_number
+    ∙ c.of_source.ensures.exact c.self.inside.clients.rows c.self.inside.compiled.policy c.self.inside.compiled.epoch 0 c.self.inside.last_number
     c.self.invariant.order.sources c.self.invariant.exact)

@@ -5,4 +5,4 @@ use Rattle.driver_core.proofs.registry.Registry.stop.Goals as goal
 pub invariant_of-self : goal.invariant_of-self
 invariant_of-self c =
     rw (c.close_all.ensures, c.close_all-2.ensures)
-    (kept_cleared c.self.inside.streams c.clear.new.self.rows c.self.inside.policy c.self.inside.epoch c.self.inside.last_number)
+    (kept_cleared c.self.inside.streams c.clear.new.self.rows c.self.inside.compiled.policy c.self.inside.compiled.epoch c.self.inside.last_number)

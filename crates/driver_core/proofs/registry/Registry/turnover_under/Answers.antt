@@ -5,19 +5,19 @@ use Rattle.driver_core.proofs.registry.Registry.turnover_under.Goals as goal
 
 pub turnover_under-requires : goal.turnover_under-requires
 turnover_under-requires c =
-    kept_length c.self.inside.streams c.self.inside.clients.rows c.self.inside.policy c.self.inside.epoch c.self.inside.last_number
+    kept_length c.self.inside.streams c.self.inside.clients.rows c.self.inside.compiled.policy c.self.inside.compiled.epoch c.self.inside.last_number
     c.self.inside.readers c.self.invariant
 
 pub returns-clause-gone : goal.returns-clause-gone
 unfolding pairs_of in_force
 returns-clause-gone c =
     rw (← c.self.view_is)
-    (c.turnover_under.ensures.gone c.self.inside.policy c.self.inside.epoch 0 c.self.inside.last_number c.self.invariant.order.numbers
+    (rw c.epoch.ensures at c.turnover_under.ensures.gone c.self.inside.compiled.policy c.self.inside.compiled.epoch 0 c.self.inside.last_number c.self.invariant.order.numbers
     c.self.invariant.exact)
 
 pub returns-clause-come : goal.returns-clause-come
 unfolding pairs_of in_force
 returns-clause-come c =
     rw (← c.self.view_is)
-    (c.turnover_under.ensures.come c.self.inside.policy c.self.inside.epoch 0 c.self.inside.last_number c.self.invariant.order.numbers
+    (rw c.epoch.ensures at c.turnover_under.ensures.come c.self.inside.compiled.policy c.self.inside.compiled.epoch 0 c.self.inside.last_number c.self.invariant.order.numbers
     c.self.invariant.exact)
