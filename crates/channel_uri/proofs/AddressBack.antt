@@ -189,8 +189,10 @@ octets_fit host octets e =
     subst AreOctets (some_is numbers octets (Some numbers) refl d.2)
     (record {
       four = refl;
-      bytes = (subst (λ n. n < 256) kept.0 (plain_fits 256 first.0.0 octet.0 octet.1),
-        (plain_fits 256 second.0.0 b.0 b.1, (plain_fits 256 third.0.0 c.0 c.1, (plain_fits 256 third.0.1 d.0 d.1, tt))));
+      bytes = (
+        subst (λ n. n < 256) kept.0 (plain_fits 256 first.0.0 octet.0 octet.1),
+        (plain_fits 256 second.0.0 b.0 b.1, (plain_fits 256 third.0.0 c.0 c.1, (plain_fits 256 third.0.1 d.0 d.1, tt))),
+      );
       one_host = subst (λ n. 224 ≤ n → n ≤ 239 → ⊥) kept.0 kept.1;
     })
 
@@ -233,9 +235,19 @@ dotted_few a b c d fits_a fits_b fits_c fits_d =
     let first : List ℕ = decimal a ++ codes "." in
     let second : List ℕ = (first ++ decimal b) ++ codes "." in
     let third : List ℕ = (second ++ decimal c) ++ codes "." in
-    omega (arith, length-append third (decimal d), length-append (second ++ decimal c) (codes "."), length-append second (decimal c),
-      length-append (first ++ decimal b) (codes "."), length-append first (decimal b), length-append (decimal a) (codes "."),
-      digits_few a fits_a, digits_few b fits_b, digits_few c fits_c, digits_few d fits_d)
+    omega (
+      arith,
+      length-append third (decimal d),
+      length-append (second ++ decimal c) (codes "."),
+      length-append second (decimal c),
+      length-append (first ++ decimal b) (codes "."),
+      length-append first (decimal b),
+      length-append (decimal a) (codes "."),
+      digits_few a fits_a,
+      digits_few b fits_b,
+      digits_few c fits_c,
+      digits_few d fits_d,
+    )
 
 four_plain : (mark a b c d port : ℕ) → is_ascii_digit mark ≡ false → (46 == mark) ≡ false → (58 == mark) ≡ false → IsPlainText mark (a ∷ b ∷ c ∷ d ∷ []) port
 four_plain mark a b c d port no_digit no_dot no_colon is =
@@ -243,9 +255,13 @@ four_plain mark a b c d port no_digit no_dot no_colon is =
     let fits = is.bytes in
     record {
       lacks = lacks_append mark host (58 ∷ decimal port) (lacks_dotted mark a b c d no_digit no_dot fits.0 fits.1.0 fits.1.1.0 fits.1.1.1.0)
-        (no_colon, lacks_decimal mark port no_digit is.port_fits);
-      short = omega (arith, length-append host (58 ∷ decimal port), dotted_few a b c d fits.0 fits.1.0 fits.1.1.0 fits.1.1.1.0,
-        length-decimal-le 5 port (omega arith) (omega (arith, is.port_fits)) (omega (arith, is.port_fits)));
+          (no_colon, lacks_decimal mark port no_digit is.port_fits);
+      short = omega (
+        arith,
+        length-append host (58 ∷ decimal port),
+        dotted_few a b c d fits.0 fits.1.0 fits.1.1.0 fits.1.1.1.0,
+        length-decimal-le 5 port (omega arith) (omega (arith, is.port_fits)) (omega (arith, is.port_fits)),
+      );
     }
 
 -- it has digits, dots and a colon alone, and at most 21 of them

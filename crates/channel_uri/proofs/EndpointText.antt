@@ -1,10 +1,10 @@
 -- The channel of an address is what its text denotes.
-use Rattle.std.proofs.Common.{◌≡◌, ℕ, ◌≤◌, Bool, true, false, cond, List, [], ◌∷◌, ◌++◌, Option, Some, None, Ok, refl, sym, ap, subst, ◌∙◌, length, drop, nat_eq, nat_lt, codes, append-nil, arith}
+use Rattle.std.proofs.Common.{◌≡◌, ℕ, ◌≤◌, Bool, true, false, cond, List, ◌++◌, None, refl, sym, ap, subst, ◌∙◌, length, drop, nat_eq, codes, append-nil, arith}
 use Rattle.std.specs.List.{starts_with}
 use Rattle.std.proofs.lemmas.Bool.Decides.{nat_tests}
 use Rattle.channel_uri.specs.declared.address.Address.{Address}
 use Rattle.channel_uri.specs.declared.media.Media.TheVariants.{Udp}
-use Rattle.channel_uri.specs.Address.{IsEndpoint, address_of, address_text}
+use Rattle.channel_uri.specs.Address.{IsEndpoint, address_text}
 use Rattle.channel_uri.specs.Canonical.{canonical_of}
 use Rattle.channel_uri.specs.Channel.{EndpointsAreDenoted, denotes, endpoint_shape}
 use Rattle.channel_uri.specs.Key.{key_of}

@@ -10,7 +10,7 @@ use itoa::Buffer;
 use std::fmt;
 
 /// An address of the Internet Protocol, version 4, and a port of the User Datagram Protocol.
-#[derive(Clone, Copy, Debug, PartialEq, Eq)]
+#[derive(Clone, Copy, Debug, Default, PartialEq, Eq)]
 pub struct Address {
     pub octets: [u8; 4],
     pub port: u16,
