@@ -8,7 +8,7 @@ use Rattle.driver_core.specs.declared.event.Inputs.{Inputs}
 use Rattle.driver_core.specs.Commands.{at_request, heard}
 use Rattle.driver_core.specs.Draft.{Draft, replied, told}
 use Rattle.driver_core.specs.Pairs.{lacking, pairs_of}
-use Rattle.driver_core.specs.Renewal.{available_for, available_on, available_to, decided_on, decided_to, decided_with, images_decided, images_told, outcome_by, outcome_coming, publication_at, renewed, subscription_at}
+use Rattle.driver_core.specs.Renewal.{available_for, available_on, available_to, decided_on, decided_to, decided_with, images_decided, images_told, outcome_by, outcome_coming, source_at, renewed, subscription_at}
 use Rattle.driver_core.specs.State.{State, at_moment}
 use Rattle.driver_core.specs.declared.replies.Reply.TheVariants.{SubscriptionReady}
 use Rattle.driver_core.specs.Subscribing.{decision_of, subscribed, with_subscription}
@@ -22,7 +22,7 @@ use Rattle.log_readers.specs.Turnover.{is_read_by, pair_with, pairs_with}
 use Rattle.log_readers.proofs.RisingLemmas.{all_below}
 use Rattle.log_readers.proofs.TurnoverLemmas.{subscribed_turnover}
 use Rattle.stream_registry.specs.declared.pairs.Pair.{Pair}
-use Rattle.stream_registry.specs.declared.row.Publication.{Publication}
+use Rattle.stream_registry.specs.declared.row.Source.{Source}
 use Rattle.stream_registry.specs.declared.row.Subscription.{Subscription}
 use Rattle.stream_registry.specs.Adding.{subscribed as subscribed_in}
 use Rattle.stream_registry.specs.Pairs.{pairs_of as pairs_on}
@@ -39,34 +39,34 @@ found_last key low last (one ∷ rows) row up above =
 
 -- ---- what is told and decided of its pairs
 
-told_alike : {Y : Type 0} (f g : Pair → List Y) (row : Subscription) (logs : List Publication) →
-    ((log : Publication) → f (pair_with row log) ≡ g (pair_with row log)) →
+told_alike : {Y : Type 0} (f g : Pair → List Y) (row : Subscription) (logs : List Source) →
+    ((log : Source) → f (pair_with row log) ≡ g (pair_with row log)) →
     flat_map f (map (pair_with row) logs) ≡ flat_map g (map (pair_with row) logs)
 told_alike f g row [] each = refl
 told_alike f g row (log ∷ logs) each = λ i. each log i ++ told_alike f g row logs each i
 
-available_alike : (s : State) (row : Subscription) (ends : List End) (log : Publication) →
+available_alike : (s : State) (row : Subscription) (ends : List End) (log : Source) →
     subscription_at s.streams.subscriptions row.number ≡ Some row →
-    available_for s ends (pair_with row log) ≡ available_on s.streams.publications ends row (pair_with row log)
+    available_for s ends (pair_with row log) ≡ available_on s.streams.sources ends row (pair_with row log)
 unfolding available_for
 available_alike s row ends log found =
-    ap (available_to ends (pair_with row log) (publication_at s.streams.publications log.source)) found
+    ap (available_to ends (pair_with row log) (source_at s.streams.sources log.number)) found
 
-pub decided_alike : (s after : State) (row : Subscription) (found : Option Publication) → after.policy ≡ s.policy →
+pub decided_alike : (s after : State) (row : Subscription) (found : Option Source) → after.policy ≡ s.policy →
     after.epoch ≡ s.epoch → principal_at after.clients.rows row.client ≡ principal_at s.clients.rows row.client →
     decided_to after found (Some row) ≡ decided_to s found (Some row)
 decided_alike s after row None policy epoch principal = refl
 decided_alike s after row (Some log) policy epoch principal = rw (policy, epoch, principal) refl
 
-decisions_alike : (s after : State) (row : Subscription) (log : Publication) →
+decisions_alike : (s after : State) (row : Subscription) (log : Source) →
     subscription_at after.streams.subscriptions row.number ≡ Some row →
-    after.streams.publications ≡ s.streams.publications → after.policy ≡ s.policy → after.epoch ≡ s.epoch →
+    after.streams.sources ≡ s.streams.sources → after.policy ≡ s.policy → after.epoch ≡ s.epoch →
     principal_at after.clients.rows row.client ≡ principal_at s.clients.rows row.client →
     decided_on after (pair_with row log) ≡ decided_with s row (pair_with row log)
 unfolding decided_on
 decisions_alike s after row log found logs policy epoch principal =
-    ap (decided_to after (publication_at after.streams.publications log.source)) found
-    ∙ rw logs (decided_alike s after row (publication_at s.streams.publications log.source) policy epoch principal)
+    ap (decided_to after (source_at after.streams.sources log.number)) found
+    ∙ rw logs (decided_alike s after row (source_at s.streams.sources log.number) policy epoch principal)
 
 -- ---- the whole
 
@@ -76,14 +76,14 @@ row_for s client channel stream =
 
 record Comes (s after : State) (inputs : Inputs) (row : Subscription) : Type 0 where
   gone : lacking (pairs_of s) (pairs_of after) ≡ []
-  come : lacking (pairs_of after) (pairs_of s) ≡ pairs_with s.clients.rows s.policy s.epoch s.streams.publications row
+  come : lacking (pairs_of after) (pairs_of s) ≡ pairs_with s.clients.rows s.policy s.epoch s.streams.sources row
   available :
-      flat_map (available_for after inputs.ends) (pairs_with s.clients.rows s.policy s.epoch s.streams.publications row)
-      ≡ flat_map (available_on s.streams.publications inputs.ends row)
-      (pairs_with s.clients.rows s.policy s.epoch s.streams.publications row)
+      flat_map (available_for after inputs.ends) (pairs_with s.clients.rows s.policy s.epoch s.streams.sources row)
+      ≡ flat_map (available_on s.streams.sources inputs.ends row)
+      (pairs_with s.clients.rows s.policy s.epoch s.streams.sources row)
   decided :
-      flat_map (decided_on after) (pairs_with s.clients.rows s.policy s.epoch s.streams.publications row)
-      ≡ flat_map (decided_with s row) (pairs_with s.clients.rows s.policy s.epoch s.streams.publications row)
+      flat_map (decided_on after) (pairs_with s.clients.rows s.policy s.epoch s.streams.sources row)
+      ≡ flat_map (decided_with s row) (pairs_with s.clients.rows s.policy s.epoch s.streams.sources row)
 
 pairs_same : (s : State) (now handle : ℕ) (client : Client) (channel : Shape) (stream : ℤ) →
     pairs_of (with_subscription (at_request s now handle) client.number channel stream)
@@ -106,11 +106,11 @@ comes s now handle inputs client channel stream order =
     record {
       gone = ap (lacking (pairs_of s)) same ∙ turn.gone;
       come = ap (λ (pairs : List Pair). lacking pairs (pairs_of s)) same ∙ turn.come;
-      available = told_alike (available_for after inputs.ends) (available_on s.streams.publications inputs.ends row) row
-          (filter (is_read_by s.clients.rows s.policy s.epoch row) s.streams.publications)
+      available = told_alike (available_for after inputs.ends) (available_on s.streams.sources inputs.ends row) row
+          (filter (is_read_by s.clients.rows s.policy s.epoch row) s.streams.sources)
           (λ log. available_alike after row inputs.ends log found);
       decided = told_alike (decided_on after) (decided_with s row) row
-          (filter (is_read_by s.clients.rows s.policy s.epoch row) s.streams.publications)
+          (filter (is_read_by s.clients.rows s.policy s.epoch row) s.streams.sources)
           (λ log. decisions_alike s after row log found refl refl refl
           (principal_heard s.clients.rows handle (max s.moment now) row.client));
     }

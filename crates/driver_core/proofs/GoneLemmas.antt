@@ -8,12 +8,12 @@ use Rattle.driver_core.specs.declared.event.Inputs.{Inputs}
 use Rattle.driver_core.specs.declared.replies.Message.{Message}
 use Rattle.driver_core.specs.Draft.{Draft}
 use Rattle.driver_core.specs.Pairs.{lacking, pairs_of}
-use Rattle.driver_core.specs.Renewal.{decided_on, decided_to, images_decided, images_told, outcome_by, outcome_gone, publication_at, renewed, subscription_at, unavailable_for, unavailable_to}
+use Rattle.driver_core.specs.Renewal.{decided_on, decided_to, images_decided, images_told, outcome_by, outcome_gone, source_at, renewed, subscription_at, unavailable_for, unavailable_to}
 use Rattle.driver_core.specs.State.{State}
 use Rattle.driver_core.specs.Told.{told_of}
 use Rattle.log_readers.specs.Turnover.{IsTurnover}
 use Rattle.stream_registry.specs.declared.pairs.Pair.{Pair}
-use Rattle.stream_registry.specs.declared.row.Publication.{Publication}
+use Rattle.stream_registry.specs.declared.row.Source.{Source}
 
 -- ---- what it tells
 
@@ -90,19 +90,19 @@ pub not_told : (s : State) (pair : Pair) → subscription_at s.streams.subscript
 unfolding unavailable_for
 not_told s pair none = ap (unavailable_to pair) none
 
-none_decided : (s : State) (publication : Option Publication) → decided_to s publication None ≡ []
+none_decided : (s : State) (log : Option Source) → decided_to s log None ≡ []
 none_decided s None = refl
-none_decided s (Some publication) = refl
+none_decided s (Some log) = refl
 
 pub not_decided : (s : State) (pair : Pair) → subscription_at s.streams.subscriptions pair.subscription ≡ None →
     decided_on s pair ≡ []
 unfolding decided_on
 not_decided s pair none =
-    ap (decided_to s (publication_at s.streams.publications pair.source)) none
-    ∙ none_decided s (publication_at s.streams.publications pair.source)
+    ap (decided_to s (source_at s.streams.sources pair.source)) none
+    ∙ none_decided s (source_at s.streams.sources pair.source)
 
-pub log_not_decided : (s : State) (pair : Pair) → publication_at s.streams.publications pair.source ≡ None →
+pub log_not_decided : (s : State) (pair : Pair) → source_at s.streams.sources pair.source ≡ None →
     decided_on s pair ≡ []
 unfolding decided_on
 log_not_decided s pair none =
-    ap (λ (found : Option Publication). decided_to s found (subscription_at s.streams.subscriptions pair.subscription)) none
+    ap (λ (found : Option Source). decided_to s found (subscription_at s.streams.subscriptions pair.subscription)) none

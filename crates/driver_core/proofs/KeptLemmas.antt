@@ -138,7 +138,7 @@ kept_opened defaults first_session policy = record {
 
 -- there are as many readers as logs
 pub kept_length : (s : Streams) (clients : List Client) (policy : Rules) (epoch last : ℕ) (readers : List (List ℕ)) →
-    IsKept s clients policy epoch last readers → length readers ≡ length s.publications
+    IsKept s clients policy epoch last readers → length readers ≡ length s.sources
 kept_length s clients policy epoch last readers kept = ap length kept.exact ∙ as_many_as_logs clients policy epoch s
 
 -- ---- the client whose command it is, is there

@@ -6,86 +6,86 @@ use Rattle.std.proofs.lemmas.List.{get_or-map, length-map}
 use Rattle.std.proofs.lemmas.List.Elements.{All-map}
 use Rattle.driver_core.specs.Soundness.{AreSizes, Ascend, is_left, log_of}
 use Rattle.stream_registry.specs.declared.lingering.LogPlace.{LogPlace}
-use Rattle.stream_registry.specs.declared.row.Publication.{Publication}
+use Rattle.stream_registry.specs.declared.row.Source.{Source}
 use Rattle.stream_registry.specs.declared.row.Registration.{Registration}
 use Rattle.stream_registry.specs.Lingering.{is_used, left_alone, place_of, settled_one}
 
 -- ---- numbers ascend
 
-pub ascend_push : (before last next : ℕ) (logs : List Publication) (log : Publication) → Ascend before last logs →
-    last < log.source → log.source ≤ next → Ascend before next (logs ++ log ∷ [])
+pub ascend_push : (before last next : ℕ) (logs : List Source) (log : Source) → Ascend before last logs →
+    last < log.number → log.number ≤ next → Ascend before next (logs ++ log ∷ [])
 ascend_push before last next [] log up above below = (omega (arith, up, above), below)
 ascend_push before last next (first ∷ logs) log up above below =
-    (up.0, ascend_push first.source last next logs log up.1 above below)
+    (up.0, ascend_push first.number last next logs log up.1 above below)
 
-pub ascend_up_to : (before last next : ℕ) (logs : List Publication) → last ≤ next → Ascend before last logs →
+pub ascend_up_to : (before last next : ℕ) (logs : List Source) → last ≤ next → Ascend before last logs →
     Ascend before next logs
 ascend_up_to before last next [] more up = omega (arith, more, up)
-ascend_up_to before last next (first ∷ logs) more up = (up.0, ascend_up_to first.source last next logs more up.1)
+ascend_up_to before last next (first ∷ logs) more up = (up.0, ascend_up_to first.number last next logs more up.1)
 
-ascend_from : (lower before last : ℕ) (logs : List Publication) → lower ≤ before → Ascend before last logs →
+ascend_from : (lower before last : ℕ) (logs : List Source) → lower ≤ before → Ascend before last logs →
     Ascend lower last logs
 ascend_from lower before last [] low up = omega (arith, low, up)
 ascend_from lower before last (first ∷ logs) low up = (let above = up.0 in omega (arith, low, above), up.1)
 
-one_kept_ascends : (b : Bool) (before last : ℕ) (first : Publication) (logs : List Publication) →
-    before < first.source → Ascend first.source last logs → Ascend before last (cond b (first ∷ logs) logs)
+one_kept_ascends : (b : Bool) (before last : ℕ) (first : Source) (logs : List Source) →
+    before < first.number → Ascend first.number last logs → Ascend before last (cond b (first ∷ logs) logs)
 one_kept_ascends true before last first logs above up = (above, up)
 one_kept_ascends false before last first logs above up =
-    ascend_from before first.source last logs (omega (arith, above)) up
+    ascend_from before first.number last logs (omega (arith, above)) up
 
-pub kept_ascend : (stays : Publication → Bool) (before last : ℕ) (logs : List Publication) → Ascend before last logs →
+pub kept_ascend : (stays : Source → Bool) (before last : ℕ) (logs : List Source) → Ascend before last logs →
     Ascend before last (filter stays logs)
 kept_ascend stays before last [] up = up
 kept_ascend stays before last (first ∷ logs) up =
     one_kept_ascends (stays first) before last first (filter stays logs) up.0
-    (kept_ascend stays first.source last logs up.1)
+    (kept_ascend stays first.number last logs up.1)
 
 -- whether they linger is nothing to their numbers
-as_logs_ascend : (before last : ℕ) (logs : List Publication) → Ascend before last logs →
+as_logs_ascend : (before last : ℕ) (logs : List Source) → Ascend before last logs →
     Ascend before last (map log_of logs)
 as_logs_ascend before last [] up = up
-as_logs_ascend before last (first ∷ logs) up = (up.0, as_logs_ascend first.source last logs up.1)
+as_logs_ascend before last (first ∷ logs) up = (up.0, as_logs_ascend first.number last logs up.1)
 
-ascend_as_logs : (before last : ℕ) (logs : List Publication) → Ascend before last (map log_of logs) →
+ascend_as_logs : (before last : ℕ) (logs : List Source) → Ascend before last (map log_of logs) →
     Ascend before last logs
 ascend_as_logs before last [] up = up
-ascend_as_logs before last (first ∷ logs) up = (up.0, ascend_as_logs first.source last logs up.1)
+ascend_as_logs before last (first ∷ logs) up = (up.0, ascend_as_logs first.number last logs up.1)
 
-pub same_logs_ascend : (before last : ℕ) (logs others : List Publication) → map log_of others ≡ map log_of logs →
+pub same_logs_ascend : (before last : ℕ) (logs others : List Source) → map log_of others ≡ map log_of logs →
     Ascend before last logs → Ascend before last others
 same_logs_ascend before last logs others same up =
     ascend_as_logs before last others (rw same (as_logs_ascend before last logs up))
 
 -- ---- nor is it to their sizes
 
-abbrev HasSizes : Publication → Type 0
+abbrev HasSizes : Source → Type 0
 HasSizes log = AreSizes log.measures
 
-sizes_as_logs : (logs : List Publication) → All HasSizes (map log_of logs) → All HasSizes logs
+sizes_as_logs : (logs : List Source) → All HasSizes (map log_of logs) → All HasSizes logs
 sizes_as_logs logs sound k d within =
     subst HasSizes (get_or-map log_of logs k d d within)
     (sound k d
     (let all : length (map log_of logs) ≡ length logs = length-map logs log_of in omega (arith, all, within)))
 
-as_logs_sizes : (logs : List Publication) → All HasSizes logs → All HasSizes (map log_of logs)
+as_logs_sizes : (logs : List Source) → All HasSizes logs → All HasSizes (map log_of logs)
 as_logs_sizes logs sound = All-map HasSizes log_of logs sound
 
-pub same_logs_sizes : (logs others : List Publication) → map log_of others ≡ map log_of logs → All HasSizes logs →
+pub same_logs_sizes : (logs others : List Source) → map log_of others ≡ map log_of logs → All HasSizes logs →
     All HasSizes others
 same_logs_sizes logs others same sound = sizes_as_logs others (rw same (as_logs_sizes logs sound))
 
 -- ---- a log that lingers is the same log
 
-one_settled : (b : Bool) (now : ℕ) (log : Publication) → log_of (cond b log (left_alone now log)) ≡ log_of log
+one_settled : (b : Bool) (now : ℕ) (log : Source) → log_of (cond b log (left_alone now log)) ≡ log_of log
 one_settled true now log = refl
 one_settled false now log = refl
 
-pub settled_logs : (registrations : List Registration) (now : ℕ) (logs : List Publication) →
+pub settled_logs : (registrations : List Registration) (now : ℕ) (logs : List Source) →
     map log_of (map (settled_one registrations now) logs) ≡ map log_of logs
 settled_logs registrations now [] = refl
 settled_logs registrations now (log ∷ logs) =
-    rw (one_settled (is_used registrations log.source) now log, settled_logs registrations now logs) refl
+    rw (one_settled (is_used registrations log.number) now log, settled_logs registrations now logs) refl
 
 -- ---- those that close are known by their numbers
 
@@ -93,14 +93,14 @@ abbrev is_of : ℕ → LogPlace → Bool
 is_of source closed = closed.source == source
 
 -- none of the later ones has the number of an earlier one
-none_of : (closes : Publication → Bool) (source before last : ℕ) (logs : List Publication) → Ascend before last logs →
+none_of : (closes : Source → Bool) (source before last : ℕ) (logs : List Source) → Ascend before last logs →
     source ≤ before → list_any (is_of source) (map place_of (filter closes logs)) ≡ false
 none_of closes source before last [] up low = refl
 none_of closes source before last (log ∷ logs) up low =
-    by (closes log) (none_of closes source log.source last logs up.1 (let above = up.0 in omega (arith, low, above)))
+    by (closes log) (none_of closes source log.number last logs up.1 (let above = up.0 in omega (arith, low, above)))
   where
-    other : (log.source == source) ≡ false
-    other = ne_eqb log.source source (λ same. let above = up.0 in omega (arith, low, above, same))
+    other : (log.number == source) ≡ false
+    other = ne_eqb log.number source (λ same. let above = up.0 in omega (arith, low, above, same))
 
     by : (b : Bool) → list_any (is_of source) (map place_of (filter closes logs)) ≡ false →
         list_any (is_of source) (map place_of (cond b (log ∷ filter closes logs) (filter closes logs))) ≡ false
@@ -108,46 +108,46 @@ none_of closes source before last (log ∷ logs) up low =
     by false none = none
 
 -- the place of an earlier log closes none of the later ones
-earlier_closes_none : (first : Publication) (closes : List LogPlace) (before last : ℕ) (logs : List Publication) →
-    Ascend before last logs → first.source ≤ before →
+earlier_closes_none : (first : Source) (closes : List LogPlace) (before last : ℕ) (logs : List Source) →
+    Ascend before last logs → first.number ≤ before →
     filter (is_left (place_of first ∷ closes)) (map log_of logs) ≡ filter (is_left closes) (map log_of logs)
 earlier_closes_none first closes before last [] up low = refl
 earlier_closes_none first closes before last (log ∷ logs) up low =
-    let other : (first.source == log.source) ≡ false = ne_eqb first.source log.source
+    let other : (first.number == log.number) ≡ false = ne_eqb first.number log.number
     (λ same. let above = up.0 in omega (arith, low, above, same)) in
-    let above : before < log.source = up.0 in
-    let rest = earlier_closes_none first closes log.source last logs up.1 (omega (arith, low, above)) in
+    let above : before < log.number = up.0 in
+    let rest = earlier_closes_none first closes log.number last logs up.1 (omega (arith, low, above)) in
     rw (other, rest) refl
 
 -- the first one closes, or it stays
-one_left : (b : Bool) (first : Publication) (logs stay closed : List Publication) →
+one_left : (b : Bool) (first : Source) (logs stay closed : List Source) →
     filter (is_left (place_of first ∷ map place_of closed)) (map log_of logs)
     ≡ filter (is_left (map place_of closed)) (map log_of logs) →
-    list_any (is_of first.source) (map place_of closed) ≡ false →
+    list_any (is_of first.number) (map place_of closed) ≡ false →
     map log_of stay ≡ filter (is_left (map place_of closed)) (map log_of logs) →
     map log_of (cond (not b) (first ∷ stay) stay)
     ≡ filter (is_left (map place_of (cond b (first ∷ closed) closed))) (map log_of (first ∷ logs))
-one_left true first logs stay closed later none rest = rw (eq-eqb first.source first.source refl, later) rest
+one_left true first logs stay closed later none rest = rw (eq-eqb first.number first.number refl, later) rest
 one_left false first logs stay closed later none rest =
-    rw none (ap (λ (others : List Publication). log_of first ∷ others) rest)
+    rw none (ap (λ (others : List Source). log_of first ∷ others) rest)
 
 -- what stays are the logs but for those at these places
-pub closed_logs : (closes : Publication → Bool) (before last : ℕ) (logs : List Publication) → Ascend before last logs →
+pub closed_logs : (closes : Source → Bool) (before last : ℕ) (logs : List Source) → Ascend before last logs →
     map log_of (filter (λ log. not (closes log)) logs)
     ≡ filter (is_left (map place_of (filter closes logs))) (map log_of logs)
 closed_logs closes before last [] up = refl
 closed_logs closes before last (first ∷ logs) up =
     one_left (closes first) first logs (filter (λ log. not (closes log)) logs) (filter closes logs)
-    (earlier_closes_none first (map place_of (filter closes logs)) first.source last logs up.1 (omega arith))
-    (none_of closes first.source first.source last logs up.1 (omega arith))
-    (closed_logs closes first.source last logs up.1)
+    (earlier_closes_none first (map place_of (filter closes logs)) first.number last logs up.1 (omega arith))
+    (none_of closes first.number first.number last logs up.1 (omega arith))
+    (closed_logs closes first.number last logs up.1)
 
 -- ---- all of them
 
-pub all_kept : (logs : List Publication) → filter (λ log. true) logs ≡ logs
+pub all_kept : (logs : List Source) → filter (λ log. true) logs ≡ logs
 all_kept [] = refl
-all_kept (log ∷ logs) = ap (λ (rest : List Publication). log ∷ rest) (all_kept logs)
+all_kept (log ∷ logs) = ap (λ (rest : List Source). log ∷ rest) (all_kept logs)
 
-pub none_kept : (logs : List Publication) → filter (λ log. false) logs ≡ []
+pub none_kept : (logs : List Source) → filter (λ log. false) logs ≡ []
 none_kept [] = refl
 none_kept (log ∷ logs) = none_kept logs

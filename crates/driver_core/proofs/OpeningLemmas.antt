@@ -11,7 +11,7 @@ use Rattle.driver_core.specs.Commands.{at_request, heard}
 use Rattle.driver_core.specs.Draft.{Draft, replied, replied_opening, told}
 use Rattle.driver_core.specs.Pairs.{is_within_pairs, lacking, pairs_of}
 use Rattle.driver_core.specs.Publishing.{has_room_for_publication, new_log, opening_of, place_of_new, publication_decision, published, ready_for, with_publication}
-use Rattle.driver_core.specs.Renewal.{available_for, available_from, available_to, decided_from, decided_on, decided_to, images_decided, images_told, outcome_by, outcome_kept, outcome_opening, publication_at, reading, renewed, subscription_at}
+use Rattle.driver_core.specs.Renewal.{available_for, available_from, available_to, decided_from, decided_on, decided_to, images_decided, images_told, outcome_by, outcome_kept, outcome_opening, source_at, reading, renewed, subscription_at}
 use Rattle.driver_core.specs.State.{State, at_moment, has_number}
 use Rattle.driver_core.specs.Told.{tells_reply, told_of}
 use Rattle.driver_core.proofs.ComingLemmas.{decided_alike, found_last}
@@ -22,7 +22,7 @@ use Rattle.log_readers.specs.Numbering.{AreInOrder, Rises, number_of, source_of}
 use Rattle.log_readers.proofs.RisingLemmas.{all_above}
 use Rattle.log_readers.proofs.TurnoverLemmas.{made_turnover}
 use Rattle.stream_registry.specs.declared.pairs.Pair.{Pair}
-use Rattle.stream_registry.specs.declared.row.Publication.{Publication}
+use Rattle.stream_registry.specs.declared.row.Source.{Source}
 use Rattle.stream_registry.specs.declared.row.Subscription.{Subscription}
 use Rattle.stream_registry.specs.declared.wanted.Adding.{Adding}
 use Rattle.stream_registry.specs.declared.wanted.Adding.TheVariants.{Join, Make}
@@ -47,7 +47,7 @@ found_each key low last (first ∷ rows) up =
 
 -- ---- what is told and decided of its pairs
 
-told_alike : {Y : Type 0} (f : Pair → List Y) (g : Subscription → List Y) (log : Publication) (rows : List Subscription) →
+told_alike : {Y : Type 0} (f : Pair → List Y) (g : Subscription → List Y) (log : Source) (rows : List Subscription) →
     All (λ row. f (pair_of log row) ≡ g row) rows → flat_map f (map (pair_of log) rows) ≡ flat_map g rows
 told_alike f g log [] each = refl
 told_alike f g log (row ∷ rows) each =
@@ -55,15 +55,15 @@ told_alike f g log (row ∷ rows) each =
     let rest = told_alike f g log rows (All-tail (λ one. f (pair_of log one) ≡ g one) row rows each) in
     λ i. first i ++ rest i
 
-available_alike : (s : State) (ends : List End) (log : Publication) (row : Subscription) →
-    publication_at s.streams.publications log.source ≡ Some log →
+available_alike : (s : State) (ends : List End) (log : Source) (row : Subscription) →
+    source_at s.streams.sources log.number ≡ Some log →
     subscription_at s.streams.subscriptions row.number ≡ Some row →
     available_for s ends (pair_of log row) ≡ available_from ends log row
 unfolding available_for
 available_alike s ends log row log_found found = λ i. available_to ends (pair_of log row) (log_found i) (found i)
 
-decisions_alike : (s after : State) (log : Publication) (row : Subscription) →
-    publication_at after.streams.publications log.source ≡ Some log →
+decisions_alike : (s after : State) (log : Source) (row : Subscription) →
+    source_at after.streams.sources log.number ≡ Some log →
     subscription_at after.streams.subscriptions row.number ≡ Some row →
     after.policy ≡ s.policy → after.epoch ≡ s.epoch →
     principal_at after.clients.rows row.client ≡ principal_at s.clients.rows row.client →
@@ -74,7 +74,7 @@ decisions_alike s after log row log_found found policy epoch principal =
 
 -- ---- a log that is made
 
-record Opens (s after : State) (inputs : Inputs) (log : Publication) : Type 0 where
+record Opens (s after : State) (inputs : Inputs) (log : Source) : Type 0 where
   gone : lacking (pairs_of s) (pairs_of after) ≡ []
   come : lacking (pairs_of after) (pairs_of s) ≡ map (pair_of log) (reading s log s.streams.subscriptions)
   available :
@@ -99,12 +99,12 @@ opens : (s : State) (now handle : ℕ) (inputs : Inputs) (client : ℕ) (wanted 
     Opens s (with_publication (at_request s now handle) client wanted (Make session)) inputs (new_log s wanted session)
 unfolding with_publication heard at_moment touched pairs_of
 opens s now handle inputs client wanted session order =
-    let log : Publication = new_log s wanted session in
+    let log : Source = new_log s wanted session in
     let after : State = with_publication (at_request s now handle) client wanted (Make session) in
     let rows : List Subscription = s.streams.subscriptions in
     let turn = made_turnover s.clients.rows s.policy s.epoch s.streams (s.last_number + 1) client wanted (unwrap_or (place_of_new s wanted) 0) session 0 s.last_number order.sources (omega arith) in
     let same = pairs_same s now handle client wanted session in
-    let log_found = found_last source_of 0 s.last_number s.streams.publications log order.sources (omega arith) in
+    let log_found = found_last source_of 0 s.last_number s.streams.sources log order.sources (omega arith) in
     let found = found_each number_of 0 s.last_number rows order.numbers in
     let pass = is_pair s.clients.rows s.policy s.epoch log in
     record {
@@ -119,7 +119,7 @@ opens s now handle inputs client wanted session order =
           (principal_heard s.clients.rows handle (max s.moment now) (get_or rows k d).client)));
     }
 
-by_parts : (s : State) (inputs : Inputs) (draft : Draft) (log : Publication) → draft.later ≡ [] →
+by_parts : (s : State) (inputs : Inputs) (draft : Draft) (log : Source) → draft.later ≡ [] →
     Opens s draft.after inputs log → outcome_by s inputs draft ≡ outcome_opening s inputs (told_of draft) log
 unfolding renewed images_told images_decided
 by_parts s inputs draft log none parts =

@@ -34,7 +34,7 @@ use Rattle.log_readers.proofs.SameLemmas.{unregistered_alike}
 use Rattle.policy_core.specs.declared.decision.Decision.{Decision}
 use Rattle.policy_core.specs.RuleList.{Rules}
 use Rattle.stream_registry.specs.declared.pairs.Pair.{Pair}
-use Rattle.stream_registry.specs.declared.row.Publication.{Publication}
+use Rattle.stream_registry.specs.declared.row.Source.{Source}
 use Rattle.stream_registry.specs.declared.row.Subscription.{Subscription}
 use Rattle.stream_registry.specs.Leaving.{has_registration, unregistered}
 use Rattle.stream_registry.specs.Lingering.{closed, closing_of, is_not_past, is_past, place_of}
@@ -71,14 +71,14 @@ principal_heard (row ∷ rows) handle moment number =
 
 -- ---- the pairs are by the lists, the policy and whom clients act for
 
-abbrev by_principals : (ℕ → Option ℕ) → Rules → ℕ → Publication → Subscription → Bool
-by_principals principals policy epoch publication subscription =
-    fits publication subscription && is_allowed_to policy epoch subscription (principals subscription.client)
+abbrev by_principals : (ℕ → Option ℕ) → Rules → ℕ → Source → Subscription → Bool
+by_principals principals policy epoch log subscription =
+    fits log subscription && is_allowed_to policy epoch subscription (principals subscription.client)
 
 abbrev pairs_with : (ℕ → Option ℕ) → Rules → ℕ → Streams → List Pair
 pairs_with principals policy epoch streams =
-    flat_map (λ (publication : Publication).
-    map (pair_of publication) (filter (by_principals principals policy epoch publication) streams.subscriptions)) streams.publications
+    flat_map (λ (log : Source).
+    map (pair_of log) (filter (by_principals principals policy epoch log) streams.subscriptions)) streams.sources
 
 pairs_are : (s : State) → pairs_of s ≡ pairs_with (principal_at s.clients.rows) s.policy s.epoch s.streams
 unfolding pairs_of pairs_on is_allowed
@@ -237,7 +237,7 @@ none_late : (clients : List ℕ) → map timeout_of clients ≡ [] → clients �
 none_late [] none = refl
 none_late (client ∷ clients) none = absurd cc
 
-one_stays : (now : ℕ) (past : Bool) (log : Publication) (logs : List Publication) → is_past now log ≡ past →
+one_stays : (now : ℕ) (past : Bool) (log : Source) (logs : List Source) → is_past now log ≡ past →
     map place_of (filter (is_past now) (log ∷ logs)) ≡ [] →
     (map place_of (filter (is_past now) logs) ≡ [] → filter (is_not_past now) logs ≡ logs) →
     filter (is_not_past now) (log ∷ logs) ≡ log ∷ logs
@@ -246,9 +246,9 @@ one_stays now true log logs is none others =
     absurd cc
 one_stays now false log logs is none others =
     let rest : map place_of (filter (is_past now) logs) ≡ [] = (rw is refl) ∙ none in
-    rw is (ap (λ (kept : List Publication). log ∷ kept) (others rest))
+    rw is (ap (λ (kept : List Source). log ∷ kept) (others rest))
 
-all_stay : (now : ℕ) (logs : List Publication) → map place_of (filter (is_past now) logs) ≡ [] →
+all_stay : (now : ℕ) (logs : List Source) → map place_of (filter (is_past now) logs) ≡ [] →
     filter (is_not_past now) logs ≡ logs
 all_stay now [] none = refl
 all_stay now (log ∷ logs) none = one_stays now (is_past now log) log logs refl none (all_stay now logs)
@@ -257,8 +257,8 @@ ticked_keeps : (s : State) (clients : List ℕ) → clients ≡ [] → (ticked (
     pairs_of (ticked (all_left s clients) clients).after ≡ pairs_of s
 unfolding ticked closed closing_of pairs_of pairs_on
 ticked_keeps s [] none closes =
-    ap (λ (logs : List Publication). flat_map (pairs_at s.clients.rows s.policy s.epoch s.streams.subscriptions) logs)
-    (all_stay s.moment s.streams.publications closes)
+    ap (λ (logs : List Source). flat_map (pairs_at s.clients.rows s.policy s.epoch s.streams.subscriptions) logs)
+    (all_stay s.moment s.streams.sources closes)
 ticked_keeps s (client ∷ clients) none closes = absurd cc
 
 tick_keeps : (s : State) → (tick s).later ≡ [] → (tick s).closes ≡ [] → pairs_of (tick s).after ≡ pairs_of s

@@ -39,7 +39,7 @@ use Rattle.command_codec.specs.declared.set_counter.SetCounter.{SetCounter}
 use Rattle.policy_core.specs.declared.decision.Decision.{Decision}
 use Rattle.policy_core.specs.RuleList.{Rules}
 use Rattle.stream_registry.specs.declared.lingering.LogPlace.{LogPlace}
-use Rattle.stream_registry.specs.declared.row.Publication.{Publication}
+use Rattle.stream_registry.specs.declared.row.Source.{Source}
 use Rattle.stream_registry.specs.declared.wanted.Adding.{Adding}
 use Rattle.stream_registry.specs.declared.wanted.Adding.TheVariants.{Join, Make}
 use Rattle.stream_registry.specs.declared.wanted.Wanted.{Wanted}
@@ -58,19 +58,19 @@ use Rattle.driver_core.proofs.SizeLemmas.{sizes_of_made}
 record Moves (s : State) (draft : Draft) : Type 0 where
   sound : IsSound draft.after
   settings : draft.after.settings ≡ s.settings
-  opened : List Publication
+  opened : List Source
   opens : Opens s draft.opens opened
   stays : filter (is_left draft.closes) opened ≡ opened
   logs :
-      map log_of draft.after.streams.publications
-      ≡ filter (is_left draft.closes) (map log_of s.streams.publications) ++ opened
+      map log_of draft.after.streams.sources
+      ≡ filter (is_left draft.closes) (map log_of s.streams.sources) ++ opened
 
 -- ---- what keeps the logs, but for whether they linger
 
 record Keeps (s after : State) : Type 0 where
   settings : after.settings ≡ s.settings
   defaults : after.streams.defaults ≡ s.streams.defaults
-  logs : map log_of after.streams.publications ≡ map log_of s.streams.publications
+  logs : map log_of after.streams.sources ≡ map log_of s.streams.sources
   numbers : s.last_number ≤ after.last_number
   laid_out : IsLaidOut s.settings.arena_pages after.streams
   subscriptions : length after.streams.subscriptions ≤ 512
@@ -78,9 +78,9 @@ record Keeps (s after : State) : Type 0 where
 keeps_sound : (s after : State) → IsSound s → Keeps s after → IsSound after
 keeps_sound s after sound keeps = record {
   defaults = rw keeps.defaults sound.defaults;
-  sizes = same_logs_sizes s.streams.publications after.streams.publications keeps.logs sound.sizes;
-  numbered = ascend_up_to 0 s.last_number after.last_number after.streams.publications keeps.numbers
-      (same_logs_ascend 0 s.last_number s.streams.publications after.streams.publications keeps.logs sound.numbered);
+  sizes = same_logs_sizes s.streams.sources after.streams.sources keeps.logs sound.sizes;
+  numbered = ascend_up_to 0 s.last_number after.last_number after.streams.sources keeps.numbers
+      (same_logs_ascend 0 s.last_number s.streams.sources after.streams.sources keeps.logs sound.numbered);
   laid_out = rw keeps.settings keeps.laid_out;
   subscriptions = keeps.subscriptions;
 }
@@ -88,7 +88,7 @@ keeps_sound s after sound keeps = record {
 keeps_moves : (s : State) (draft : Draft) → IsSound s → Keeps s draft.after → draft.opens ≡ None → draft.closes ≡ [] →
     Moves s draft
 keeps_moves s draft sound keeps opens closes =
-    let before : List Publication = map log_of s.streams.publications in
+    let before : List Source = map log_of s.streams.sources in
     record {
       sound = keeps_sound s draft.after sound keeps;
       settings = keeps.settings;
@@ -104,7 +104,7 @@ same_streams : (s after : State) → IsSound s → after.settings ≡ s.settings
 same_streams s after sound settings streams numbers = record {
   settings = settings;
   defaults = ap (λ (t : Streams). t.defaults) streams;
-  logs = ap (λ (t : Streams). map log_of t.publications) streams;
+  logs = ap (λ (t : Streams). map log_of t.sources) streams;
   numbers = numbers;
   laid_out = rw streams sound.laid_out;
   subscriptions = rw streams sound.subscriptions;
@@ -215,7 +215,7 @@ publication_removal_moves s client correlation number sound =
     keeps_moves s _ sound (record {
       settings = refl;
       defaults = refl;
-      logs = settled_logs _ s.moment s.streams.publications;
+      logs = settled_logs _ s.moment s.streams.sources;
       numbers = omega arith;
       laid_out = (share_nothing s.settings.arena_pages).unregistered s.streams client.number number s.moment
           sound.laid_out;
@@ -227,7 +227,7 @@ unfolding left left_in settled
 one_left_keeps s client sound = record {
   settings = refl;
   defaults = refl;
-  logs = settled_logs _ s.moment s.streams.publications;
+  logs = settled_logs _ s.moment s.streams.sources;
   numbers = omega arith;
   laid_out = (share_nothing s.settings.arena_pages).left s.streams client s.moment sound.laid_out;
   subscriptions = fewer (is_subscription_of_another client) s.streams.subscriptions 512 sound.subscriptions;
@@ -281,12 +281,12 @@ added_sound : (s : State) (client : ℕ) (wanted : Wanted) (session : ℤ) (plac
       last_number = s.last_number + 1;
     })
 added_sound s client wanted session place sound found =
-    let log : Publication = made_log s.streams (s.last_number + 1) wanted place session in
+    let log : Source = made_log s.streams (s.last_number + 1) wanted place session in
     record {
       defaults = sound.defaults;
-      sizes = All-push (λ (one : Publication). AreSizes one.measures) s.streams.publications log sound.sizes
+      sizes = All-push (λ (one : Source). AreSizes one.measures) s.streams.sources log sound.sizes
           (sizes_of_made s.streams.defaults wanted.channel sound.defaults);
-      numbered = ascend_push 0 s.last_number (s.last_number + 1) s.streams.publications log sound.numbered
+      numbered = ascend_push 0 s.last_number (s.last_number + 1) s.streams.sources log sound.numbered
           (omega arith) (omega arith);
       laid_out = (share_nothing s.settings.arena_pages).made s.streams (s.last_number + 1) client place wanted session
           sound.laid_out found;
@@ -294,7 +294,7 @@ added_sound s client wanted session place sound found =
     }
 
 -- the log that is made, at the place for it
-abbrev log_made : State → Wanted → ℤ → Publication
+abbrev log_made : State → Wanted → ℤ → Source
 log_made s wanted session =
     made_log s.streams (s.last_number + 1) wanted (unwrap_or (place_of_new s wanted) 0) session
 
@@ -311,10 +311,10 @@ unfolding with_publication
 made_settings s client wanted session = refl
 
 made_logs : (s : State) (client : ℕ) (wanted : Wanted) (session : ℤ) →
-    map log_of (with_publication s client wanted (Make session)).streams.publications
-    ≡ map log_of s.streams.publications ++ log_made s wanted session ∷ []
+    map log_of (with_publication s client wanted (Make session)).streams.sources
+    ≡ map log_of s.streams.sources ++ log_made s wanted session ∷ []
 unfolding with_publication
-made_logs s client wanted session = map-append log_of s.streams.publications (log_made s wanted session ∷ [])
+made_logs s client wanted session = map-append log_of s.streams.sources (log_made s wanted session ∷ [])
 
 publication_moves : (s : State) (client : Client) (correlation : ℕ) (wanted : Wanted) (adding : Adding) → IsSound s →
     has_place s wanted adding ≡ true → Moves s (published s client correlation wanted adding)
@@ -324,7 +324,7 @@ publication_moves s client correlation wanted (Join source session) sound placed
 publication_moves s client correlation wanted (Make session) sound placed =
     let place : ℕ = unwrap_or (place_of_new s wanted) 0 in
     let found : place_of_new s wanted ≡ Some place = found_place (place_of_new s wanted) placed in
-    let log : Publication = log_made s wanted session in
+    let log : Source = log_made s wanted session in
     record {
       sound = made_sound s client.number wanted session sound found;
       settings = made_settings s client.number wanted session;
@@ -338,7 +338,7 @@ publication_moves s client correlation wanted (Make session) sound placed =
         λ lower below. all_least.least s.streams s.settings.arena_pages (log_pages log) place lower found below,
       );
       stays = refl;
-      logs = rw (all_kept (map log_of s.streams.publications)) (made_logs s client.number wanted session);
+      logs = rw (all_kept (map log_of s.streams.sources)) (made_logs s client.number wanted session);
     }
 
 -- ---- time goes on
@@ -347,18 +347,18 @@ closed_sound : (s : State) (now : ℕ) → IsSound s → IsSound (record s { str
 unfolding closed
 closed_sound s now sound = record {
   defaults = sound.defaults;
-  sizes = All-filter (is_not_past now) (λ (log : Publication). AreSizes log.measures) s.streams.publications
+  sizes = All-filter (is_not_past now) (λ (log : Source). AreSizes log.measures) s.streams.sources
       sound.sizes;
-  numbered = kept_ascend (is_not_past now) 0 s.last_number s.streams.publications sound.numbered;
+  numbered = kept_ascend (is_not_past now) 0 s.last_number s.streams.sources sound.numbered;
   laid_out = (share_nothing s.settings.arena_pages).closed s.streams now sound.laid_out;
   subscriptions = sound.subscriptions;
 }
 
 ticked_logs : (s : State) (now : ℕ) → IsSound s →
-    map log_of (closed s.streams now).publications
-    ≡ filter (is_left (closing_of s.streams now)) (map log_of s.streams.publications)
+    map log_of (closed s.streams now).sources
+    ≡ filter (is_left (closing_of s.streams now)) (map log_of s.streams.sources)
 unfolding closed closing_of
-ticked_logs s now sound = closed_logs (is_past now) 0 s.last_number s.streams.publications sound.numbered
+ticked_logs s now sound = closed_logs (is_past now) 0 s.last_number s.streams.sources sound.numbered
 
 ticked_moves : (s between : State) (clients : List ℕ) → IsSound s → Keeps s between → Moves s (ticked between clients)
 unfolding ticked
@@ -371,7 +371,7 @@ ticked_moves s between clients sound keeps =
       opened = [];
       opens = refl;
       stays = refl;
-      logs = rw (append-nil (filter (is_left closes) (map log_of s.streams.publications)), ← keeps.logs)
+      logs = rw (append-nil (filter (is_left closes) (map log_of s.streams.sources)), ← keeps.logs)
           (ticked_logs between between.moment left_sound);
     }
 
@@ -382,9 +382,9 @@ tick_moves s sound = ticked_moves s (all_left s (late s)) (late s) sound (left_k
 -- ---- the end of the driver
 
 all_close : (s : State) → IsSound s →
-    filter (is_left (map place_of s.streams.publications)) (map log_of s.streams.publications) ≡ []
+    filter (is_left (map place_of s.streams.sources)) (map log_of s.streams.sources) ≡ []
 all_close s sound =
-    let logs = s.streams.publications in
+    let logs = s.streams.sources in
     let by = closed_logs (λ log. true) 0 s.last_number logs sound.numbered in
     sym (rw (none_kept logs, all_kept logs) at by)
 
@@ -394,7 +394,7 @@ unfolding terminated stopped_for_good
 termination_moves s client correlation sound = record {
   sound = record {
     defaults = sound.defaults;
-    sizes = All-nil (λ (log : Publication). AreSizes log.measures);
+    sizes = All-nil (λ (log : Source). AreSizes log.measures);
     numbered = omega arith;
     laid_out = (share_nothing s.settings.arena_pages).cleared s.streams sound.laid_out;
     subscriptions = omega arith;
@@ -429,13 +429,13 @@ request_sound s now handle sound = record {
   subscriptions = sound.subscriptions;
 }
 
-moment_opens : (s : State) (now : ℕ) (opens : Option LogPlace) (logs : List Publication) →
+moment_opens : (s : State) (now : ℕ) (opens : Option LogPlace) (logs : List Source) →
     Opens (at_moment s now) opens logs → Opens s opens logs
 unfolding at_moment
 moment_opens s now None logs opens = opens
 moment_opens s now (Some place) logs opens = opens
 
-request_opens : (s : State) (now handle : ℕ) (opens : Option LogPlace) (logs : List Publication) →
+request_opens : (s : State) (now handle : ℕ) (opens : Option LogPlace) (logs : List Source) →
     Opens (at_request s now handle) opens logs → Opens s opens logs
 unfolding heard at_moment
 request_opens s now handle None logs opens = opens
@@ -537,7 +537,7 @@ opened_sound : (settings : Settings) (policy : Rules) (peers : List Peer) → Ar
 unfolding opened
 opened_sound settings policy peers sound = record {
   defaults = sound.sizes;
-  sizes = All-nil (λ (log : Publication). AreSizes log.measures);
+  sizes = All-nil (λ (log : Source). AreSizes log.measures);
   numbered = omega arith;
   laid_out = (share_nothing settings.arena_pages).opened _ settings.first_session;
   subscriptions = omega arith;

@@ -8,7 +8,7 @@ use Rattle.driver_core.specs.declared.event.Inputs.{Inputs}
 use Rattle.driver_core.specs.declared.told.Told.{Told}
 use Rattle.driver_core.specs.Leaving.{all_left, left}
 use Rattle.driver_core.specs.Pairs.{pairs_of}
-use Rattle.driver_core.specs.Renewal.{decided_on, outcome_by, outcome_gone, publication_at, subscription_at, unavailable_beside, unavailable_for, unavailable_to}
+use Rattle.driver_core.specs.Renewal.{decided_on, outcome_by, outcome_gone, source_at, subscription_at, unavailable_beside, unavailable_for, unavailable_to}
 use Rattle.driver_core.specs.State.{State, at_moment}
 use Rattle.driver_core.specs.Ticking.{late, tick, ticked}
 use Rattle.driver_core.specs.Told.{told_of}
@@ -21,7 +21,7 @@ use Rattle.log_readers.proofs.ListLemmas.{filter_mapped, flat_alike, map_through
 use Rattle.log_readers.proofs.RisingLemmas.{rises_kept}
 use Rattle.log_readers.proofs.TurnoverLemmas.{closed_by_source, stays_open}
 use Rattle.stream_registry.specs.declared.pairs.Pair.{Pair}
-use Rattle.stream_registry.specs.declared.row.Publication.{Publication}
+use Rattle.stream_registry.specs.declared.row.Source.{Source}
 use Rattle.stream_registry.specs.declared.row.Registration.{Registration}
 use Rattle.stream_registry.specs.declared.row.Subscription.{Subscription}
 use Rattle.stream_registry.specs.Leaving.{is_subscription_of_another, left as left_in}
@@ -35,33 +35,33 @@ just_begun : (linger now : ℕ) (since : Option ℕ) →
 just_begun linger now None = le-ltb linger (now - now) (omega arith)
 just_begun linger now (Some since) = refl
 
-past_alike : (registrations : List Registration) (now : ℕ) (log : Publication) →
+past_alike : (registrations : List Registration) (now : ℕ) (log : Source) →
     is_past now (settled_one registrations now log) ≡ is_past now log
 past_alike registrations now log =
-    elim (is_used registrations log.source) as (λ b. is_past now (cond b log (left_alone now log)) ≡ is_past now log) [
+    elim (is_used registrations log.number) as (λ b. is_past now (cond b log (left_alone now log)) ≡ is_past now log) [
       | true ↦ refl
       | false ↦ just_begun log.measures.linger now log.lingering_since
     ]
 
-place_alike : (registrations : List Registration) (now : ℕ) (log : Publication) →
+place_alike : (registrations : List Registration) (now : ℕ) (log : Source) →
     place_of (settled_one registrations now log) ≡ place_of log
 place_alike registrations now log =
-    elim (is_used registrations log.source) as (λ b. place_of (cond b log (left_alone now log)) ≡ place_of log) [
+    elim (is_used registrations log.number) as (λ b. place_of (cond b log (left_alone now log)) ≡ place_of log) [
       | true ↦ refl
       | false ↦ refl
     ]
 
-settled_closing : (registrations : List Registration) (now : ℕ) (logs : List Publication) →
+settled_closing : (registrations : List Registration) (now : ℕ) (logs : List Source) →
     map place_of (filter (is_past now) (map (settled_one registrations now) logs)) ≡ map place_of (filter (is_past now) logs)
 settled_closing registrations now logs =
     ap (map place_of) (filter_mapped (is_past now) (settled_one registrations now) logs)
-    ∙ ap (λ (past : List Publication). map place_of (map (settled_one registrations now) past))
-    (filter_agree (λ (log : Publication). is_past now (settled_one registrations now log)) (is_past now) (past_alike registrations now) logs)
+    ∙ ap (λ (past : List Source). map place_of (map (settled_one registrations now) past))
+    (filter_agree (λ (log : Source). is_past now (settled_one registrations now log)) (is_past now) (past_alike registrations now) logs)
     ∙ map_through place_of (settled_one registrations now) (filter (is_past now) logs) (place_alike registrations now)
 
 left_closing : (s : Streams) (client now : ℕ) → closing_of (left_in s client now) now ≡ closing_of s now
 unfolding left_in settled closing_of
-left_closing s client now = settled_closing _ now s.publications
+left_closing s client now = settled_closing _ now s.sources
 
 all_left_closing : (s : Streams) (clients : List ℕ) (now : ℕ) → closing_of (all_left_in s clients now) now ≡ closing_of s now
 all_left_closing s [] now = refl
@@ -114,13 +114,13 @@ all_left_at s (client ∷ clients) now last pair up =
     (left_at s client now pair.subscription last up)
     ∙ next_at (is_of_client s client pair) s client now clients pair (subscription_at s.subscriptions pair.subscription) refl
 
-closed_at : (s : Streams) (now last source : ℕ) → Rises source_of 0 last s.publications →
-    publication_at (closed s now).publications source
-    ≡ cond (stays_open (closing_of s now) source) (publication_at s.publications source) None
+closed_at : (s : Streams) (now last source : ℕ) → Rises source_of 0 last s.sources →
+    source_at (closed s now).sources source
+    ≡ cond (stays_open (closing_of s now) source) (source_at s.sources source) None
 unfolding closed
 closed_at s now last source up =
-    ap (λ (logs : List Publication). publication_at logs source) (closed_by_source s now 0 last up)
-    ∙ found_in_part source_of (stays_open (closing_of s now)) source s.publications
+    ap (λ (logs : List Source). source_at logs source) (closed_by_source s now 0 last up)
+    ∙ found_in_part source_of (stays_open (closing_of s now)) source s.sources
 
 -- ---- what goes
 
@@ -139,14 +139,14 @@ tick_at s last pair order =
 
 -- and its log
 tick_log : (s : State) (last : ℕ) (pair : Pair) → AreInOrder s.streams s.clients.rows last →
-    is_of_closing (tick s).closes pair ≡ true → publication_at (tick s).after.streams.publications pair.source ≡ None
+    is_of_closing (tick s).closes pair ≡ true → source_at (tick s).after.streams.sources pair.source ≡ None
 unfolding tick ticked
 tick_log s last pair order closes =
     let between : Streams = all_left_in s.streams (late s) s.moment in
     let is = all_left_is s (late s) in
     let closing : is_of_closing (closing_of between s.moment) pair ≡ true =
     subst (λ (t : State). is_of_closing (closing_of t.streams t.moment) pair ≡ true) is closes in
-    ap (λ (t : State). publication_at (closed t.streams t.moment).publications pair.source) is
+    ap (λ (t : State). source_at (closed t.streams t.moment).sources pair.source) is
     ∙ closed_at between s.moment last pair.source
     (all_left_in_order s.policy s.epoch s.streams s.clients (late s) s.moment last order).sources
     ∙ (rw closing refl)

@@ -5,7 +5,7 @@ use Rattle.driver_core.specs.declared.listing.Listed.TheVariants as listed_as
 use Rattle.driver_core.specs.declared.listing.ListedCounter.{ListedCounter}
 use Rattle.driver_core.specs.declared.listing.Shown.{Shown}
 use Rattle.driver_core.specs.declared.listing.Shown.TheVariants as shown_as
-use Rattle.driver_core.specs.Renewal.{publication_at}
+use Rattle.driver_core.specs.Renewal.{source_at}
 use Rattle.driver_core.specs.State.{State}
 use Rattle.channel_uri.specs.Canonical.{canonical_of}
 use Rattle.client_registry.specs.declared.client.Client.{Client}
@@ -16,7 +16,7 @@ use Rattle.policy_core.specs.declared.act.Act.TheVariants.{List as SeeCounter}
 use Rattle.policy_core.specs.declared.verdict.Verdict.{Verdict}
 use Rattle.policy_core.specs.Question.{Question}
 use Rattle.policy_core.specs.Rules.{verdict_of}
-use Rattle.stream_registry.specs.declared.row.Publication.{Publication}
+use Rattle.stream_registry.specs.declared.row.Source.{Source}
 use Rattle.stream_registry.specs.Lingering.{registrations_of}
 
 -- ---- what is listed
@@ -36,16 +36,16 @@ registered_with s source = pos (min (registrations_of s.streams source) 92233720
 
 -- each live publication is a counter of the driver's own: its number is the source's, its value how many are registered
 -- with it
-abbrev pub publication_row : State → Publication → ListedCounter
+abbrev pub publication_row : State → Source → ListedCounter
 publication_row s publication = record {
-  number = publication.source;
+  number = publication.number;
   type_id = pos 10001;
-  value = registered_with s publication.source;
+  value = registered_with s publication.number;
   label = canonical_of publication.channel;
 }
 
 -- what the policy is asked before that is shown: channel and stream are the publication's
-abbrev pub publication_question : ℕ → Publication → Question
+abbrev pub publication_question : ℕ → Source → Question
 publication_question principal publication = record {
   principal = principal;
   act = SeeCounter;
@@ -53,10 +53,10 @@ publication_question principal publication = record {
   stream = publication.stream;
 }
 
-abbrev pub publication_verdict : State → ℕ → Publication → Verdict
+abbrev pub publication_verdict : State → ℕ → Source → Verdict
 publication_verdict s principal publication = verdict_of s.policy s.epoch (publication_question principal publication)
 
-abbrev pub shows_publication : State → ℕ → Publication → Bool
+abbrev pub shows_publication : State → ℕ → Source → Bool
 shows_publication s principal publication = (publication_verdict s principal publication).allow
 
 -- the row stands before the first one of a greater number
@@ -72,7 +72,7 @@ with_rows rows (row ∷ more) = with_rows (with_row rows row) more
 -- the publications that the policy in force shows to the principal
 abbrev pub listed_publications : State → ℕ → List ListedCounter
 listed_publications s principal =
-    map (publication_row s) (filter (shows_publication s principal) s.streams.publications)
+    map (publication_row s) (filter (shows_publication s principal) s.streams.sources)
 
 -- the counters that the policy in force shows to the principal, by their numbers
 abbrev pub listed_to : State → ℕ → List ListedCounter
@@ -96,15 +96,15 @@ verdict_for s principal counter = verdict_of s.policy s.epoch (question_for prin
 abbrev pub value_under : Verdict → ℤ → Shown
 value_under verdict value = if verdict.allow then shown_as.Value value else shown_as.Denied verdict
 
-abbrev pub publication_value : State → ℕ → Option Publication → Shown
+abbrev pub publication_value : State → ℕ → Option Source → Shown
 publication_value s principal None = shown_as.UnknownCounter
 publication_value s principal (Some publication) =
-    value_under (publication_verdict s principal publication) (registered_with s publication.source)
+    value_under (publication_verdict s principal publication) (registered_with s publication.number)
 
 -- numbers are drawn from one sequence, so that no publication has that of a counter
 abbrev pub value_by : State → ℕ → ℕ → Option Counter → Shown
 value_by s principal number None =
-    publication_value s principal (publication_at s.streams.publications number)
+    publication_value s principal (source_at s.streams.sources number)
 value_by s principal number (Some counter) = value_under (verdict_for s principal counter) counter.value
 
 abbrev pub value_for : State → ℕ → Option Client → Shown

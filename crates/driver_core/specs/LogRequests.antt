@@ -3,7 +3,7 @@ use Rattle.std.specs.Prelude.{ℕ, ℤ, Bool, ◌==◌, ◌&&◌, List, find, Op
 use Rattle.std.specs.List.{list_any}
 use Rattle.driver_core.specs.declared.log_request.LogRequest.{LogRequest}
 use Rattle.driver_core.specs.Pairs.{pairs_of}
-use Rattle.driver_core.specs.Renewal.{publication_at, subscription_at}
+use Rattle.driver_core.specs.Renewal.{source_at, subscription_at}
 use Rattle.driver_core.specs.State.{State}
 use Rattle.client_registry.specs.declared.client.Client.{Client}
 use Rattle.client_registry.specs.Clients.{client_at}
@@ -12,7 +12,7 @@ use Rattle.policy_core.specs.declared.act.Act.{Act}
 use Rattle.policy_core.specs.declared.act.Act.TheVariants.{Offer, Receive}
 use Rattle.policy_core.specs.declared.decision.Decision.{Decision}
 use Rattle.policy_core.specs.Rules.{verdict_of}
-use Rattle.stream_registry.specs.declared.row.Publication.{Publication}
+use Rattle.stream_registry.specs.declared.row.Source.{Source}
 use Rattle.stream_registry.specs.declared.row.Registration.{Registration}
 use Rattle.stream_registry.specs.declared.row.Subscription.{Subscription}
 use Rattle.stream_registry.specs.Pairs.{is_of}
@@ -34,10 +34,10 @@ abbrev pub registration_at : List Registration → ℕ → ℕ → Option Regist
 registration_at registrations client number =
     find (λ registration. registration.number == number && registration.client == client) registrations
 
-abbrev pub offered_on : State → Client → Registration → Option Publication → Option LogRequest
+abbrev pub offered_on : State → Client → Registration → Option Source → Option LogRequest
 offered_on s client registration None = None
 offered_on s client registration (Some publication) = Some (record {
-  source = publication.source;
+  source = publication.number;
   decision = row_decision s client Offer registration.number registration.channel publication.stream;
 })
 
@@ -45,7 +45,7 @@ abbrev pub offered_by : State → Option Client → Option Registration → Opti
 offered_by s None registration = None
 offered_by s (Some client) None = None
 offered_by s (Some client) (Some registration) =
-    offered_on s client registration (publication_at s.streams.publications registration.source)
+    offered_on s client registration (source_at s.streams.sources registration.source)
 
 -- which log the client's registration is with, and whether the policy in force lets the client put messages into it, on the
 -- registration's own channel and the log's stream

@@ -23,7 +23,7 @@ use Rattle.policy_core.specs.declared.decision.Decision.{Decision}
 use Rattle.stream_registry.specs.declared.fault.StreamFault.{StreamFault}
 use Rattle.stream_registry.specs.declared.fault.StreamFault.TheVariants as fault
 use Rattle.stream_registry.specs.declared.lingering.LogPlace.{LogPlace}
-use Rattle.stream_registry.specs.declared.row.Publication.{Publication}
+use Rattle.stream_registry.specs.declared.row.Source.{Source}
 use Rattle.stream_registry.specs.declared.wanted.Adding.{Adding}
 use Rattle.stream_registry.specs.declared.wanted.Adding.TheVariants.{Join, Make}
 use Rattle.stream_registry.specs.declared.wanted.Wanted.{Wanted}
@@ -49,7 +49,7 @@ abbrev pub place_of_new : State → Wanted → Option ℕ
 place_of_new s wanted = place_for s.streams s.settings.arena_pages wanted
 
 -- the row of the new log, under the next number
-abbrev pub new_log : State → Wanted → ℤ → Publication
+abbrev pub new_log : State → Wanted → ℤ → Source
 new_log s wanted session = log_of s.streams (s.last_number + 1) wanted (unwrap_or (place_of_new s wanted) 0) session
 
 -- a log that is joined needs none

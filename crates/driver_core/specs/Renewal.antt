@@ -18,13 +18,13 @@ use Rattle.policy_core.specs.declared.decision.Decision.{Decision}
 use Rattle.policy_core.specs.RuleList.{Rules}
 use Rattle.policy_core.specs.Rules.{verdict_of}
 use Rattle.stream_registry.specs.declared.pairs.Pair.{Pair}
-use Rattle.stream_registry.specs.declared.row.Publication.{Publication}
+use Rattle.stream_registry.specs.declared.row.Source.{Source}
 use Rattle.stream_registry.specs.declared.row.Subscription.{Subscription}
 use Rattle.stream_registry.specs.Pairs.{image_question, is_pair, pair_of}
 
 -- the rows of a pair
-abbrev pub publication_at : List Publication → ℕ → Option Publication
-publication_at publications source = find (λ publication. publication.source == source) publications
+abbrev pub source_at : List Source → ℕ → Option Source
+source_at logs number = find (λ log. log.number == number) logs
 
 abbrev pub subscription_at : List Subscription → ℕ → Option Subscription
 subscription_at subscriptions number = find (λ subscription. subscription.number == number) subscriptions
@@ -52,19 +52,19 @@ position_by (Some end) = end.position
 abbrev pub position_at : List End → ℕ → ℕ
 position_at ends source = position_by (find (λ end. end.source == source) ends)
 
-abbrev pub available_to : List End → Pair → Option Publication → Option Subscription → List Message
+abbrev pub available_to : List End → Pair → Option Source → Option Subscription → List Message
 available_to ends pair None subscription = []
-available_to ends pair (Some publication) None = []
-available_to ends pair (Some publication) (Some subscription) =
+available_to ends pair (Some log) None = []
+available_to ends pair (Some log) (Some subscription) =
     record {
       client = subscription.client;
-      reply = AvailableImage pair.source pair.subscription publication.session publication.stream (position_at ends pair.source);
+      reply = AvailableImage pair.source pair.subscription log.session log.stream (position_at ends pair.source);
     }
     ∷ []
 
 unfoldable pub available_for : State → List End → Pair → List Message
 available_for s ends pair =
-    available_to ends pair (publication_at s.streams.publications pair.source)
+    available_to ends pair (source_at s.streams.sources pair.source)
     (subscription_at s.streams.subscriptions pair.subscription)
 
 -- first of the pairs that went, then of those that came, each by source and then subscription
@@ -87,16 +87,16 @@ abbrev pub decided_for : State → Subscription → Option ℕ → List Decision
 decided_for s subscription None = []
 decided_for s subscription (Some principal) = image_decision s subscription principal ∷ []
 
-abbrev pub decided_to : State → Option Publication → Option Subscription → List Decision
+abbrev pub decided_to : State → Option Source → Option Subscription → List Decision
 decided_to s None subscription = []
-decided_to s (Some publication) None = []
-decided_to s (Some publication) (Some subscription) =
+decided_to s (Some log) None = []
+decided_to s (Some log) (Some subscription) =
     decided_for s subscription (principal_at s.clients.rows subscription.client)
 
 -- nothing is decided on a pair whose log or subscription went: it is the policy that takes the others away
 unfoldable pub decided_on : State → Pair → List Decision
 decided_on s pair =
-    decided_to s (publication_at s.streams.publications pair.source)
+    decided_to s (source_at s.streams.sources pair.source)
     (subscription_at s.streams.subscriptions pair.subscription)
 
 -- under another policy, which goes by this number
@@ -161,22 +161,22 @@ unavailable_beside s clients pair = if is_of_any s.streams clients pair then [] 
 -- ---- where a subscription comes
 
 -- what its client is told of a log that it reads
-abbrev pub available_on : List Publication → List End → Subscription → Pair → List Message
-available_on publications ends subscription pair =
-    available_to ends pair (publication_at publications pair.source) (Some subscription)
+abbrev pub available_on : List Source → List End → Subscription → Pair → List Message
+available_on logs ends subscription pair =
+    available_to ends pair (source_at logs pair.source) (Some subscription)
 
 -- what is decided on it
 abbrev pub decided_with : State → Subscription → Pair → List Decision
 decided_with s subscription pair =
-    decided_to s (publication_at s.streams.publications pair.source) (Some subscription)
+    decided_to s (source_at s.streams.sources pair.source) (Some subscription)
 
 -- what it tells that a subscription comes, by what its own rule tells
 abbrev pub outcome_coming : State → Inputs → Told → Subscription → Outcome
 outcome_coming s inputs told subscription =
-    let come : List Pair = pairs_with s.clients.rows s.policy s.epoch s.streams.publications subscription in
+    let come : List Pair = pairs_with s.clients.rows s.policy s.epoch s.streams.sources subscription in
     record {
       response = told.response;
-      replies = told.replies ++ flat_map (available_on s.streams.publications inputs.ends subscription) come;
+      replies = told.replies ++ flat_map (available_on s.streams.sources inputs.ends subscription) come;
       decisions = told.decisions ++ flat_map (decided_with s subscription) come;
       opens = told.opens;
       closes = told.closes;
@@ -187,11 +187,11 @@ outcome_coming s inputs told subscription =
 -- ---- where a log comes
 
 -- those of these subscriptions that read it
-abbrev pub reading : State → Publication → List Subscription → List Subscription
+abbrev pub reading : State → Source → List Subscription → List Subscription
 reading s log subscriptions = filter (is_pair s.clients.rows s.policy s.epoch log) subscriptions
 
 -- what the client of such a subscription is told
-abbrev pub available_from : List End → Publication → Subscription → List Message
+abbrev pub available_from : List End → Source → Subscription → List Message
 available_from ends log subscription = available_to ends (pair_of log subscription) (Some log) (Some subscription)
 
 -- what is decided on it
@@ -199,7 +199,7 @@ abbrev pub decided_from : State → Subscription → List Decision
 decided_from s subscription = decided_for s subscription (principal_at s.clients.rows subscription.client)
 
 -- what it tells that a log comes, by what its own rule tells
-abbrev pub outcome_opening : State → Inputs → Told → Publication → Outcome
+abbrev pub outcome_opening : State → Inputs → Told → Source → Outcome
 outcome_opening s inputs told log =
     let readers : List Subscription = reading s log s.streams.subscriptions in
     record {

@@ -8,7 +8,7 @@ use Rattle.driver_core.specs.declared.settings.Settings.{Settings}
 use Rattle.driver_core.specs.State.{State}
 use Rattle.stream_registry.specs.declared.lingering.LogPlace.{LogPlace}
 use Rattle.stream_registry.specs.declared.measures.Measures.{Measures}
-use Rattle.stream_registry.specs.declared.row.Publication.{Publication}
+use Rattle.stream_registry.specs.declared.row.Source.{Source}
 use Rattle.stream_registry.specs.Lingering.{place_of}
 use Rattle.stream_registry.specs.LogPages.{log_pages}
 use Rattle.stream_registry.specs.PageLaws.{IsVacant, IsLaidOut}
@@ -29,33 +29,33 @@ pub record AreSettings (settings : Settings) : Type 0 where
   pub few_pages : settings.arena_pages ≤ 65536
 
 -- the source numbers ascend, behind that number and up to the last one that was drawn
-abbrev pub Ascend : ℕ → ℕ → List Publication → Type 0
+abbrev pub Ascend : ℕ → ℕ → List Source → Type 0
 Ascend before last [] = before ≤ last
-Ascend before last (publication ∷ publications) =
-    (before < publication.source) × Ascend publication.source last publications
+Ascend before last (log ∷ logs) =
+    (before < log.number) × Ascend log.number last logs
 
 pub record IsSound (s : State) : Type 0 where
   pub defaults : AreSizes s.streams.defaults
-  pub sizes : All (λ publication. AreSizes publication.measures) s.streams.publications
-  pub numbered : Ascend 0 s.last_number s.streams.publications
+  pub sizes : All (λ log. AreSizes log.measures) s.streams.sources
+  pub numbered : Ascend 0 s.last_number s.streams.sources
   pub laid_out : IsLaidOut s.settings.arena_pages s.streams
   pub subscriptions : length s.streams.subscriptions ≤ 512
 
 -- ---- what an event does to the logs
 
 -- a log, whether it lingers or not
-abbrev pub log_of : Publication → Publication
-log_of publication = record publication { lingering_since = None }
+abbrev pub log_of : Source → Source
+log_of log = record log { lingering_since = None }
 
 -- it is none of those that close
-abbrev pub is_left : List LogPlace → Publication → Bool
-is_left closes publication = not (list_any (λ closed. closed.source == publication.source) closes)
+abbrev pub is_left : List LogPlace → Source → Bool
+is_left closes log = not (list_any (λ closed. closed.source == log.number) closes)
 
 -- the log that opens, if one does, at the least place where it shares no page with those that are there
-abbrev pub Opens : State → Option LogPlace → List Publication → Type 0
+abbrev pub Opens : State → Option LogPlace → List Source → Type 0
 Opens s None logs = logs ≡ []
 Opens s (Some place) logs =
-    (log : Publication)
+    (log : Source)
     × (logs ≡ log ∷ [])
     × (place_of log ≡ place)
     × (log.lingering_since ≡ None)
@@ -66,9 +66,9 @@ Opens s (Some place) logs =
 pub record MovesLogs (s : State) (change : Change) : Type 0 where
   pub sound : IsSound change.after
   pub settings : change.after.settings ≡ s.settings
-  pub opened : List Publication
+  pub opened : List Source
   pub opens : Opens s change.outcome.opens opened
   pub stays : filter (is_left change.outcome.closes) opened ≡ opened
   pub logs :
-      map log_of change.after.streams.publications
-      ≡ filter (is_left change.outcome.closes) (map log_of s.streams.publications) ++ opened
+      map log_of change.after.streams.sources
+      ≡ filter (is_left change.outcome.closes) (map log_of s.streams.sources) ++ opened

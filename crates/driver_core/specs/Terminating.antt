@@ -35,7 +35,7 @@ terminated s client correlation = record {
   later = [];
   decisions = termination_decision s client ∷ [];
   opens = None;
-  closes = map place_of s.streams.publications;
+  closes = map place_of s.streams.sources;
 }
 
 -- denied, or done

@@ -15,17 +15,17 @@ use crate::replies::{Message, Reply};
 use byte_strings::Items;
 use policy_core::{Act, Decision, Request};
 use std::alloc::{AllocError, Global};
-use stream_registry::{Pair, Publication, Subscription, Wish, fits};
+use stream_registry::{Pair, Source, Subscription, Wish, fits};
 
 /// What the subscription's client is told of a log that it reads, and from which position on.
-fn available(ends: &[End], pair: Pair, publication: &Publication, wish: &Wish<'_>) -> Message
-    ensures { result ∷ [] ≡ available_to ends.now pair (Some publication.now) (Some (row_of wish.now)) }
+fn available(ends: &[End], pair: Pair, log: &Source, wish: &Wish<'_>) -> Message
+    ensures { result ∷ [] ≡ available_to ends.now pair (Some log.now) (Some (row_of wish.now)) }
 {
     let reply = Reply::AvailableImage {
         source: pair.source,
         subscription: pair.subscription,
-        session: publication.session,
-        stream: publication.stream,
+        session: log.session,
+        stream: log.stream,
         position: position_at(ends, pair.source),
     };
     Message {
@@ -43,12 +43,12 @@ impl Registry {
         wish: &Wish<'_>,
         pair: Pair,
     ) -> Result<(), AllocError>
-        ensures { OnOk result (messages.new ≡ messages.old ++ available_on self.now.streams.publications ends.now (row_of wish.now) pair) }
+        ensures { OnOk result (messages.new ≡ messages.old ++ available_on self.now.streams.sources ends.now (row_of wish.now) pair) }
     {
-        let Some(publication) = self.publication(pair.source) else {
+        let Some(log) = self.source(pair.source) else {
             return Ok(());
         };
-        messages.push(available(ends, pair, publication, wish))
+        messages.push(available(ends, pair, log, wish))
     }
 
     /// Tells the subscription's client of the logs that it reads.
@@ -59,7 +59,7 @@ impl Registry {
         wish: &Wish<'_>,
         come: &[Pair],
     ) -> Result<(), AllocError>
-        ensures { OnOk result (messages.new ≡ messages.old ++ flat_map (available_on self.now.streams.publications ends.now (row_of wish.now)) come.now) }
+        ensures { OnOk result (messages.new ≡ messages.old ++ flat_map (available_on self.now.streams.sources ends.now (row_of wish.now)) come.now) }
     {
         for pair in come {
             self.push_available_on(messages, ends, wish, *pair)?;
@@ -109,7 +109,7 @@ impl Registry {
         requires { decided.now ≡ decided_for self.now (row_of wish.now) (principal_at self.now.clients.rows wish.now.client) }
         ensures { OnOk result (decisions.new ≡ decisions.old ++ decided_with self.now (row_of wish.now) pair) }
     {
-        if self.publication(pair.source).is_none() {
+        if self.source(pair.source).is_none() {
             return Ok(());
         }
         push_all(decisions, decided)
@@ -134,7 +134,7 @@ impl Registry {
 
     /// On which decision a subscription reads the log, if it does. The policy is asked where they fit.
     #[tactic(auto, unfolding(stream_registry::specs::Pairs::is_allowed))]
-    fn read_on(&self, log: &Publication, wish: &Wish<'_>) -> Option<Decision>
+    fn read_on(&self, log: &Source, wish: &Wish<'_>) -> Option<Decision>
         ensures reads { is_some result ≡ is_pair self.now.clients.rows self.now.policy self.now.epoch log.now (row_of wish.now) }
         ensures decided { (decision : DecisionSpec) → result ≡ Some decision → decided_from self.now (row_of wish.now) ≡ decision ∷ [] }
     {
@@ -157,7 +157,7 @@ impl Registry {
         decisions: &mut Items<Decision>,
         come: &mut Items<Pair>,
         ends: &[End],
-        log: &Publication,
+        log: &Source,
         subscriptions: &[Subscription],
     ) -> Result<(), AllocError>
         ensures told { OnOk result (messages.new ≡ messages.old ++ flat_map (available_from ends.now log.now) (reading self.now log.now subscriptions.now)) }
@@ -168,7 +168,7 @@ impl Registry {
             let wish = subscription.wish();
             if let Some(decision) = self.read_on(log, &wish) {
                 let pair = Pair {
-                    source: log.source,
+                    source: log.number,
                     subscription: subscription.number,
                 };
                 messages.push(available(ends, pair, log, &wish))?;

@@ -1,20 +1,20 @@
 ghost use Rattle.driver_core.specs.LogRequests.{registration_at};
-ghost use Rattle.driver_core.specs.Renewal.{publication_at, subscription_at};
+ghost use Rattle.driver_core.specs.Renewal.{source_at, subscription_at};
 ghost use Rattle.log_readers.specs.Numbering.{Rises, registered_as};
 ghost use Rattle.std.specs.Option.{option_copied};
 ghost use Rattle.std.specs.Prelude.{◌≡◌, ◌==◌, find};
 
 use crate::registry::Registry;
-use stream_registry::{Publication, Registration, Subscription};
+use stream_registry::{Registration, Source, Subscription};
 
 impl Registry {
-    /// The live publication of this source number. Numbers rise, so a search finds it.
-    pub fn publication(&self, source: u64) -> Option<&Publication>
-        ensures { option_copied result ≡ publication_at self.now.streams.publications source }
+    /// The live log of this number. Numbers rise, so a search finds it.
+    pub fn source(&self, number: u64) -> Option<&Source>
+        ensures { option_copied result ≡ source_at self.now.streams.sources number }
     {
-        let publications = self.streams.publications();
-        match publications.binary_search_by_key(&source, |publication| publication.source) {
-            Ok(at) => Some(&publications[at]),
+        let logs = self.streams.sources();
+        match logs.binary_search_by_key(&number, |log| log.number) {
+            Ok(at) => Some(&logs[at]),
             Err(_) => None,
         }
     }

@@ -1,5 +1,5 @@
 ghost use Rattle.driver_core.specs.Listing.{row_of, registered_with, publication_row, publication_verdict, shows_publication, with_row, with_rows, list, publication_value, value_under, value};
-ghost use Rattle.driver_core.specs.Renewal.{publication_at};
+ghost use Rattle.driver_core.specs.Renewal.{source_at};
 ghost use Rattle.std.specs.Prelude.{◌≡◌, map, filter, IfOk, OnOk};
 
 use crate::registry::Registry;
@@ -8,7 +8,7 @@ use channel_uri::Channel;
 use counters::Counter;
 use policy_core::{Act, Request, Verdict};
 use std::alloc::{AllocError, Global};
-use stream_registry::Publication;
+use stream_registry::Source;
 
 /// The type id of the counters that tell of publications.
 const PUBLICATION_TYPE: i32 = 10001;
@@ -82,20 +82,20 @@ fn registrations_of(registry: &Registry, source: u64) -> i64
 fn publication_row(
     registry: &Registry,
     alloc: Global,
-    publication: &Publication,
+    publication: &Source,
 ) -> Result<ListedCounter, AllocError>
     ensures { IfOk result (λ row. row ≡ publication_row registry.now publication.now) }
 {
     Ok(ListedCounter {
-        number: publication.source,
+        number: publication.number,
         type_id: PUBLICATION_TYPE,
-        value: registrations_of(registry, publication.source),
+        value: registrations_of(registry, publication.number),
         label: publication.channel.canonical(alloc)?,
     })
 }
 
 /// What the policy in force decides on showing the publication.
-fn publication_verdict(registry: &Registry, principal: u32, publication: &Publication) -> Verdict
+fn publication_verdict(registry: &Registry, principal: u32, publication: &Source) -> Verdict
     ensures { result ≡ publication_verdict registry.now principal publication.now }
 {
     let request = Request {
@@ -125,11 +125,11 @@ fn put_publications(
     registry: &Registry,
     alloc: Global,
     principal: u32,
-    publications: &[Publication],
+    logs: &[Source],
 ) -> Result<(), AllocError>
-    ensures { OnOk result (rows.new.items ≡ with_rows rows.old.items (map (publication_row registry.now) (filter (shows_publication registry.now principal) publications.now))) }
+    ensures { OnOk result (rows.new.items ≡ with_rows rows.old.items (map (publication_row registry.now) (filter (shows_publication registry.now principal) logs.now))) }
 {
-    for publication in publications {
+    for publication in logs {
         if publication_verdict(registry, principal, publication).allow {
             put_row(rows, publication_row(registry, alloc, publication)?)?;
         }
@@ -150,13 +150,13 @@ fn value_under(verdict: Verdict, value: i64) -> Shown
 
 /// What a client is told of the publication of this number.
 fn publication_value(registry: &Registry, principal: u32, number: u64) -> Shown
-    ensures { result ≡ publication_value registry.now principal (publication_at registry.now.streams.publications number) }
+    ensures { result ≡ publication_value registry.now principal (source_at registry.now.streams.sources number) }
 {
-    let Some(publication) = registry.publication(number) else {
+    let Some(publication) = registry.source(number) else {
         return Shown::UnknownCounter;
     };
     let verdict = publication_verdict(registry, principal, publication);
-    value_under(verdict, registrations_of(registry, publication.source))
+    value_under(verdict, registrations_of(registry, publication.number))
 }
 
 impl Registry {
@@ -175,8 +175,8 @@ impl Registry {
             .counters
             .visible(alloc, self.compiled.policy(), client.principal)?;
         let mut rows = rows_of(alloc, shown.as_slice())?;
-        let publications = self.streams.publications();
-        put_publications(&mut rows, self, alloc, client.principal, publications)?;
+        let logs = self.streams.sources();
+        put_publications(&mut rows, self, alloc, client.principal, logs)?;
         Ok(Listed::Counters(Items::from(rows)))
     }
 

@@ -52,9 +52,9 @@ impl Registry {
     {
         let holder = self.clients.get(client)?;
         let registration = self.own_registration(client, registration)?;
-        let publication = self.publication(registration.source)?;
+        let publication = self.source(registration.source)?;
         Some(LogRequest {
-            source: publication.source,
+            source: publication.number,
             decision: self.row_decision(
                 holder,
                 Act::Offer,
@@ -73,8 +73,8 @@ impl Registry {
     {
         let _holder = self.clients.get(client)?;
         let registration = self.own_registration(client, registration)?;
-        let publication = self.publication(registration.source)?;
-        Some(publication.source)
+        let publication = self.source(registration.source)?;
+        Some(publication.number)
     }
 
     /// Whether the subscription of this number reads a log of this source number.

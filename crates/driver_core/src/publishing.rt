@@ -24,7 +24,7 @@ use client_registry::Client;
 use command_codec::AddPublication;
 use policy_core::{Act, Decision};
 use std::alloc::{AllocError, Global};
-use stream_registry::{Adding, LogPlace, Publication, StreamFault, Wanted};
+use stream_registry::{Adding, LogPlace, Source, StreamFault, Wanted};
 
 /// On which decision a publication is granted, and what the lists make of it.
 #[derive(Clone, Copy)]
@@ -118,7 +118,7 @@ impl Registry {
     }
 
     /// The row of the log that would be made under the next number.
-    fn new_log(&self, wanted: &Wanted, session: i32) -> Publication
+    fn new_log(&self, wanted: &Wanted, session: i32) -> Source
         requires { has_number self.now ≡ true }
         ensures { result ≡ new_log self.now wanted.now session }
     {
@@ -223,7 +223,7 @@ impl Registry {
         let log = self.new_log(wanted, session);
         let mut told = told;
         told.opens = Some(LogPlace {
-            source: log.source,
+            source: log.number,
             place: log.place,
         });
         let mut come = Items::new(alloc);

@@ -58,7 +58,7 @@ fn tell_available(
 ) -> Result<(), AllocError>
     ensures { OnOk result (messages.new ≡ messages.old ++ available_for after.now ends.now pair) }
 {
-    let Some(publication) = after.publication(pair.source) else {
+    let Some(log) = after.source(pair.source) else {
         return Ok(());
     };
     let Some(subscription) = after.subscription(pair.subscription) else {
@@ -67,8 +67,8 @@ fn tell_available(
     let reply = Reply::AvailableImage {
         source: pair.source,
         subscription: pair.subscription,
-        session: publication.session,
-        stream: publication.stream,
+        session: log.session,
+        stream: log.stream,
         position: position_at(ends, pair.source),
     };
     messages.push(Message {
@@ -130,7 +130,7 @@ fn decide_on(
 ) -> Result<(), AllocError>
     ensures { OnOk result (decisions.new ≡ decisions.old ++ decided_on (under lists.now policy.now epoch) pair) }
 {
-    if lists.publication(pair.source).is_none() {
+    if lists.source(pair.source).is_none() {
         return Ok(());
     }
     let Some(subscription) = lists.subscription(pair.subscription) else {

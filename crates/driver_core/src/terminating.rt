@@ -18,17 +18,17 @@ use channel_uri::Channel;
 use client_registry::Client;
 use policy_core::{Act, Decision};
 use std::alloc::{AllocError, Global};
-use stream_registry::{LogPlace, Publication};
+use stream_registry::{LogPlace, Source};
 
-/// The logs of the publications, by their source numbers.
-fn places_of(alloc: Global, publications: &[Publication]) -> Result<Items<LogPlace>, AllocError>
-    ensures { IfOk result (λ places. places ≡ map place_of publications.now) }
+/// Where these logs lie, by their source numbers.
+fn places_of(alloc: Global, logs: &[Source]) -> Result<Items<LogPlace>, AllocError>
+    ensures { IfOk result (λ places. places ≡ map place_of logs.now) }
 {
     let mut places = Items::new(alloc);
-    for publication in publications {
+    for log in logs {
         places.push(LogPlace {
-            source: publication.source,
-            place: publication.place,
+            source: log.number,
+            place: log.place,
         })?;
     }
     Ok(places)
@@ -77,7 +77,7 @@ impl Registry {
             correlation: asking.correlation,
         };
         let mut told = Told::replied_on(alloc, decision, asking.client.number, reply)?;
-        told.closes = places_of(alloc, self.streams.publications())?;
+        told.closes = places_of(alloc, self.streams.sources())?;
         let gone = self.pairs(alloc)?;
         renewal::go_alone(alloc, told, gone)
     }

@@ -9,7 +9,7 @@ use Rattle.std.proofs.lemmas.List.Sums.{sum_by-cons}
 use Rattle.log_readers.specs.Numbering.{number_of}
 use Rattle.log_readers.specs.Readers.{all_readers, readers_at}
 use Rattle.log_readers.specs.Turnover.{is_read_by, pair_with, pairs_with}
-use Rattle.stream_registry.specs.declared.row.Publication.{Publication}
+use Rattle.stream_registry.specs.declared.row.Source.{Source}
 use Rattle.stream_registry.specs.declared.row.Subscription.{Subscription}
 use Rattle.stream_registry.specs.declared.wanted.Adding.TheVariants.{Make}
 use Rattle.stream_registry.specs.declared.wanted.Wanted.{Wanted}
@@ -71,7 +71,7 @@ summed : {a b d e f g : ℕ} (c : ℕ) → a ≡ b + d → b ≡ c → e ≡ c �
 summed c p q r s t = omega (arith, p, q, r, s, t)
 
 module _ (clients : List Client) (policy : Rules) (epoch : ℕ) where
-  totals : (subs : List Subscription) (logs : List Publication) →
+  totals : (subs : List Subscription) (logs : List Source) →
       sum_by (λ (numbers : List ℕ). length numbers) (map (readers_at clients policy epoch subs) logs)
       ≡ length (flat_map (pairs_at clients policy epoch subs) logs)
   totals subs [] = refl
@@ -88,15 +88,15 @@ module _ (clients : List Client) (policy : Rules) (epoch : ℕ) where
   pub readers_are_pairs : (s : Streams) →
       sum_by (λ (numbers : List ℕ). length numbers) (all_readers s clients policy epoch) ≡ length (pairs_of s clients policy epoch)
   unfolding all_readers pairs_of
-  readers_are_pairs s = totals s.subscriptions s.publications
+  readers_are_pairs s = totals s.subscriptions s.sources
 
   -- nobody reads
-  pub no_pairs : (logs : List Publication) → length (flat_map (pairs_at clients policy epoch []) logs) ≡ 0
+  pub no_pairs : (logs : List Source) → length (flat_map (pairs_at clients policy epoch []) logs) ≡ 0
   no_pairs [] = refl
   no_pairs (log ∷ logs) = no_pairs logs
 
   -- a subscription brings its own
-  pub pairs_with_row : (row : Subscription) (subs : List Subscription) (logs : List Publication) →
+  pub pairs_with_row : (row : Subscription) (subs : List Subscription) (logs : List Source) →
       length (flat_map (pairs_at clients policy epoch (subs ++ row ∷ [])) logs)
       ≡ length (flat_map (pairs_at clients policy epoch subs) logs) + length (pairs_with clients policy epoch logs row)
   pairs_with_row row subs logs =
@@ -107,11 +107,11 @@ module _ (clients : List Client) (policy : Rules) (epoch : ℕ) where
   pub pairs_with_subscription : (s : Streams) (number client : ℕ) (channel : Shape) (stream : ℤ) →
       length (pairs_of (subscribed s number client channel stream) clients policy epoch)
       ≡ length (pairs_of s clients policy epoch)
-      + length (pairs_with clients policy epoch s.publications
+      + length (pairs_with clients policy epoch s.sources
       (record { number = number; client = client; channel = channel; stream = stream }))
   unfolding subscribed pairs_of
   pairs_with_subscription s number client channel stream =
-      pairs_with_row (record { number = number; client = client; channel = channel; stream = stream }) s.subscriptions s.publications
+      pairs_with_row (record { number = number; client = client; channel = channel; stream = stream }) s.subscriptions s.sources
 
   -- and so does a log
   pub pairs_with_log : (s : Streams) (number client : ℕ) (wanted : Wanted) (place : ℕ) (session : ℤ) →
@@ -120,4 +120,4 @@ module _ (clients : List Client) (policy : Rules) (epoch : ℕ) where
       + length (pairs_at clients policy epoch s.subscriptions (log_of s number wanted place session))
   unfolding pairs_of
   pairs_with_log s number client wanted place session =
-      log_more (pairs_at clients policy epoch s.subscriptions) (log_of s number wanted place session) s.publications
+      log_more (pairs_at clients policy epoch s.subscriptions) (log_of s number wanted place session) s.sources

@@ -3,7 +3,7 @@ use Rattle.std.proofs.Common.{◌≡◌, ℕ, ◌<◌, ◌≤◌, ℤ, ◌==◌,
 use Rattle.std.proofs.lemmas.Bool.{not-true}
 use Rattle.std.proofs.lemmas.List.Elements.{All-filter, All-nil, All-push, All-weaker, filter_passes}
 use Rattle.log_readers.specs.Numbering.{AreInOrder, IsOwned, number_of, registered_as, source_of}
-use Rattle.stream_registry.specs.declared.row.Publication.{Publication}
+use Rattle.stream_registry.specs.declared.row.Source.{Source}
 use Rattle.stream_registry.specs.declared.row.Subscription.{Subscription}
 use Rattle.stream_registry.specs.declared.wanted.Adding.TheVariants.{Join, Make}
 use Rattle.stream_registry.specs.declared.wanted.Wanted.{Wanted}
@@ -21,7 +21,7 @@ use Rattle.log_readers.proofs.RisingLemmas.{rises_kept, rises_mapped, rises_push
 pub later_in_order : (s : Streams) (clients : List Client) (last next : ℕ) → AreInOrder s clients last → last ≤ next →
     AreInOrder s clients next
 later_in_order s clients last next h more = record {
-  sources = rises_up_to source_of 0 last next s.publications more h.sources;
+  sources = rises_up_to source_of 0 last next s.sources more h.sources;
   registered = rises_up_to registered_as 0 last next s.registrations more h.registered;
   numbers = rises_up_to number_of 0 last next s.subscriptions more h.numbers;
   owned = h.owned;
@@ -35,7 +35,7 @@ unfolding subscribed
 subscribed_in_order s clients last next number client channel stream h above below owned =
     let row : Subscription = record { number = number; client = client; channel = channel; stream = stream } in
     record {
-      sources = rises_up_to source_of 0 last next s.publications (omega (arith, above, below)) h.sources;
+      sources = rises_up_to source_of 0 last next s.sources (omega (arith, above, below)) h.sources;
       registered = rises_up_to registered_as 0 last next s.registrations (omega (arith, above, below)) h.registered;
       numbers = rises_push number_of 0 last next s.subscriptions row h.numbers above below;
       owned = All-push (IsOwned clients) s.subscriptions row h.owned owned;
@@ -45,7 +45,7 @@ pub made_in_order : (s : Streams) (clients : List Client) (last next number clie
     AreInOrder s clients last → last < number → number ≤ next →
     AreInOrder (added s number client wanted place (Make session)) clients next
 made_in_order s clients last next number client wanted place session h above below = record {
-  sources = rises_push source_of 0 last next s.publications (log_of s number wanted place session) h.sources above below;
+  sources = rises_push source_of 0 last next s.sources (log_of s number wanted place session) h.sources above below;
   registered = rises_push registered_as 0 last next s.registrations (registration_of number client wanted number) h.registered above below;
   numbers = rises_up_to number_of 0 last next s.subscriptions (omega (arith, above, below)) h.numbers;
   owned = h.owned;
@@ -55,7 +55,7 @@ pub joined_in_order : (s : Streams) (clients : List Client) (last next number cl
     AreInOrder s clients last → last < number → number ≤ next →
     AreInOrder (added s number client wanted place (Join source session)) clients next
 joined_in_order s clients last next number client wanted place source session h above below = record {
-  sources = rises_up_to source_of 0 last next s.publications (omega (arith, above, below)) h.sources;
+  sources = rises_up_to source_of 0 last next s.sources (omega (arith, above, below)) h.sources;
   registered = rises_push registered_as 0 last next s.registrations (registration_of number client wanted source) h.registered above below;
   numbers = rises_up_to number_of 0 last next s.subscriptions (omega (arith, above, below)) h.numbers;
   owned = h.owned;
@@ -71,7 +71,7 @@ unsubscribed_in_order s clients last client number h = record {
   owned = All-filter (is_another_subscription client number) (IsOwned clients) s.subscriptions h.owned;
 }
 
-source_settled : (b : Bool) (now : ℕ) (log : Publication) → source_of (cond b log (left_alone now log)) ≡ source_of log
+source_settled : (b : Bool) (now : ℕ) (log : Source) → source_of (cond b log (left_alone now log)) ≡ source_of log
 source_settled true now log = refl
 source_settled false now log = refl
 
@@ -79,8 +79,8 @@ pub settled_in_order : (s : Streams) (clients : List Client) (last now : ℕ) �
     AreInOrder (settled s now) clients last
 unfolding settled
 settled_in_order s clients last now h = record {
-  sources = rises_mapped source_of (settled_one s.registrations now) 0 last s.publications
-      (λ log. source_settled (is_used s.registrations log.source) now log) h.sources;
+  sources = rises_mapped source_of (settled_one s.registrations now) 0 last s.sources
+      (λ log. source_settled (is_used s.registrations log.number) now log) h.sources;
   registered = h.registered;
   numbers = h.numbers;
   owned = h.owned;
@@ -119,7 +119,7 @@ pub closed_in_order : (s : Streams) (clients : List Client) (last now : ℕ) →
     AreInOrder (closed s now) clients last
 unfolding closed
 closed_in_order s clients last now h = record {
-  sources = rises_kept source_of (is_not_past now) 0 last s.publications h.sources;
+  sources = rises_kept source_of (is_not_past now) 0 last s.sources h.sources;
   registered = h.registered;
   numbers = h.numbers;
   owned = h.owned;

@@ -6,7 +6,7 @@ use Rattle.log_readers.specs.Numbering.{number_of}
 use Rattle.log_readers.specs.Readers.{readers_at}
 use Rattle.log_readers.specs.Turnover.{is_read_by, pair_with, pairs_with}
 use Rattle.stream_registry.specs.declared.pairs.Pair.{Pair}
-use Rattle.stream_registry.specs.declared.row.Publication.{Publication}
+use Rattle.stream_registry.specs.declared.row.Source.{Source}
 use Rattle.stream_registry.specs.declared.row.Subscription.{Subscription}
 use Rattle.stream_registry.specs.Pairs.{is_pair, pair_of, pairs_at}
 use Rattle.client_registry.specs.declared.client.Client.{Client}
@@ -17,15 +17,15 @@ use Rattle.log_readers.proofs.ListLemmas.{filter_flat, filter_mapped, filter_swa
 abbrev pub passes : (ℕ → Bool) → Subscription → Bool
 passes test row = test row.number
 
-abbrev pub log_passes : (ℕ → Bool) → Publication → Bool
-log_passes test log = test log.source
+abbrev pub log_passes : (ℕ → Bool) → Source → Bool
+log_passes test log = test log.number
 
-row_kept : (test : ℕ → Bool) (log : Publication) (read : List Subscription) → test log.source ≡ true →
+row_kept : (test : ℕ → Bool) (log : Source) (read : List Subscription) → test log.number ≡ true →
     filter (λ (pair : Pair). test pair.source) (map (pair_of log) read) ≡ map (pair_of log) read
 row_kept test log [] h = refl
 row_kept test log (one ∷ read) h = rw h (ap (λ (pairs : List Pair). pair_of log one ∷ pairs) (row_kept test log read h))
 
-row_lost : (test : ℕ → Bool) (log : Publication) (read : List Subscription) → test log.source ≡ false →
+row_lost : (test : ℕ → Bool) (log : Source) (read : List Subscription) → test log.number ≡ false →
     filter (λ (pair : Pair). test pair.source) (map (pair_of log) read) ≡ []
 row_lost test log [] h = refl
 row_lost test log (one ∷ read) h = rw h (row_lost test log read h)
@@ -33,7 +33,7 @@ row_lost test log (one ∷ read) h = rw h (row_lost test log read h)
 module _ (clients : List Client) (policy : Rules) (epoch : ℕ) where
   -- ---- subscriptions
 
-  pub pairs_of_part : (test : ℕ → Bool) (subs : List Subscription) (logs : List Publication) →
+  pub pairs_of_part : (test : ℕ → Bool) (subs : List Subscription) (logs : List Source) →
       flat_map (pairs_at clients policy epoch (filter (passes test) subs)) logs
       ≡ filter (λ (pair : Pair). test pair.subscription) (flat_map (pairs_at clients policy epoch subs) logs)
   pairs_of_part test subs logs =
@@ -43,13 +43,13 @@ module _ (clients : List Client) (policy : Rules) (epoch : ℕ) where
       ∙ sym (filter_mapped (λ (pair : Pair). test pair.subscription) (pair_of log) (filter (is_pair clients policy epoch log) subs)))
       ∙ sym (filter_flat (λ (pair : Pair). test pair.subscription) (pairs_at clients policy epoch subs) logs)
 
-  part_at : (test : ℕ → Bool) (subs : List Subscription) (log : Publication) →
+  part_at : (test : ℕ → Bool) (subs : List Subscription) (log : Source) →
       readers_at clients policy epoch (filter (passes test) subs) log ≡ filter test (readers_at clients policy epoch subs log)
   part_at test subs log =
       ap (map number_of) (filter_swap (is_pair clients policy epoch log) (passes test) subs)
       ∙ sym (filter_mapped test number_of (filter (is_pair clients policy epoch log) subs))
 
-  pub readers_of_part : (test : ℕ → Bool) (subs : List Subscription) (logs : List Publication) →
+  pub readers_of_part : (test : ℕ → Bool) (subs : List Subscription) (logs : List Source) →
       map (readers_at clients policy epoch (filter (passes test) subs)) logs
       ≡ map (filter test) (map (readers_at clients policy epoch subs) logs)
   readers_of_part test subs [] = refl
@@ -59,8 +59,8 @@ module _ (clients : List Client) (policy : Rules) (epoch : ℕ) where
 
   -- ---- logs
 
-  one_log : (kept : Bool) (test : ℕ → Bool) (subs : List Subscription) (log : Publication) (rest : List Publication) →
-      test log.source ≡ kept →
+  one_log : (kept : Bool) (test : ℕ → Bool) (subs : List Subscription) (log : Source) (rest : List Source) →
+      test log.number ≡ kept →
       flat_map (pairs_at clients policy epoch subs) (cond kept (log ∷ rest) rest)
       ≡ filter (λ (pair : Pair). test pair.source) (pairs_at clients policy epoch subs log)
       ++ flat_map (pairs_at clients policy epoch subs) rest
@@ -71,12 +71,12 @@ module _ (clients : List Client) (policy : Rules) (epoch : ℕ) where
       ap (λ (pairs : List Pair). pairs ++ flat_map (pairs_at clients policy epoch subs) rest)
       (sym (row_lost test log (filter (is_pair clients policy epoch log) subs) h))
 
-  pub pairs_of_logs : (test : ℕ → Bool) (subs : List Subscription) (logs : List Publication) →
+  pub pairs_of_logs : (test : ℕ → Bool) (subs : List Subscription) (logs : List Source) →
       flat_map (pairs_at clients policy epoch subs) (filter (log_passes test) logs)
       ≡ filter (λ (pair : Pair). test pair.source) (flat_map (pairs_at clients policy epoch subs) logs)
   pairs_of_logs test subs [] = refl
   pairs_of_logs test subs (log ∷ logs) =
-      one_log (test log.source) test subs log (filter (log_passes test) logs) refl
+      one_log (test log.number) test subs log (filter (log_passes test) logs) refl
       ∙ ap (λ (pairs : List Pair). filter (λ (pair : Pair). test pair.source) (pairs_at clients policy epoch subs log) ++ pairs)
       (pairs_of_logs test subs logs)
       ∙ sym (filter-append (λ (pair : Pair). test pair.source) (pairs_at clients policy epoch subs log)
@@ -84,13 +84,13 @@ module _ (clients : List Client) (policy : Rules) (epoch : ℕ) where
 
   -- ---- one subscription alone
 
-  alone_at : (paired : Bool) (row : Subscription) (log : Publication) (rest : List Publication) →
+  alone_at : (paired : Bool) (row : Subscription) (log : Source) (rest : List Source) →
       map (pair_of log) (cond paired (row ∷ []) []) ++ map (pair_with row) rest
       ≡ map (pair_with row) (cond paired (log ∷ rest) rest)
   alone_at true row log rest = refl
   alone_at false row log rest = refl
 
-  pub pairs_alone : (row : Subscription) (logs : List Publication) →
+  pub pairs_alone : (row : Subscription) (logs : List Source) →
       flat_map (pairs_at clients policy epoch (row ∷ [])) logs ≡ pairs_with clients policy epoch logs row
   pairs_alone row [] = refl
   pairs_alone row (log ∷ logs) =

@@ -26,15 +26,15 @@ use Rattle.log_readers.proofs.TurnoverLemmas.{others_by_number, own_alone}
 module _ (clients : List Client) (policy : Rules) (epoch : ℕ) where
   -- ---- how many
 
-  pub as_many_as_logs : (s : Streams) → length (all_readers s clients policy epoch) ≡ length s.publications
+  pub as_many_as_logs : (s : Streams) → length (all_readers s clients policy epoch) ≡ length s.sources
   unfolding all_readers
-  as_many_as_logs s = length-map s.publications (readers_at clients policy epoch s.subscriptions)
+  as_many_as_logs s = length-map s.sources (readers_at clients policy epoch s.subscriptions)
 
   pub has_room_for_number : (s : Streams) → has_room_for_subscription s ≡ true →
       All (λ (numbers : List ℕ). length numbers < 512) (all_readers s clients policy epoch)
   unfolding all_readers
   has_room_for_number s room =
-      all_few clients policy epoch s.subscriptions s.publications 512 (ltb-true (length s.subscriptions) 512 room)
+      all_few clients policy epoch s.subscriptions s.sources 512 (ltb-true (length s.subscriptions) 512 room)
 
   -- ---- which
 
@@ -42,13 +42,13 @@ module _ (clients : List Client) (policy : Rules) (epoch : ℕ) where
   pub subscribed_readers : (s : Streams) (number client : ℕ) (channel : Shape) (stream : ℤ) →
       all_readers (subscribed s number client channel stream) clients policy epoch
       ≡ cond (is_allowed clients policy epoch (record { number = number; client = client; channel = channel; stream = stream }))
-      (noted (record { number = number; client = client; channel = channel; stream = stream }) s.publications
+      (noted (record { number = number; client = client; channel = channel; stream = stream }) s.sources
       (all_readers s clients policy epoch))
       (all_readers s clients policy epoch)
   unfolding all_readers subscribed
   subscribed_readers s number client channel stream =
       noted_more clients policy epoch s.subscriptions
-      (record { number = number; client = client; channel = channel; stream = stream }) s.publications
+      (record { number = number; client = client; channel = channel; stream = stream }) s.sources
 
   -- the number is gone from all logs
   pub unsubscribed_readers : (s : Streams) (client number low last : ℕ) → Rises number_of low last s.subscriptions →
@@ -57,9 +57,9 @@ module _ (clients : List Client) (policy : Rules) (epoch : ℕ) where
       ≡ map (filter (is_unlike number)) (all_readers s clients policy epoch)
   unfolding all_readers unsubscribed
   unsubscribed_readers s client number low last up there =
-      ap (λ (rest : List Subscription). map (readers_at clients policy epoch rest) s.publications)
+      ap (λ (rest : List Subscription). map (readers_at clients policy epoch rest) s.sources)
       (own_alone client number low last s.subscriptions up there)
-      ∙ readers_of_part clients policy epoch (is_unlike number) s.subscriptions s.publications
+      ∙ readers_of_part clients policy epoch (is_unlike number) s.subscriptions s.sources
 
   -- the readers of a new log stand behind the others
   pub made_readers : (s : Streams) (number client : ℕ) (wanted : Wanted) (place : ℕ) (session : ℤ) →
@@ -68,23 +68,23 @@ module _ (clients : List Client) (policy : Rules) (epoch : ℕ) where
       ++ readers_at clients policy epoch s.subscriptions (log_of s number wanted place session) ∷ []
   unfolding all_readers
   made_readers s number client wanted place session =
-      map-append (readers_at clients policy epoch s.subscriptions) s.publications (log_of s number wanted place session ∷ [])
+      map-append (readers_at clients policy epoch s.subscriptions) s.sources (log_of s number wanted place session ∷ [])
 
   -- the readers of a log that closes go with it
   pub closed_readers : (s : Streams) (now : ℕ) →
-      beside (is_not_past now) s.publications (all_readers s clients policy epoch)
+      beside (is_not_past now) s.sources (all_readers s clients policy epoch)
       ≡ all_readers (closed s now) clients policy epoch
   unfolding all_readers closed
-  closed_readers s now = beside_mapped (is_not_past now) (readers_at clients policy epoch s.subscriptions) s.publications
+  closed_readers s now = beside_mapped (is_not_past now) (readers_at clients policy epoch s.subscriptions) s.sources
 
   rest_readers : (s : Streams) (client low last : ℕ) → Rises number_of low last s.subscriptions →
       all_readers (rest_of s client) clients policy epoch
       ≡ map (filter (is_of_others s client)) (all_readers s clients policy epoch)
   unfolding all_readers
   rest_readers s client low last up =
-      ap (λ (rest : List Subscription). map (readers_at clients policy epoch rest) s.publications)
+      ap (λ (rest : List Subscription). map (readers_at clients policy epoch rest) s.sources)
       (others_by_number s client low last up)
-      ∙ readers_of_part clients policy epoch (is_of_others s client) s.subscriptions s.publications
+      ∙ readers_of_part clients policy epoch (is_of_others s client) s.subscriptions s.sources
 
   -- the numbers of a client that leaves are gone from all logs, where it is still there
   pub left_readers_there : (s : Streams) (client now low last : ℕ) → Rises number_of low last s.subscriptions →

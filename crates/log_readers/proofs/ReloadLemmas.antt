@@ -9,7 +9,7 @@ use Rattle.log_readers.specs.Readers.{all_readers, readers_at}
 use Rattle.log_readers.specs.Reloading.{alone_if, comes, goes, turned_at, turned_over}
 use Rattle.log_readers.specs.Turnover.{lacking}
 use Rattle.stream_registry.specs.declared.pairs.Pair.{Pair}
-use Rattle.stream_registry.specs.declared.row.Publication.{Publication}
+use Rattle.stream_registry.specs.declared.row.Source.{Source}
 use Rattle.stream_registry.specs.declared.row.Subscription.{Subscription}
 use Rattle.stream_registry.specs.Pairs.{fits, is_allowed, is_pair, pair_of, pairs_of}
 use Rattle.stream_registry.specs.Streams.{Streams}
@@ -36,13 +36,13 @@ among_part reads low last rows up k d within =
 
 -- ---- the pairs that turn, at one log
 
-one_turned : (b : Bool) (log : Publication) (row : Subscription) (rest : List Subscription) →
+one_turned : (b : Bool) (log : Source) (row : Subscription) (rest : List Subscription) →
     alone_if b (pair_of log row) ++ map (pair_of log) rest ≡ map (pair_of log) (cond b (row ∷ rest) rest)
 one_turned true log row rest = refl
 one_turned false log row rest = refl
 
 module _ (turns : Bool → Bool → Bool) (allows : Subscription → Bool) where
-  turned_rows : (log : Publication) (numbers : List ℕ) (reads : Subscription → Bool) (rows : List Subscription) →
+  turned_rows : (log : Source) (numbers : List ℕ) (reads : Subscription → Bool) (rows : List Subscription) →
       All (λ row. is_among numbers row.number ≡ reads row) rows →
       turned_at turns rows (map allows rows) log numbers
       ≡ map (pair_of log) (filter (λ row. turns (reads row) (allows row && fits log row)) rows)
@@ -56,7 +56,7 @@ module _ (turns : Bool → Bool → Bool) (allows : Subscription → Bool) where
       (filter (λ one. turns (reads one) (allows one && fits log one)) rows))
 
   -- and at all
-  turned_logs : (clients : List Client) (policy : Rules) (epoch low last : ℕ) (subs : List Subscription) (logs : List Publication) →
+  turned_logs : (clients : List Client) (policy : Rules) (epoch low last : ℕ) (subs : List Subscription) (logs : List Source) →
       Rises number_of low last subs →
       turned_over turns subs (map allows subs) logs (map (readers_at clients policy epoch subs) logs)
       ≡ flat_map (λ log. map (pair_of log)
@@ -73,13 +73,13 @@ module _ (turns : Bool → Bool → Bool) (allows : Subscription → Bool) where
 
 -- ---- the pairs of the rows that pass, among those of all that fit
 
-abbrev fitting_at : List Subscription → Publication → List Pair
+abbrev fitting_at : List Subscription → Source → List Pair
 fitting_at subs log = map (pair_of log) (filter (fits log) subs)
 
-abbrev passing_at : (Subscription → Bool) → List Subscription → Publication → List Pair
+abbrev passing_at : (Subscription → Bool) → List Subscription → Source → List Pair
 passing_at test subs log = map (pair_of log) (filter (λ row. fits log row && test row) subs)
 
-passing_part : (test : Subscription → Bool) (by_number : ℕ → Bool) (subs : List Subscription) (logs : List Publication) →
+passing_part : (test : Subscription → Bool) (by_number : ℕ → Bool) (subs : List Subscription) (logs : List Source) →
     All (λ row. by_number row.number ≡ test row) subs →
     flat_map (passing_at test subs) logs ≡ filter (λ (pair : Pair). by_number pair.subscription) (flat_map (fitting_at subs) logs)
 passing_part test by_number subs logs same =
@@ -92,7 +92,7 @@ passing_part test by_number subs logs same =
     ∙ sym (filter_flat (λ (pair : Pair). by_number pair.subscription) (fitting_at subs) logs)
 
 -- the pairs of those that pass one test lack, of those that pass another, the ones that pass it alone
-passing_lack : (test other : Subscription → Bool) (low last : ℕ) (subs : List Subscription) (logs : List Publication) →
+passing_lack : (test other : Subscription → Bool) (low last : ℕ) (subs : List Subscription) (logs : List Source) →
     Rises number_of low last subs →
     lacking (flat_map (passing_at test subs) logs) (flat_map (passing_at other subs) logs)
     ≡ flat_map (passing_at (λ row. test row && not (other row)) subs) logs
@@ -125,33 +125,33 @@ comes_alike false was false = refl
 
 module _ (clients : List Client) (policy other : Rules) (epoch next low last : ℕ) where
   pub reload_goes : (s : Streams) → Rises number_of low last s.subscriptions →
-      turned_over goes s.subscriptions (map (is_allowed clients other next) s.subscriptions) s.publications
+      turned_over goes s.subscriptions (map (is_allowed clients other next) s.subscriptions) s.sources
       (all_readers s clients policy epoch)
       ≡ lacking (pairs_of s clients policy epoch) (pairs_of s clients other next)
   unfolding all_readers pairs_of
   reload_goes s up =
-      turned_logs goes (is_allowed clients other next) clients policy epoch low last s.subscriptions s.publications up
+      turned_logs goes (is_allowed clients other next) clients policy epoch low last s.subscriptions s.sources up
       ∙ flat_alike (λ log. map (pair_of log) (filter
       (λ row. goes (is_pair clients policy epoch log row) (is_allowed clients other next row && fits log row)) s.subscriptions))
-      (passing_at (λ row. is_allowed clients policy epoch row && not (is_allowed clients other next row)) s.subscriptions) s.publications
+      (passing_at (λ row. is_allowed clients policy epoch row && not (is_allowed clients other next row)) s.subscriptions) s.sources
       (λ log. ap (map (pair_of log)) (filter_agree
       (λ row. goes (is_pair clients policy epoch log row) (is_allowed clients other next row && fits log row))
       (λ row. fits log row && (is_allowed clients policy epoch row && not (is_allowed clients other next row)))
       (λ row. goes_alike (fits log row) (is_allowed clients policy epoch row) (is_allowed clients other next row)) s.subscriptions))
-      ∙ sym (passing_lack (is_allowed clients policy epoch) (is_allowed clients other next) low last s.subscriptions s.publications up)
+      ∙ sym (passing_lack (is_allowed clients policy epoch) (is_allowed clients other next) low last s.subscriptions s.sources up)
 
   pub reload_comes : (s : Streams) → Rises number_of low last s.subscriptions →
-      turned_over comes s.subscriptions (map (is_allowed clients other next) s.subscriptions) s.publications
+      turned_over comes s.subscriptions (map (is_allowed clients other next) s.subscriptions) s.sources
       (all_readers s clients policy epoch)
       ≡ lacking (pairs_of s clients other next) (pairs_of s clients policy epoch)
   unfolding all_readers pairs_of
   reload_comes s up =
-      turned_logs comes (is_allowed clients other next) clients policy epoch low last s.subscriptions s.publications up
+      turned_logs comes (is_allowed clients other next) clients policy epoch low last s.subscriptions s.sources up
       ∙ flat_alike (λ log. map (pair_of log) (filter
       (λ row. comes (is_pair clients policy epoch log row) (is_allowed clients other next row && fits log row)) s.subscriptions))
-      (passing_at (λ row. is_allowed clients other next row && not (is_allowed clients policy epoch row)) s.subscriptions) s.publications
+      (passing_at (λ row. is_allowed clients other next row && not (is_allowed clients policy epoch row)) s.subscriptions) s.sources
       (λ log. ap (map (pair_of log)) (filter_agree
       (λ row. comes (is_pair clients policy epoch log row) (is_allowed clients other next row && fits log row))
       (λ row. fits log row && (is_allowed clients other next row && not (is_allowed clients policy epoch row)))
       (λ row. comes_alike (fits log row) (is_allowed clients policy epoch row) (is_allowed clients other next row)) s.subscriptions))
-      ∙ sym (passing_lack (is_allowed clients other next) (is_allowed clients policy epoch) low last s.subscriptions s.publications up)
+      ∙ sym (passing_lack (is_allowed clients other next) (is_allowed clients policy epoch) low last s.subscriptions s.sources up)

@@ -6,7 +6,7 @@ use Rattle.std.proofs.lemmas.List.Elements.{All-weaker, filter_passes}
 use Rattle.log_readers.specs.Numbering.{IsOwned, number_of}
 use Rattle.log_readers.specs.Readers.{all_readers, readers_at}
 use Rattle.log_readers.specs.Turnover.{IsReadAlike}
-use Rattle.stream_registry.specs.declared.row.Publication.{Publication}
+use Rattle.stream_registry.specs.declared.row.Source.{Source}
 use Rattle.stream_registry.specs.declared.row.Registration.{Registration}
 use Rattle.stream_registry.specs.declared.row.Subscription.{Subscription}
 use Rattle.stream_registry.specs.declared.wanted.Adding.TheVariants.{Join}
@@ -34,7 +34,7 @@ module _ (policy : Rules) (epoch : ℕ) where
   unfolding is_allowed
   allowed_alike clients others row same = ap (is_allowed_to policy epoch row) same
 
-  read_alike : (clients others : List Client) (subs : List Subscription) (log : Publication) →
+  read_alike : (clients others : List Client) (subs : List Subscription) (log : Source) →
       All (IsFoundAlike clients others) subs →
       filter (is_pair others policy epoch log) subs ≡ filter (is_pair clients policy epoch log) subs
   read_alike clients others subs log found =
@@ -47,9 +47,9 @@ module _ (policy : Rules) (epoch : ℕ) where
       IsReadAlike s s clients others policy epoch
   unfolding pairs_of all_readers
   clients_alike s clients others found = record {
-    pairs = flat_alike (pairs_at others policy epoch s.subscriptions) (pairs_at clients policy epoch s.subscriptions) s.publications
+    pairs = flat_alike (pairs_at others policy epoch s.subscriptions) (pairs_at clients policy epoch s.subscriptions) s.sources
         (λ log. ap (map (pair_of log)) (read_alike clients others s.subscriptions log found));
-    readers = map_alike (readers_at others policy epoch s.subscriptions) (readers_at clients policy epoch s.subscriptions) s.publications
+    readers = map_alike (readers_at others policy epoch s.subscriptions) (readers_at clients policy epoch s.subscriptions) s.sources
         (λ log. ap (map number_of) (read_alike clients others s.subscriptions log found));
   }
 
@@ -70,22 +70,22 @@ module _ (policy : Rules) (epoch : ℕ) where
   -- ---- publications that begin to linger
 
   pairs_settled : (clients : List Client) (subs : List Subscription) (registrations : List Registration) (now : ℕ)
-      (log : Publication) →
+      (log : Source) →
       pairs_at clients policy epoch subs (settled_one registrations now log) ≡ pairs_at clients policy epoch subs log
   unfolding fits
   pairs_settled clients subs registrations now log =
-      elim (is_used registrations log.source) as
+      elim (is_used registrations log.number) as
       (λ b. pairs_at clients policy epoch subs (cond b log (left_alone now log)) ≡ pairs_at clients policy epoch subs log) [
         | true ↦ refl
         | false ↦ refl
       ]
 
   readers_settled : (clients : List Client) (subs : List Subscription) (registrations : List Registration) (now : ℕ)
-      (log : Publication) →
+      (log : Source) →
       readers_at clients policy epoch subs (settled_one registrations now log) ≡ readers_at clients policy epoch subs log
   unfolding fits
   readers_settled clients subs registrations now log =
-      elim (is_used registrations log.source) as
+      elim (is_used registrations log.number) as
       (λ b. readers_at clients policy epoch subs (cond b log (left_alone now log)) ≡ readers_at clients policy epoch subs log) [
         | true ↦ refl
         | false ↦ refl
@@ -94,9 +94,9 @@ module _ (policy : Rules) (epoch : ℕ) where
   pub settled_alike : (s : Streams) (clients : List Client) (now : ℕ) → IsReadAlike s (settled s now) clients clients policy epoch
   unfolding settled pairs_of all_readers
   settled_alike s clients now = record {
-    pairs = flat_through (pairs_at clients policy epoch s.subscriptions) (settled_one s.registrations now) s.publications
+    pairs = flat_through (pairs_at clients policy epoch s.subscriptions) (settled_one s.registrations now) s.sources
         (pairs_settled clients s.subscriptions s.registrations now);
-    readers = map_through (readers_at clients policy epoch s.subscriptions) (settled_one s.registrations now) s.publications
+    readers = map_through (readers_at clients policy epoch s.subscriptions) (settled_one s.registrations now) s.sources
         (readers_settled clients s.subscriptions s.registrations now);
   }
 

@@ -8,7 +8,7 @@ use Rattle.log_readers.specs.Readers.{is_of_others, is_unlike}
 use Rattle.log_readers.specs.Turnover.{IsReadAlike, IsTurnover, is_of_client, is_of_closing, is_of_number, lacking, pairs_with}
 use Rattle.stream_registry.specs.declared.lingering.LogPlace.{LogPlace}
 use Rattle.stream_registry.specs.declared.pairs.Pair.{Pair}
-use Rattle.stream_registry.specs.declared.row.Publication.{Publication}
+use Rattle.stream_registry.specs.declared.row.Source.{Source}
 use Rattle.stream_registry.specs.declared.row.Subscription.{Subscription}
 use Rattle.stream_registry.specs.declared.wanted.Adding.TheVariants.{Make}
 use Rattle.stream_registry.specs.declared.wanted.Wanted.{Wanted}
@@ -161,22 +161,22 @@ others_by_number s client low last up =
 abbrev pub stays_open : List LogPlace → ℕ → Bool
 stays_open closes source = not (list_any (λ closed. closed.source == source) closes)
 
-any_place : (source : ℕ) (logs : List Publication) →
+any_place : (source : ℕ) (logs : List Source) →
     list_any (λ (place : LogPlace). place.source == source) (map place_of logs)
-    ≡ list_any (λ (log : Publication). log.source == source) logs
+    ≡ list_any (λ (log : Source). log.number == source) logs
 any_place source [] = refl
-any_place source (log ∷ logs) = ap (λ (rest : Bool). (log.source == source) || rest) (any_place source logs)
+any_place source (log ∷ logs) = ap (λ (rest : Bool). (log.number == source) || rest) (any_place source logs)
 
-pub closed_by_source : (s : Streams) (now low last : ℕ) → Rises source_of low last s.publications →
-    filter (is_not_past now) s.publications ≡ filter (log_passes (stays_open (closing_of s now))) s.publications
+pub closed_by_source : (s : Streams) (now low last : ℕ) → Rises source_of low last s.sources →
+    filter (is_not_past now) s.sources ≡ filter (log_passes (stays_open (closing_of s now))) s.sources
 unfolding closing_of
 closed_by_source s now low last up =
-    let found = finds_itself source_of (is_past now) low last s.publications up in
-    filter_alike (is_not_past now) (log_passes (stays_open (map place_of (filter (is_past now) s.publications)))) s.publications
+    let found = finds_itself source_of (is_past now) low last s.sources up in
+    filter_alike (is_not_past now) (log_passes (stays_open (map place_of (filter (is_past now) s.sources)))) s.sources
     (λ k d within.
-    let log : Publication = get_or s.publications k d in
-    ap not (sym (any_place log.source (filter (is_past now) s.publications)
-    ∙ any_filtered (λ (one : Publication). one.source == log.source) (is_past now) s.publications
+    let log : Source = get_or s.sources k d in
+    ap not (sym (any_place log.number (filter (is_past now) s.sources)
+    ∙ any_filtered (λ (one : Source). one.number == log.number) (is_past now) s.sources
     ∙ found k d within)))
 
 module _ (clients : List Client) (policy : Rules) (epoch : ℕ) where
@@ -186,43 +186,43 @@ module _ (clients : List Client) (policy : Rules) (epoch : ℕ) where
   pub subscribed_turnover : (s : Streams) (number client : ℕ) (channel : Shape) (stream : ℤ) (low last : ℕ) →
       Rises number_of low last s.subscriptions → last < number →
       IsTurnover (pairs_of s clients policy epoch) (pairs_of (subscribed s number client channel stream) clients policy epoch) []
-      (pairs_with clients policy epoch s.publications (record { number = number; client = client; channel = channel; stream = stream }))
+      (pairs_with clients policy epoch s.sources (record { number = number; client = client; channel = channel; stream = stream }))
   unfolding pairs_of subscribed
   subscribed_turnover s number client channel stream low last up above =
       let row : Subscription = record { number = number; client = client; channel = channel; stream = stream } in
       let subs : List Subscription = s.subscriptions ++ row ∷ [] in
-      let before : List Pair = flat_map (pairs_at clients policy epoch s.subscriptions) s.publications in
-      let after : List Pair = flat_map (pairs_at clients policy epoch subs) s.publications in
+      let before : List Pair = flat_map (pairs_at clients policy epoch s.subscriptions) s.sources in
+      let after : List Pair = flat_map (pairs_at clients policy epoch subs) s.sources in
       turned before after (filter (λ (pair : Pair). not (is_unlike number pair.subscription)) after) []
-      (pairs_with clients policy epoch s.publications row)
+      (pairs_with clients policy epoch s.sources row)
       (number_turnover (is_unlike number) after before
-      (ap (λ (rest : List Subscription). flat_map (pairs_at clients policy epoch rest) s.publications)
+      (ap (λ (rest : List Subscription). flat_map (pairs_at clients policy epoch rest) s.sources)
       (sym (others_stay number_of row low last s.subscriptions up above))
-      ∙ pairs_of_part clients policy epoch (is_unlike number) subs s.publications))
-      (sym (pairs_of_part clients policy epoch (λ n. not (is_unlike number n)) subs s.publications)
-      ∙ ap (λ (rest : List Subscription). flat_map (pairs_at clients policy epoch rest) s.publications)
+      ∙ pairs_of_part clients policy epoch (is_unlike number) subs s.sources))
+      (sym (pairs_of_part clients policy epoch (λ n. not (is_unlike number n)) subs s.sources)
+      ∙ ap (λ (rest : List Subscription). flat_map (pairs_at clients policy epoch rest) s.sources)
       (row_alone number_of row low last s.subscriptions up above)
-      ∙ pairs_alone clients policy epoch row s.publications)
+      ∙ pairs_alone clients policy epoch row s.sources)
 
   -- the pairs of a log whose source is above all others
   pub made_turnover : (s : Streams) (number client : ℕ) (wanted : Wanted) (place : ℕ) (session : ℤ) (low last : ℕ) →
-      Rises source_of low last s.publications → last < number →
+      Rises source_of low last s.sources → last < number →
       IsTurnover (pairs_of s clients policy epoch)
       (pairs_of (added s number client wanted place (Make session)) clients policy epoch) []
       (pairs_at clients policy epoch s.subscriptions (log_of s number wanted place session))
   unfolding pairs_of
   made_turnover s number client wanted place session low last up above =
-      let log : Publication = log_of s number wanted place session in
-      let logs : List Publication = s.publications ++ log ∷ [] in
-      let before : List Pair = flat_map (pairs_at clients policy epoch s.subscriptions) s.publications in
+      let log : Source = log_of s number wanted place session in
+      let logs : List Source = s.sources ++ log ∷ [] in
+      let before : List Pair = flat_map (pairs_at clients policy epoch s.subscriptions) s.sources in
       let after : List Pair = flat_map (pairs_at clients policy epoch s.subscriptions) logs in
       turned before after (filter (λ (pair : Pair). not (is_unlike number pair.source)) after) []
       (pairs_at clients policy epoch s.subscriptions log)
       (source_turnover (is_unlike number) after before
-      (ap (flat_map (pairs_at clients policy epoch s.subscriptions)) (sym (others_stay source_of log low last s.publications up above))
+      (ap (flat_map (pairs_at clients policy epoch s.subscriptions)) (sym (others_stay source_of log low last s.sources up above))
       ∙ pairs_of_logs clients policy epoch (is_unlike number) s.subscriptions logs))
       (sym (pairs_of_logs clients policy epoch (λ n. not (is_unlike number n)) s.subscriptions logs)
-      ∙ ap (flat_map (pairs_at clients policy epoch s.subscriptions)) (row_alone source_of log low last s.publications up above)
+      ∙ ap (flat_map (pairs_at clients policy epoch s.subscriptions)) (row_alone source_of log low last s.sources up above)
       ∙ append-nil (pairs_at clients policy epoch s.subscriptions log))
 
   -- ---- what goes
@@ -234,29 +234,29 @@ module _ (clients : List Client) (policy : Rules) (epoch : ℕ) where
       (filter (is_of_number number) (pairs_of s clients policy epoch)) []
   unfolding pairs_of unsubscribed
   unsubscribed_turnover s client number low last up there =
-      let before : List Pair = flat_map (pairs_at clients policy epoch s.subscriptions) s.publications in
+      let before : List Pair = flat_map (pairs_at clients policy epoch s.subscriptions) s.sources in
       let after : List Pair =
-      flat_map (pairs_at clients policy epoch (filter (is_another_subscription client number) s.subscriptions)) s.publications in
+      flat_map (pairs_at clients policy epoch (filter (is_another_subscription client number) s.subscriptions)) s.sources in
       renamed before after (filter (λ (pair : Pair). not (is_unlike number pair.subscription)) before) []
       (filter (is_of_number number) before)
       (filter_agree (λ (pair : Pair). not (is_unlike number pair.subscription)) (is_of_number number)
       (λ pair. not_not (pair.subscription == number)) before)
       (number_turnover (is_unlike number) before after
-      (ap (λ (rest : List Subscription). flat_map (pairs_at clients policy epoch rest) s.publications)
+      (ap (λ (rest : List Subscription). flat_map (pairs_at clients policy epoch rest) s.sources)
       (own_alone client number low last s.subscriptions up there)
-      ∙ pairs_of_part clients policy epoch (is_unlike number) s.subscriptions s.publications))
+      ∙ pairs_of_part clients policy epoch (is_unlike number) s.subscriptions s.sources))
 
   -- what is left of the pairs where logs close
-  pub closed_part : (s : Streams) (now low last : ℕ) → Rises source_of low last s.publications →
+  pub closed_part : (s : Streams) (now low last : ℕ) → Rises source_of low last s.sources →
       pairs_of (closed s now) clients policy epoch
       ≡ filter (λ pair. stays_open (closing_of s now) pair.source) (pairs_of s clients policy epoch)
   unfolding pairs_of closed
   closed_part s now low last up =
       ap (flat_map (pairs_at clients policy epoch s.subscriptions)) (closed_by_source s now low last up)
-      ∙ pairs_of_logs clients policy epoch (stays_open (closing_of s now)) s.subscriptions s.publications
+      ∙ pairs_of_logs clients policy epoch (stays_open (closing_of s now)) s.subscriptions s.sources
 
   -- the pairs of the logs that close
-  pub closed_turnover : (s : Streams) (now low last : ℕ) → Rises source_of low last s.publications →
+  pub closed_turnover : (s : Streams) (now low last : ℕ) → Rises source_of low last s.sources →
       IsTurnover (pairs_of s clients policy epoch) (pairs_of (closed s now) clients policy epoch)
       (filter (is_of_closing (closing_of s now)) (pairs_of s clients policy epoch)) []
   closed_turnover s now low last up =
@@ -275,9 +275,9 @@ module _ (clients : List Client) (policy : Rules) (epoch : ℕ) where
       ≡ filter (λ pair. is_of_others s client pair.subscription) (pairs_of s clients policy epoch)
   unfolding pairs_of
   rest_part s client low last up =
-      ap (λ (rest : List Subscription). flat_map (pairs_at clients policy epoch rest) s.publications)
+      ap (λ (rest : List Subscription). flat_map (pairs_at clients policy epoch rest) s.sources)
       (others_by_number s client low last up)
-      ∙ pairs_of_part clients policy epoch (is_of_others s client) s.subscriptions s.publications
+      ∙ pairs_of_part clients policy epoch (is_of_others s client) s.subscriptions s.sources
 
   -- the pairs of a client's subscriptions
   rest_turnover : (s : Streams) (client low last : ℕ) (after : List Pair) → Rises number_of low last s.subscriptions →
@@ -321,4 +321,4 @@ pub cleared_turnover : (s : Streams) (clients others : List Client) (policy : Ru
     IsTurnover (pairs_of s clients policy epoch) (pairs_of (cleared s) others policy epoch) (pairs_of s clients policy epoch) []
 unfolding pairs_of
 cleared_turnover s clients others policy epoch =
-    record { gone = all_pass (flat_map (pairs_at clients policy epoch s.subscriptions) s.publications); come = refl }
+    record { gone = all_pass (flat_map (pairs_at clients policy epoch s.subscriptions) s.sources); come = refl }

@@ -2,7 +2,7 @@
 use Rattle.std.specs.Prelude.{◌≡◌, ℕ, ◌<◌, ◌≤◌, true, List, [], ◌∷◌, All, is_some}
 use Rattle.client_registry.specs.declared.client.Client.{Client}
 use Rattle.client_registry.specs.Clients.{principal_at}
-use Rattle.stream_registry.specs.declared.row.Publication.{Publication}
+use Rattle.stream_registry.specs.declared.row.Source.{Source}
 use Rattle.stream_registry.specs.declared.row.Registration.{Registration}
 use Rattle.stream_registry.specs.declared.row.Subscription.{Subscription}
 use Rattle.stream_registry.specs.Streams.{Streams}
@@ -12,8 +12,8 @@ abbrev pub Rises : {A : Type 0} → (A → ℕ) → ℕ → ℕ → List A → T
 Rises number_of low last [] = low ≤ last
 Rises number_of low last (row ∷ rows) = (low < number_of row) × Rises number_of (number_of row) last rows
 
-abbrev pub source_of : Publication → ℕ
-source_of publication = publication.source
+abbrev pub source_of : Source → ℕ
+source_of log = log.number
 
 abbrev pub number_of : Subscription → ℕ
 number_of subscription = subscription.number
@@ -28,7 +28,7 @@ IsOwned clients subscription = is_some (principal_at clients subscription.client
 -- where this number was drawn last, numbers rise among the logs, among the registrations with them, and among the
 -- subscriptions, and each subscription is owned
 pub record AreInOrder (s : Streams) (clients : List Client) (last : ℕ) : Type 0 where
-  pub sources : Rises source_of 0 last s.publications
+  pub sources : Rises source_of 0 last s.sources
   pub registered : Rises registered_as 0 last s.registrations
   pub numbers : Rises number_of 0 last s.subscriptions
   pub owned : All (IsOwned clients) s.subscriptions

@@ -4,7 +4,7 @@ use Rattle.std.specs.List.{list_any}
 use Rattle.log_readers.specs.Readers.{all_readers}
 use Rattle.stream_registry.specs.declared.lingering.LogPlace.{LogPlace}
 use Rattle.stream_registry.specs.declared.pairs.Pair.{Pair}
-use Rattle.stream_registry.specs.declared.row.Publication.{Publication}
+use Rattle.stream_registry.specs.declared.row.Source.{Source}
 use Rattle.stream_registry.specs.declared.row.Subscription.{Subscription}
 use Rattle.stream_registry.specs.Leaving.{has_subscription, left}
 use Rattle.stream_registry.specs.Pairs.{is_pair, pair_of, pairs_of}
@@ -24,25 +24,25 @@ abbrev pub lacking : List Pair → List Pair → List Pair
 lacking pairs others = filter (is_lacked_by others) pairs
 
 -- the subscription reads the log
-abbrev pub is_read_by : List Client → Rules → ℕ → Subscription → Publication → Bool
-is_read_by clients policy epoch subscription publication = is_pair clients policy epoch publication subscription
+abbrev pub is_read_by : List Client → Rules → ℕ → Subscription → Source → Bool
+is_read_by clients policy epoch subscription log = is_pair clients policy epoch log subscription
 
-abbrev pub pair_with : Subscription → Publication → Pair
-pair_with subscription publication = pair_of publication subscription
+abbrev pub pair_with : Subscription → Source → Pair
+pair_with subscription log = pair_of log subscription
 
 -- the pairs of this subscription, by source
-abbrev pub pairs_with : List Client → Rules → ℕ → List Publication → Subscription → List Pair
-pairs_with clients policy epoch publications subscription =
-    map (pair_with subscription) (filter (is_read_by clients policy epoch subscription) publications)
+abbrev pub pairs_with : List Client → Rules → ℕ → List Source → Subscription → List Pair
+pairs_with clients policy epoch logs subscription =
+    map (pair_with subscription) (filter (is_read_by clients policy epoch subscription) logs)
 
 abbrev pub pair_at : ℕ → ℕ → Pair
 pair_at source number = record { source = source; subscription = number }
 
 -- the pairs of these rows of numbers, a row for each log
-abbrev pub told : List Publication → List (List ℕ) → List Pair
+abbrev pub told : List Source → List (List ℕ) → List Pair
 told [] readers = []
-told (publication ∷ publications) [] = []
-told (publication ∷ publications) (numbers ∷ readers) = map (pair_at publication.source) numbers ++ told publications readers
+told (log ∷ logs) [] = []
+told (log ∷ logs) (numbers ∷ readers) = map (pair_at log.number) numbers ++ told logs readers
 
 -- it is of the subscription of this number
 abbrev pub is_of_number : ℕ → Pair → Bool

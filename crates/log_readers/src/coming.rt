@@ -9,20 +9,20 @@ use byte_strings::Items;
 use client_registry::Clients;
 use policy_core::Policy;
 use std::alloc::{AllocError, Global};
-use stream_registry::{Pair, Publication, Streams, Subscription, Wish, fits, is_allowed, reads};
+use stream_registry::{Pair, Source, Streams, Subscription, Wish, fits, is_allowed, reads};
 
 /// Puts the pairs of the subscription with the logs that it fits behind the others.
 fn push_fitting(
     pairs: &mut Items<Pair>,
-    publications: &[Publication],
+    logs: &[Source],
     wish: &Wish<'_>,
 ) -> Result<(), AllocError>
-    ensures { OnOk result (pairs.new ≡ pairs.old ++ map (pair_with (row_of wish.now)) (filter (λ log. fits log (row_of wish.now)) publications.now)) }
+    ensures { OnOk result (pairs.new ≡ pairs.old ++ map (pair_with (row_of wish.now)) (filter (λ log. fits log (row_of wish.now)) logs.now)) }
 {
-    for publication in publications {
-        if fits(publication, wish) {
+    for log in logs {
+        if fits(log, wish) {
             pairs.push(Pair {
-                source: publication.source,
+                source: log.number,
                 subscription: wish.number,
             })?;
         }
@@ -31,17 +31,17 @@ fn push_fitting(
 }
 
 /// How many of the logs the subscription fits.
-fn fitting(publications: &[Publication], wish: &Wish<'_>) -> usize
-    ensures exact { result ≡ length (filter (λ log. fits log (row_of wish.now)) publications.now) }
-    ensures few { result ≤ length publications.now }
+fn fitting(logs: &[Source], wish: &Wish<'_>) -> usize
+    ensures exact { result ≡ length (filter (λ log. fits log (row_of wish.now)) logs.now) }
+    ensures few { result ≤ length logs.now }
 {
-    let mut logs = 0;
-    for publication in publications {
-        if fits(publication, wish) {
-            logs += 1;
+    let mut found = 0;
+    for log in logs {
+        if fits(log, wish) {
+            found += 1;
         }
     }
-    logs
+    found
 }
 
 /// The pairs that a subscription has, or would have, by source. The policy, which goes by the number `epoch`, is asked once.
@@ -53,13 +53,13 @@ pub fn pairs_of_subscription(
     epoch: u64,
     wish: &Wish<'_>,
 ) -> Result<Items<Pair>, AllocError>
-    ensures { IfOk result (λ pairs. pairs ≡ pairs_with clients.now.rows policy.now epoch streams.now.publications (row_of wish.now)) }
+    ensures { IfOk result (λ pairs. pairs ≡ pairs_with clients.now.rows policy.now epoch streams.now.sources (row_of wish.now)) }
 {
     let mut pairs = Items::new(alloc);
     if !is_allowed(clients, policy, epoch, wish) {
         return Ok(pairs);
     }
-    push_fitting(&mut pairs, streams.publications(), wish)?;
+    push_fitting(&mut pairs, streams.sources(), wish)?;
     Ok(pairs)
 }
 
@@ -71,13 +71,13 @@ pub fn logs_read(
     epoch: u64,
     wish: &Wish<'_>,
 ) -> usize
-    ensures exact { result ≡ length (pairs_with clients.now.rows policy.now epoch streams.now.publications (row_of wish.now)) }
+    ensures exact { result ≡ length (pairs_with clients.now.rows policy.now epoch streams.now.sources (row_of wish.now)) }
     ensures few { result ≤ 256 }
 {
     if !is_allowed(clients, policy, epoch, wish) {
         return 0;
     }
-    fitting(streams.publications(), wish)
+    fitting(streams.sources(), wish)
 }
 
 /// Puts the pairs of the log with these subscriptions behind the others.
@@ -87,14 +87,14 @@ fn push_readers(
     policy: &Policy,
     epoch: u64,
     subscriptions: &[Subscription],
-    publication: &Publication,
+    log: &Source,
 ) -> Result<(), AllocError>
-    ensures { OnOk result (pairs.new ≡ pairs.old ++ pairs_at clients.now.rows policy.now epoch subscriptions.now publication.now) }
+    ensures { OnOk result (pairs.new ≡ pairs.old ++ pairs_at clients.now.rows policy.now epoch subscriptions.now log.now) }
 {
     for subscription in subscriptions {
-        if reads(clients, policy, epoch, publication, &subscription.wish()) {
+        if reads(clients, policy, epoch, log, &subscription.wish()) {
             pairs.push(Pair {
-                source: publication.source,
+                source: log.number,
                 subscription: subscription.number,
             })?;
         }
@@ -108,14 +108,14 @@ fn readers_among(
     policy: &Policy,
     epoch: u64,
     subscriptions: &[Subscription],
-    publication: &Publication,
+    log: &Source,
 ) -> usize
-    ensures exact { result ≡ length (pairs_at clients.now.rows policy.now epoch subscriptions.now publication.now) }
+    ensures exact { result ≡ length (pairs_at clients.now.rows policy.now epoch subscriptions.now log.now) }
     ensures few { result ≤ length subscriptions.now }
 {
     let mut readers = 0;
     for subscription in subscriptions {
-        if reads(clients, policy, epoch, publication, &subscription.wish()) {
+        if reads(clients, policy, epoch, log, &subscription.wish()) {
             readers += 1;
         }
     }
@@ -129,9 +129,9 @@ pub fn pairs_of_log(
     clients: &Clients,
     policy: &Policy,
     epoch: u64,
-    publication: &Publication,
+    log: &Source,
 ) -> Result<Items<Pair>, AllocError>
-    ensures { IfOk result (λ pairs. pairs ≡ pairs_at clients.now.rows policy.now epoch streams.now.subscriptions publication.now) }
+    ensures { IfOk result (λ pairs. pairs ≡ pairs_at clients.now.rows policy.now epoch streams.now.subscriptions log.now) }
 {
     let mut pairs = Items::new(alloc);
     push_readers(
@@ -140,7 +140,7 @@ pub fn pairs_of_log(
         policy,
         epoch,
         streams.subscriptions(),
-        publication,
+        log,
     )?;
     Ok(pairs)
 }
@@ -151,10 +151,10 @@ pub fn readers_of(
     clients: &Clients,
     policy: &Policy,
     epoch: u64,
-    publication: &Publication,
+    log: &Source,
 ) -> usize
-    ensures exact { result ≡ length (pairs_at clients.now.rows policy.now epoch streams.now.subscriptions publication.now) }
+    ensures exact { result ≡ length (pairs_at clients.now.rows policy.now epoch streams.now.subscriptions log.now) }
     ensures few { result ≤ 512 }
 {
-    readers_among(clients, policy, epoch, streams.subscriptions(), publication)
+    readers_among(clients, policy, epoch, streams.subscriptions(), log)
 }

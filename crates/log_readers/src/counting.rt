@@ -21,7 +21,7 @@ fn pairs_among(
     subscriptions: &[Subscription],
 ) -> usize
     requires { length subscriptions.now ≤ 512 }
-    ensures { result ≡ length (flat_map (pairs_at clients.now.rows policy.now epoch subscriptions.now) streams.now.publications) }
+    ensures { result ≡ length (flat_map (pairs_at clients.now.rows policy.now epoch subscriptions.now) streams.now.sources) }
 {
     let mut pairs = 0;
     for subscription in subscriptions {

@@ -6,7 +6,7 @@ use crate::readers::Readers;
 use client_registry::Clients;
 use policy_core::Policy;
 use rows::Rows;
-use stream_registry::{Adding, Publication, Streams, Subscription, Wanted, reads};
+use stream_registry::{Adding, Source, Streams, Subscription, Wanted, reads};
 
 /// Asks which of these subscriptions read the log.
 fn ask_at(
@@ -15,14 +15,14 @@ fn ask_at(
     policy: &Policy,
     epoch: u64,
     subscriptions: &[Subscription],
-    publication: &Publication,
+    log: &Source,
 )
     requires { length subscriptions.now ≤ 512 }
-    ensures { numbers.new ≡ readers_at clients.now.rows policy.now epoch subscriptions.now publication.now }
+    ensures { numbers.new ≡ readers_at clients.now.rows policy.now epoch subscriptions.now log.now }
 {
     numbers.clear();
     for subscription in subscriptions {
-        if reads(clients, policy, epoch, publication, &subscription.wish()) {
+        if reads(clients, policy, epoch, log, &subscription.wish()) {
             numbers.push(subscription.number);
         }
     }
@@ -36,11 +36,11 @@ impl Readers {
         policy: &Policy,
         epoch: u64,
         subscriptions: &[Subscription],
-        publication: &Publication,
+        log: &Source,
     )
         requires room { length self.old < 256 }
         requires few { length subscriptions.now ≤ 512 }
-        ensures { self.new ≡ self.old ++ readers_at clients.now.rows policy.now epoch subscriptions.now publication.now ∷ [] }
+        ensures { self.new ≡ self.old ++ readers_at clients.now.rows policy.now epoch subscriptions.now log.now ∷ [] }
     {
         ask_at(
             &mut self.slots[self.used],
@@ -48,7 +48,7 @@ impl Readers {
             policy,
             epoch,
             subscriptions,
-            publication,
+            log,
         );
         self.used += 1;
     }

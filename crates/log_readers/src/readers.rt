@@ -12,7 +12,7 @@ use policy_core::Policy;
 use rows::{Rows, Test};
 use std::alloc::{AllocError, Global};
 use std::marker::Model;
-use stream_registry::{Publication, Streams, Subscription, Wish, fits, is_allowed};
+use stream_registry::{Source, Streams, Subscription, Wish, fits, is_allowed};
 
 /// How many logs there are at most.
 const LOGS: usize = 256;
@@ -67,35 +67,35 @@ fn empty_used(slots: &mut Vec<Rows<u64, 512>>, logs: usize)
 }
 
 /// Puts the subscription's number behind those of the log, where it fits.
-fn note_at(numbers: &mut Rows<u64, 512>, publication: &Publication, wish: &Wish<'_>)
+fn note_at(numbers: &mut Rows<u64, 512>, log: &Source, wish: &Wish<'_>)
     requires { length numbers.old < 512 }
-    ensures { numbers.new ≡ noted_at (row_of wish.now) publication.now numbers.old }
+    ensures { numbers.new ≡ noted_at (row_of wish.now) log.now numbers.old }
 {
-    if fits(publication, wish) {
+    if fits(log, wish) {
         numbers.push(wish.number);
     }
 }
 
 /// Puts the subscription's number behind those of the logs that it fits.
-fn note_all(slots: &mut [Rows<u64, 512>], publications: &[Publication], wish: &Wish<'_>)
-    requires same { length slots.old ≡ length publications.now }
+fn note_all(slots: &mut [Rows<u64, 512>], logs: &[Source], wish: &Wish<'_>)
+    requires same { length slots.old ≡ length logs.now }
     requires room { All (λ numbers. length numbers < 512) slots.old }
-    ensures { slots.new ≡ noted (row_of wish.now) publications.now slots.old }
+    ensures { slots.new ≡ noted (row_of wish.now) logs.now slots.old }
 {
-    for at in 0..publications.len() {
-        note_at(&mut slots[at], &publications[at], wish);
+    for at in 0..logs.len() {
+        note_at(&mut slots[at], &logs[at], wish);
     }
 }
 
 /// Puts the subscription's number behind those of the logs that it fits; there may be further slots.
-fn note_used(slots: &mut Vec<Rows<u64, 512>>, publications: &[Publication], wish: &Wish<'_>)
-    requires slots { length publications.now ≤ length slots.old.items }
-    requires room { All (λ numbers. length numbers < 512) (take (length publications.now) slots.old.items) }
+fn note_used(slots: &mut Vec<Rows<u64, 512>>, logs: &[Source], wish: &Wish<'_>)
+    requires slots { length logs.now ≤ length slots.old.items }
+    requires room { All (λ numbers. length numbers < 512) (take (length logs.now) slots.old.items) }
     ensures slots { length slots.new.items ≡ length slots.old.items }
-    ensures noted { take (length publications.now) slots.new.items ≡ noted (row_of wish.now) publications.now (take (length publications.now) slots.old.items) }
+    ensures noted { take (length logs.now) slots.new.items ≡ noted (row_of wish.now) logs.now (take (length logs.now) slots.old.items) }
 {
-    let (used, _) = slots.as_mut_slice().split_at_mut(publications.len());
-    note_all(used, publications, wish);
+    let (used, _) = slots.as_mut_slice().split_at_mut(logs.len());
+    note_all(used, logs, wish);
 }
 
 /// Takes away the numbers that fail the test.
@@ -170,11 +170,11 @@ impl Readers {
     }
 
     /// The logs have no readers.
-    fn empty(&mut self, publications: &[Publication])
-        requires { length publications.now ≤ 256 }
-        ensures { self.new ≡ map (λ publication. []) publications.now }
+    fn empty(&mut self, logs: &[Source])
+        requires { length logs.now ≤ 256 }
+        ensures { self.new ≡ map (λ log. []) logs.now }
     {
-        self.used = publications.len();
+        self.used = logs.len();
         empty_used(&mut self.slots, self.used);
     }
 
@@ -191,15 +191,15 @@ impl Readers {
         clients: &Clients,
         policy: &Policy,
         epoch: u64,
-        publications: &[Publication],
+        logs: &[Source],
         wish: &Wish<'_>,
     )
-        requires same { length self.old ≡ length publications.now }
+        requires same { length self.old ≡ length logs.now }
         requires room { All (λ numbers. length numbers < 512) self.old }
-        ensures { self.new ≡ (if is_allowed clients.now.rows policy.now epoch (row_of wish.now) then noted (row_of wish.now) publications.now self.old else self.old) }
+        ensures { self.new ≡ (if is_allowed clients.now.rows policy.now epoch (row_of wish.now) then noted (row_of wish.now) logs.now self.old else self.old) }
     {
         if is_allowed(clients, policy, epoch, wish) {
-            note_used(&mut self.slots, publications, wish);
+            note_used(&mut self.slots, logs, wish);
         }
     }
 
@@ -209,16 +209,16 @@ impl Readers {
         clients: &Clients,
         policy: &Policy,
         epoch: u64,
-        publications: &[Publication],
+        logs: &[Source],
         subscriptions: &[Subscription],
     )
-        requires few_logs { length publications.now ≤ 256 }
+        requires few_logs { length logs.now ≤ 256 }
         requires few { length subscriptions.now ≤ 512 }
-        ensures { self.new ≡ map (readers_at clients.now.rows policy.now epoch subscriptions.now) publications.now }
+        ensures { self.new ≡ map (readers_at clients.now.rows policy.now epoch subscriptions.now) logs.now }
     {
-        self.empty(publications);
+        self.empty(logs);
         for subscription in subscriptions {
-            self.note(clients, policy, epoch, publications, &subscription.wish());
+            self.note(clients, policy, epoch, logs, &subscription.wish());
         }
     }
 
@@ -232,7 +232,7 @@ impl Readers {
             clients,
             policy,
             epoch,
-            streams.publications(),
+            streams.sources(),
             streams.subscriptions(),
         );
     }

@@ -15,7 +15,7 @@ use client_registry::Clients;
 use policy_core::Policy;
 use rows::Rows;
 use std::alloc::{AllocError, Global};
-use stream_registry::{Pair, Publication, Streams, Subscription, fits, is_allowed};
+use stream_registry::{Pair, Source, Streams, Subscription, fits, is_allowed};
 
 /// The pairs that go and those that come, each by source and then subscription.
 #[derive(Debug, Drop)]
@@ -65,21 +65,21 @@ fn push_turned_at(
     turnover: &mut Turnover,
     subscriptions: &[Subscription],
     allowed: &[bool],
-    publication: &Publication,
+    log: &Source,
     numbers: &[u64],
 ) -> Result<(), AllocError>
     requires { length allowed.now ≡ length subscriptions.now }
-    ensures gone { OnOk result (turnover.new.gone ≡ turnover.old.gone ++ turned_at goes subscriptions.now allowed.now publication.now numbers.now) }
-    ensures come { OnOk result (turnover.new.come ≡ turnover.old.come ++ turned_at comes subscriptions.now allowed.now publication.now numbers.now) }
+    ensures gone { OnOk result (turnover.new.gone ≡ turnover.old.gone ++ turned_at goes subscriptions.now allowed.now log.now numbers.now) }
+    ensures come { OnOk result (turnover.new.come ≡ turnover.old.come ++ turned_at comes subscriptions.now allowed.now log.now numbers.now) }
 {
     for at in 0..subscriptions.len() {
         let subscription = &subscriptions[at];
         let pair = Pair {
-            source: publication.source,
+            source: log.number,
             subscription: subscription.number,
         };
         let before = is_among(numbers, subscription.number);
-        let after = allowed[at] && fits(publication, &subscription.wish());
+        let after = allowed[at] && fits(log, &subscription.wish());
         push_turned(turnover, pair, before, after)?;
     }
     Ok(())
@@ -90,17 +90,17 @@ fn push_turned_over(
     turnover: &mut Turnover,
     subscriptions: &[Subscription],
     allowed: &[bool],
-    publications: &[Publication],
+    logs: &[Source],
     slots: &[Rows<u64, 512>],
 ) -> Result<(), AllocError>
     requires allowed { length allowed.now ≡ length subscriptions.now }
-    requires slots { length slots.now ≡ length publications.now }
-    ensures gone { OnOk result (turnover.new.gone ≡ turnover.old.gone ++ turned_over goes subscriptions.now allowed.now publications.now slots.now) }
-    ensures come { OnOk result (turnover.new.come ≡ turnover.old.come ++ turned_over comes subscriptions.now allowed.now publications.now slots.now) }
+    requires slots { length slots.now ≡ length logs.now }
+    ensures gone { OnOk result (turnover.new.gone ≡ turnover.old.gone ++ turned_over goes subscriptions.now allowed.now logs.now slots.now) }
+    ensures come { OnOk result (turnover.new.come ≡ turnover.old.come ++ turned_over comes subscriptions.now allowed.now logs.now slots.now) }
 {
-    for at in 0..publications.len() {
+    for at in 0..logs.len() {
         let numbers = slots[at].as_slice();
-        push_turned_at(turnover, subscriptions, allowed, &publications[at], numbers)?;
+        push_turned_at(turnover, subscriptions, allowed, &logs[at], numbers)?;
     }
     Ok(())
 }
@@ -113,10 +113,10 @@ impl Readers {
         streams: &Streams,
         allowed: &[bool],
     ) -> Result<Turnover, AllocError>
-        requires logs { length self.now ≡ length streams.now.publications }
+        requires logs { length self.now ≡ length streams.now.sources }
         requires allowed { length allowed.now ≡ length streams.now.subscriptions }
-        ensures gone { IfOk result (λ turnover. turnover.gone ≡ turned_over goes streams.now.subscriptions allowed.now streams.now.publications self.now) }
-        ensures come { IfOk result (λ turnover. turnover.come ≡ turned_over comes streams.now.subscriptions allowed.now streams.now.publications self.now) }
+        ensures gone { IfOk result (λ turnover. turnover.gone ≡ turned_over goes streams.now.subscriptions allowed.now streams.now.sources self.now) }
+        ensures come { IfOk result (λ turnover. turnover.come ≡ turned_over comes streams.now.subscriptions allowed.now streams.now.sources self.now) }
     {
         let mut turnover = Turnover {
             gone: Items::new(alloc),
@@ -126,7 +126,7 @@ impl Readers {
             &mut turnover,
             streams.subscriptions(),
             allowed,
-            streams.publications(),
+            streams.sources(),
             self.rows(),
         )?;
         Ok(turnover)
@@ -142,7 +142,7 @@ impl Readers {
         policy: &Policy,
         epoch: u64,
     ) -> Result<Turnover, AllocError>
-        requires { length self.now ≡ length streams.now.publications }
+        requires { length self.now ≡ length streams.now.sources }
         ensures gone { (old : Rules) (number low last : ℕ) → Rises number_of low last streams.now.subscriptions → self.now ≡ all_readers streams.now clients.now.rows old number → IfOk result (λ turnover. turnover.gone ≡ lacking (pairs_of streams.now clients.now.rows old number) (pairs_of streams.now clients.now.rows policy.now epoch)) }
         ensures come { (old : Rules) (number low last : ℕ) → Rises number_of low last streams.now.subscriptions → self.now ≡ all_readers streams.now clients.now.rows old number → IfOk result (λ turnover. turnover.come ≡ lacking (pairs_of streams.now clients.now.rows policy.now epoch) (pairs_of streams.now clients.now.rows old number)) }
     {

@@ -42,7 +42,7 @@ impl Readers {
         requires room { has_room_for_subscription streams.now ≡ true }
         ensures { self.new ≡ all_readers (subscribed streams.now wish.now.number wish.now.client wish.now.channel.now wish.now.stream) clients.now.rows policy.now epoch }
     {
-        self.note(clients, policy, epoch, streams.publications(), wish);
+        self.note(clients, policy, epoch, streams.sources(), wish);
     }
 
     /// The subscription of this number goes: [`Streams::remove_subscription`] comes before or follows.

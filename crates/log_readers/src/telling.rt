@@ -12,7 +12,7 @@ use crate::readers::Readers;
 use byte_strings::Items;
 use rows::{Rows, Test};
 use std::alloc::{AllocError, Global};
-use stream_registry::{LogPlace, Pair, Publication, Streams, Subscription};
+use stream_registry::{LogPlace, Pair, Source, Streams, Subscription};
 
 /// Keeps all pairs.
 #[derive(Clone, Copy)]
@@ -140,15 +140,15 @@ fn push_row<S: Test<Pair>>(
 /// Puts the pairs of these logs that pass the test behind the others.
 fn push_rows<S: Test<Pair>>(
     pairs: &mut Items<Pair>,
-    publications: &[Publication],
+    logs: &[Source],
     slots: &[Rows<u64, 512>],
     test: &S,
 ) -> Result<(), AllocError>
-    requires { length slots.now ≡ length publications.now }
-    ensures { OnOk result (pairs.new ≡ pairs.old ++ filter (S.keeps test.now) (told publications.now slots.now)) }
+    requires { length slots.now ≡ length logs.now }
+    ensures { OnOk result (pairs.new ≡ pairs.old ++ filter (S.keeps test.now) (told logs.now slots.now)) }
 {
-    for at in 0..publications.len() {
-        push_row(pairs, publications[at].source, slots[at].as_slice(), test)?;
+    for at in 0..logs.len() {
+        push_row(pairs, logs[at].number, slots[at].as_slice(), test)?;
     }
     Ok(())
 }
@@ -165,23 +165,23 @@ impl Readers {
     fn pairs_that<S: Test<Pair>>(
         &self,
         alloc: Global,
-        publications: &[Publication],
+        logs: &[Source],
         test: &S,
     ) -> Result<Items<Pair>, AllocError>
-        requires { length self.now ≡ length publications.now }
-        ensures { IfOk result (λ pairs. pairs ≡ filter (S.keeps test.now) (told publications.now self.now)) }
+        requires { length self.now ≡ length logs.now }
+        ensures { IfOk result (λ pairs. pairs ≡ filter (S.keeps test.now) (told logs.now self.now)) }
     {
         let mut pairs = Items::new(alloc);
-        push_rows(&mut pairs, publications, self.rows(), test)?;
+        push_rows(&mut pairs, logs, self.rows(), test)?;
         Ok(pairs)
     }
 
     /// All pairs, by source and then subscription.
     pub fn pairs(&self, alloc: Global, streams: &Streams) -> Result<Items<Pair>, AllocError>
-        requires { length self.now ≡ length streams.now.publications }
+        requires { length self.now ≡ length streams.now.sources }
         ensures { (clients : List Client) (policy : Rules) (epoch : ℕ) → self.now ≡ all_readers streams.now clients policy epoch → IfOk result (λ pairs. pairs ≡ pairs_of streams.now clients policy epoch) }
     {
-        self.pairs_that(alloc, streams.publications(), &Each)
+        self.pairs_that(alloc, streams.sources(), &Each)
     }
 
     /// The pairs of the subscription of this number, by source.
@@ -191,10 +191,10 @@ impl Readers {
         streams: &Streams,
         number: u64,
     ) -> Result<Items<Pair>, AllocError>
-        requires { length self.now ≡ length streams.now.publications }
+        requires { length self.now ≡ length streams.now.sources }
         ensures { (clients : List Client) (policy : Rules) (epoch : ℕ) → self.now ≡ all_readers streams.now clients policy epoch → IfOk result (λ pairs. pairs ≡ filter (is_of_number number) (pairs_of streams.now clients policy epoch)) }
     {
-        self.pairs_that(alloc, streams.publications(), &OfNumber { number })
+        self.pairs_that(alloc, streams.sources(), &OfNumber { number })
     }
 
     /// The pairs of the client's subscriptions, by source and then subscription.
@@ -204,10 +204,10 @@ impl Readers {
         streams: &Streams,
         client: u64,
     ) -> Result<Items<Pair>, AllocError>
-        requires { length self.now ≡ length streams.now.publications }
+        requires { length self.now ≡ length streams.now.sources }
         ensures { (clients : List Client) (policy : Rules) (epoch : ℕ) → self.now ≡ all_readers streams.now clients policy epoch → IfOk result (λ pairs. pairs ≡ filter (is_of_client streams.now client) (pairs_of streams.now clients policy epoch)) }
     {
-        self.pairs_that(alloc, streams.publications(), &OfClient { streams, client })
+        self.pairs_that(alloc, streams.sources(), &OfClient { streams, client })
     }
 
     /// The pairs of the logs that close, by source and then subscription.
@@ -217,10 +217,10 @@ impl Readers {
         streams: &Streams,
         closes: &[LogPlace],
     ) -> Result<Items<Pair>, AllocError>
-        requires { length self.now ≡ length streams.now.publications }
+        requires { length self.now ≡ length streams.now.sources }
         ensures { (clients : List Client) (policy : Rules) (epoch : ℕ) → self.now ≡ all_readers streams.now clients policy epoch → IfOk result (λ pairs. pairs ≡ filter (is_of_closing closes.now) (pairs_of streams.now clients policy epoch)) }
     {
-        self.pairs_that(alloc, streams.publications(), &OfClosing { closes })
+        self.pairs_that(alloc, streams.sources(), &OfClosing { closes })
     }
 
     /// The pairs that go where these clients and these logs go, by source and then subscription.
@@ -231,7 +231,7 @@ impl Readers {
         clients: &[u64],
         closes: &[LogPlace],
     ) -> Result<Items<Pair>, AllocError>
-        requires { length self.now ≡ length streams.now.publications }
+        requires { length self.now ≡ length streams.now.sources }
         ensures { (rows : List Client) (policy : Rules) (epoch : ℕ) → self.now ≡ all_readers streams.now rows policy epoch → IfOk result (λ pairs. pairs ≡ filter (is_going streams.now clients.now closes.now) (pairs_of streams.now rows policy epoch)) }
     {
         let going = Going {
@@ -239,6 +239,6 @@ impl Readers {
             clients,
             closes,
         };
-        self.pairs_that(alloc, streams.publications(), &going)
+        self.pairs_that(alloc, streams.sources(), &going)
     }
 }

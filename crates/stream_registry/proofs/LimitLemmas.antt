@@ -6,7 +6,7 @@ use Rattle.std.proofs.lemmas.List.{length-append, length-map}
 use Rattle.std.proofs.lemmas.List.Filters.{length-filter_both}
 use Rattle.stream_registry.specs.declared.fault.StreamFault.{StreamFault}
 use Rattle.stream_registry.specs.declared.fault.StreamFault.TheVariants.{Conflict, Full}
-use Rattle.stream_registry.specs.declared.row.Publication.{Publication}
+use Rattle.stream_registry.specs.declared.row.Source.{Source}
 use Rattle.stream_registry.specs.declared.wanted.Adding.{Adding}
 use Rattle.stream_registry.specs.declared.wanted.Adding.TheVariants.{Join, Make}
 use Rattle.stream_registry.specs.declared.wanted.Wanted.{Wanted}
@@ -33,20 +33,20 @@ chosen true room granted adding is = absurd (cc)
 chosen false true granted adding is = (refl, cc)
 chosen false false granted adding is = absurd (cc)
 
-joining_room : (s : Streams) (channel : Shape) (log : Publication) (adding : Adding) → joining_of s channel log ≡ Ok adding → HasRoom s adding
+joining_room : (s : Streams) (channel : Shape) (log : Source) (adding : Adding) → joining_of s channel log ≡ Ok adding → HasRoom s adding
 unfolding joining_of
 joining_room s channel log adding is =
-    let both = chosen (contradicts s.defaults channel log) (has_room_for_registration s) (Join log.source log.session) adding is in
+    let both = chosen (contradicts s.defaults channel log) (has_room_for_registration s) (Join log.number log.session) adding is in
     subst (HasRoom s) both.1 both.0
 
 making_room : (s : Streams) (wanted : Wanted) (adding : Adding) → making_of s wanted ≡ Ok adding → HasRoom s adding
 unfolding making_of
 making_room s wanted adding is =
-    let both = chosen (is_stated_again s.publications wanted.channel.media wanted.stream (stated_session_of wanted.channel))
+    let both = chosen (is_stated_again s.sources wanted.channel.media wanted.stream (stated_session_of wanted.channel))
     (has_room_for_registration s && has_room_for_log s) (Make (session_of s wanted.channel)) adding is in
     subst (HasRoom s) both.1 both.0
 
-by_room : (s : Streams) (wanted : Wanted) (adding : Adding) (found : Option Publication) → adding_by s wanted found ≡ Ok adding →
+by_room : (s : Streams) (wanted : Wanted) (adding : Adding) (found : Option Source) → adding_by s wanted found ≡ Ok adding →
     HasRoom s adding
 by_room s wanted adding None is = making_room s wanted adding is
 by_room s wanted adding (Some log) is = joining_room s wanted.channel log adding is
@@ -59,8 +59,8 @@ either_room s adding false one other first second is = second is
 granted_room : (s : Streams) (wanted : Wanted) (adding : Adding) → adding_of s wanted ≡ Ok adding → HasRoom s adding
 unfolding adding_of
 granted_room s wanted adding is =
-    either_room s adding wanted.exclusive (making_of s wanted) (adding_by s wanted (joined_at s.publications wanted.channel wanted.stream))
-    (making_room s wanted adding) (by_room s wanted adding (joined_at s.publications wanted.channel wanted.stream)) is
+    either_room s adding wanted.exclusive (making_of s wanted) (adding_by s wanted (joined_at s.sources wanted.channel wanted.stream))
+    (making_room s wanted adding) (by_room s wanted adding (joined_at s.sources wanted.channel wanted.stream)) is
 
 first_of : (a b : Bool) → (a && b) ≡ true → a ≡ true
 first_of true b is = refl
@@ -105,8 +105,8 @@ added_within s number client place wanted (Join source session) h room = record 
   subscriptions = h.subscriptions;
 }
 added_within s number client place wanted (Make session) h room = record {
-  logs = one_more s.publications (log_of s number wanted place session) 256
-      (ltb-true (length s.publications) 256 (second_of (has_room_for_registration s) (has_room_for_log s) room));
+  logs = one_more s.sources (log_of s number wanted place session) 256
+      (ltb-true (length s.sources) 256 (second_of (has_room_for_registration s) (has_room_for_log s) room));
   registrations = one_more s.registrations (registration_of number client wanted number) 1024
       (ltb-true (length s.registrations) 1024 (first_of (has_room_for_registration s) (has_room_for_log s) room));
   subscriptions = h.subscriptions;
@@ -124,8 +124,8 @@ subscribed_within s number client channel stream h room = record {
 settled_within : (s : Streams) (now : ℕ) → IsWithinLimits s → IsWithinLimits (settled s now)
 unfolding settled
 settled_within s now h =
-    let same : length (map (settled_one s.registrations now) s.publications) ≡ length s.publications =
-    length-map s.publications (settled_one s.registrations now) in
+    let same : length (map (settled_one s.registrations now) s.sources) ≡ length s.sources =
+    length-map s.sources (settled_one s.registrations now) in
     record {
       logs = omega (arith, same, h.logs);
       registrations = h.registrations;
@@ -164,7 +164,7 @@ left_within s client now h =
 closed_within : (s : Streams) (now : ℕ) → IsWithinLimits s → IsWithinLimits (closed s now)
 unfolding closed
 closed_within s now h = record {
-  logs = fewer (is_not_past now) s.publications 256 h.logs;
+  logs = fewer (is_not_past now) s.sources 256 h.logs;
   registrations = h.registrations;
   subscriptions = h.subscriptions;
 }

@@ -7,7 +7,7 @@ use Rattle.std.proofs.lemmas.List.{get_or-map, length-map}
 use Rattle.std.proofs.lemmas.List.Elements.{All-map, All-filter, All-push}
 use Rattle.std.proofs.lemmas.List.Kept.{AllPairs-filter}
 use Rattle.std.proofs.lemmas.List.Quantifiers.{all_pairs_push}
-use Rattle.stream_registry.specs.declared.row.Publication.{Publication}
+use Rattle.stream_registry.specs.declared.row.Source.{Source}
 use Rattle.stream_registry.specs.declared.wanted.Adding.TheVariants.{Make}
 use Rattle.stream_registry.specs.declared.row.Registration.{Registration}
 use Rattle.stream_registry.specs.declared.wanted.Wanted.{Wanted}
@@ -22,13 +22,13 @@ use Rattle.stream_registry.proofs.PageLemmas.{IsFirst, Meets, differs, found_fir
 
 -- ---- the least place
 
-vacant_here : (s : Streams) (arena pages place : ℕ) → fits s.publications arena pages place ≡ true → IsVacant s arena pages place
+vacant_here : (s : Streams) (arena pages place : ℕ) → fits s.sources arena pages place ≡ true → IsVacant s arena pages place
 vacant_here s arena pages place is =
-    let both : (place + pages ≤ arena) × (list_any (holds_some pages place) s.publications ≡ false) =
-    within_and_free s.publications arena pages place is in
+    let both : (place + pages ≤ arena) × (list_any (holds_some pages place) s.sources ≡ false) =
+    within_and_free s.sources arena pages place is in
     record {
       within = both.0;
-      free = λ k d within page among has. none_held s.publications pages place k d within both.1 (record {
+      free = λ k d within page among has. none_held s.sources pages place k d within both.1 (record {
         some = omega (arith, among.0, among.1);
         any = omega (arith, has.0, has.1);
         front = omega (arith, among.0, has.1);
@@ -37,7 +37,7 @@ vacant_here s arena pages place is =
     }
 
 -- a page that two rows have in common: where the one behind begins
-meet_at : (pages place : ℕ) (log : Publication) → Meets pages place (log_pages log) log.place →
+meet_at : (pages place : ℕ) (log : Source) → Meets pages place (log_pages log) log.place →
     ((page : ℕ) → IsAmong place pages page → ¬ HasPage log page) → ⊥
 meet_at pages place log m free = by (nat_le place log.place) refl
   where
@@ -51,20 +51,20 @@ meet_at pages place log m free = by (nat_le place log.place) refl
         let some = m.some in
         free place (omega arith, omega (arith, some)) (omega (arith, behind), m.front)
 
-fits_here : (s : Streams) (arena pages place : ℕ) → IsVacant s arena pages place → fits s.publications arena pages place ≡ true
-fits_here s arena pages place vacant = by (fits s.publications arena pages place) refl
+fits_here : (s : Streams) (arena pages place : ℕ) → IsVacant s arena pages place → fits s.sources arena pages place ≡ true
+fits_here s arena pages place vacant = by (fits s.sources arena pages place) refl
   where
-    by : (b : Bool) → fits s.publications arena pages place ≡ b → b ≡ true
+    by : (b : Bool) → fits s.sources arena pages place ≡ b → b ≡ true
     by true is = refl
     by false is =
-        let holder = some_held s.publications pages place (held_within s.publications arena pages place is vacant.within) in
-        absurd (meet_at pages place (get_or s.publications holder.at holder.log) holder.meets (vacant.free holder.at holder.log holder.within))
+        let holder = some_held s.sources pages place (held_within s.sources arena pages place is vacant.within) in
+        absurd (meet_at pages place (get_or s.sources holder.at holder.log) holder.meets (vacant.free holder.at holder.log holder.within))
 
 first_is : (s : Streams) (arena pages : ℕ) (found : Option ℕ) → free_place s arena pages ≡ found →
-    IsFirst (fits s.publications arena pages) 0 (arena + 1) found
+    IsFirst (fits s.sources arena pages) 0 (arena + 1) found
 unfolding free_place
 first_is s arena pages found is =
-    subst (IsFirst (fits s.publications arena pages) 0 (arena + 1)) is (found_first (fits s.publications arena pages) 0 (arena + 1))
+    subst (IsFirst (fits s.sources arena pages) 0 (arena + 1)) is (found_first (fits s.sources arena pages) 0 (arena + 1))
 
 vacant_found : (s : Streams) (arena pages place : ℕ) → free_place s arena pages ≡ Some place → IsVacant s arena pages place
 vacant_found s arena pages place is = vacant_here s arena pages place (first_is s arena pages (Some place) is).2
@@ -72,13 +72,13 @@ vacant_found s arena pages place is = vacant_here s arena pages place (first_is 
 none_lower : (s : Streams) (arena pages place lower : ℕ) → free_place s arena pages ≡ Some place → lower < place →
     ¬ IsVacant s arena pages lower
 none_lower s arena pages place lower is below vacant =
-    differs (fits s.publications arena pages lower) (fits_here s arena pages lower vacant)
+    differs (fits s.sources arena pages lower) (fits_here s arena pages lower vacant)
     ((first_is s arena pages (Some place) is).3 lower (omega arith) below)
 
 none_at_all : (s : Streams) (arena pages place : ℕ) → free_place s arena pages ≡ None → ¬ IsVacant s arena pages place
 none_at_all s arena pages place is vacant =
     let within = vacant.within in
-    differs (fits s.publications arena pages place) (fits_here s arena pages place vacant)
+    differs (fits s.sources arena pages place) (fits_here s arena pages place vacant)
     (first_is s arena pages None is place (omega arith) (omega (arith, within)))
 
 pub all_least : PlacesAreLeast
@@ -86,10 +86,10 @@ all_least = record { vacant = vacant_found; least = none_lower; none = none_at_a
 
 -- ---- no two logs share a page
 
-nothing_laid_out : (arena : ℕ) (s : Streams) → s.publications ≡ [] → IsLaidOut arena s
+nothing_laid_out : (arena : ℕ) (s : Streams) → s.sources ≡ [] → IsLaidOut arena s
 nothing_laid_out arena s none = record {
-  within = λ k d within. absurd (let e : length s.publications ≡ 0 = ap length none in omega (arith, e, within));
-  apart = λ i j d before within. absurd (let e : length s.publications ≡ 0 = ap length none in omega (arith, e, within));
+  within = λ k d within. absurd (let e : length s.sources ≡ 0 = ap length none in omega (arith, e, within));
+  apart = λ i j d before within. absurd (let e : length s.sources ≡ 0 = ap length none in omega (arith, e, within));
 }
 
 made_laid_out : (arena : ℕ) (s : Streams) (number client place : ℕ) (wanted : Wanted) (session : ℤ) → IsLaidOut arena s →
@@ -98,34 +98,34 @@ made_laid_out arena s number client place wanted session h is =
     let log = log_of s number wanted place session in
     let vacant : IsVacant s arena (log_pages log) place = vacant_found s arena (log_pages log) place is in
     record {
-      within = All-push (λ one. one.place + log_pages one ≤ arena) s.publications log h.within vacant.within;
-      apart = all_pairs_push ShareNoPage s.publications log h.apart (λ k d within page has new. vacant.free k d within page new has);
+      within = All-push (λ one. one.place + log_pages one ≤ arena) s.sources log h.within vacant.within;
+      apart = all_pairs_push ShareNoPage s.sources log h.apart (λ k d within page has new. vacant.free k d within page new has);
     }
 
-kept_laid_out : (arena : ℕ) (s t : Streams) (stays : Publication → Bool) → t.publications ≡ filter stays s.publications → IsLaidOut arena s →
+kept_laid_out : (arena : ℕ) (s t : Streams) (stays : Source → Bool) → t.sources ≡ filter stays s.sources → IsLaidOut arena s →
     IsLaidOut arena t
 kept_laid_out arena s t stays is h = record {
   within = subst (All (λ one. one.place + log_pages one ≤ arena)) (sym is)
-      (All-filter stays (λ one. one.place + log_pages one ≤ arena) s.publications h.within);
-  apart = subst (AllPairs ShareNoPage) (sym is) (AllPairs-filter ShareNoPage stays s.publications h.apart);
+      (All-filter stays (λ one. one.place + log_pages one ≤ arena) s.sources h.within);
+  apart = subst (AllPairs ShareNoPage) (sym is) (AllPairs-filter ShareNoPage stays s.sources h.apart);
 }
 
 -- what only lingers keeps its pages
-record IsSame (old new : Publication) : Type 0 where
+record IsSame (old new : Source) : Type 0 where
   place : new.place ≡ old.place
   pages : log_pages new ≡ log_pages old
 
-settled_same : (registrations : List Registration) (now : ℕ) (log : Publication) → IsSame log (settled_one registrations now log)
-settled_same registrations now log = by (is_used registrations log.source)
+settled_same : (registrations : List Registration) (now : ℕ) (log : Source) → IsSame log (settled_one registrations now log)
+settled_same registrations now log = by (is_used registrations log.number)
   where
     by : (b : Bool) → IsSame log (cond b log (left_alone now log))
     by true = record { place = refl; pages = refl }
     by false = record { place = refl; pages = refl }
 
-same_page : (old new : Publication) (page : ℕ) → IsSame old new → HasPage new page → HasPage old page
+same_page : (old new : Source) (page : ℕ) → IsSame old new → HasPage new page → HasPage old page
 same_page old new page same has = (omega (arith, same.place, has.0), omega (arith, same.place, same.pages, has.1))
 
-settled_apart : (registrations : List Registration) (now : ℕ) (logs : List Publication) → AllPairs ShareNoPage logs →
+settled_apart : (registrations : List Registration) (now : ℕ) (logs : List Source) → AllPairs ShareNoPage logs →
     AllPairs ShareNoPage (map (settled_one registrations now) logs)
 settled_apart registrations now logs h i j d before within page one other =
     let f = settled_one registrations now in
@@ -139,12 +139,12 @@ settled_apart registrations now logs h i j d before within page one other =
 settled_laid_out : (arena : ℕ) (s : Streams) (now : ℕ) → IsLaidOut arena s → IsLaidOut arena (settled s now)
 unfolding settled
 settled_laid_out arena s now h = record {
-  within = All-map (λ one. one.place + log_pages one ≤ arena) (settled_one s.registrations now) s.publications
+  within = All-map (λ one. one.place + log_pages one ≤ arena) (settled_one s.registrations now) s.sources
       (λ k d within.
-      let same = settled_same s.registrations now (get_or s.publications k d) in
+      let same = settled_same s.registrations now (get_or s.sources k d) in
       let before = h.within k d within in
       omega (arith, same.place, same.pages, before));
-  apart = settled_apart s.registrations now s.publications h.apart;
+  apart = settled_apart s.registrations now s.sources h.apart;
 }
 
 unregistered_laid_out : (arena : ℕ) (s : Streams) (client number now : ℕ) → IsLaidOut arena s →

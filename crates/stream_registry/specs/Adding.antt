@@ -2,7 +2,7 @@
 use Rattle.std.specs.Prelude.{ℕ, ℤ, Bool, ◌&&◌, nat_lt, [], ◌∷◌, ◌++◌, length, Option, Some, None, Result, Ok, Err, is_some, unwrap_or, if◌then◌else◌}
 use Rattle.stream_registry.specs.declared.fault.StreamFault.{StreamFault}
 use Rattle.stream_registry.specs.declared.fault.StreamFault.TheVariants.{Conflict, Full}
-use Rattle.stream_registry.specs.declared.row.Publication.{Publication}
+use Rattle.stream_registry.specs.declared.row.Source.{Source}
 use Rattle.stream_registry.specs.declared.row.Registration.{Registration}
 use Rattle.stream_registry.specs.declared.wanted.Adding.{Adding}
 use Rattle.stream_registry.specs.declared.wanted.Adding.TheVariants.{Join, Make}
@@ -16,7 +16,7 @@ use Rattle.channel_uri.specs.Parameters.{stated_session_of}
 
 -- there are at most 256 logs of publications, 1,024 registrations with them, and 512 subscriptions
 abbrev pub has_room_for_log : Streams → Bool
-has_room_for_log s = nat_lt (length s.publications) 256
+has_room_for_log s = nat_lt (length s.sources) 256
 
 abbrev pub has_room_for_registration : Streams → Bool
 has_room_for_registration s = nat_lt (length s.registrations) 1024
@@ -25,32 +25,32 @@ abbrev pub has_room_for_subscription : Streams → Bool
 has_room_for_subscription s = nat_lt (length s.subscriptions) 512
 
 -- it joins this one, unless it says something else
-unfoldable pub joining_of : Streams → Shape → Publication → Result Adding StreamFault
-joining_of s channel publication =
-    if contradicts s.defaults channel publication then Err Conflict
-    else if has_room_for_registration s then Ok (Join publication.source publication.session)
+unfoldable pub joining_of : Streams → Shape → Source → Result Adding StreamFault
+joining_of s channel log =
+    if contradicts s.defaults channel log then Err Conflict
+    else if has_room_for_registration s then Ok (Join log.number log.session)
     else Err Full
 
 -- the session of a new log: what its channel states, or a free one
 abbrev pub session_of : Streams → Shape → ℤ
-session_of s channel = unwrap_or (stated_session_of channel) (free_session s.publications s.next_session)
+session_of s channel = unwrap_or (stated_session_of channel) (free_session s.sources s.next_session)
 
 -- it makes a log, unless another of its medium and stream has the session that it states
 unfoldable pub making_of : Streams → Wanted → Result Adding StreamFault
 making_of s wanted =
-    if is_stated_again s.publications wanted.channel.media wanted.stream (stated_session_of wanted.channel) then Err Conflict
+    if is_stated_again s.sources wanted.channel.media wanted.stream (stated_session_of wanted.channel) then Err Conflict
     else if has_room_for_registration s && has_room_for_log s then Ok (Make (session_of s wanted.channel))
     else Err Full
 
-abbrev pub adding_by : Streams → Wanted → Option Publication → Result Adding StreamFault
+abbrev pub adding_by : Streams → Wanted → Option Source → Result Adding StreamFault
 adding_by s wanted None = making_of s wanted
-adding_by s wanted (Some publication) = joining_of s wanted.channel publication
+adding_by s wanted (Some log) = joining_of s wanted.channel log
 
 -- it joins the publication of its place and stream, if there is one to join; an exclusive one joins none
 unfoldable pub adding_of : Streams → Wanted → Result Adding StreamFault
 adding_of s wanted =
     if wanted.exclusive then making_of s wanted
-    else adding_by s wanted (joined_at s.publications wanted.channel wanted.stream)
+    else adding_by s wanted (joined_at s.sources wanted.channel wanted.stream)
 
 abbrev pub registration_of : ℕ → ℕ → Wanted → ℕ → Registration
 registration_of number client wanted source =
@@ -62,9 +62,9 @@ registered s number client wanted source =
     record s { registrations = s.registrations ++ registration_of number client wanted source ∷ [] }
 
 -- a log by this number, at this place
-abbrev pub log_of : Streams → ℕ → Wanted → ℕ → ℤ → Publication
+abbrev pub log_of : Streams → ℕ → Wanted → ℕ → ℤ → Source
 log_of s number wanted place session = record {
-  source = number;
+  number = number;
   channel = wanted.channel;
   stream = wanted.stream;
   session = session;
@@ -82,7 +82,7 @@ next_after s wanted session =
 abbrev pub made : Streams → ℕ → Wanted → ℕ → ℤ → Streams
 made s number wanted place session = record s {
   next_session = next_after s wanted session;
-  publications = s.publications ++ log_of s number wanted place session ∷ [];
+  sources = s.sources ++ log_of s number wanted place session ∷ [];
 }
 
 -- after an ADD under this number

@@ -11,7 +11,7 @@ use Rattle.channel_uri.specs.Channel.{Shape}
 
 -- at most 256 logs, 1,024 registrations and 512 subscriptions
 pub record IsWithinLimits (s : Streams) : Type 0 where
-  pub logs : length s.publications ≤ 256
+  pub logs : length s.sources ≤ 256
   pub registrations : length s.registrations ≤ 1024
   pub subscriptions : length s.subscriptions ≤ 512
 

@@ -2,7 +2,7 @@
 use Rattle.std.specs.Prelude.{ℕ, ◌-◌, Bool, false, not, ◌==◌, List, map, filter, length, Option, Some, None, nat_lt, unwrap_or, if◌then◌else◌}
 use Rattle.std.specs.List.{list_any}
 use Rattle.stream_registry.specs.declared.lingering.LogPlace.{LogPlace}
-use Rattle.stream_registry.specs.declared.row.Publication.{Publication}
+use Rattle.stream_registry.specs.declared.row.Source.{Source}
 use Rattle.stream_registry.specs.declared.row.Registration.{Registration}
 use Rattle.stream_registry.specs.Streams.{Streams}
 
@@ -18,36 +18,36 @@ abbrev pub registrations_of : Streams → ℕ → ℕ
 registrations_of s source = length (filter (is_with source) s.registrations)
 
 -- from now on nobody is registered with it, unless that was so before
-abbrev pub left_alone : ℕ → Publication → Publication
-left_alone now publication =
-    record publication { lingering_since = Some (unwrap_or publication.lingering_since now) }
+abbrev pub left_alone : ℕ → Source → Source
+left_alone now log =
+    record log { lingering_since = Some (unwrap_or log.lingering_since now) }
 
-abbrev pub settled_one : List Registration → ℕ → Publication → Publication
-settled_one registrations now publication =
-    if is_used registrations publication.source then publication else left_alone now publication
+abbrev pub settled_one : List Registration → ℕ → Source → Source
+settled_one registrations now log =
+    if is_used registrations log.number then log else left_alone now log
 
 -- each publication with which nobody is registered lingers, since now where it did not linger before
 unfoldable pub settled : Streams → ℕ → Streams
-settled s now = record s { publications = map (settled_one s.registrations now) s.publications }
+settled s now = record s { sources = map (settled_one s.registrations now) s.sources }
 
 -- it lingers for longer than it may; a moment before the one since when it does is past no limit
 abbrev pub is_past_since : ℕ → ℕ → Option ℕ → Bool
 is_past_since linger now None = false
 is_past_since linger now (Some since) = nat_lt linger (now - since)
 
-abbrev pub is_past : ℕ → Publication → Bool
-is_past now publication = is_past_since publication.measures.linger now publication.lingering_since
+abbrev pub is_past : ℕ → Source → Bool
+is_past now log = is_past_since log.measures.linger now log.lingering_since
 
-abbrev pub is_not_past : ℕ → Publication → Bool
-is_not_past now publication = not (is_past now publication)
+abbrev pub is_not_past : ℕ → Source → Bool
+is_not_past now log = not (is_past now log)
 
-abbrev pub place_of : Publication → LogPlace
-place_of publication = record { source = publication.source; place = publication.place }
+abbrev pub place_of : Source → LogPlace
+place_of log = record { source = log.number; place = log.place }
 
 -- the logs that close at this moment
 unfoldable pub closing_of : Streams → ℕ → List LogPlace
-closing_of s now = map place_of (filter (is_past now) s.publications)
+closing_of s now = map place_of (filter (is_past now) s.sources)
 
 -- they are gone
 unfoldable pub closed : Streams → ℕ → Streams
-closed s now = record s { publications = filter (is_not_past now) s.publications }
+closed s now = record s { sources = filter (is_not_past now) s.sources }

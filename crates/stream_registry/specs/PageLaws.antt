@@ -1,7 +1,7 @@
 -- A log goes to the least place that is free, and no two logs ever share a page.
 use Rattle.std.specs.Prelude.{◌≡◌, ℕ, ◌+◌, ◌<◌, ◌≤◌, ℤ, All, AllPairs, Some, None}
 use Rattle.stream_registry.specs.declared.measures.Measures.{Measures}
-use Rattle.stream_registry.specs.declared.row.Publication.{Publication}
+use Rattle.stream_registry.specs.declared.row.Source.{Source}
 use Rattle.stream_registry.specs.declared.wanted.Adding.TheVariants.{Join, Make}
 use Rattle.stream_registry.specs.declared.wanted.Wanted.{Wanted}
 use Rattle.stream_registry.specs.Adding.{added, subscribed}
@@ -16,13 +16,13 @@ abbrev pub IsAmong : ℕ → ℕ → ℕ → Type 0
 IsAmong place pages page = (place ≤ page) × (page < place + pages)
 
 -- page of the log
-abbrev pub HasPage : Publication → ℕ → Type 0
+abbrev pub HasPage : Source → ℕ → Type 0
 HasPage log page = IsAmong log.place (log_pages log) page
 
 -- so many pages from `place` on are pages of the arena, and no live log has one of them
 pub record IsVacant (s : Streams) (arena_pages pages place : ℕ) : Type 0 where
   pub within : place + pages ≤ arena_pages
-  pub free : All (λ log. (page : ℕ) → IsAmong place pages page → ¬ HasPage log page) s.publications
+  pub free : All (λ log. (page : ℕ) → IsAmong place pages page → ¬ HasPage log page) s.sources
 
 -- the place that is found is vacant, none below it is, and none is found only where none is vacant
 pub record PlacesAreLeast : Type 0 where
@@ -34,13 +34,13 @@ pub record PlacesAreLeast : Type 0 where
       ¬ IsVacant s arena_pages pages place
 
 -- the two logs have no page in common
-abbrev pub ShareNoPage : Publication → Publication → Type 0
+abbrev pub ShareNoPage : Source → Source → Type 0
 ShareNoPage log other = (page : ℕ) → HasPage log page → ¬ HasPage other page
 
 -- all logs lie within the arena, and no two have a page in common
 pub record IsLaidOut (arena_pages : ℕ) (s : Streams) : Type 0 where
-  pub within : All (λ log. log.place + log_pages log ≤ arena_pages) s.publications
-  pub apart : AllPairs ShareNoPage s.publications
+  pub within : All (λ log. log.place + log_pages log ≤ arena_pages) s.sources
+  pub apart : AllPairs ShareNoPage s.sources
 
 -- so it is at first, and after each call, where each log that is made goes to the place for it
 pub record StaysLaidOut (arena_pages : ℕ) : Type 0 where

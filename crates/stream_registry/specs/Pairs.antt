@@ -3,7 +3,7 @@ use Rattle.std.specs.Prelude.{ℕ, Bool, false, ◌==◌, ◌&&◌, List, map, f
 use Rattle.std.specs.List.{flat_map, list_any}
 use Rattle.std.specs.Ordering.{int_eq}
 use Rattle.stream_registry.specs.declared.pairs.Pair.{Pair}
-use Rattle.stream_registry.specs.declared.row.Publication.{Publication}
+use Rattle.stream_registry.specs.declared.row.Source.{Source}
 use Rattle.stream_registry.specs.declared.row.Subscription.{Subscription}
 use Rattle.stream_registry.specs.Places.{is_ipc}
 use Rattle.stream_registry.specs.Sessions.{agrees_with}
@@ -17,11 +17,11 @@ use Rattle.policy_core.specs.RuleList.{Rules}
 use Rattle.policy_core.specs.Rules.{verdict_of}
 
 -- a subscription to shared memory reads the logs there that are of its stream, and of its session where it states one
-unfoldable pub fits : Publication → Subscription → Bool
-fits publication subscription =
-    is_ipc publication.channel.media && is_ipc subscription.channel.media
-    && int_eq publication.stream subscription.stream
-    && agrees_with publication.session (stated_session_of subscription.channel)
+unfoldable pub fits : Source → Subscription → Bool
+fits log subscription =
+    is_ipc log.channel.media && is_ipc subscription.channel.media
+    && int_eq log.stream subscription.stream
+    && agrees_with log.session (stated_session_of subscription.channel)
 
 -- what the policy is asked of a pair: whether the subscriber may have the messages of a log on the subscription's channel
 -- and stream
@@ -43,32 +43,32 @@ unfoldable pub is_allowed : List Client → Rules → ℕ → Subscription → B
 is_allowed clients policy epoch subscription =
     is_allowed_to policy epoch subscription (principal_at clients subscription.client)
 
-abbrev pub is_pair : List Client → Rules → ℕ → Publication → Subscription → Bool
-is_pair clients policy epoch publication subscription =
-    fits publication subscription && is_allowed clients policy epoch subscription
+abbrev pub is_pair : List Client → Rules → ℕ → Source → Subscription → Bool
+is_pair clients policy epoch log subscription =
+    fits log subscription && is_allowed clients policy epoch subscription
 
-abbrev pub pair_of : Publication → Subscription → Pair
-pair_of publication subscription = record { source = publication.source; subscription = subscription.number }
+abbrev pub pair_of : Source → Subscription → Pair
+pair_of log subscription = record { source = log.number; subscription = subscription.number }
 
 -- the pairs of this log, by subscription
-abbrev pub pairs_at : List Client → Rules → ℕ → List Subscription → Publication → List Pair
-pairs_at clients policy epoch subscriptions publication =
-    map (pair_of publication) (filter (is_pair clients policy epoch publication) subscriptions)
+abbrev pub pairs_at : List Client → Rules → ℕ → List Subscription → Source → List Pair
+pairs_at clients policy epoch subscriptions log =
+    map (pair_of log) (filter (is_pair clients policy epoch log) subscriptions)
 
 -- by source and then subscription
 unfoldable pub pairs_of : Streams → List Client → Rules → ℕ → List Pair
-pairs_of s clients policy epoch = flat_map (pairs_at clients policy epoch s.subscriptions) s.publications
+pairs_of s clients policy epoch = flat_map (pairs_at clients policy epoch s.subscriptions) s.sources
 
 -- the pair is of that log and that subscription, by their numbers
 abbrev pub is_of : ℕ → ℕ → Pair → Bool
 is_of source subscription pair = pair.source == source && pair.subscription == subscription
 
 -- the subscription has that number, and reads the log
-abbrev pub reads_as : List Client → Rules → ℕ → Publication → ℕ → Subscription → Bool
-reads_as clients policy epoch publication number subscription =
-    subscription.number == number && is_pair clients policy epoch publication subscription
+abbrev pub reads_as : List Client → Rules → ℕ → Source → ℕ → Subscription → Bool
+reads_as clients policy epoch log number subscription =
+    subscription.number == number && is_pair clients policy epoch log subscription
 
 -- the log is of that source, and a subscription of that number reads it
-abbrev pub is_read : List Client → Rules → ℕ → List Subscription → ℕ → ℕ → Publication → Bool
-is_read clients policy epoch subscriptions source number publication =
-    publication.source == source && list_any (reads_as clients policy epoch publication number) subscriptions
+abbrev pub is_read : List Client → Rules → ℕ → List Subscription → ℕ → ℕ → Source → Bool
+is_read clients policy epoch subscriptions source number log =
+    log.number == source && list_any (reads_as clients policy epoch log number) subscriptions

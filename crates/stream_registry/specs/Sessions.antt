@@ -3,7 +3,7 @@ use Rattle.std.specs.Prelude.{ℤ, pos, Bool, true, false, ◌&&◌, List, [], �
 use Rattle.std.specs.Int.{int_wrapping_add, w32}
 use Rattle.std.specs.List.{list_any}
 use Rattle.std.specs.Ordering.{int_eq}
-use Rattle.stream_registry.specs.declared.row.Publication.{Publication}
+use Rattle.stream_registry.specs.declared.row.Source.{Source}
 use Rattle.stream_registry.specs.Places.{is_same_media}
 use Rattle.channel_uri.specs.declared.media.Media.{Media}
 
@@ -11,21 +11,21 @@ use Rattle.channel_uri.specs.declared.media.Media.{Media}
 abbrev pub after : ℤ → ℤ
 after session = int_wrapping_add w32 session (pos 1)
 
-abbrev pub has_session : ℤ → Publication → Bool
-has_session session publication = int_eq publication.session session
+abbrev pub has_session : ℤ → Source → Bool
+has_session session log = int_eq log.session session
 
 -- a live publication has the session
-abbrev pub is_taken : List Publication → ℤ → Bool
-is_taken publications session = list_any (has_session session) publications
+abbrev pub is_taken : List Source → ℤ → Bool
+is_taken logs session = list_any (has_session session) logs
 
 -- the first number from this one on that no live publication has; as many tries as there are others suffice
-abbrev pub free_from : List Publication → List Publication → ℤ → ℤ
-free_from [] publications session = session
-free_from (other ∷ others) publications session =
-    if is_taken publications session then free_from others publications (after session) else session
+abbrev pub free_from : List Source → List Source → ℤ → ℤ
+free_from [] logs session = session
+free_from (other ∷ others) logs session =
+    if is_taken logs session then free_from others logs (after session) else session
 
-unfoldable pub free_session : List Publication → ℤ → ℤ
-free_session publications session = free_from publications publications session
+unfoldable pub free_session : List Source → ℤ → ℤ
+free_session logs session = free_from logs logs session
 
 -- what a channel states is this session, or it states none
 abbrev pub agrees_with : ℤ → Option ℤ → Bool
@@ -33,11 +33,11 @@ agrees_with session None = true
 agrees_with session (Some stated) = int_eq stated session
 
 -- it has the session on this medium and stream
-unfoldable pub has_session_at : Media → ℤ → ℤ → Publication → Bool
-has_session_at media stream session publication =
-    is_same_media publication.channel.media media && int_eq publication.stream stream && has_session session publication
+unfoldable pub has_session_at : Media → ℤ → ℤ → Source → Bool
+has_session_at media stream session log =
+    is_same_media log.channel.media media && int_eq log.stream stream && has_session session log
 
 -- the session that is stated, if one is, is that of a live publication of the same medium and stream
-abbrev pub is_stated_again : List Publication → Media → ℤ → Option ℤ → Bool
-is_stated_again publications media stream None = false
-is_stated_again publications media stream (Some stated) = list_any (has_session_at media stream stated) publications
+abbrev pub is_stated_again : List Source → Media → ℤ → Option ℤ → Bool
+is_stated_again logs media stream None = false
+is_stated_again logs media stream (Some stated) = list_any (has_session_at media stream stated) logs

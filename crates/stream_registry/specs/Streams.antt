@@ -1,7 +1,7 @@
 -- What is published and what is subscribed to, as plain lists.
 use Rattle.std.specs.Prelude.{ℤ, List, []}
 use Rattle.stream_registry.specs.declared.measures.Measures.{Measures}
-use Rattle.stream_registry.specs.declared.row.Publication.{Publication}
+use Rattle.stream_registry.specs.declared.row.Source.{Source}
 use Rattle.stream_registry.specs.declared.row.Registration.{Registration}
 use Rattle.stream_registry.specs.declared.row.Subscription.{Subscription}
 
@@ -10,7 +10,7 @@ use Rattle.stream_registry.specs.declared.row.Subscription.{Subscription}
 pub record Streams : Type 0 where
   pub defaults : Measures
   pub next_session : ℤ
-  pub publications : List Publication
+  pub sources : List Source
   pub registrations : List Registration
   pub subscriptions : List Subscription
 
@@ -19,11 +19,11 @@ abbrev pub opened : Measures → ℤ → Streams
 opened defaults first = record {
   defaults = defaults;
   next_session = first;
-  publications = [];
+  sources = [];
   registrations = [];
   subscriptions = [];
 }
 
 -- all went; the sessions that were given are not given again at once
 abbrev pub cleared : Streams → Streams
-cleared s = record s { publications = []; registrations = []; subscriptions = [] }
+cleared s = record s { sources = []; registrations = []; subscriptions = [] }

@@ -3,7 +3,7 @@ ghost use Rattle.std.specs.Prelude.{◌≡◌, Ok, true};
 
 use crate::fault::StreamFault;
 use crate::joining::{contradicts, joined_at};
-use crate::row::{Publication, Registration, Subscription};
+use crate::row::{Registration, Source, Subscription};
 use crate::sessions::{after, free_session, is_stated_again};
 use crate::streams::Streams;
 use crate::wanted::{Adding, Wanted};
@@ -22,7 +22,7 @@ impl Streams {
     fn has_room_for_log(&self) -> bool
         ensures { result ≡ has_room_for_log self.now }
     {
-        self.publications.len() < LOGS
+        self.sources.len() < LOGS
     }
 
     fn has_room_for_registration(&self) -> bool
@@ -40,18 +40,18 @@ impl Streams {
 
     /// A channel that would join this publication.
     #[tactic(auto, unfolding(crate::specs::Adding::joining_of))]
-    fn joining(&self, channel: &Channel, publication: &Publication) -> Result<Adding, StreamFault>
-        ensures { result ≡ joining_of self.now channel.now publication.now }
+    fn joining(&self, channel: &Channel, log: &Source) -> Result<Adding, StreamFault>
+        ensures { result ≡ joining_of self.now channel.now log.now }
     {
-        if contradicts(self.defaults, channel, publication) {
+        if contradicts(self.defaults, channel, log) {
             return Err(StreamFault::Conflict);
         }
         if !self.has_room_for_registration() {
             return Err(StreamFault::Full);
         }
         Ok(Adding::Join {
-            source: publication.source,
-            session: publication.session,
+            source: log.number,
+            session: log.session,
         })
     }
 
@@ -61,7 +61,7 @@ impl Streams {
     {
         match channel.session_id() {
             Some(stated) => stated,
-            None => free_session(self.publications.as_slice(), self.next_session),
+            None => free_session(self.sources.as_slice(), self.next_session),
         }
     }
 
@@ -71,13 +71,8 @@ impl Streams {
         ensures { result ≡ making_of self.now wanted.now }
     {
         let channel = &wanted.channel;
-        let publications = self.publications.as_slice();
-        if is_stated_again(
-            publications,
-            channel.media(),
-            wanted.stream,
-            channel.session_id(),
-        ) {
+        let logs = self.sources.as_slice();
+        if is_stated_again(logs, channel.media(), wanted.stream, channel.session_id()) {
             return Err(StreamFault::Conflict);
         }
         if !(self.has_room_for_registration() && self.has_room_for_log()) {
@@ -101,19 +96,19 @@ impl Streams {
         if wanted.exclusive {
             return self.making(wanted);
         }
-        let publications = self.publications.as_slice();
-        match joined_at(publications, &wanted.channel, wanted.stream) {
-            Some(publication) => self.joining(&wanted.channel, publication),
+        let logs = self.sources.as_slice();
+        match joined_at(logs, &wanted.channel, wanted.stream) {
+            Some(log) => self.joining(&wanted.channel, log),
             None => self.making(wanted),
         }
     }
 
     /// The row of a log that would be made under this number, at this place, with this session.
-    pub fn log(&self, number: u64, wanted: &Wanted, place: u64, session: i32) -> Publication
+    pub fn log(&self, number: u64, wanted: &Wanted, place: u64, session: i32) -> Source
         ensures { result ≡ log_of self.now number wanted.now place session }
     {
-        Publication {
-            source: number,
+        Source {
+            number,
             channel: wanted.channel.copy(),
             stream: wanted.stream,
             session,
@@ -130,7 +125,7 @@ impl Streams {
         ensures { self.new ≡ made self.old number wanted.now place session }
     {
         let log = self.log(number, wanted, place, session);
-        self.publications.push(log);
+        self.sources.push(log);
         if wanted.channel.session_id().is_none() {
             self.next_session = after(session);
         }

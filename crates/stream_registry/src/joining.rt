@@ -4,33 +4,33 @@ ghost use Rattle.std.specs.Prelude.{◌≡◌};
 
 use crate::measures::Measures;
 use crate::places::{is_manual, is_same_place};
-use crate::row::Publication;
+use crate::row::Source;
 use crate::sessions::agrees_with;
 use channel_uri::Channel;
 
 /// Whether others may join the publication, and it is of this place and stream.
 #[tactic(auto, unfolding(crate::specs::Joining::is_joinable))]
-fn is_joinable(publication: &Publication, channel: &Channel, stream: i32) -> bool
-    ensures { result ≡ is_joinable channel.now stream publication.now }
+fn is_joinable(log: &Source, channel: &Channel, stream: i32) -> bool
+    ensures { result ≡ is_joinable channel.now stream log.now }
 {
-    !publication.exclusive
-        && !is_manual(&publication.channel)
-        && publication.lingering_since.is_none()
-        && publication.stream == stream
-        && is_same_place(&publication.channel, channel)
+    !log.exclusive
+        && !is_manual(&log.channel)
+        && log.lingering_since.is_none()
+        && log.stream == stream
+        && is_same_place(&log.channel, channel)
 }
 
 /// The publication that others of this place and stream join.
 pub(crate) fn joined_at<'a>(
-    publications: &'a [Publication],
+    logs: &'a [Source],
     channel: &Channel,
     stream: i32,
-) -> Option<&'a Publication>
-    ensures { option_copied result ≡ joined_at publications.now channel.now stream }
+) -> Option<&'a Source>
+    ensures { option_copied result ≡ joined_at logs.now channel.now stream }
 {
-    for publication in publications {
-        if is_joinable(publication, channel, stream) {
-            return Some(publication);
+    for log in logs {
+        if is_joinable(log, channel, stream) {
+            return Some(log);
         }
     }
     None
@@ -38,11 +38,9 @@ pub(crate) fn joined_at<'a>(
 
 /// Whether the channel says something else of the log or of the session.
 #[tactic(auto, unfolding(crate::specs::Joining::contradicts))]
-pub(crate) fn contradicts(defaults: Measures, channel: &Channel, publication: &Publication) -> bool
-    ensures { result ≡ contradicts defaults channel.now publication.now }
+pub(crate) fn contradicts(defaults: Measures, channel: &Channel, log: &Source) -> bool
+    ensures { result ≡ contradicts defaults channel.now log.now }
 {
-    !defaults
-        .with_those_of(channel)
-        .is_same(publication.measures)
-        || !agrees_with(publication.session, channel.session_id())
+    !defaults.with_those_of(channel).is_same(log.measures)
+        || !agrees_with(log.session, channel.session_id())
 }

@@ -28,7 +28,7 @@ pub use laws::{limits_are_kept, places_are_least, places_share_nothing, sessions
 pub use lingering::{LogPlace, is_past};
 pub use measures::Measures;
 pub use pairs::{Pair, fits, is_allowed, reads};
-pub use row::{Publication, Registration, Subscription};
+pub use row::{Registration, Source, Subscription};
 pub use streams::Streams;
 pub use wanted::{Adding, Wanted};
 pub use wish::Wish;

@@ -1,7 +1,7 @@
 ghost use Rattle.stream_registry.specs.Lingering.{closed, closing_of, is_not_past, is_past, is_used, registrations_of, settled, settled_one};
 ghost use Rattle.std.specs.Prelude.{◌≡◌, IfOk};
 
-use crate::row::{Publication, Registration};
+use crate::row::{Registration, Source};
 use crate::streams::Streams;
 use byte_strings::Items;
 use rows::{Change, Test};
@@ -25,11 +25,11 @@ fn is_used(registrations: &[Registration], source: u64) -> bool
 }
 
 /// Lets the publication linger where nobody is registered with it.
-fn settle_one(publication: &mut Publication, registrations: &[Registration], now: u64)
-    ensures { publication.new ≡ settled_one registrations.now now publication.old }
+fn settle_one(log: &mut Source, registrations: &[Registration], now: u64)
+    ensures { log.new ≡ settled_one registrations.now now log.old }
 {
-    if !is_used(registrations, publication.source) {
-        publication.lingering_since = Some(publication.lingering_since.unwrap_or(now));
+    if !is_used(registrations, log.number) {
+        log.lingering_since = Some(log.lingering_since.unwrap_or(now));
     }
 }
 
@@ -40,20 +40,20 @@ struct Settling<'a> {
     now: u64,
 }
 
-impl Change<Publication> for Settling<'_> {
-    ghost changed = { λ change publication. settled_one change.registrations.now change.now publication };
+impl Change<Source> for Settling<'_> {
+    ghost changed = { λ change log. settled_one change.registrations.now change.now log };
 
-    fn change(&self, publication: &mut Publication) {
-        settle_one(publication, self.registrations, self.now);
+    fn change(&self, log: &mut Source) {
+        settle_one(log, self.registrations, self.now);
     }
 }
 
 /// Whether the publication lingers for longer than it may at `now`.
-pub fn is_past(publication: &Publication, now: u64) -> bool
-    ensures { result ≡ is_past now publication.now }
+pub fn is_past(log: &Source, now: u64) -> bool
+    ensures { result ≡ is_past now log.now }
 {
-    match publication.lingering_since {
-        Some(since) => now.saturating_sub(since) > publication.measures.linger,
+    match log.lingering_since {
+        Some(since) => now.saturating_sub(since) > log.measures.linger,
         None => false,
     }
 }
@@ -64,11 +64,11 @@ struct NotPast {
     now: u64,
 }
 
-impl Test<Publication> for NotPast {
-    ghost keeps = { λ test publication. is_not_past test.now publication };
+impl Test<Source> for NotPast {
+    ghost keeps = { λ test log. is_not_past test.now log };
 
-    fn keeps(&self, publication: &Publication) -> bool {
-        !is_past(publication, self.now)
+    fn keeps(&self, log: &Source) -> bool {
+        !is_past(log, self.now)
     }
 }
 
@@ -89,7 +89,7 @@ impl Streams {
     pub(crate) fn settle(&mut self, now: u64)
         ensures { self.new ≡ settled self.old now }
     {
-        self.publications.change(&Settling {
+        self.sources.change(&Settling {
             registrations: self.registrations.as_slice(),
             now,
         });
@@ -101,11 +101,11 @@ impl Streams {
         ensures { IfOk result (λ logs. logs ≡ closing_of self.now now) }
     {
         let mut logs = Items::new(alloc);
-        for publication in self.publications.as_slice() {
-            if is_past(publication, now) {
+        for log in self.sources.as_slice() {
+            if is_past(log, now) {
                 logs.push(LogPlace {
-                    source: publication.source,
-                    place: publication.place,
+                    source: log.number,
+                    place: log.place,
                 })?;
             }
         }
@@ -118,6 +118,6 @@ impl Streams {
     pub fn close(&mut self, now: u64)
         ensures { self.new ≡ closed self.old now }
     {
-        self.publications.retain(&NotPast { now });
+        self.sources.retain(&NotPast { now });
     }
 }

@@ -4,7 +4,7 @@ ghost use Rattle.std.specs.List.{list_any};
 ghost use Rattle.std.specs.Prelude.{◌≡◌, ◌++◌, IfOk, OnOk};
 
 use crate::places::is_ipc;
-use crate::row::{Publication, Subscription};
+use crate::row::{Source, Subscription};
 use crate::sessions::agrees_with;
 use crate::streams::Streams;
 use crate::wish::Wish;
@@ -24,13 +24,13 @@ pub struct Pair {
 
 /// Whether the subscription reads the log, if the policy lets it.
 #[tactic(auto, unfolding(crate::specs::Pairs::fits))]
-pub fn fits(publication: &Publication, wish: &Wish<'_>) -> bool
-    ensures { result ≡ fits publication.now (row_of wish.now) }
+pub fn fits(log: &Source, wish: &Wish<'_>) -> bool
+    ensures { result ≡ fits log.now (row_of wish.now) }
 {
-    is_ipc(publication.channel.media())
+    is_ipc(log.channel.media())
         && is_ipc(wish.channel.media())
-        && publication.stream == wish.stream
-        && agrees_with(publication.session, wish.channel.session_id())
+        && log.stream == wish.stream
+        && agrees_with(log.session, wish.channel.session_id())
 }
 
 /// Whether the policy, which goes by the number `epoch`, lets the client have messages on its subscription.
@@ -52,16 +52,10 @@ pub fn is_allowed(clients: &Clients, policy: &Policy, epoch: u64, wish: &Wish<'_
 
 /// Whether the subscription reads the log, or would if it were there: they fit, and the policy, which goes by the number
 /// `epoch`, allows the act `image` to the subscription's client. It takes no memory.
-pub fn reads(
-    clients: &Clients,
-    policy: &Policy,
-    epoch: u64,
-    publication: &Publication,
-    wish: &Wish<'_>,
-) -> bool
-    ensures { result ≡ is_pair clients.now.rows policy.now epoch publication.now (row_of wish.now) }
+pub fn reads(clients: &Clients, policy: &Policy, epoch: u64, log: &Source, wish: &Wish<'_>) -> bool
+    ensures { result ≡ is_pair clients.now.rows policy.now epoch log.now (row_of wish.now) }
 {
-    fits(publication, wish) && is_allowed(clients, policy, epoch, wish)
+    fits(log, wish) && is_allowed(clients, policy, epoch, wish)
 }
 
 /// Puts the pairs of a log behind the others.
@@ -71,14 +65,14 @@ fn push_pairs(
     policy: &Policy,
     epoch: u64,
     subscriptions: &[Subscription],
-    publication: &Publication,
+    log: &Source,
 ) -> Result<(), AllocError>
-    ensures { OnOk result (pairs.new ≡ pairs.old ++ pairs_at clients.now.rows policy.now epoch subscriptions.now publication.now) }
+    ensures { OnOk result (pairs.new ≡ pairs.old ++ pairs_at clients.now.rows policy.now epoch subscriptions.now log.now) }
 {
     for subscription in subscriptions {
-        if reads(clients, policy, epoch, publication, &subscription.wish()) {
+        if reads(clients, policy, epoch, log, &subscription.wish()) {
             pairs.push(Pair {
-                source: publication.source,
+                source: log.number,
                 subscription: subscription.number,
             })?;
         }
@@ -92,14 +86,14 @@ fn is_read_by(
     policy: &Policy,
     epoch: u64,
     subscriptions: &[Subscription],
-    publication: &Publication,
+    log: &Source,
     number: u64,
 ) -> bool
-    ensures { result ≡ list_any (reads_as clients.now.rows policy.now epoch publication.now number) subscriptions.now }
+    ensures { result ≡ list_any (reads_as clients.now.rows policy.now epoch log.now number) subscriptions.now }
 {
     for subscription in subscriptions {
         if subscription.number == number
-            && reads(clients, policy, epoch, publication, &subscription.wish())
+            && reads(clients, policy, epoch, log, &subscription.wish())
         {
             return true;
         }
@@ -112,20 +106,20 @@ fn is_any_read(
     clients: &Clients,
     policy: &Policy,
     epoch: u64,
-    publications: &[Publication],
+    logs: &[Source],
     subscriptions: &[Subscription],
     pair: Pair,
 ) -> bool
-    ensures { result ≡ list_any (is_read clients.now.rows policy.now epoch subscriptions.now pair.source pair.subscription) publications.now }
+    ensures { result ≡ list_any (is_read clients.now.rows policy.now epoch subscriptions.now pair.source pair.subscription) logs.now }
 {
-    for publication in publications {
-        if publication.source == pair.source
+    for log in logs {
+        if log.number == pair.source
             && is_read_by(
                 clients,
                 policy,
                 epoch,
                 subscriptions,
-                publication,
+                log,
                 pair.subscription,
             )
         {
@@ -150,15 +144,8 @@ impl Streams {
     {
         let mut pairs = Items::new(alloc);
         let subscriptions = self.subscriptions.as_slice();
-        for publication in self.publications.as_slice() {
-            push_pairs(
-                &mut pairs,
-                clients,
-                policy,
-                epoch,
-                subscriptions,
-                publication,
-            )?;
+        for log in self.sources.as_slice() {
+            push_pairs(&mut pairs, clients, policy, epoch, subscriptions, log)?;
         }
         Ok(pairs)
     }
@@ -178,7 +165,7 @@ impl Streams {
             clients,
             policy,
             epoch,
-            self.publications.as_slice(),
+            self.sources.as_slice(),
             self.subscriptions.as_slice(),
             Pair {
                 source,

@@ -2,11 +2,11 @@ use crate::measures::Measures;
 use channel_uri::Channel;
 use rows::Twin;
 
-/// A live publication: one log, which all that are registered with it share.
+/// A log that is live. All that are registered with it share it.
 #[derive(Debug, Drop)]
-pub struct Publication {
-    /// The registration number of the ADD that made it, by which the log is known as a source.
-    pub source: u64,
+pub struct Source {
+    /// The registration number of the ADD that made it, by which the log is known.
+    pub number: u64,
     /// The channel of that ADD.
     pub channel: Channel,
     /// The stream id.
@@ -31,7 +31,7 @@ pub struct Registration {
     pub client: u64,
     /// The channel that the client named.
     pub channel: Channel,
-    /// The source number of the publication.
+    /// The number of the log.
     pub source: u64,
 }
 
@@ -47,10 +47,10 @@ pub struct Subscription {
     pub stream: i32,
 }
 
-impl Twin for Publication {
-    fn twin(&self) -> Publication {
-        Publication {
-            source: self.source,
+impl Twin for Source {
+    fn twin(&self) -> Source {
+        Source {
+            number: self.number,
             channel: self.channel.copy(),
             stream: self.stream,
             session: self.session,

@@ -3,7 +3,7 @@ ghost use Rattle.std.specs.List.{list_any};
 ghost use Rattle.std.specs.Prelude.{◌≡◌};
 
 use crate::places::is_same_media;
-use crate::row::Publication;
+use crate::row::Source;
 use channel_uri::Media;
 
 /// The session id after this one; the least comes after the greatest.
@@ -14,22 +14,20 @@ pub(crate) fn after(session: i32) -> i32
 }
 
 /// Whether a live publication has this session.
-fn is_taken(publications: &[Publication], session: i32) -> bool
-    ensures { result ≡ is_taken publications.now session }
+fn is_taken(logs: &[Source], session: i32) -> bool
+    ensures { result ≡ is_taken logs.now session }
 {
-    publications
-        .iter()
-        .any(|publication| publication.session == session)
+    logs.iter().any(|log| log.session == session)
 }
 
 /// The first session from this one on that no live publication has.
 #[tactic(auto, unfolding(crate::specs::Sessions::free_session))]
-pub(crate) fn free_session(publications: &[Publication], first: i32) -> i32
-    ensures { result ≡ free_session publications.now first }
+pub(crate) fn free_session(logs: &[Source], first: i32) -> i32
+    ensures { result ≡ free_session logs.now first }
 {
     let mut session = first;
-    for _other in publications {
-        if !is_taken(publications, session) {
+    for _other in logs {
+        if !is_taken(logs, session) {
             return session;
         }
         session = after(session);
@@ -49,20 +47,18 @@ pub(crate) fn agrees_with(session: i32, stated: Option<i32>) -> bool
 
 /// Whether the publication has the session, on this medium and stream.
 #[tactic(auto, unfolding(crate::specs::Sessions::has_session_at))]
-fn has_session_at(publication: &Publication, media: Media, stream: i32, session: i32) -> bool
-    ensures { result ≡ has_session_at media stream session publication.now }
+fn has_session_at(log: &Source, media: Media, stream: i32, session: i32) -> bool
+    ensures { result ≡ has_session_at media stream session log.now }
 {
-    is_same_media(publication.channel.media(), media)
-        && publication.stream == stream
-        && publication.session == session
+    is_same_media(log.channel.media(), media) && log.stream == stream && log.session == session
 }
 
 /// Whether a publication has the session, on this medium and stream.
-fn is_used_at(publications: &[Publication], media: Media, stream: i32, session: i32) -> bool
-    ensures { result ≡ list_any (has_session_at media stream session) publications.now }
+fn is_used_at(logs: &[Source], media: Media, stream: i32, session: i32) -> bool
+    ensures { result ≡ list_any (has_session_at media stream session) logs.now }
 {
-    for publication in publications {
-        if has_session_at(publication, media, stream, session) {
+    for log in logs {
+        if has_session_at(log, media, stream, session) {
             return true;
         }
     }
@@ -71,15 +67,15 @@ fn is_used_at(publications: &[Publication], media: Media, stream: i32, session: 
 
 /// Whether a live publication of this medium and stream has the session that is stated.
 pub(crate) fn is_stated_again(
-    publications: &[Publication],
+    logs: &[Source],
     media: Media,
     stream: i32,
     stated: Option<i32>,
 ) -> bool
-    ensures { result ≡ is_stated_again publications.now media stream stated }
+    ensures { result ≡ is_stated_again logs.now media stream stated }
 {
     match stated {
-        Some(session) => is_used_at(publications, media, stream, session),
+        Some(session) => is_used_at(logs, media, stream, session),
         None => false,
     }
 }

@@ -1,7 +1,7 @@
 ghost use Rattle.std.specs.Prelude.{◌≡◌, ◌≤◌, IfOk, length};
 
 use crate::measures::Measures;
-use crate::row::{Publication, Registration, Subscription};
+use crate::row::{Registration, Source, Subscription};
 use rows::Rows;
 use std::alloc::{AllocError, Global};
 use std::marker::Model;
@@ -14,7 +14,7 @@ pub struct Streams {
     pub(crate) defaults: Measures,
     /// The number from which on the next session is looked for.
     pub(crate) next_session: i32,
-    pub(crate) publications: Rows<Publication, 256>,
+    pub(crate) sources: Rows<Source, 256>,
     pub(crate) registrations: Rows<Registration, 1024>,
     pub(crate) subscriptions: Rows<Subscription, 512>,
 }
@@ -27,7 +27,7 @@ impl Model for Streams {
     ghost view = { λ streams. record {
       defaults = streams.defaults;
       next_session = streams.next_session;
-      publications = streams.publications;
+      sources = streams.sources;
       registrations = streams.registrations;
       subscriptions = streams.subscriptions;
     } };
@@ -44,7 +44,7 @@ impl Streams {
         Ok(Streams {
             defaults,
             next_session: first_session,
-            publications: Rows::new(alloc)?,
+            sources: Rows::new(alloc)?,
             registrations: Rows::new(alloc)?,
             subscriptions: Rows::new(alloc)?,
         })
@@ -57,18 +57,18 @@ impl Streams {
         Ok(Streams {
             defaults: self.defaults,
             next_session: self.next_session,
-            publications: self.publications.copy(alloc)?,
+            sources: self.sources.copy(alloc)?,
             registrations: self.registrations.copy(alloc)?,
             subscriptions: self.subscriptions.copy(alloc)?,
         })
     }
 
     /// The live publications, those that linger too, by their source numbers.
-    pub fn publications(&self) -> &[Publication]
-        ensures value { result.now ≡ self.now.publications }
+    pub fn sources(&self) -> &[Source]
+        ensures value { result.now ≡ self.now.sources }
         ensures few { length result.now ≤ 256 }
     {
-        self.publications.as_slice()
+        self.sources.as_slice()
     }
 
     /// The registrations with publications, in their order.
@@ -90,7 +90,7 @@ impl Streams {
     pub fn close_all(&mut self)
         ensures { self.new ≡ cleared self.old }
     {
-        self.publications.clear();
+        self.sources.clear();
         self.registrations.clear();
         self.subscriptions.clear();
     }

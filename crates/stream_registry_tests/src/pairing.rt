@@ -127,7 +127,7 @@ fn would_read(play: &Play, clients: &Clients, policy: &Policy, client: u64, stre
         stream,
     };
     play.streams
-        .publications()
+        .sources()
         .iter()
         .all(|log| reads(clients, policy, 1, log, &wish))
 }

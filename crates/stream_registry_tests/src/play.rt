@@ -147,14 +147,14 @@ impl Play {
     /// Whether the log of this source is there, and lingers since this moment, or not at all.
     pub(crate) fn lingers(&self, source: u64, since: Option<u64>) -> bool {
         self.streams
-            .publications()
+            .sources()
             .iter()
-            .any(|log| log.source == source && log.lingering_since == since)
+            .any(|log| log.number == source && log.lingering_since == since)
     }
 
     /// Whether there are so many logs, registrations and subscriptions.
     pub(crate) fn has(&self, logs: usize, registrations: usize, subscriptions: usize) -> bool {
-        self.streams.publications().len() == logs
+        self.streams.sources().len() == logs
             && self.streams.registrations().len() == registrations
             && self.streams.subscriptions().len() == subscriptions
     }

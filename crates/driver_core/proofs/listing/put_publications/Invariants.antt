@@ -6,6 +6,6 @@ use Rattle.driver_core.proofs.listing.put_publications.Given as goal
 abbrev pub invariant-loop-publication : goal.invariant-loop-publication
 invariant-loop-publication l =
     with_rows l.rows.items
-    (map (publication_row l.registry) (filter (shows_publication l.registry l.principal) (drop l.publication-index l.publications)))
+    (map (publication_row l.registry) (filter (shows_publication l.registry l.principal) (drop l.publication-index l.logs)))
     ≡ with_rows l.initial.rows.items
-    (map (publication_row l.registry) (filter (shows_publication l.registry l.principal) l.publications))
+    (map (publication_row l.registry) (filter (shows_publication l.registry l.principal) l.logs))

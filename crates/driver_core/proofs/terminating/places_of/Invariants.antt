@@ -3,6 +3,6 @@ use Rattle.stream_registry.specs.Lingering.{place_of}
 use Rattle.driver_core.proofs.terminating.places_of.Given as goal
 
 -- the places so far, and then those of the publications that are left
-abbrev pub invariant-loop-publication : goal.invariant-loop-publication
-invariant-loop-publication l =
-    l.places ++ map place_of (drop l.publication-index l.publications) ≡ map place_of l.publications
+abbrev pub invariant-loop-log : goal.invariant-loop-log
+invariant-loop-log l =
+    l.places ++ map place_of (drop l.log-index l.logs) ≡ map place_of l.logs

@@ -8,7 +8,7 @@ pub returns-then-not-is_allowed : goal.returns-then-not-is_allowed
 returns-then-not-is_allowed c = record {
   exact =
       ap (λ (pairs : List Pair). length pairs)
-      (sym (reads_none c.args.clients.now.rows c.args.policy.now c.args.epoch (row_of c.args.wish.now) c.args.streams.now.publications
+      (sym (reads_none c.args.clients.now.rows c.args.policy.now c.args.epoch (row_of c.args.wish.now) c.args.streams.now.sources
       (sym c.is_allowed.ensures ∙ c.if-not-is_allowed.true)));
   few = omega arith;
 }

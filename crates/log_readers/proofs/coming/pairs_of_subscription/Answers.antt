@@ -6,5 +6,5 @@ use Rattle.log_readers.proofs.coming.pairs_of_subscription.Goals as goal
 pub returns-then-not-is_allowed : goal.returns-then-not-is_allowed
 returns-then-not-is_allowed c =
     c.new-pairs.ensures
-    ∙ sym (reads_none c.args.clients.now.rows c.args.policy.now c.args.epoch (row_of c.args.wish.now) c.args.streams.now.publications
+    ∙ sym (reads_none c.args.clients.now.rows c.args.policy.now c.args.epoch (row_of c.args.wish.now) c.args.streams.now.sources
     (sym c.is_allowed.ensures ∙ c.if-not-is_allowed.true))

@@ -5,6 +5,6 @@ use Rattle.log_readers.proofs.coming.readers_among.Given as goal
 -- the readers so far, and those among the subscriptions that are left
 abbrev pub invariant-loop-subscription : goal.invariant-loop-subscription
 invariant-loop-subscription l =
-    (l.readers + length (pairs_at l.clients.rows l.policy l.epoch (drop l.subscription-index l.subscriptions) l.publication)
-    ≡ length (pairs_at l.clients.rows l.policy l.epoch l.subscriptions l.publication))
+    (l.readers + length (pairs_at l.clients.rows l.policy l.epoch (drop l.subscription-index l.subscriptions) l.log)
+    ≡ length (pairs_at l.clients.rows l.policy l.epoch l.subscriptions l.log))
     × (l.readers ≤ l.subscription-index)

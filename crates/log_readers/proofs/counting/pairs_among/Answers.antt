@@ -9,7 +9,7 @@ use Rattle.log_readers.proofs.counting.pairs_among.Goals as goal
 
 pub loop-subscription-init : goal.loop-subscription-init
 loop-subscription-init c = record {
-  so_far = sym (no_pairs c.args.clients.now.rows c.args.policy.now c.args.epoch c.args.streams.now.publications);
+  so_far = sym (no_pairs c.args.clients.now.rows c.args.policy.now c.args.epoch c.args.streams.now.sources);
   few = omega arith;
 }
 
@@ -18,18 +18,18 @@ loop-subscription-preserved c =
     let before : List Subscription = take c.loop-subscription.subscription-index c.args.subscriptions.now in
     let row : Subscription = c.subscription-item.result in
     let count : List Subscription → ℕ = λ rows.
-    length (flat_map (pairs_at c.args.clients.now.rows c.args.policy.now c.args.epoch rows) c.args.streams.now.publications) in
+    length (flat_map (pairs_at c.args.clients.now.rows c.args.policy.now c.args.epoch rows) c.args.streams.now.sources) in
     let grown : count (take (c.loop-subscription.subscription-index + 1) c.args.subscriptions.now)
     ≡ count before
-    + length (pairs_with c.args.clients.now.rows c.args.policy.now c.args.epoch c.args.streams.now.publications row) =
+    + length (pairs_with c.args.clients.now.rows c.args.policy.now c.args.epoch c.args.streams.now.sources row) =
     ap count (take_more c.args.subscriptions.now c.loop-subscription.subscription-index row c.loop-subscription-test.true
     ∙ ap (λ (one : Subscription). before ++ one ∷ []) (sym c.subscription-item.is))
-    ∙ pairs_with_row c.args.clients.now.rows c.args.policy.now c.args.epoch row before c.args.streams.now.publications in
+    ∙ pairs_with_row c.args.clients.now.rows c.args.policy.now c.args.epoch row before c.args.streams.now.sources in
     let read : c.logs_read-pairs.result
-    ≡ length (pairs_with c.args.clients.now.rows c.args.policy.now c.args.epoch c.args.streams.now.publications row) =
+    ≡ length (pairs_with c.args.clients.now.rows c.args.policy.now c.args.epoch c.args.streams.now.sources row) =
     c.logs_read-pairs.ensures.exact
     ∙ ap (λ (one : Subscription).
-    length (pairs_with c.args.clients.now.rows c.args.policy.now c.args.epoch c.args.streams.now.publications one)) c.wish.ensures in
+    length (pairs_with c.args.clients.now.rows c.args.policy.now c.args.epoch c.args.streams.now.sources one)) c.wish.ensures in
     record {
       so_far = omega (arith, grown, read, c.loop-subscription.invariant.so_far);
       few = omega (arith, c.logs_read-pairs.ensures.few, c.loop-subscription.invariant.few);

@@ -8,6 +8,6 @@ abbrev pub invariant-loop-subscription : goal.invariant-loop-subscription
 invariant-loop-subscription l = record {
   so_far :
       l.pairs
-      ≡ length (flat_map (pairs_at l.clients.rows l.policy l.epoch (take l.subscription-index l.subscriptions)) l.streams.publications);
+      ≡ length (flat_map (pairs_at l.clients.rows l.policy l.epoch (take l.subscription-index l.subscriptions)) l.streams.sources);
   few : l.pairs ≤ 256 * l.subscription-index;
 }

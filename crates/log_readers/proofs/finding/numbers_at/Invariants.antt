@@ -4,4 +4,4 @@ use Rattle.log_readers.proofs.finding.numbers_at.Given as goal
 
 -- the logs that are left decide
 abbrev pub invariant-loop-at : goal.invariant-loop-at
-invariant-loop-at l = numbers_at l.source (drop l.at l.publications) (drop l.at l.slots) ≡ numbers_at l.source l.publications l.slots
+invariant-loop-at l = numbers_at l.source (drop l.at l.logs) (drop l.at l.slots) ≡ numbers_at l.source l.logs l.slots

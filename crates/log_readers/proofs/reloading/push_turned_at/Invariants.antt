@@ -6,9 +6,9 @@ use Rattle.log_readers.proofs.reloading.push_turned_at.Given as goal
 abbrev pub invariant-loop-at : goal.invariant-loop-at
 invariant-loop-at l = record {
   gone :
-      l.turnover.gone ++ turned_at goes (drop l.at l.subscriptions) (drop l.at l.allowed) l.publication l.numbers
-      ≡ l.initial.turnover.gone ++ turned_at goes l.subscriptions l.allowed l.publication l.numbers;
+      l.turnover.gone ++ turned_at goes (drop l.at l.subscriptions) (drop l.at l.allowed) l.log l.numbers
+      ≡ l.initial.turnover.gone ++ turned_at goes l.subscriptions l.allowed l.log l.numbers;
   come :
-      l.turnover.come ++ turned_at comes (drop l.at l.subscriptions) (drop l.at l.allowed) l.publication l.numbers
-      ≡ l.initial.turnover.come ++ turned_at comes l.subscriptions l.allowed l.publication l.numbers;
+      l.turnover.come ++ turned_at comes (drop l.at l.subscriptions) (drop l.at l.allowed) l.log l.numbers
+      ≡ l.initial.turnover.come ++ turned_at comes l.subscriptions l.allowed l.log l.numbers;
 }

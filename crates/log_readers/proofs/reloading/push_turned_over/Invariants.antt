@@ -6,9 +6,9 @@ use Rattle.log_readers.proofs.reloading.push_turned_over.Given as goal
 abbrev pub invariant-loop-at : goal.invariant-loop-at
 invariant-loop-at l = record {
   gone :
-      l.turnover.gone ++ turned_over goes l.subscriptions l.allowed (drop l.at l.publications) (drop l.at l.slots)
-      ≡ l.initial.turnover.gone ++ turned_over goes l.subscriptions l.allowed l.publications l.slots;
+      l.turnover.gone ++ turned_over goes l.subscriptions l.allowed (drop l.at l.logs) (drop l.at l.slots)
+      ≡ l.initial.turnover.gone ++ turned_over goes l.subscriptions l.allowed l.logs l.slots;
   come :
-      l.turnover.come ++ turned_over comes l.subscriptions l.allowed (drop l.at l.publications) (drop l.at l.slots)
-      ≡ l.initial.turnover.come ++ turned_over comes l.subscriptions l.allowed l.publications l.slots;
+      l.turnover.come ++ turned_over comes l.subscriptions l.allowed (drop l.at l.logs) (drop l.at l.slots)
+      ≡ l.initial.turnover.come ++ turned_over comes l.subscriptions l.allowed l.logs l.slots;
 }

@@ -6,5 +6,5 @@ use Rattle.log_readers.proofs.telling.push_rows.Given as goal
 -- the pairs so far, and then those of the logs that are left
 abbrev pub invariant-loop-at : goal.invariant-loop-at
 invariant-loop-at g l =
-    l.pairs ++ filter (g.S.Test.keeps l.test) (told (drop l.at l.publications) (drop l.at l.slots))
-    ≡ l.initial.pairs ++ filter (g.S.Test.keeps l.test) (told l.publications l.slots)
+    l.pairs ++ filter (g.S.Test.keeps l.test) (told (drop l.at l.logs) (drop l.at l.slots))
+    ≡ l.initial.pairs ++ filter (g.S.Test.keeps l.test) (told l.logs l.slots)

@@ -2,7 +2,7 @@ use Rattle.std.proofs.Common.{◌≡◌, drop}
 use Rattle.stream_registry.specs.Joining.{joined_at}
 use Rattle.stream_registry.proofs.joining.joined_at.Given as goal
 
--- the publications that are left decide
-abbrev pub invariant-loop-publication : goal.invariant-loop-publication
-invariant-loop-publication l =
-    joined_at (drop l.publication-index l.publications) l.channel l.stream ≡ joined_at l.publications l.channel l.stream
+-- the logs that are left decide
+abbrev pub invariant-loop-log : goal.invariant-loop-log
+invariant-loop-log l =
+    joined_at (drop l.log-index l.logs) l.channel l.stream ≡ joined_at l.logs l.channel l.stream

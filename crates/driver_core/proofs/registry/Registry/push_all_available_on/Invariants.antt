@@ -7,5 +7,5 @@ use Rattle.driver_core.proofs.registry.Registry.push_all_available_on.Given as g
 -- what was put there so far, and then what comes of the pairs that are left
 abbrev pub invariant-loop-pair : goal.invariant-loop-pair
 invariant-loop-pair l =
-    l.messages ++ flat_map (available_on l.self.streams.publications l.ends (row_of l.wish)) (drop l.pair-index l.come)
-    ≡ l.initial.messages ++ flat_map (available_on l.self.streams.publications l.ends (row_of l.wish)) l.come
+    l.messages ++ flat_map (available_on l.self.streams.sources l.ends (row_of l.wish)) (drop l.pair-index l.come)
+    ≡ l.initial.messages ++ flat_map (available_on l.self.streams.sources l.ends (row_of l.wish)) l.come

@@ -1,7 +1,7 @@
 use Rattle.std.proofs.Common.{◌≡◌, ℕ, List, [], ◌∷◌, ◌++◌, length, Ok, sym, ap, ◌∙◌, arith, rules}
 use Rattle.std.proofs.lemmas.Bool.{ltb-true}
 use Rattle.log_readers.specs.Readers.{readers_at}
-use Rattle.stream_registry.specs.declared.row.Publication.{Publication}
+use Rattle.stream_registry.specs.declared.row.Source.{Source}
 use Rattle.stream_registry.specs.declared.row.Subscription.{Subscription}
 use Rattle.stream_registry.specs.Adding.{log_of}
 use Rattle.stream_registry.proofs.LimitLemmas.{make_has_room_for_log}
@@ -11,10 +11,10 @@ use Rattle.log_readers.proofs.readers.Readers.add_publication.Goals as goal
 
 pub add_log-requires-clause-room : goal.add_log-requires-clause-room
 add_log-requires-clause-room c =
-    let same : length c.args.self.now ≡ length c.args.streams.now.publications =
+    let same : length c.args.self.now ≡ length c.args.streams.now.sources =
     ap (λ (readers : List (List ℕ)). length readers) c.requires.exact
     ∙ as_many_as_logs c.args.clients.now.rows c.args.policy.now c.args.epoch c.args.streams.now in
-    let room = ltb-true (length c.args.streams.now.publications) 256
+    let room = ltb-true (length c.args.streams.now.sources) 256
     (make_has_room_for_log c.args.streams.now c.args.wanted.now c.in-Make.session (c.requires.taken ∙ ap Ok c.in-Make.is)) in
     omega (arith, same, room)
 
@@ -33,7 +33,7 @@ returns-in-Make c =
     rw c.in-Make.is
     (c.add_log.ensures
     ∙ ap (λ (subscriptions : List Subscription). c.args.self.now ++ at subscriptions c.log-log.result ∷ []) c.subscriptions.ensures.value
-    ∙ ap (λ (one : Publication). c.args.self.now ++ at c.args.streams.now.subscriptions one ∷ []) is
+    ∙ ap (λ (one : Source). c.args.self.now ++ at c.args.streams.now.subscriptions one ∷ []) is
     ∙ ap (λ (readers : List (List ℕ)). readers ++ at c.args.streams.now.subscriptions log ∷ []) c.requires.exact
     ∙ sym (made_readers c.args.clients.now.rows c.args.policy.now c.args.epoch c.args.streams.now c.args.number c.args.client
     c.args.wanted.now c.args.place c.in-Make.session))

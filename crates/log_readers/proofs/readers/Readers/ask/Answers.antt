@@ -12,8 +12,8 @@ note-requires-clause-room c =
     let before = take c.loop-subscription.subscription-index c.args.subscriptions.now in
     let long = length-take-le c.loop-subscription.subscription-index c.args.subscriptions.now (omega (arith, c.loop-subscription-test.true)) in
     All-same (λ (numbers : List ℕ). length numbers < 512) c.loop-subscription.self
-    (map (readers_at c.args.clients.now.rows c.args.policy.now c.args.epoch before) c.args.publications.now) c.loop-subscription.invariant
-    (all_few c.args.clients.now.rows c.args.policy.now c.args.epoch before c.args.publications.now 512
+    (map (readers_at c.args.clients.now.rows c.args.policy.now c.args.epoch before) c.args.logs.now) c.loop-subscription.invariant
+    (all_few c.args.clients.now.rows c.args.policy.now c.args.epoch before c.args.logs.now 512
     (omega (arith, long, c.requires.few, c.loop-subscription-test.true)))
 
 pub loop-subscription-preserved : goal.loop-subscription-preserved
@@ -23,12 +23,12 @@ loop-subscription-preserved c =
     c.note.ensures
     ∙ ap (λ (one : Subscription).
     cond (is_allowed c.args.clients.now.rows c.args.policy.now c.args.epoch one)
-    (noted one c.args.publications.now c.loop-subscription.self) c.loop-subscription.self) c.wish.ensures
+    (noted one c.args.logs.now c.loop-subscription.self) c.loop-subscription.self) c.wish.ensures
     ∙ ap (λ (readers : List (List ℕ)).
-    cond (is_allowed c.args.clients.now.rows c.args.policy.now c.args.epoch row) (noted row c.args.publications.now readers) readers)
+    cond (is_allowed c.args.clients.now.rows c.args.policy.now c.args.epoch row) (noted row c.args.logs.now readers) readers)
     c.loop-subscription.invariant
-    ∙ sym (noted_more c.args.clients.now.rows c.args.policy.now c.args.epoch before row c.args.publications.now)
+    ∙ sym (noted_more c.args.clients.now.rows c.args.policy.now c.args.epoch before row c.args.logs.now)
     ∙ ap (λ (subscriptions : List Subscription).
-    map (readers_at c.args.clients.now.rows c.args.policy.now c.args.epoch subscriptions) c.args.publications.now)
+    map (readers_at c.args.clients.now.rows c.args.policy.now c.args.epoch subscriptions) c.args.logs.now)
     (ap (λ (one : Subscription). before ++ one ∷ []) c.subscription-item.is
     ∙ sym (take_more c.args.subscriptions.now c.loop-subscription.subscription-index row c.loop-subscription-test.true))

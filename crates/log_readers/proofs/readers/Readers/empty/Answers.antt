@@ -5,4 +5,4 @@ use Rattle.log_readers.proofs.readers.Readers.empty.Goals as goal
 pub returns : goal.returns
 returns c =
     c.empty_used.ensures.emptied
-    ∙ emptied c.args.publications.now c.self.inside.slots.items (omega (arith, c.requires, c.self.invariant))
+    ∙ emptied c.args.logs.now c.self.inside.slots.items (omega (arith, c.requires, c.self.invariant))

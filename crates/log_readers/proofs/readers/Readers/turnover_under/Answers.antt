@@ -12,10 +12,10 @@ returns-clause-gone c old number low last up exact =
     ≡ map (is_allowed c.args.clients.now.rows c.args.policy.now c.args.epoch) c.args.streams.now.subscriptions = search rules in
     subst (λ (all : List Pair). IfOk c.turned.result (λ turnover. turnover.gone ≡ all))
     (ap (λ (allowed : List Bool).
-    turned_over goes c.args.streams.now.subscriptions allowed c.args.streams.now.publications c.args.self.now) asked
+    turned_over goes c.args.streams.now.subscriptions allowed c.args.streams.now.sources c.args.self.now) asked
     ∙ ap (turned_over goes c.args.streams.now.subscriptions
     (map (is_allowed c.args.clients.now.rows c.args.policy.now c.args.epoch) c.args.streams.now.subscriptions)
-    c.args.streams.now.publications) exact
+    c.args.streams.now.sources) exact
     ∙ reload_goes c.args.clients.now.rows old c.args.policy.now number c.args.epoch low last c.args.streams.now up)
     c.turned.ensures.gone
 
@@ -25,9 +25,9 @@ returns-clause-come c old number low last up exact =
     ≡ map (is_allowed c.args.clients.now.rows c.args.policy.now c.args.epoch) c.args.streams.now.subscriptions = search rules in
     subst (λ (all : List Pair). IfOk c.turned.result (λ turnover. turnover.come ≡ all))
     (ap (λ (allowed : List Bool).
-    turned_over comes c.args.streams.now.subscriptions allowed c.args.streams.now.publications c.args.self.now) asked
+    turned_over comes c.args.streams.now.subscriptions allowed c.args.streams.now.sources c.args.self.now) asked
     ∙ ap (turned_over comes c.args.streams.now.subscriptions
     (map (is_allowed c.args.clients.now.rows c.args.policy.now c.args.epoch) c.args.streams.now.subscriptions)
-    c.args.streams.now.publications) exact
+    c.args.streams.now.sources) exact
     ∙ reload_comes c.args.clients.now.rows old c.args.policy.now number c.args.epoch low last c.args.streams.now up)
     c.turned.ensures.come

@@ -3,7 +3,7 @@ use Rattle.stream_registry.specs.Lingering.{is_past, place_of}
 use Rattle.stream_registry.proofs.streams.Streams.closing.Given as goal
 
 -- the logs so far, and then those of the publications that are left
-abbrev pub invariant-loop-publication : goal.invariant-loop-publication
-invariant-loop-publication l =
-    l.logs ++ map place_of (filter (is_past l.now) (drop l.publication-index l.self.publications))
-    ≡ map place_of (filter (is_past l.now) l.self.publications)
+abbrev pub invariant-loop-log : goal.invariant-loop-log
+invariant-loop-log l =
+    l.logs ++ map place_of (filter (is_past l.now) (drop l.log-index l.self.sources))
+    ≡ map place_of (filter (is_past l.now) l.self.sources)

@@ -9,5 +9,5 @@ returns c =
     let streams = c.args.self.now in
     let pairs =
     any_pair c.args.clients.now.rows c.args.policy.now c.args.epoch c.args.source c.args.subscription
-    streams.subscriptions streams.publications in
+    streams.subscriptions streams.sources in
     search (rules, pairs)

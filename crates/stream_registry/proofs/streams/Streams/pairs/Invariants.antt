@@ -4,7 +4,7 @@ use Rattle.stream_registry.specs.Pairs.{pairs_at}
 use Rattle.stream_registry.proofs.streams.Streams.pairs.Given as goal
 
 -- the pairs so far, and then those of the logs that are left
-abbrev pub invariant-loop-publication : goal.invariant-loop-publication
-invariant-loop-publication l =
-    l.pairs ++ flat_map (pairs_at l.clients.rows l.policy l.epoch l.self.subscriptions) (drop l.publication-index l.self.publications)
-    ≡ flat_map (pairs_at l.clients.rows l.policy l.epoch l.self.subscriptions) l.self.publications
+abbrev pub invariant-loop-log : goal.invariant-loop-log
+invariant-loop-log l =
+    l.pairs ++ flat_map (pairs_at l.clients.rows l.policy l.epoch l.self.subscriptions) (drop l.log-index l.self.sources)
+    ≡ flat_map (pairs_at l.clients.rows l.policy l.epoch l.self.subscriptions) l.self.sources
