@@ -9,7 +9,7 @@ use Rattle.driver_core.specs.Cached.{AreCached, IsCached, offer_question, poll_q
 use Rattle.driver_core.specs.Conduct.{state_after}
 use Rattle.driver_core.specs.declared.event.Event.{Event}
 use Rattle.driver_core.specs.declared.event.Inputs.{Inputs}
-use Rattle.driver_core.specs.Renewal.{publication_at}
+use Rattle.driver_core.specs.Renewal.{source_at}
 use Rattle.driver_core.specs.State.{State}
 use Rattle.log_readers.specs.Numbering.{Rises, number_of as subscribed_as, registered_as, source_of}
 use Rattle.log_readers.proofs.RisingLemmas.{all_above, all_below}
@@ -17,7 +17,7 @@ use Rattle.policy_core.specs.declared.act.Act.TheVariants.{Offer}
 use Rattle.policy_core.specs.declared.verdict.Verdict.{Verdict}
 use Rattle.policy_core.specs.Question.{Question}
 use Rattle.policy_core.specs.Rules.{verdict_of}
-use Rattle.stream_registry.specs.declared.row.Publication.{Publication}
+use Rattle.stream_registry.specs.declared.row.Source.{Source}
 use Rattle.stream_registry.specs.declared.row.Registration.{Registration}
 use Rattle.stream_registry.specs.declared.row.Subscription.{Subscription}
 use Rattle.driver_core.proofs.ListLemmas.{contains_none, only_one}
@@ -59,8 +59,8 @@ one_stays s after entry stays cached =
       offer = λ row log has stands number source epoch act.
           let there = registered row has number in
           let below = cached.source row there number act in
-          let was : WasLog s.streams.publications log =
-          was_there _ s.last_number log.source (omega (arith, below, source)) (stays.logs log stands) in
+          let was : WasLog s.streams.sources log =
+          was_there _ s.last_number log.number (omega (arith, below, source)) (stays.logs log stands) in
           same_policy s after entry.0.epoch entry.1 (offer_question entry.0.principal row log) stays known epoch
           (λ now.
           cached.offer row was.before there was.stood number (was.source_is ∙ source) now act
@@ -126,10 +126,10 @@ unique number_of low last (first ∷ rows) row other up has stands same =
 
 -- ---- a verdict that is decided
 
-pub offer_cached : (s : State) (principal : ℕ) (registration : Registration) (log : Publication) →
-    Rises source_of 0 s.last_number s.streams.publications →
+pub offer_cached : (s : State) (principal : ℕ) (registration : Registration) (log : Source) →
+    Rises source_of 0 s.last_number s.streams.sources →
     Rises registered_as 0 s.last_number s.streams.registrations →
-    Contains s.streams.registrations registration → Contains s.streams.publications log → log.source ≡ registration.source →
+    Contains s.streams.registrations registration → Contains s.streams.sources log → log.number ≡ registration.source →
     IsCached s (
       key_of s.epoch registration.number (offer_question principal registration log),
       verdict_of s.policy s.epoch (offer_question principal registration log),
@@ -144,14 +144,14 @@ offer_cached s principal registration log sources registered has stands with =
       subject = below registered_as 0 last s.streams.registrations registration registered has;
       source = λ row there number act.
           let is = ap (λ (r : Registration). r.source) (own row there number) in
-          let low = below source_of 0 last s.streams.publications log sources stands in
+          let low = below source_of 0 last s.streams.sources log sources stands in
           omega (arith, is, low, with);
       offer = λ row other there live number source epoch act.
           let is : registration ≡ row = own row there number in
-          let from : log.source ≡ other.source = with ∙ ap (λ (r : Registration). r.source) is ∙ sym source in
-          let same : log ≡ other = unique source_of 0 last s.streams.publications log other sources stands live from in
+          let from : log.number ≡ other.number = with ∙ ap (λ (r : Registration). r.source) is ∙ sym source in
+          let same : log ≡ other = unique source_of 0 last s.streams.sources log other sources stands live from in
           ap (λ (r : Registration). verdict_of s.policy s.epoch (offer_question principal r log)) is
-          ∙ ap (λ (l : Publication). verdict_of s.policy s.epoch (offer_question principal row l)) same;
+          ∙ ap (λ (l : Source). verdict_of s.policy s.epoch (offer_question principal row l)) same;
       poll = λ row there number epoch act. absurd (cc act);
     }
 
@@ -202,17 +202,17 @@ pub found_in : {X : Type 0} (test : X → Bool) (xs : List X) (x : X) → find t
 found_in test [] x found = absurd (cc found)
 found_in test (y ∷ ys) x found = found_first test y x ys (test y) refl (found_in test ys x) found
 
-pub found_log : (logs : List Publication) (source : ℕ) (log : Publication) → publication_at logs source ≡ Some log →
-    Contains logs log × (log.source ≡ source)
+pub found_log : (logs : List Source) (source : ℕ) (log : Source) → source_at logs source ≡ Some log →
+    Contains logs log × (log.number ≡ source)
 found_log logs source log found =
     let is = found_in _ logs log found in
-    (is.stands, eqb-true log.source source is.passes)
+    (is.stands, eqb-true log.number source is.passes)
 
 -- ---- what the policy in force is asked by the cache
 
 pub offer_sound : (s : State) (entries : List (Key × Verdict)) (principal : ℕ) (registration : Registration)
-    (log : Publication) → AreCached s entries → Contains s.streams.registrations registration →
-    Contains s.streams.publications log → log.source ≡ registration.source →
+    (log : Source) → AreCached s entries → Contains s.streams.registrations registration →
+    Contains s.streams.sources log → log.number ≡ registration.source →
     IsSoundAt entries s.policy s.epoch registration.number (offer_question principal registration log)
 offer_sound s entries principal registration log cached has stands with = λ verdict there.
     (cached.each (key_of s.epoch registration.number (offer_question principal registration log), verdict) there).offer

@@ -30,7 +30,7 @@ use Rattle.command_codec.specs.declared.add_counter.AddCounter.{AddCounter}
 use Rattle.command_codec.specs.declared.set_counter.SetCounter.{SetCounter}
 use Rattle.policy_core.specs.declared.decision.Decision.{Decision}
 use Rattle.policy_core.specs.RuleList.{Rules}
-use Rattle.stream_registry.specs.declared.row.Publication.{Publication}
+use Rattle.stream_registry.specs.declared.row.Source.{Source}
 use Rattle.stream_registry.specs.declared.row.Registration.{Registration}
 use Rattle.stream_registry.specs.declared.row.Subscription.{Subscription}
 use Rattle.stream_registry.specs.declared.wanted.Adding.{Adding}
@@ -43,10 +43,10 @@ use Rattle.driver_core.proofs.EventCases.{Cases, attach_cases, command_cases, re
 use Rattle.driver_core.proofs.ListLemmas.{contains_none, left_was_there}
 
 -- a log of that source and that stream was there
-pub record WasLog (logs : List Publication) (log : Publication) : Type 0 where
-  pub before : Publication
+pub record WasLog (logs : List Source) (log : Source) : Type 0 where
+  pub before : Source
   pub stood : Contains logs before
-  pub source_is : before.source ≡ log.source
+  pub source_is : before.number ≡ log.number
   pub stream_is : before.stream ≡ log.stream
 
 -- the policy is the one before under its number, or has a higher number
@@ -63,8 +63,8 @@ pub record Stays (s after : State) : Type 0 where
       (row : Subscription) → Contains after.streams.subscriptions row →
       Contains s.streams.subscriptions row ⊎ (s.last_number < row.number)
   pub logs :
-      (log : Publication) → Contains after.streams.publications log →
-      WasLog s.streams.publications log ⊎ (s.last_number < log.source)
+      (log : Source) → Contains after.streams.sources log →
+      WasLog s.streams.sources log ⊎ (s.last_number < log.number)
 
 -- ---- one list
 
@@ -77,18 +77,18 @@ pushed number_of last rows new row above has =
     inr (omega (arith, number, above)))
     (Contains-push_cases rows new row has)
 
-same_log : (logs : List Publication) (log : Publication) → Contains logs log → WasLog logs log
+same_log : (logs : List Source) (log : Source) → Contains logs log → WasLog logs log
 same_log logs log has = record { before = log; stood = has; source_is = refl; stream_is = refl }
 
-settled_source : (b : Bool) (now : ℕ) (log : Publication) → log.source ≡ (cond b log (left_alone now log)).source
+settled_source : (b : Bool) (now : ℕ) (log : Source) → log.number ≡ (cond b log (left_alone now log)).number
 settled_source true now log = refl
 settled_source false now log = refl
 
-settled_stream : (b : Bool) (now : ℕ) (log : Publication) → log.stream ≡ (cond b log (left_alone now log)).stream
+settled_stream : (b : Bool) (now : ℕ) (log : Source) → log.stream ≡ (cond b log (left_alone now log)).stream
 settled_stream true now log = refl
 settled_stream false now log = refl
 
-settled_was : (logs : List Publication) (registrations : List Registration) (now : ℕ) (log : Publication) →
+settled_was : (logs : List Source) (registrations : List Registration) (now : ℕ) (log : Source) →
     Contains (map (settled_one registrations now) logs) log → WasLog logs log
 settled_was logs registrations now log has =
     let settle = settled_one registrations now in
@@ -99,8 +99,8 @@ settled_was logs registrations now log has =
     record {
       before = before;
       stood = stood;
-      source_is = settled_source (is_used registrations before.source) now before;
-      stream_is = settled_stream (is_used registrations before.source) now before;
+      source_is = settled_source (is_used registrations before.number) now before;
+      stream_is = settled_stream (is_used registrations before.number) now before;
     })
     logs (All-contains_itself logs)))
     has
@@ -114,7 +114,7 @@ same_streams s after streams last policy = record {
   policy = policy;
   registrations = λ row has. inl (rw (← streams) has);
   subscriptions = λ row has. inl (rw (← streams) has);
-  logs = λ log has. inl (same_log s.streams.publications log (rw (← streams) has));
+  logs = λ log has. inl (same_log s.streams.sources log (rw (← streams) has));
 }
 
 nothing_stays : (s : State) → Stays s s
@@ -167,7 +167,7 @@ subscription_stays s request = record {
   registrations = λ row has. inl has;
   subscriptions = λ row has.
       pushed (λ (one : Subscription). one.number) s.last_number s.streams.subscriptions _ row (omega arith) has;
-  logs = λ log has. inl (same_log s.streams.publications log has);
+  logs = λ log has. inl (same_log s.streams.sources log has);
 }
 
 publication_stays : (s : State) (client : Client) (correlation : ℕ) (wanted : Wanted) (adding : Adding) →
@@ -179,7 +179,7 @@ publication_stays s client correlation wanted (Join source session) = record {
   registrations = λ row has.
       pushed (λ (one : Registration). one.number) s.last_number s.streams.registrations _ row (omega arith) has;
   subscriptions = λ row has. inl has;
-  logs = λ log has. inl (same_log s.streams.publications log has);
+  logs = λ log has. inl (same_log s.streams.sources log has);
 }
 publication_stays s client correlation wanted (Make session) = record {
   last = omega arith;
@@ -188,8 +188,8 @@ publication_stays s client correlation wanted (Make session) = record {
       pushed (λ (one : Registration). one.number) s.last_number s.streams.registrations _ row (omega arith) has;
   subscriptions = λ row has. inl has;
   logs = λ log has.
-      ⊎_elim (λ before. inl (same_log s.streams.publications log before)) (λ new. inr new)
-      (pushed (λ (one : Publication). one.source) s.last_number s.streams.publications _ log (omega arith) has);
+      ⊎_elim (λ before. inl (same_log s.streams.sources log before)) (λ new. inr new)
+      (pushed (λ (one : Source). one.number) s.last_number s.streams.sources _ log (omega arith) has);
 }
 
 -- ---- what goes
@@ -204,7 +204,7 @@ removal_stays s request = record {
   subscriptions = λ row has.
       inl (left_was_there (is_another_subscription request.client.number request.fields.registration)
       s.streams.subscriptions row has);
-  logs = λ log has. inl (same_log s.streams.publications log has);
+  logs = λ log has. inl (same_log s.streams.sources log has);
 }
 
 publication_removal_stays : (s : State) (client : Client) (correlation number : ℕ) →
@@ -216,7 +216,7 @@ publication_removal_stays s client correlation number = record {
   registrations = λ row has.
       inl (left_was_there (is_another_registration client.number number) s.streams.registrations row has);
   subscriptions = λ row has. inl has;
-  logs = λ log has. inl (settled_was s.streams.publications _ s.moment log has);
+  logs = λ log has. inl (settled_was s.streams.sources _ s.moment log has);
 }
 
 one_left_stays : (s : State) (client : ℕ) → Stays s (left s client)
@@ -228,7 +228,7 @@ one_left_stays s client = record {
       inl (left_was_there (is_registration_of_another client) s.streams.registrations row has);
   subscriptions = λ row has.
       inl (left_was_there (is_subscription_of_another client) s.streams.subscriptions row has);
-  logs = λ log has. inl (settled_was s.streams.publications _ s.moment log has);
+  logs = λ log has. inl (settled_was s.streams.sources _ s.moment log has);
 }
 
 closing_stays : (s : State) (client : Client) (correlation : ℕ) → Stays s (close s client correlation).after
@@ -261,12 +261,12 @@ row_both : (There Was : Type 0) (last middle number : ℕ) → last ≤ middle �
 row_both There Was last middle number low first second =
     ⊎_elim first (λ new. inr (omega (arith, low, new))) second
 
-log_both : (s between : State) (log : Publication) → Stays s between → WasLog between.streams.publications log →
-    WasLog s.streams.publications log ⊎ (s.last_number < log.source)
+log_both : (s between : State) (log : Source) → Stays s between → WasLog between.streams.sources log →
+    WasLog s.streams.sources log ⊎ (s.last_number < log.number)
 log_both s between log first was =
     let source = was.source_is in
     ⊎_elim
-    (λ (stood : WasLog s.streams.publications was.before).
+    (λ (stood : WasLog s.streams.sources was.before).
     inl (record {
       before = stood.before;
       stood = stood.stood;
@@ -287,7 +287,7 @@ both_stay s between after first second = record {
       row_both _ _ s.last_number between.last_number row.number first.last (first.subscriptions row)
       (second.subscriptions row has);
   logs = λ log has.
-      row_both _ _ s.last_number between.last_number log.source first.last (log_both s between log first)
+      row_both _ _ s.last_number between.last_number log.number first.last (log_both s between log first)
       (second.logs log has);
 }
 
@@ -307,7 +307,7 @@ ticked_stays s clients = record {
   registrations = λ row has. inl has;
   subscriptions = λ row has. inl has;
   logs = λ log has.
-      inl (same_log s.streams.publications log (left_was_there (is_not_past s.moment) s.streams.publications log has));
+      inl (same_log s.streams.sources log (left_was_there (is_not_past s.moment) s.streams.sources log has));
 }
 
 tick_stays : (s : State) → Stays s (tick s).after

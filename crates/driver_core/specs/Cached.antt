@@ -7,12 +7,12 @@ use Rattle.policy_core.specs.declared.act.Act.TheVariants.{Offer, Receive}
 use Rattle.policy_core.specs.declared.verdict.Verdict.{Verdict}
 use Rattle.policy_core.specs.Question.{Question}
 use Rattle.policy_core.specs.Rules.{verdict_of}
-use Rattle.stream_registry.specs.declared.row.Publication.{Publication}
+use Rattle.stream_registry.specs.declared.row.Source.{Source}
 use Rattle.stream_registry.specs.declared.row.Registration.{Registration}
 use Rattle.stream_registry.specs.declared.row.Subscription.{Subscription}
 
 -- what the policy is asked of a principal's offer by the registration, whose log that is
-abbrev pub offer_question : ℕ → Registration → Publication → Question
+abbrev pub offer_question : ℕ → Registration → Source → Question
 offer_question principal registration log =
     record { principal = principal; act = Offer; channel = registration.channel; stream = log.stream }
 
@@ -30,9 +30,9 @@ pub record IsCached (s : State) (entry : Key × Verdict) : Type 0 where
       (registration : Registration) → Contains s.streams.registrations registration →
       registration.number ≡ entry.0.subject → entry.0.act ≡ Offer → registration.source ≤ s.last_number
   pub offer :
-      (registration : Registration) (log : Publication) → Contains s.streams.registrations registration →
-      Contains s.streams.publications log → registration.number ≡ entry.0.subject →
-      log.source ≡ registration.source → entry.0.epoch ≡ s.epoch → entry.0.act ≡ Offer →
+      (registration : Registration) (log : Source) → Contains s.streams.registrations registration →
+      Contains s.streams.sources log → registration.number ≡ entry.0.subject →
+      log.number ≡ registration.source → entry.0.epoch ≡ s.epoch → entry.0.act ≡ Offer →
       entry.1 ≡ verdict_of s.policy s.epoch (offer_question entry.0.principal registration log)
   pub poll :
       (subscription : Subscription) → Contains s.streams.subscriptions subscription →

@@ -15,7 +15,7 @@ use crate::log_request::LogRequest;
 use crate::registry::Registry;
 use decision_cache::Cache;
 use policy_core::{Act, Decision, Request, Verdict};
-use stream_registry::{Publication, Registration, Subscription};
+use stream_registry::{Source, Registration, Subscription};
 
 /// What is cached of one registry is right of each that comes after it: no event makes an entry wrong, also where it puts
 /// a policy in force, or takes a row away. An empty cache is right of any.
@@ -32,10 +32,10 @@ impl Registry {
         cache: &mut Cache,
         principal: u32,
         registration: &Registration,
-        log: &Publication,
+        log: &Source,
     ) -> Verdict
         requires registered { Contains self.now.streams.registrations registration.now }
-        requires live { Contains self.now.streams.publications log.now }
+        requires live { Contains self.now.streams.sources log.now }
         requires with { log.now.source ≡ registration.now.source }
         requires cached { AreCached self.now cache.old }
         ensures verdict { result ≡ verdict_of self.now.policy self.now.epoch (offer_question principal registration.now log.now) }
@@ -86,9 +86,9 @@ impl Registry {
     {
         let holder = self.clients.get(client)?;
         let registration = self.own_registration(client, registration)?;
-        let log = self.publication(registration.source)?;
+        let log = self.source(registration.source)?;
         Some(LogRequest {
-            source: log.source,
+            source: log.number,
             decision: Decision {
                 principal: holder.principal,
                 act: Act::Offer,
