@@ -22,7 +22,7 @@ use Rattle.command_codec.specs.declared.command.Command.{Command as Read}
 use Rattle.command_codec.specs.Command.{command_of}
 use Rattle.counters.specs.declared.counter.Counter.{Counter}
 use Rattle.policy_core.specs.RuleList.{Rules}
-use Rattle.stream_registry.specs.declared.row.Publication.{Publication}
+use Rattle.stream_registry.specs.declared.row.Source.{Source}
 use Rattle.stream_registry.specs.declared.row.Registration.{Registration}
 use Rattle.stream_registry.specs.declared.row.Subscription.{Subscription}
 use Rattle.stream_registry.specs.declared.wanted.Adding.TheVariants.{Make}
@@ -97,9 +97,9 @@ new_registration s event row made = record {
   };
 }
 
-new_log : (s : State) (event : Event) (log : Publication) → IsLogMadeBy s event log → IsNew s event 1 log.source
+new_log : (s : State) (event : Event) (log : Source) → IsLogMadeBy s event log → IsNew s event 1 log.number
 new_log s event log made = record {
-  next = ap (λ (p : Publication). p.source) made.made_is;
+  next = ap (λ (p : Source). p.number) made.made_is;
   draws = (new_registration s event made.registration made.registered).draws;
 }
 
@@ -196,22 +196,22 @@ counter_from s event inputs counter drawn has =
     (λ (made : IsCounterMadeBy s event counter). inr (new_counter s event counter made))
     ((counts_and_ends_only s event inputs).counters counter has)
 
-log_from : (s : State) (event : Event) (inputs : Inputs) (log : Publication) → AreDrawn s →
-    Contains (state_after s event inputs).streams.publications log →
-    Stood s (WasLive s.streams log) log.source ⊎ IsNew s event 1 log.source
+log_from : (s : State) (event : Event) (inputs : Inputs) (log : Source) → AreDrawn s →
+    Contains (state_after s event inputs).streams.sources log →
+    Stood s (WasLive s.streams log) log.number ⊎ IsNew s event 1 log.number
 log_from s event inputs log drawn has =
     ⊎_elim
     (λ (stood : WasLive s.streams log).
-    let same : log.source ≡ stood.before.source = ap (λ (p : Publication). p.source) stood.same in
-    inl (record { was = stood; drawn = rw same (drawn.publications stood.before stood.stood).below }))
+    let same : log.number ≡ stood.before.number = ap (λ (p : Source). p.number) stood.same in
+    inl (record { was = stood; drawn = rw same (drawn.sources stood.before stood.stood).below }))
     (λ (made : IsLogMadeBy s event log). inr (new_log s event log made))
     ((published_only s event inputs).logs log has)
 
 counter_number : (s : State) (counter : Counter) (stood : StoodBefore s counter) → counter.number ≡ stood.before.number
 counter_number s counter stood = ap (λ (c : Counter). c.number) stood.same
 
-log_number : (s : State) (log : Publication) (stood : WasLive s.streams log) → log.source ≡ stood.before.source
-log_number s log stood = ap (λ (p : Publication). p.source) stood.same
+log_number : (s : State) (log : Source) (stood : WasLive s.streams log) → log.number ≡ stood.before.number
+log_number s log stood = ap (λ (p : Source). p.number) stood.same
 
 -- ---- a log and the registration that made it
 
@@ -244,8 +244,8 @@ wanted_same s handle another bytes others one two same first second =
     rw (channel, fields, exclusive) refl
 
 -- who is registered by the event that makes a log is registered with it
-made_together : (s : State) (event : Event) (log : Publication) (row : Registration) → IsLogMadeBy s event log →
-    IsRegisteredBy s event row → row.source ≡ log.source
+made_together : (s : State) (event : Event) (log : Source) (row : Registration) → IsLogMadeBy s event log →
+    IsRegisteredBy s event row → row.source ≡ log.number
 made_together s event log row made registered =
     let maker = made.registered in
     let bytes : registered.bytes ≡ maker.bytes = cc (registered.event_is, maker.event_is) in
@@ -255,18 +255,18 @@ made_together s event log row made registered =
     let makes : registered.adding ≡ Make made.session = cc (adding, made.makes) in
     let source : row.source ≡ source_of s registered.adding = ap (λ (r : Registration). r.source) registered.made_is in
     let next : source_of s registered.adding ≡ s.last_number + 1 = ap (source_of s) makes in
-    let log_is : log.source ≡ s.last_number + 1 = ap (λ (p : Publication). p.source) made.made_is in
+    let log_is : log.number ≡ s.last_number + 1 = ap (λ (p : Source). p.number) made.made_is in
     source ∙ next ∙ sym log_is
 
-registered_with : (s : State) (event : Event) (inputs : Inputs) (log : Publication) (row : Registration) → AreDrawn s →
-    AreApart s → Contains (state_after s event inputs).streams.publications log →
-    Contains (state_after s event inputs).streams.registrations row → log.source ≡ row.number →
-    row.source ≡ log.source
+registered_with : (s : State) (event : Event) (inputs : Inputs) (log : Source) (row : Registration) → AreDrawn s →
+    AreApart s → Contains (state_after s event inputs).streams.sources log →
+    Contains (state_after s event inputs).streams.registrations row → log.number ≡ row.number →
+    row.source ≡ log.number
 registered_with s event inputs log row drawn before is_live stands same =
     ⊎_elim
     (λ (was : WasLive s.streams log).
     let number = log_number s log was in
-    let low = (drawn.publications was.before was.stood).below in
+    let low = (drawn.sources was.before was.stood).below in
     ⊎_elim
     (λ stood. before.logs_and_registrations was.before row was.stood stood (sym number ∙ same) ∙ sym number)
     (λ (registered : IsRegisteredBy s event row).
@@ -303,12 +303,12 @@ stay_apart s event inputs drawn before = record {
       before.subscriptions_and_counters row stood.before was stood.stood (same ∙ counter_number s other stood))
       (subscription_from s event inputs row drawn has) (counter_from s event inputs other drawn stands);
   logs_and_subscriptions = λ log other has stands.
-      apart s event 1 2 _ _ log.source other.number (λ same. cc same)
+      apart s event 1 2 _ _ log.number other.number (λ same. cc same)
       (λ (was : WasLive s.streams log) stood same.
       before.logs_and_subscriptions was.before other was.stood stood (sym (log_number s log was) ∙ same))
       (log_from s event inputs log drawn has) (subscription_from s event inputs other drawn stands);
   logs_and_counters = λ log other has stands.
-      apart s event 1 3 _ _ log.source other.number (λ same. cc same)
+      apart s event 1 3 _ _ log.number other.number (λ same. cc same)
       (λ (was : WasLive s.streams log) (stood : StoodBefore s other) same.
       before.logs_and_counters was.before stood.before was.stood stood.stood
       (sym (log_number s log was) ∙ same ∙ counter_number s other stood))

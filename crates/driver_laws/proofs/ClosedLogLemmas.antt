@@ -24,7 +24,7 @@ use Rattle.driver_core.specs.Unpublishing.{unpublished}
 use Rattle.driver_core.specs.Unsubscribing.{unsubscribed}
 use Rattle.driver_laws.specs.ClosingLaws.{ClosedLogsWereThere}
 use Rattle.driver_laws.specs.NumberLaws.{AreRising, Rises}
-use Rattle.stream_registry.specs.declared.row.Publication.{Publication}
+use Rattle.stream_registry.specs.declared.row.Source.{Source}
 use Rattle.stream_registry.specs.declared.row.Registration.{Registration}
 use Rattle.stream_registry.specs.declared.wanted.Adding.{Adding}
 use Rattle.stream_registry.specs.declared.wanted.Adding.TheVariants.{Join, Make}
@@ -44,10 +44,10 @@ use Rattle.driver_laws.proofs.RisingLemmas.{rises_unique}
 -- ---- logs by their numbers
 
 -- a log of that number is among these
-abbrev has_source : List Publication → ℕ → Bool
-has_source logs source = list_any (λ (other : Publication). other.source == source) logs
+abbrev has_source : List Source → ℕ → Bool
+has_source logs source = list_any (λ (other : Source). other.number == source) logs
 
-abbrev lacks_source : List Publication → ℕ → Bool
+abbrev lacks_source : List Source → ℕ → Bool
 lacks_source logs source = not (has_source logs source)
 
 any_is : {X : Type 0} (b : Bool) (test : X → Bool) (x : X) (xs : List X) → test x ≡ b →
@@ -65,10 +65,10 @@ some_passes test [] any = absurd (cc any)
 some_passes test (x ∷ xs) any = any_is (test x) test x xs refl (some_passes test xs) any
 
 -- where a log stands that has the number of another, the other's is there
-has_number : (logs : List Publication) (log : Publication) (source : ℕ) → Contains logs log → log.source ≡ source →
+has_number : (logs : List Source) (log : Source) (source : ℕ) → Contains logs log → log.number ≡ source →
     has_source logs source ≡ true
 has_number logs log source has same =
-    any_of (λ (other : Publication). other.source == source) logs log has (eq-eqb log.source source same)
+    any_of (λ (other : Source). other.number == source) logs log has (eq-eqb log.number source same)
 
 -- ---- where no log goes
 
@@ -80,30 +80,30 @@ none_fails test (x ∷ xs) each =
     (none_fails test xs (λ y has. each y (Contains-append_right (x ∷ []) xs y has)))
 
 -- each log's number is among these
-abbrev AllStay : List Publication → List Publication → Type 0
-AllStay logs after = (log : Publication) → Contains logs log → has_source after log.source ≡ true
+abbrev AllStay : List Source → List Source → Type 0
+AllStay logs after = (log : Source) → Contains logs log → has_source after log.number ≡ true
 
-nothing_goes : (logs after : List Publication) → AllStay logs after →
-    [] ≡ map place_of (filter (λ (log : Publication). lacks_source after log.source) logs)
+nothing_goes : (logs after : List Source) → AllStay logs after →
+    [] ≡ map place_of (filter (λ (log : Source). lacks_source after log.number) logs)
 nothing_goes logs after stay =
     ap (map place_of)
-    (sym (none_fails (λ (log : Publication). lacks_source after log.source) logs (λ log has. ap not (stay log has))))
+    (sym (none_fails (λ (log : Source). lacks_source after log.number) logs (λ log has. ap not (stay log has))))
 
-as_they_are : (logs : List Publication) → AllStay logs logs
-as_they_are logs log has = has_number logs log log.source has refl
+as_they_are : (logs : List Source) → AllStay logs logs
+as_they_are logs log has = has_number logs log log.number has refl
 
-stay_settled : (registrations : List Registration) (now : ℕ) (logs : List Publication) →
+stay_settled : (registrations : List Registration) (now : ℕ) (logs : List Source) →
     AllStay logs (map (settled_one registrations now) logs)
 stay_settled registrations now logs log has =
-    has_number (map (settled_one registrations now) logs) (settled_one registrations now log) log.source
+    has_number (map (settled_one registrations now) logs) (settled_one registrations now log) log.number
     (mapped (settled_one registrations now) logs log has)
-    (settled_number (is_used registrations log.source) now log)
+    (settled_number (is_used registrations log.number) now log)
 
 stay_added : (streams : Streams) (number client : ℕ) (wanted : Wanted) (place : ℕ) (adding : Adding) →
-    AllStay streams.publications (added streams number client wanted place adding).publications
-stay_added streams number client wanted place (Join source session) log has = as_they_are streams.publications log has
+    AllStay streams.sources (added streams number client wanted place adding).sources
+stay_added streams number client wanted place (Join source session) log has = as_they_are streams.sources log has
 stay_added streams number client wanted place (Make session) log has =
-    has_number _ log log.source (Contains-append_left streams.publications _ log has) refl
+    has_number _ log log.number (Contains-append_left streams.sources _ log has) refl
 
 -- ---- where all go
 
@@ -111,53 +111,53 @@ all_pass : {X : Type 0} (test : X → Bool) (xs : List X) → ((x : X) → test 
 all_pass test [] each = refl
 all_pass {X = X} test (x ∷ xs) each = rw (each x) (ap (λ (ys : List X). x ∷ ys) (all_pass test xs each))
 
-all_go : (logs : List Publication) →
-    map place_of logs ≡ map place_of (filter (λ (log : Publication). lacks_source [] log.source) logs)
-all_go logs = ap (map place_of) (all_pass (λ (log : Publication). lacks_source [] log.source) logs (λ log. refl))
+all_go : (logs : List Source) →
+    map place_of logs ≡ map place_of (filter (λ (log : Source). lacks_source [] log.number) logs)
+all_go logs = ap (map place_of) (all_pass (λ (log : Source). lacks_source [] log.number) logs (λ log. refl))
 
 -- ---- at a tick
 
 -- the two have the logs of the same numbers at the same places
-abbrev SamePlaces : List Publication → List Publication → Type 0
+abbrev SamePlaces : List Source → List Source → Type 0
 SamePlaces logs others =
     (test : ℕ → Bool) →
-    map place_of (filter (λ (log : Publication). test log.source) logs)
-    ≡ map place_of (filter (λ (log : Publication). test log.source) others)
+    map place_of (filter (λ (log : Source). test log.number) logs)
+    ≡ map place_of (filter (λ (log : Source). test log.number) others)
 
-one_passes : (b : Bool) (one other : Publication) (some more : List Publication) → place_of one ≡ place_of other →
+one_passes : (b : Bool) (one other : Source) (some more : List Source) → place_of one ≡ place_of other →
     map place_of some ≡ map place_of more →
     map place_of (cond b (one ∷ some) some) ≡ map place_of (cond b (other ∷ more) more)
 one_passes true one other some more same rest = (λ i. same i ∷ rest i)
 one_passes false one other some more same rest = rest
 
-one_by_number : (test : ℕ → Bool) (one other : Publication) (some more : List Publication) → one.source ≡ other.source →
+one_by_number : (test : ℕ → Bool) (one other : Source) (some more : List Source) → one.number ≡ other.number →
     place_of one ≡ place_of other → map place_of some ≡ map place_of more →
-    map place_of (cond (test one.source) (one ∷ some) some) ≡ map place_of (cond (test other.source) (other ∷ more) more)
+    map place_of (cond (test one.number) (one ∷ some) some) ≡ map place_of (cond (test other.number) (other ∷ more) more)
 one_by_number test one other some more number same rest =
-    subst (λ (n : ℕ). map place_of (cond (test n) (one ∷ some) some) ≡ map place_of (cond (test other.source) (other ∷ more) more))
-    (sym number) (one_passes (test other.source) one other some more same rest)
+    subst (λ (n : ℕ). map place_of (cond (test n) (one ∷ some) some) ≡ map place_of (cond (test other.number) (other ∷ more) more))
+    (sym number) (one_passes (test other.number) one other some more same rest)
 
-settled_place : (b : Bool) (now : ℕ) (log : Publication) → place_of (cond b log (left_alone now log)) ≡ place_of log
+settled_place : (b : Bool) (now : ℕ) (log : Source) → place_of (cond b log (left_alone now log)) ≡ place_of log
 settled_place true now log = refl
 settled_place false now log = refl
 
-settled_places : (registrations : List Registration) (now : ℕ) (logs : List Publication) →
+settled_places : (registrations : List Registration) (now : ℕ) (logs : List Source) →
     SamePlaces (map (settled_one registrations now) logs) logs
 settled_places registrations now [] test = refl
 settled_places registrations now (log ∷ logs) test =
     one_by_number test (settled_one registrations now log) log
-    (filter (λ (l : Publication). test l.source) (map (settled_one registrations now) logs))
-    (filter (λ (l : Publication). test l.source) logs)
-    (settled_number (is_used registrations log.source) now log)
-    (settled_place (is_used registrations log.source) now log)
+    (filter (λ (l : Source). test l.number) (map (settled_one registrations now) logs))
+    (filter (λ (l : Source). test l.number) logs)
+    (settled_number (is_used registrations log.number) now log)
+    (settled_place (is_used registrations log.number) now log)
     (settled_places registrations now logs test)
 
-left_places : (s : State) (client : ℕ) → SamePlaces (left s client).streams.publications s.streams.publications
+left_places : (s : State) (client : ℕ) → SamePlaces (left s client).streams.sources s.streams.sources
 unfolding left left_in settled
-left_places s client = settled_places _ s.moment s.streams.publications
+left_places s client = settled_places _ s.moment s.streams.sources
 
 all_left_places : (s : State) (clients : List ℕ) →
-    SamePlaces (all_left s clients).streams.publications s.streams.publications
+    SamePlaces (all_left s clients).streams.sources s.streams.sources
 all_left_places s [] test = refl
 all_left_places s (client ∷ clients) test = all_left_places (left s client) clients test ∙ left_places s client test
 
@@ -171,17 +171,17 @@ same_pass test other (x ∷ xs) each =
     ) refl
 
 -- that a log that goes has no other of its number left
-goes : (last now : ℕ) (logs : List Publication) (log : Publication) → Rises source_number 0 last logs →
-    Contains logs log → is_past now log ≡ true → lacks_source (filter (is_not_past now) logs) log.source ≡ true
+goes : (last now : ℕ) (logs : List Source) (log : Source) → Rises source_number 0 last logs →
+    Contains logs log → is_past now log ≡ true → lacks_source (filter (is_not_past now) logs) log.number ≡ true
 goes last now logs log up has past =
     ⊎_elim
     (λ there.
-    let found = some_passes (λ (other : Publication). other.source == log.source) (filter (is_not_past now) logs) there in
-    let other : Publication = found.0 in
+    let found = some_passes (λ (other : Source). other.number == log.number) (filter (is_not_past now) logs) there in
+    let other : Source = found.0 in
     let same : other ≡ log =
     rises_unique source_number 0 last logs other log up
     (left_was_there (is_not_past now) logs other found.1.stands) has
-    (eqb-true other.source log.source found.1.passes) in
+    (eqb-true other.number log.number found.1.passes) in
     let stays : is_not_past now other ≡ true =
     All-contains (λ l. is_not_past now l ≡ true) (filter (is_not_past now) logs) other
     (filter_passes (is_not_past now) logs) found.1.stands in
@@ -189,17 +189,17 @@ goes last now logs log up has past =
     let not_past : false ≡ true = ap not (sym past) ∙ stays' in
     absurd (cc not_past))
     (λ lacks. ap not lacks)
-    (cases_Bool (has_source (filter (is_not_past now) logs) log.source))
+    (cases_Bool (has_source (filter (is_not_past now) logs) log.number))
 
-stays : (now : ℕ) (logs : List Publication) (log : Publication) → Contains logs log → is_past now log ≡ false →
-    lacks_source (filter (is_not_past now) logs) log.source ≡ false
+stays : (now : ℕ) (logs : List Source) (log : Source) → Contains logs log → is_past now log ≡ false →
+    lacks_source (filter (is_not_past now) logs) log.number ≡ false
 stays now logs log has lasts =
     ap not
-    (has_number (filter (is_not_past now) logs) log log.source
+    (has_number (filter (is_not_past now) logs) log log.number
     (passes_are_left (is_not_past now) logs log (ap not lasts) has) refl)
 
-past_are_lacked : (last now : ℕ) (logs : List Publication) (log : Publication) → Rises source_number 0 last logs →
-    Contains logs log → is_past now log ≡ lacks_source (filter (is_not_past now) logs) log.source
+past_are_lacked : (last now : ℕ) (logs : List Source) (log : Source) → Rises source_number 0 last logs →
+    Contains logs log → is_past now log ≡ lacks_source (filter (is_not_past now) logs) log.number
 past_are_lacked last now logs log up has =
     ⊎_elim (λ past. past ∙ sym (goes last now logs log up has past)) (λ lasts. lasts ∙ sym (stays now logs log has lasts))
     (cases_Bool (is_past now log))
@@ -209,12 +209,12 @@ past_are_lacked last now logs log up has =
 abbrev ClosesGone : State → Draft → Type 0
 ClosesGone s draft =
     draft.closes
-    ≡ map place_of (filter (λ (log : Publication). lacks_source draft.after.streams.publications log.source) s.streams.publications)
+    ≡ map place_of (filter (λ (log : Source). lacks_source draft.after.streams.sources log.number) s.streams.sources)
 
 command_closes : (s : State) (now handle : ℕ) (bytes : List ℕ) → Cases (ClosesGone s) (at_moment s now) handle bytes
 unfolding at_moment heard refused replied told subscribed with_subscription subscribed_in published with_publication replied_opening unpublished unregistered unsubscribed unsubscribed_in keep_alive counted with_counter valued uncounted close left left_in settled terminated stopped_for_good
 command_closes s now handle bytes =
-    let logs : List Publication = s.streams.publications in
+    let logs : List Source = s.streams.sources in
     let same = nothing_goes logs logs (as_they_are logs) in
     record {
       unheard = λ correlation refusal plain not_heard. same;
@@ -236,14 +236,14 @@ command_closes s now handle bytes =
     }
 
 ticked_closes : (s between : State) (clients : List ℕ) → AreRising between →
-    SamePlaces between.streams.publications s.streams.publications → ClosesGone s (ticked between clients)
+    SamePlaces between.streams.sources s.streams.sources → ClosesGone s (ticked between clients)
 unfolding ticked closed closing_of
 ticked_closes s between clients rises same =
-    let logs : List Publication = between.streams.publications in
-    let left' : List Publication = filter (is_not_past between.moment) logs in
+    let logs : List Source = between.streams.sources in
+    let left' : List Source = filter (is_not_past between.moment) logs in
     ap (map place_of)
-    (same_pass (is_past between.moment) (λ (log : Publication). lacks_source left' log.source) logs
-    (λ log has. past_are_lacked between.last_number between.moment logs log rises.publications has))
+    (same_pass (is_past between.moment) (λ (log : Source). lacks_source left' log.number) logs
+    (λ log has. past_are_lacked between.last_number between.moment logs log rises.sources has))
     ∙ same (lacks_source left')
 
 tick_closes : (s : State) (now : ℕ) → AreRising s → ClosesGone (at_moment s now) (tick (at_moment s now))
@@ -257,12 +257,12 @@ tick_closes s now rises =
 draft_closes : (s : State) (event : Event) → AreRising s → ClosesGone s (drafted s event)
 unfolding drafted at_moment answered attached reloaded in_force
 draft_closes s (Attach now principal) rises =
-    let same = nothing_goes s.streams.publications s.streams.publications (as_they_are s.streams.publications) in
+    let same = nothing_goes s.streams.sources s.streams.sources (as_they_are s.streams.sources) in
     attach_cases (ClosesGone s) (at_moment s now) principal same same same
 draft_closes s (Command now handle bytes) rises =
     command_cases (ClosesGone s) s now handle bytes (command_closes s now handle bytes)
 draft_closes s (Reload now policy) rises =
-    let same = nothing_goes s.streams.publications s.streams.publications (as_they_are s.streams.publications) in
+    let same = nothing_goes s.streams.sources s.streams.sources (as_they_are s.streams.sources) in
     reload_cases (ClosesGone s) (at_moment s now) policy (λ room. same) (λ full. same)
 draft_closes s (Tick now) rises = tick_closes s now rises
 

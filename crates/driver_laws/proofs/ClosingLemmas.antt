@@ -19,7 +19,7 @@ use Rattle.driver_laws.specs.ClosingLaws.{Closes, IsClosed, IsPastBy, LogsCloseE
 use Rattle.driver_laws.specs.LeavingLaws.{IsTerminatedBy}
 use Rattle.client_registry.specs.declared.client.Client.{Client}
 use Rattle.stream_registry.specs.declared.lingering.LogPlace.{LogPlace}
-use Rattle.stream_registry.specs.declared.row.Publication.{Publication}
+use Rattle.stream_registry.specs.declared.row.Source.{Source}
 use Rattle.stream_registry.specs.Lingering.{closing_of, is_past, is_past_since, place_of}
 use Rattle.driver_core.proofs.ListLemmas.{contains_none, only_one, passes_are_left}
 use Rattle.driver_core.proofs.SoundnessLemmas.{moves_logs, registries_sound}
@@ -33,8 +33,8 @@ past_is : (linger now since : ℕ) (lingers : Option ℕ) → lingers ≡ Some s
     is_past_since linger now lingers ≡ true
 past_is linger now since lingers is long = rw is (lt-ltb linger (now - since) long)
 
-ticked_closes : {Goes : ℕ → Type 0} (s between : State) (now : ℕ) (log : Publication) →
-    Left (max s.moment now) (at_moment s now) between Goes → Contains s.streams.publications log →
+ticked_closes : {Goes : ℕ → Type 0} (s between : State) (now : ℕ) (log : Source) →
+    Left (max s.moment now) (at_moment s now) between Goes → Contains s.streams.sources log →
     is_past (max s.moment now) log ≡ true →
     Contains (closing_of between.streams (max s.moment now)) (place_of log)
 unfolding closing_of at_moment
@@ -42,11 +42,11 @@ ticked_closes s between now log leaves has past =
     let moment = max s.moment now in
     let there = leaves.logs log has in
     rw (sym (place_settles moment log there.0 there.2))
-    (mapped place_of (filter (is_past moment) between.streams.publications) there.0
-    (passes_are_left (is_past moment) between.streams.publications there.0
+    (mapped place_of (filter (is_past moment) between.streams.sources) there.0
+    (passes_are_left (is_past moment) between.streams.sources there.0
     (past_settles moment log there.0 there.2 ∙ past) there.1))
 
-tick_closes : (s : State) (now : ℕ) (log : Publication) → Contains s.streams.publications log →
+tick_closes : (s : State) (now : ℕ) (log : Source) → Contains s.streams.sources log →
     is_past (max s.moment now) log ≡ true → Contains (drafted s (Tick now)).closes (place_of log)
 unfolding drafted tick ticked
 tick_closes s now log has past =
@@ -55,25 +55,25 @@ tick_closes s now log has past =
     let leaves = each_left start (max s.moment now) (late start) (moment_of s now) in
     rw leaves.moment (ticked_closes s between now log leaves has past)
 
-past_closes : (s : State) (event : Event) (log : Publication) → Contains s.streams.publications log →
+past_closes : (s : State) (event : Event) (log : Source) → Contains s.streams.sources log →
     IsPastBy s event log → Contains (drafted s event).closes (place_of log)
 past_closes s event log has by =
     rw by.event_is
     (tick_closes s by.moment log has
     (past_is log.measures.linger (max s.moment by.moment) by.since log.lingering_since by.lingers by.too_long))
 
-terminated_closes : (s : State) (now handle : ℕ) (client : Client) (correlation : ℕ) (log : Publication) →
-    Contains s.streams.publications log →
+terminated_closes : (s : State) (now handle : ℕ) (client : Client) (correlation : ℕ) (log : Source) →
+    Contains s.streams.sources log →
     Contains (terminated (at_request s now handle) client correlation).closes (place_of log)
 unfolding terminated heard at_moment
-terminated_closes s now handle client correlation log has = mapped place_of s.streams.publications log has
+terminated_closes s now handle client correlation log has = mapped place_of s.streams.sources log has
 
-end_closes : (s : State) (event : Event) (log : Publication) → Contains s.streams.publications log →
+end_closes : (s : State) (event : Event) (log : Source) → Contains s.streams.sources log →
     IsTerminatedBy s event → Contains (drafted s event).closes (place_of log)
 end_closes s event log has by =
     rw (end_is s event by) (terminated_closes s by.moment by.handle by.client by.correlation log has)
 
-told_of : (s : State) (event : Event) (inputs : Inputs) (log : Publication) → Contains s.streams.publications log →
+told_of : (s : State) (event : Event) (inputs : Inputs) (log : Source) → Contains s.streams.sources log →
     Closes s event log → Contains (conduct s event inputs).outcome.closes (place_of log)
 unfolding conduct renewed
 told_of s event inputs log has closes =
@@ -90,35 +90,35 @@ any_of test (y ∷ ys) x has passes =
     (Contains-append_cases (y ∷ []) ys x has)
 
 -- a log behind the event is none of those that close
-is_left_behind : (s : State) (change : Change) (log : Publication) → MovesLogs s change →
-    Contains change.after.streams.publications log → is_left change.outcome.closes (log_of log) ≡ true
+is_left_behind : (s : State) (change : Change) (log : Source) → MovesLogs s change →
+    Contains change.after.streams.sources log → is_left change.outcome.closes (log_of log) ≡ true
 is_left_behind s change log moves has =
-    let stays : Publication → Bool = is_left change.outcome.closes in
-    let before : List Publication = filter stays (map log_of s.streams.publications) in
+    let stays : Source → Bool = is_left change.outcome.closes in
+    let before : List Source = filter stays (map log_of s.streams.sources) in
     let there : Contains (before ++ moves.opened) (log_of log) =
-    rw (sym moves.logs) (mapped log_of change.after.streams.publications log has) in
+    rw (sym moves.logs) (mapped log_of change.after.streams.sources log has) in
     ⊎_elim
     (λ was. All-contains (λ l. stays l ≡ true) before (log_of log)
-    (filter_passes stays (map log_of s.streams.publications)) was)
+    (filter_passes stays (map log_of s.streams.sources)) was)
     (λ opens. All-contains (λ l. stays l ≡ true) (filter stays moves.opened) (log_of log)
     (filter_passes stays moves.opened) (rw moves.stays opens))
     (Contains-append_cases before moves.opened (log_of log) there)
 
-none_live : (s : State) (change : Change) (log other : Publication) → MovesLogs s change →
-    Contains change.outcome.closes (place_of log) → Contains change.after.streams.publications other →
-    other.source ≡ log.source → ⊥
+none_live : (s : State) (change : Change) (log other : Source) → MovesLogs s change →
+    Contains change.outcome.closes (place_of log) → Contains change.after.streams.sources other →
+    other.number ≡ log.number → ⊥
 none_live s change log other moves told has same =
     let stays : is_left change.outcome.closes (log_of other) ≡ true = is_left_behind s change other moves has in
-    let closes : list_any (λ (closed : LogPlace). closed.source == other.source) change.outcome.closes ≡ true =
-    any_of (λ (closed : LogPlace). closed.source == other.source) change.outcome.closes (place_of log) told
-    (eq-eqb log.source other.source (sym same)) in
+    let closes : list_any (λ (closed : LogPlace). closed.source == other.number) change.outcome.closes ≡ true =
+    any_of (λ (closed : LogPlace). closed.source == other.number) change.outcome.closes (place_of log) told
+    (eq-eqb log.number other.number (sym same)) in
     let never : false ≡ true = rw closes at stays in
     absurd (cc never)
 
 -- ---- the law
 
-closed_by : (s : State) (event : Event) (inputs : Inputs) (log : Publication) →
-    MovesLogs s (conduct s event inputs) → Contains s.streams.publications log → Closes s event log →
+closed_by : (s : State) (event : Event) (inputs : Inputs) (log : Source) →
+    MovesLogs s (conduct s event inputs) → Contains s.streams.sources log → Closes s event log →
     IsClosed (conduct s event inputs) log
 closed_by s event inputs log moves has closes =
     let told = told_of s event inputs log has closes in

@@ -46,7 +46,7 @@ use Rattle.policy_core.specs.declared.decision.Decision.{Decision}
 use Rattle.policy_core.specs.declared.verdict.Verdict.{Verdict}
 use Rattle.policy_core.specs.RuleList.{Rules}
 use Rattle.stream_registry.specs.declared.lingering.LogPlace.{LogPlace}
-use Rattle.stream_registry.specs.declared.row.Publication.{Publication}
+use Rattle.stream_registry.specs.declared.row.Source.{Source}
 use Rattle.stream_registry.specs.declared.row.Registration.{Registration}
 use Rattle.stream_registry.specs.declared.wanted.Adding.{Adding}
 use Rattle.stream_registry.specs.declared.wanted.Adding.TheVariants.{Join, Make}
@@ -91,8 +91,8 @@ ValuesStay s event after =
 
 abbrev LogsStay : State → Event → State → Type 0
 LogsStay s event after =
-    (publication : Publication) → Contains s.streams.publications publication →
-    IsLive after publication ⊎ Closes s event publication
+    (log : Source) → Contains s.streams.sources log →
+    IsLive after log ⊎ Closes s event log
 
 record Leaves (s : State) (event : Event) (draft : Draft) : Type 0 where
   clients : ClientsStay s event draft.after
@@ -107,7 +107,7 @@ record IsSame (s left' : State) : Type 0 where
   clients : (client : ℕ) → is_there left' client ≡ is_there s client
   registrations : left'.streams.registrations ≡ s.streams.registrations
   counters : left'.counters ≡ s.counters
-  logs : left'.streams.publications ≡ s.streams.publications
+  logs : left'.streams.sources ≡ s.streams.sources
 
 same_clients : (s : State) (event : Event) (after : State) → ((n : ℕ) → is_there after n ≡ is_there s n) →
     ClientsStay s event after
@@ -123,7 +123,7 @@ same_counters s event after same = λ counter has. inl (record { now = counter; 
 same_values : (s : State) (event : Event) (after : State) → after.counters ≡ s.counters → ValuesStay s event after
 same_values s event after same = λ counter has. inl (rw same at has)
 
-same_logs : (s : State) (event : Event) (after : State) → after.streams.publications ≡ s.streams.publications →
+same_logs : (s : State) (event : Event) (after : State) → after.streams.sources ≡ s.streams.sources →
     LogsStay s event after
 same_logs s event after same = λ log has. inl (record { now = log; stands = rw same has; same = refl })
 
@@ -218,10 +218,10 @@ added_registration t number client wanted place (Join source session) registrati
 added_registration t number client wanted place (Make session) registration has =
     Contains-append_left t.registrations _ registration has
 
-added_log : (t : Streams) (number client : ℕ) (wanted : Wanted) (place : ℕ) (adding : Adding) (log : Publication) →
-    Contains t.publications log → Contains (added t number client wanted place adding).publications log
+added_log : (t : Streams) (number client : ℕ) (wanted : Wanted) (place : ℕ) (adding : Adding) (log : Source) →
+    Contains t.sources log → Contains (added t number client wanted place adding).sources log
 added_log t number client wanted place (Join source session) log has = has
-added_log t number client wanted place (Make session) log has = Contains-append_left t.publications _ log has
+added_log t number client wanted place (Make session) log has = Contains-append_left t.sources _ log has
 
 publication_stays : (s : State) (event : Event) (left' : State) (request : PublicationRequest) (adding : Adding) →
     IsSame s left' → Leaves s event (published left' request.client request.correlation (wanted_by request) adding)
@@ -288,7 +288,7 @@ unpublished_stays s now handle bytes client correlation fields left' asks same =
       counters = same_counters s event after same.counters;
       values = same_values s event after same.counters;
       logs = λ log has.
-          let there = settled_logs _ left'.moment left'.streams.publications log (rw same.logs has) in
+          let there = settled_logs _ left'.moment left'.streams.sources log (rw same.logs has) in
           inl (record {
             now = there.0;
             stands = there.1;
@@ -466,10 +466,10 @@ termination_stays s event client correlation left' by same = record {
   values = none_valued s event left';
   logs = λ log has. inr (inr by);
   told = λ place has.
-      let image = from_map place_of left'.streams.publications place has in
+      let image = from_map place_of left'.streams.sources place has in
       record {
-        publication = image.of;
-        stood = subst (λ (logs : List Publication). Contains logs image.of) same.logs image.stood;
+        log = image.of;
+        stood = subst (λ (logs : List Source). Contains logs image.of) same.logs image.stood;
         place_is = image.is;
         closes = inr by;
       };
@@ -477,7 +477,7 @@ termination_stays s event client correlation left' by same = record {
 
 -- ---- time goes on
 
-past_by : (s : State) (now : ℕ) (log later : Publication) → is_past (max s.moment now) later ≡ true →
+past_by : (s : State) (now : ℕ) (log later : Source) → is_past (max s.moment now) later ≡ true →
     is_past (max s.moment now) later ≡ is_past (max s.moment now) log → IsPastBy s (Tick now) log
 past_by s now log later past same =
     let since = past_since log.measures.linger (max s.moment now) log.lingering_since (sym same ∙ past) in
@@ -497,7 +497,7 @@ ticked_logs s between now leaves log has =
     inl (record {
       now = there.0;
       stands = rw leaves.moment
-          (passes_are_left (is_not_past moment) between.streams.publications there.0
+          (passes_are_left (is_not_past moment) between.streams.sources there.0
           (not_from_false (is_past moment there.0) stays) there.1);
       same = same_but_since moment log there.0 there.2;
     }))
@@ -509,13 +509,13 @@ ticked_told : {Goes : ℕ → Type 0} (s between : State) (now : ℕ) →
 unfolding closing_of at_moment
 ticked_told s between now leaves place has =
     let moment = max s.moment now in
-    let image = from_map place_of (filter (is_past moment) between.streams.publications) place has in
+    let image = from_map place_of (filter (is_past moment) between.streams.sources) place has in
     let past : is_past moment image.of ≡ true = All-contains (λ log. is_past moment log ≡ true) _ image.of
-    (filter_passes (is_past moment) between.streams.publications) image.stood in
+    (filter_passes (is_past moment) between.streams.sources) image.stood in
     let before = leaves.were image.of
-    (left_was_there (is_past moment) between.streams.publications image.of image.stood) in
+    (left_was_there (is_past moment) between.streams.sources image.of image.stood) in
     record {
-      publication = before.0;
+      log = before.0;
       stood = before.1;
       place_is = image.is ∙ place_settles moment before.0 image.of before.2;
       closes = inl (past_by s now before.0 image.of past (past_settles moment before.0 image.of before.2));

@@ -12,7 +12,7 @@ use Rattle.client_registry.specs.Clients.{principal_at}
 use Rattle.policy_core.specs.RuleList.{Rules}
 use Rattle.policy_core.specs.Rules.{verdict_of}
 use Rattle.stream_registry.specs.declared.pairs.Pair.{Pair}
-use Rattle.stream_registry.specs.declared.row.Publication.{Publication}
+use Rattle.stream_registry.specs.declared.row.Source.{Source}
 use Rattle.stream_registry.specs.declared.row.Subscription.{Subscription}
 use Rattle.stream_registry.specs.Pairs.{fits, image_question, is_allowed, is_allowed_to, is_pair, pair_of, pairs_at, pairs_of as pairs_on}
 use Rattle.driver_core.proofs.ListLemmas.{contains_none, left_was_there, only_one, passes_are_left}
@@ -59,12 +59,12 @@ allowed_to policy epoch subscription None allows = absurd (cc)
 allowed_to policy epoch subscription (Some principal) allows =
     record { principal = principal; attached = refl; allows = allows }
 
-reads_of : (s : State) (publication : Publication) (subscription : Subscription) →
-    Contains s.streams.publications publication → Contains s.streams.subscriptions subscription →
-    is_pair s.clients.rows s.policy s.epoch publication subscription ≡ true → IsReadBy s publication subscription
+reads_of : (s : State) (log : Source) (subscription : Subscription) →
+    Contains s.streams.sources log → Contains s.streams.subscriptions subscription →
+    is_pair s.clients.rows s.policy s.epoch log subscription ≡ true → IsReadBy s log subscription
 unfolding is_allowed
-reads_of s publication subscription live stands pairs =
-    let parts = and_parts (fits publication subscription) (is_allowed s.clients.rows s.policy s.epoch subscription) pairs in
+reads_of s log subscription live stands pairs =
+    let parts = and_parts (fits log subscription) (is_allowed s.clients.rows s.policy s.epoch subscription) pairs in
     let allowed =
     allowed_to s.policy s.epoch subscription (principal_at s.clients.rows subscription.client) parts.1
     in
@@ -78,20 +78,20 @@ reads_of s publication subscription live stands pairs =
       allowed = allowed.allows;
     }
 
-readers_of_log : (s : State) (publication : Publication) → Contains s.streams.publications publication →
-    All (IsOfReader s) (pairs_at s.clients.rows s.policy s.epoch s.streams.subscriptions publication)
-readers_of_log s publication live =
-    let test : Subscription → Bool = is_pair s.clients.rows s.policy s.epoch publication in
+readers_of_log : (s : State) (log : Source) → Contains s.streams.sources log →
+    All (IsOfReader s) (pairs_at s.clients.rows s.policy s.epoch s.streams.subscriptions log)
+readers_of_log s log live =
+    let test : Subscription → Bool = is_pair s.clients.rows s.policy s.epoch log in
     let readers : List Subscription = filter test s.streams.subscriptions in
-    All-map (IsOfReader s) (pair_of publication) readers
-    (All-weaker (Contains readers) (λ subscription. IsOfReader s (pair_of publication subscription))
+    All-map (IsOfReader s) (pair_of log) readers
+    (All-weaker (Contains readers) (λ subscription. IsOfReader s (pair_of log subscription))
     (λ subscription has.
     record {
-      publication = publication;
+      log = log;
       subscription = subscription;
       pair_is = refl;
       reads =
-          reads_of s publication subscription live (left_was_there test s.streams.subscriptions subscription has)
+          reads_of s log subscription live (left_was_there test s.streams.subscriptions subscription has)
           (All-contains (λ reader. test reader ≡ true) readers subscription (filter_passes test s.streams.subscriptions) has);
     })
     readers (All-contains_itself readers))
@@ -100,29 +100,29 @@ has_reader : (s : State) (pair : Pair) → Contains (pairs_of s) pair → IsOfRe
 unfolding pairs_of pairs_on
 has_reader s pair has =
     All-contains (IsOfReader s) (pairs_of s) pair
-    (all_parts (IsOfReader s) (pairs_at s.clients.rows s.policy s.epoch s.streams.subscriptions) s.streams.publications
-    (All-weaker (Contains s.streams.publications)
-    (λ publication.
-    All (IsOfReader s) (pairs_at s.clients.rows s.policy s.epoch s.streams.subscriptions publication))
-    (readers_of_log s) s.streams.publications (All-contains_itself s.streams.publications)))
+    (all_parts (IsOfReader s) (pairs_at s.clients.rows s.policy s.epoch s.streams.subscriptions) s.streams.sources
+    (All-weaker (Contains s.streams.sources)
+    (λ log.
+    All (IsOfReader s) (pairs_at s.clients.rows s.policy s.epoch s.streams.subscriptions log))
+    (readers_of_log s) s.streams.sources (All-contains_itself s.streams.sources)))
     has
 
 -- ---- and where these are, there is the pair
 
-is_pair_of : (s : State) (publication : Publication) (subscription : Subscription) → IsReadBy s publication subscription →
-    is_pair s.clients.rows s.policy s.epoch publication subscription ≡ true
+is_pair_of : (s : State) (log : Source) (subscription : Subscription) → IsReadBy s log subscription →
+    is_pair s.clients.rows s.policy s.epoch log subscription ≡ true
 unfolding is_allowed
-is_pair_of s publication subscription reads = rw (reads.fitting, reads.attached, reads.allowed) refl
+is_pair_of s log subscription reads = rw (reads.fitting, reads.attached, reads.allowed) refl
 
-has_pair : (s : State) (publication : Publication) (subscription : Subscription) → IsReadBy s publication subscription →
-    Contains (pairs_of s) (pair_of publication subscription)
+has_pair : (s : State) (log : Source) (subscription : Subscription) → IsReadBy s log subscription →
+    Contains (pairs_of s) (pair_of log subscription)
 unfolding pairs_of pairs_on
-has_pair s publication subscription reads =
-    let test : Subscription → Bool = is_pair s.clients.rows s.policy s.epoch publication in
-    in_part (pairs_at s.clients.rows s.policy s.epoch s.streams.subscriptions) s.streams.publications publication
-    (pair_of publication subscription) reads.is_live
-    (is_mapped (pair_of publication) (filter test s.streams.subscriptions) subscription
-    (passes_are_left test s.streams.subscriptions subscription (is_pair_of s publication subscription reads) reads.stands))
+has_pair s log subscription reads =
+    let test : Subscription → Bool = is_pair s.clients.rows s.policy s.epoch log in
+    in_part (pairs_at s.clients.rows s.policy s.epoch s.streams.subscriptions) s.streams.sources log
+    (pair_of log subscription) reads.is_live
+    (is_mapped (pair_of log) (filter test s.streams.subscriptions) subscription
+    (passes_are_left test s.streams.subscriptions subscription (is_pair_of s log subscription reads) reads.stands))
 
 -- ---- exactly these
 

@@ -22,7 +22,7 @@ use Rattle.driver_core.specs.Leaving.{all_left}
 use Rattle.driver_core.specs.Pairs.{is_lacked_by, pairs_of}
 use Rattle.driver_core.specs.Publishing.{published, ready_for}
 use Rattle.driver_core.specs.Reloading.{reloaded}
-use Rattle.driver_core.specs.Renewal.{available_for, available_to, come_to, gone_from, images_told, position_at, position_by, publication_at, renewed, subscription_at, unavailable_for, unavailable_to}
+use Rattle.driver_core.specs.Renewal.{available_for, available_to, come_to, gone_from, images_told, position_at, position_by, source_at, renewed, subscription_at, unavailable_for, unavailable_to}
 use Rattle.driver_core.specs.Requests.{wanted_by}
 use Rattle.driver_core.specs.State.{State, at_moment}
 use Rattle.driver_core.specs.Subscribing.{subscribed}
@@ -36,7 +36,7 @@ use Rattle.driver_laws.specs.ImageTellingLaws.{IsToldAvailable, IsToldUnavailabl
 use Rattle.client_registry.specs.declared.client.Client.{Client}
 use Rattle.policy_core.specs.declared.decision.Decision.{Decision}
 use Rattle.stream_registry.specs.declared.pairs.Pair.{Pair}
-use Rattle.stream_registry.specs.declared.row.Publication.{Publication}
+use Rattle.stream_registry.specs.declared.row.Source.{Source}
 use Rattle.stream_registry.specs.declared.row.Subscription.{Subscription}
 use Rattle.stream_registry.specs.declared.wanted.Adding.{Adding}
 use Rattle.stream_registry.specs.declared.wanted.Wanted.{Wanted}
@@ -191,13 +191,13 @@ all_pass {Y = Y} test parts (x ∷ xs) all =
     ∙ ap (λ (ys : List Y). ys ++ filter test (flat_map parts xs)) (all x)
     ∙ ap (λ (ys : List Y). parts x ++ ys) (all_pass test parts xs all)
 
-available_pass : (ends : List End) (pair : Pair) (log : Option Publication) (subscription : Option Subscription) →
+available_pass : (ends : List End) (pair : Pair) (log : Option Source) (subscription : Option Subscription) →
     filter tells_available (available_to ends pair log subscription) ≡ available_to ends pair log subscription
 available_pass ends pair None subscription = refl
 available_pass ends pair (Some log) None = refl
 available_pass ends pair (Some log) (Some subscription) = refl
 
-available_fail : (ends : List End) (pair : Pair) (log : Option Publication) (subscription : Option Subscription) →
+available_fail : (ends : List End) (pair : Pair) (log : Option Source) (subscription : Option Subscription) →
     NoneOf tells_unavailable (available_to ends pair log subscription)
 available_fail ends pair None subscription = refl
 available_fail ends pair (Some log) None = refl
@@ -238,7 +238,7 @@ available_told s inputs draft none =
     let all : filter tells_available came ≡ came =
     all_pass tells_available (available_for draft.after inputs.ends) come
     (λ pair.
-    available_pass inputs.ends pair (publication_at draft.after.streams.publications pair.source)
+    available_pass inputs.ends pair (source_at draft.after.streams.sources pair.source)
     (subscription_at draft.after.streams.subscriptions pair.subscription)) in
     of_four tells_available draft.replies left' came draft.later
     ∙ rw (none.available, others, all, none.available_later) (append-nil came)
@@ -255,7 +255,7 @@ unavailable_told s inputs draft none =
     let others : NoneOf tells_unavailable came =
     none_pass tells_unavailable (available_for draft.after inputs.ends) come
     (λ pair.
-    available_fail inputs.ends pair (publication_at draft.after.streams.publications pair.source)
+    available_fail inputs.ends pair (source_at draft.after.streams.sources pair.source)
     (subscription_at draft.after.streams.subscriptions pair.subscription)) in
     let all : filter tells_unavailable left' ≡ left' =
     all_pass tells_unavailable (unavailable_for draft.after) gone
@@ -306,23 +306,23 @@ reached ends source (Some end) is =
     })
 
 one_available : (after : State) (ends : List End) (pair : Pair) (pairs : List Pair) (messages : List Message)
-    (log : Option Publication) (subscription : Option Subscription) →
-    publication_at after.streams.publications pair.source ≡ log →
+    (log : Option Source) (subscription : Option Subscription) →
+    source_at after.streams.sources pair.source ≡ log →
     subscription_at after.streams.subscriptions pair.subscription ≡ subscription → (log ≡ None → ⊥) →
     (subscription ≡ None → ⊥) → OneForEach (IsToldAvailable after ends) pairs messages →
     OneForEach (IsToldAvailable after ends) (pair ∷ pairs) (available_to ends pair log subscription ++ messages)
 one_available after ends pair pairs messages None subscription found found' some some' rest = absurd (some refl)
 one_available after ends pair pairs messages (Some log) None found found' some some' rest = absurd (some' refl)
 one_available after ends pair pairs messages (Some log) (Some subscription) found found' some some' rest =
-    let live = found_in (λ (publication : Publication). publication.source == pair.source) after.streams.publications log
+    let live = found_in (λ (log : Source). log.number == pair.source) after.streams.sources log
     found in
     let stands = found_in (λ (row : Subscription). row.number == pair.subscription) after.streams.subscriptions
     subscription found' in
-    let source : log.source ≡ pair.source = eqb-true log.source pair.source live.passes in
+    let source : log.number ≡ pair.source = eqb-true log.number pair.source live.passes in
     let number : subscription.number ≡ pair.subscription =
     eqb-true subscription.number pair.subscription stands.passes in (
       record {
-        publication = log;
+        log = log;
         subscription = subscription;
         is_live = live.stands;
         stands = stands.stands;
@@ -336,11 +336,11 @@ one_available after ends pair pairs messages (Some log) (Some subscription) foun
 
 -- the log of such a pair is found, and so is its subscription
 log_found : (after : State) (pair : Pair) → IsOfReader after pair →
-    publication_at after.streams.publications pair.source ≡ None → ⊥
+    source_at after.streams.sources pair.source ≡ None → ⊥
 log_found after pair reader =
-    let same : reader.publication.source ≡ pair.source = ap (λ (p : Pair). p.source) (sym reader.pair_is) in
-    always_found (λ (publication : Publication). publication.source == pair.source) after.streams.publications
-    reader.publication reader.reads.is_live (eq-eqb reader.publication.source pair.source same)
+    let same : reader.log.number ≡ pair.source = ap (λ (p : Pair). p.source) (sym reader.pair_is) in
+    always_found (λ (log : Source). log.number == pair.source) after.streams.sources
+    reader.log reader.reads.is_live (eq-eqb reader.log.number pair.source same)
 
 subscription_found : (after : State) (pair : Pair) → IsOfReader after pair →
     subscription_at after.streams.subscriptions pair.subscription ≡ None → ⊥
@@ -358,7 +358,7 @@ each_available after ends [] readers = tt
 each_available after ends (pair ∷ pairs) readers =
     let reader = readers pair (Contains-append_left (pair ∷ []) pairs pair (Contains-push [] pair)) in
     one_available after ends pair pairs (flat_map (available_for after ends) pairs)
-    (publication_at after.streams.publications pair.source)
+    (source_at after.streams.sources pair.source)
     (subscription_at after.streams.subscriptions pair.subscription) refl refl (log_found after pair reader)
     (subscription_found after pair reader)
     (each_available after ends pairs (λ other has. readers other (Contains-append_right (pair ∷ []) pairs other has)))

@@ -9,7 +9,7 @@ use Rattle.driver_core.specs.State.{State}
 use Rattle.driver_laws.specs.LeavingLaws.{is_there}
 use Rattle.counters.specs.declared.counter.Counter.{Counter}
 use Rattle.counters.specs.Counters.{is_of_another, without_those_of}
-use Rattle.stream_registry.specs.declared.row.Publication.{Publication}
+use Rattle.stream_registry.specs.declared.row.Source.{Source}
 use Rattle.stream_registry.specs.declared.row.Registration.{Registration}
 use Rattle.stream_registry.specs.Leaving.{left as left_in}
 use Rattle.stream_registry.specs.Lingering.{is_past, is_past_since, is_used, left_alone, place_of, settled, settled_one}
@@ -53,17 +53,17 @@ owned_or_stays owner client xs x has =
 -- ---- a log that lingers
 
 -- the log is as it was, or lingers, since that moment where it did not before
-abbrev pub Settles : ℕ → Publication → Publication → Type 0
+abbrev pub Settles : ℕ → Source → Source → Type 0
 Settles now before after = (after ≡ before) ⊎ (after ≡ left_alone now before)
 
-settled_either : (b : Bool) (now : ℕ) (log : Publication) → Settles now log (if b then log else left_alone now log)
+settled_either : (b : Bool) (now : ℕ) (log : Source) → Settles now log (if b then log else left_alone now log)
 settled_either true now log = inl refl
 settled_either false now log = inr refl
 
-alone_twice : (now : ℕ) (log : Publication) → left_alone now (left_alone now log) ≡ left_alone now log
+alone_twice : (now : ℕ) (log : Source) → left_alone now (left_alone now log) ≡ left_alone now log
 alone_twice now log = refl
 
-settles_twice : (now : ℕ) (first next last : Publication) → Settles now first next → Settles now next last →
+settles_twice : (now : ℕ) (first next last : Source) → Settles now first next → Settles now next last →
     Settles now first last
 settles_twice now first next last one two =
     ⊎_elim
@@ -87,11 +87,11 @@ pub record Left (now : ℕ) (s after : State) (Goes : ℕ → Type 0) : Type 0 w
       (counter : Counter) → Contains s.counters counter → Contains after.counters counter ⊎ Goes counter.client
   pub values : (counter : Counter) → Contains after.counters counter → Contains s.counters counter
   pub logs :
-      (log : Publication) → Contains s.streams.publications log →
-      (later : Publication) × Contains after.streams.publications later × Settles now log later
+      (log : Source) → Contains s.streams.sources log →
+      (later : Source) × Contains after.streams.sources later × Settles now log later
   pub were :
-      (log : Publication) → Contains after.streams.publications log →
-      (before : Publication) × Contains s.streams.publications before × Settles now before log
+      (log : Source) → Contains after.streams.sources log →
+      (before : Source) × Contains s.streams.sources before × Settles now before log
   pub moment : after.moment ≡ now
 
 there_or_gone : (s : State) (gone client : ℕ) → is_there s client ≡ true →
@@ -102,24 +102,24 @@ there_or_gone s gone client there =
     (λ other. inl (rw (there_left s gone client, not_from_false (client == gone) other, there) refl))
     (cases_Bool (client == gone))
 
-pub settled_logs : (registrations : List Registration) (now : ℕ) (logs : List Publication) (log : Publication) →
+pub settled_logs : (registrations : List Registration) (now : ℕ) (logs : List Source) (log : Source) →
     Contains logs log →
-    (later : Publication) × Contains (map (settled_one registrations now) logs) later × Settles now log later
+    (later : Source) × Contains (map (settled_one registrations now) logs) later × Settles now log later
 settled_logs registrations now logs log has = (
   settled_one registrations now log,
   mapped (settled_one registrations now) logs log has,
-  settled_either (is_used registrations log.source) now log,
+  settled_either (is_used registrations log.number) now log,
 )
 
-pub settled_were : (registrations : List Registration) (now : ℕ) (logs : List Publication) (log : Publication) →
+pub settled_were : (registrations : List Registration) (now : ℕ) (logs : List Source) (log : Source) →
     Contains (map (settled_one registrations now) logs) log →
-    (before : Publication) × Contains logs before × Settles now before log
+    (before : Source) × Contains logs before × Settles now before log
 settled_were registrations now logs log has =
     let image = from_map (settled_one registrations now) logs log has in (
       image.of,
       image.stood,
       subst (Settles now image.of) (sym image.is)
-          (settled_either (is_used registrations image.of.source) now image.of),
+          (settled_either (is_used registrations image.of.number) now image.of),
     )
 
 pub one_left : (s : State) (now client : ℕ) → s.moment ≡ now → Left now s (left s client) (λ n. n ≡ client)
@@ -130,8 +130,8 @@ one_left s now client at = record {
       owned_or_stays (λ (r : Registration). r.client) client s.streams.registrations registration has;
   counters = λ counter has. owned_or_stays (λ (c : Counter). c.client) client s.counters counter has;
   values = λ counter has. left_was_there (is_of_another client) s.counters counter has;
-  logs = λ log has. rw (← at) (settled_logs _ s.moment s.streams.publications log has);
-  were = λ log has. rw (← at) (settled_were _ s.moment s.streams.publications log has);
+  logs = λ log has. rw (← at) (settled_logs _ s.moment s.streams.sources log has);
+  were = λ log has. rw (← at) (settled_were _ s.moment s.streams.sources log has);
   moment = at;
 }
 
@@ -195,7 +195,7 @@ alone_since : (linger now : ℕ) (since : Option ℕ) →
 alone_since linger now None = le-ltb linger (now - now) (omega arith)
 alone_since linger now (Some since) = refl
 
-pub past_settles : (now : ℕ) (before after : Publication) → Settles now before after →
+pub past_settles : (now : ℕ) (before after : Source) → Settles now before after →
     is_past now after ≡ is_past now before
 past_settles now before after settles =
     ⊎_elim
@@ -203,10 +203,10 @@ past_settles now before after settles =
     (λ alone. ap (is_past now) alone ∙ alone_since before.measures.linger now before.lingering_since)
     settles
 
-pub place_settles : (now : ℕ) (before after : Publication) → Settles now before after → place_of after ≡ place_of before
+pub place_settles : (now : ℕ) (before after : Source) → Settles now before after → place_of after ≡ place_of before
 place_settles now before after settles = ⊎_elim (λ same. ap place_of same) (λ alone. ap place_of alone) settles
 
-pub same_but_since : (now : ℕ) (before after : Publication) → Settles now before after →
+pub same_but_since : (now : ℕ) (before after : Source) → Settles now before after →
     after ≡ record before { lingering_since = after.lingering_since }
 same_but_since now before after settles = ⊎_elim (λ same. rw same refl) (λ alone. rw alone refl) settles
 

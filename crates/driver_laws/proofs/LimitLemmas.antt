@@ -354,7 +354,7 @@ limits_kept settings policy peers events =
     let within = (both_within settings policy peers events).1 in
     record {
       clients = within.clients;
-      publications = within.streams.logs;
+      sources = within.streams.logs;
       registrations = within.streams.registrations;
       subscriptions = within.streams.subscriptions;
       counters = within.counters;

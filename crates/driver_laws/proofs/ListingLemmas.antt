@@ -4,7 +4,7 @@ use Rattle.std.specs.List.{filter}
 use Rattle.driver_core.specs.declared.listing.Listed.TheVariants as listed_as
 use Rattle.driver_core.specs.declared.listing.Shown.TheVariants as shown_as
 use Rattle.driver_core.specs.Listing.{list, value}
-use Rattle.driver_core.specs.Renewal.{publication_at}
+use Rattle.driver_core.specs.Renewal.{source_at}
 use Rattle.driver_core.specs.State.{State}
 use Rattle.driver_core.specs.Verdicts.{verdict_on}
 use Rattle.driver_laws.specs.ListingLaws.{ListsExactly, ShowsExactly, ShowsPublicationExactly, LooksExactly, look_question, is_shown_to, publication_look}
@@ -12,7 +12,7 @@ use Rattle.client_registry.specs.declared.client.Client.{Client}
 use Rattle.client_registry.specs.Clients.{client_at}
 use Rattle.counters.specs.declared.counter.Counter.{Counter}
 use Rattle.counters.specs.Counters.{counter_at, is_visible, visible_of}
-use Rattle.stream_registry.specs.declared.row.Publication.{Publication}
+use Rattle.stream_registry.specs.declared.row.Source.{Source}
 use Rattle.counters.proofs.VisibleLemmas.{any_number}
 use Rattle.driver_core.proofs.VerdictLemmas.{by_policy}
 use Rattle.driver_laws.proofs.DenialTextLemmas.{epoch_of, denial_words, denial_is_named}
@@ -52,9 +52,9 @@ shows_exactly s handle client number counter found there =
           ∙ denial_is_named (verdict_on s question) s.epoch denies (epoch_of s question);
     }
 
-shows_publication_exactly : (s : State) (handle : ℕ) (client : Client) (number : ℕ) (publication : Publication) →
+shows_publication_exactly : (s : State) (handle : ℕ) (client : Client) (number : ℕ) (publication : Source) →
     client_at s.clients.rows handle ≡ Some client → counter_at s.counters number ≡ None →
-    publication_at s.streams.publications number ≡ Some publication →
+    source_at s.streams.sources number ≡ Some publication →
     ShowsPublicationExactly s client publication (value s handle number)
 unfolding value
 shows_publication_exactly s handle client number publication found none there =
@@ -70,7 +70,7 @@ shows_publication_exactly s handle client number publication found none there =
 
 unknown_is_told : (s : State) (handle : ℕ) (client : Client) (number : ℕ) →
     client_at s.clients.rows handle ≡ Some client → counter_at s.counters number ≡ None →
-    publication_at s.streams.publications number ≡ None → value s handle number ≡ shown_as.UnknownCounter
+    source_at s.streams.sources number ≡ None → value s handle number ≡ shown_as.UnknownCounter
 unfolding value
 unknown_is_told s handle client number found none nothing = rw (found, none, nothing) refl
 

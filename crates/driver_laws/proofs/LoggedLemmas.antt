@@ -31,7 +31,7 @@ use Rattle.policy_core.specs.RuleList.{Rules}
 use Rattle.channel_uri.specs.Channel.{Shape}
 use Rattle.stream_registry.specs.declared.fault.StreamFault.{StreamFault}
 use Rattle.stream_registry.specs.declared.fault.StreamFault.TheVariants.{Conflict, Full}
-use Rattle.stream_registry.specs.declared.row.Publication.{Publication}
+use Rattle.stream_registry.specs.declared.row.Source.{Source}
 use Rattle.stream_registry.specs.declared.row.Registration.{Registration}
 use Rattle.stream_registry.specs.declared.wanted.Adding.{Adding}
 use Rattle.stream_registry.specs.declared.wanted.Adding.TheVariants.{Join, Make}
@@ -52,19 +52,19 @@ use Rattle.driver_laws.proofs.OwnerLemmas.{after_any}
 -- ---- logs that stay
 
 -- a log with which somebody is registered is as it was
-used_settles : (b : Bool) (now : ℕ) (log : Publication) → b ≡ true → cond b log (left_alone now log) ≡ log
+used_settles : (b : Bool) (now : ℕ) (log : Source) → b ≡ true → cond b log (left_alone now log) ≡ log
 used_settles true now log used = refl
 used_settles false now log used = absurd (cc used)
 
-settled_log : (registrations : List Registration) (now : ℕ) (logs : List Publication) (registration : Registration) →
+settled_log : (registrations : List Registration) (now : ℕ) (logs : List Source) (registration : Registration) →
     Contains registrations registration → HasLog logs registration.source →
     HasLog (map (settled_one registrations now) logs) registration.source
 settled_log registrations now logs registration has was =
-    let used : is_used registrations was.log.source ≡ true =
-    any_of (λ (r : Registration). r.source == was.log.source) registrations registration has
-    (eq-eqb registration.source was.log.source (sym was.source_is)) in
+    let used : is_used registrations was.log.number ≡ true =
+    any_of (λ (r : Registration). r.source == was.log.number) registrations registration has
+    (eq-eqb registration.source was.log.number (sym was.source_is)) in
     let same : settled_one registrations now was.log ≡ was.log =
-    used_settles (is_used registrations was.log.source) now was.log used in
+    used_settles (is_used registrations was.log.number) now was.log used in
     record {
       log = was.log;
       stands = subst (Contains (map (settled_one registrations now) logs)) same
@@ -77,18 +77,18 @@ unregistered_logged : (streams : Streams) (client number now : ℕ) → HaveThei
     HaveTheirLogs (unregistered streams client number now)
 unfolding unregistered settled
 unregistered_logged streams client number now logged = λ registration has.
-    settled_log _ now streams.publications registration has
+    settled_log _ now streams.sources registration has
     (logged registration
     (left_was_there (is_another_registration client number) streams.registrations registration has))
 
 left_logged : (streams : Streams) (client now : ℕ) → HaveTheirLogs streams → HaveTheirLogs (left_in streams client now)
 unfolding left_in settled
 left_logged streams client now logged = λ registration has.
-    settled_log _ now streams.publications registration has
+    settled_log _ now streams.sources registration has
     (logged registration
     (left_was_there (is_registration_of_another client) streams.registrations registration has))
 
-not_past : (now : ℕ) (log : Publication) → log.lingering_since ≡ None → is_not_past now log ≡ true
+not_past : (now : ℕ) (log : Source) → log.lingering_since ≡ None → is_not_past now log ≡ true
 not_past now log in_use = rw in_use refl
 
 closed_logged : (streams : Streams) (now : ℕ) → HaveTheirLogs streams → HaveTheirLogs (closed streams now)
@@ -97,7 +97,7 @@ closed_logged streams now logged = λ registration has.
     let was = logged registration has in
     record {
       log = was.log;
-      stands = passes_are_left (is_not_past now) streams.publications was.log (not_past now was.log was.in_use) was.stands;
+      stands = passes_are_left (is_not_past now) streams.sources was.log (not_past now was.log was.in_use) was.stands;
       source_is = was.source_is;
       in_use = was.in_use;
     }
@@ -128,7 +128,7 @@ never_lingers : (since : Option ℕ) → is_none since ≡ true → since ≡ No
 never_lingers None is = refl
 never_lingers (Some since) is = absurd (cc is)
 
-open_in_use : (channel : Shape) (stream : ℤ) (log : Publication) → is_joinable channel stream log ≡ true →
+open_in_use : (channel : Shape) (stream : ℤ) (log : Source) → is_joinable channel stream log ≡ true →
     log.lingering_since ≡ None
 unfolding is_joinable
 open_in_use channel stream log joinable =
@@ -137,11 +137,11 @@ open_in_use channel stream log joinable =
     never_lingers log.lingering_since (and_parts _ _ open'.0).1
 
 -- what is granted is a new log, or this one
-abbrev IsGranted : List Publication → Adding → Type 0
+abbrev IsGranted : List Source → Adding → Type 0
 IsGranted logs (Join source session) = HasLog logs source
 IsGranted logs (Make session) = Unit {0}
 
-made_granted : (logs : List Publication) (conflicts room : Bool) (session : ℤ) (adding : Adding) →
+made_granted : (logs : List Source) (conflicts room : Bool) (session : ℤ) (adding : Adding) →
     cond {A = Result Adding StreamFault} conflicts (Err Conflict) (cond room (Ok (Make session)) (Err Full)) ≡ Ok adding →
     IsGranted logs adding
 made_granted logs true room session adding is = absurd (cc is)
@@ -150,33 +150,33 @@ made_granted logs false true session adding is =
     let same : Make session ≡ adding = cc is in
     subst (IsGranted logs) same tt
 
-joined_granted : (logs : List Publication) (conflicts room : Bool) (log : Publication) (adding : Adding) →
-    HasLog logs log.source →
+joined_granted : (logs : List Source) (conflicts room : Bool) (log : Source) (adding : Adding) →
+    HasLog logs log.number →
     cond {A = Result Adding StreamFault} conflicts (Err Conflict)
-    (cond room (Ok (Join log.source log.session)) (Err Full)) ≡ Ok adding →
+    (cond room (Ok (Join log.number log.session)) (Err Full)) ≡ Ok adding →
     IsGranted logs adding
 joined_granted logs true room log adding has is = absurd (cc is)
 joined_granted logs false false log adding has is = absurd (cc is)
 joined_granted logs false true log adding has is =
-    let same : Join log.source log.session ≡ adding = cc is in
+    let same : Join log.number log.session ≡ adding = cc is in
     subst (IsGranted logs) same has
 
 making_granted : (streams : Streams) (wanted : Wanted) (adding : Adding) → making_of streams wanted ≡ Ok adding →
-    IsGranted streams.publications adding
+    IsGranted streams.sources adding
 unfolding making_of
 making_granted streams wanted adding is =
-    made_granted streams.publications
-    (is_stated_again streams.publications wanted.channel.media wanted.stream (stated_session_of wanted.channel))
+    made_granted streams.sources
+    (is_stated_again streams.sources wanted.channel.media wanted.stream (stated_session_of wanted.channel))
     (has_room_for_registration streams && has_room_for_log streams) _ adding is
 
-by_granted : (streams : Streams) (wanted : Wanted) (adding : Adding) (found : Option Publication) →
-    joined_at streams.publications wanted.channel wanted.stream ≡ found → adding_by streams wanted found ≡ Ok adding →
-    IsGranted streams.publications adding
+by_granted : (streams : Streams) (wanted : Wanted) (adding : Adding) (found : Option Source) →
+    joined_at streams.sources wanted.channel wanted.stream ≡ found → adding_by streams wanted found ≡ Ok adding →
+    IsGranted streams.sources adding
 unfolding joining_of
 by_granted streams wanted adding None found is = making_granted streams wanted adding is
 by_granted streams wanted adding (Some log) found is =
-    let it = found_in (is_joinable wanted.channel wanted.stream) streams.publications log found in
-    joined_granted streams.publications (contradicts streams.defaults wanted.channel log)
+    let it = found_in (is_joinable wanted.channel wanted.stream) streams.sources log found in
+    joined_granted streams.sources (contradicts streams.defaults wanted.channel log)
     (has_room_for_registration streams) log adding
     (record {
       log = log;
@@ -185,22 +185,22 @@ by_granted streams wanted adding (Some log) found is =
       in_use = open_in_use wanted.channel wanted.stream log it.passes;
     }) is
 
-either_granted : (logs : List Publication) (adding : Adding) (b : Bool) (one other : Result Adding StreamFault) →
+either_granted : (logs : List Source) (adding : Adding) (b : Bool) (one other : Result Adding StreamFault) →
     (one ≡ Ok adding → IsGranted logs adding) → (other ≡ Ok adding → IsGranted logs adding) →
     cond b one other ≡ Ok adding → IsGranted logs adding
 either_granted logs adding true one other first second is = first is
 either_granted logs adding false one other first second is = second is
 
 granted : (streams : Streams) (wanted : Wanted) (adding : Adding) → adding_of streams wanted ≡ Ok adding →
-    IsGranted streams.publications adding
+    IsGranted streams.sources adding
 unfolding adding_of
 granted streams wanted adding is =
-    either_granted streams.publications adding wanted.exclusive (making_of streams wanted)
-    (adding_by streams wanted (joined_at streams.publications wanted.channel wanted.stream))
+    either_granted streams.sources adding wanted.exclusive (making_of streams wanted)
+    (adding_by streams wanted (joined_at streams.sources wanted.channel wanted.stream))
     (making_granted streams wanted adding)
-    (by_granted streams wanted adding (joined_at streams.publications wanted.channel wanted.stream) refl) is
+    (by_granted streams wanted adding (joined_at streams.sources wanted.channel wanted.stream) refl) is
 
-has_more : (logs : List Publication) (log : Publication) (source : ℕ) → HasLog logs source →
+has_more : (logs : List Source) (log : Source) (source : ℕ) → HasLog logs source →
     HasLog (logs ++ log ∷ []) source
 has_more logs log source was = record {
   log = was.log;
@@ -210,19 +210,19 @@ has_more logs log source was = record {
 }
 
 added_logged : (streams : Streams) (number client : ℕ) (wanted : Wanted) (place : ℕ) (adding : Adding) →
-    IsGranted streams.publications adding → HaveTheirLogs streams →
+    IsGranted streams.sources adding → HaveTheirLogs streams →
     HaveTheirLogs (added streams number client wanted place adding)
 added_logged streams number client wanted place (Join source session) has logged = λ registration stands.
     ⊎_elim (λ before. logged registration before)
-    (λ is. subst (λ (r : Registration). HasLog streams.publications r.source) is has)
+    (λ is. subst (λ (r : Registration). HasLog streams.sources r.source) is has)
     (Contains-push_cases streams.registrations (registration_of number client wanted source) registration stands)
 added_logged streams number client wanted place (Make session) has logged = λ registration stands.
-    let log : Publication = log_of streams number wanted place session in
-    let logs : List Publication = streams.publications ++ log ∷ [] in
-    ⊎_elim (λ before. has_more streams.publications log registration.source (logged registration before))
+    let log : Source = log_of streams number wanted place session in
+    let logs : List Source = streams.sources ++ log ∷ [] in
+    ⊎_elim (λ before. has_more streams.sources log registration.source (logged registration before))
     (λ is.
     subst (λ (r : Registration). HasLog logs r.source) is
-    (record { log = log; stands = Contains-push streams.publications log; source_is = refl; in_use = refl }))
+    (record { log = log; stands = Contains-push streams.sources log; source_is = refl; in_use = refl }))
     (Contains-push_cases streams.registrations (registration_of number client wanted number) registration stands)
 
 -- ---- each event

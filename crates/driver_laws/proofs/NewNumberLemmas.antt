@@ -14,7 +14,7 @@ use Rattle.driver_laws.specs.ReloadLaws.{Numbered, in_force_at, newest_after}
 use Rattle.driver_laws.specs.SubscribingLaws.{IsMadeBy}
 use Rattle.client_registry.specs.declared.client.Client.{Client}
 use Rattle.counters.specs.declared.counter.Counter.{Counter}
-use Rattle.stream_registry.specs.declared.row.Publication.{Publication}
+use Rattle.stream_registry.specs.declared.row.Source.{Source}
 use Rattle.stream_registry.specs.declared.row.Registration.{Registration}
 use Rattle.stream_registry.specs.declared.row.Subscription.{Subscription}
 use Rattle.driver_laws.proofs.ClientComingLemmas.{clients_come}
@@ -44,10 +44,10 @@ policy_above s event inputs =
 pub comes_above : (s : State) (event : Event) (inputs : Inputs) → ComesAbove s (state_after s event inputs)
 comes_above s event inputs = record {
   clients = clients_come s event inputs;
-  publications = λ log has.
+  sources = λ log has.
       ⊎_elim (λ before. inl before)
       (λ (made : IsLogMadeBy s event log).
-      let is : log.source ≡ s.last_number + 1 = ap (λ (p : Publication). p.source) made.made_is in
+      let is : log.number ≡ s.last_number + 1 = ap (λ (p : Source). p.number) made.made_is in
       inr (omega (arith, is)))
       ((published_only s event inputs).logs log has);
   registrations = λ row has.
@@ -76,7 +76,7 @@ comes_above s event inputs = record {
 nothing_comes : (s : State) → ComesAbove s s
 nothing_comes s = record {
   clients = λ client has. inl (record { before = client; stood = has; same = refl });
-  publications = λ log has. inl (record { before = log; stood = has; same = refl });
+  sources = λ log has. inl (record { before = log; stood = has; same = refl });
   registrations = λ row has. inl has;
   subscriptions = λ row has. inl has;
   counters = λ counter has. inl (record { before = counter; stood = has; same = refl });
@@ -104,22 +104,22 @@ client_above s between client lowers first last =
     inr (omega (arith, low, new)))
     last
 
-log_above : (s between : State) (log : Publication) → NeverLowers s between → ComesAbove s between →
-    WasLive between.streams log ⊎ (between.last_number < log.source) →
-    WasLive s.streams log ⊎ (s.last_number < log.source)
+log_above : (s between : State) (log : Source) → NeverLowers s between → ComesAbove s between →
+    WasLive between.streams log ⊎ (between.last_number < log.number) →
+    WasLive s.streams log ⊎ (s.last_number < log.number)
 log_above s between log lowers first last =
     ⊎_elim
     (λ (was : WasLive between.streams log).
-    let number = ap (λ (p : Publication). p.source) was.same in
+    let number = ap (λ (p : Source). p.number) was.same in
     ⊎_elim
     (λ (stood : WasLive s.streams was.before).
     inl (record {
       before = stood.before;
       stood = stood.stood;
-      same = was.same ∙ ap (λ (p : Publication). record p { lingering_since = log.lingering_since }) stood.same;
+      same = was.same ∙ ap (λ (p : Source). record p { lingering_since = log.lingering_since }) stood.same;
     }))
     (λ new. inr (omega (arith, number, new)))
-    (first.publications was.before was.stood))
+    (first.sources was.before was.stood))
     (λ new.
     let low = lowers.last in
     inr (omega (arith, low, new)))
@@ -170,7 +170,7 @@ comes_after : (s between after : State) → NeverLowers s between → ComesAbove
     ComesAbove s after
 comes_after s between after lowers first last = record {
   clients = λ client has. client_above s between client lowers first (last.clients client has);
-  publications = λ log has. log_above s between log lowers first (last.publications log has);
+  sources = λ log has. log_above s between log lowers first (last.sources log has);
   registrations = λ row has.
       row_above _ _ s.last_number between.last_number row.number lowers.last (first.registrations row)
       (last.registrations row has);

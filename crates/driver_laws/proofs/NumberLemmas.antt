@@ -33,7 +33,7 @@ use Rattle.counters.specs.declared.counter.Counter.{Counter}
 use Rattle.counters.specs.Counters.{is_another, is_of_another, is_own, set, set_one, without as counters_without, without_those_of}
 use Rattle.policy_core.specs.declared.decision.Decision.{Decision}
 use Rattle.policy_core.specs.RuleList.{Rules}
-use Rattle.stream_registry.specs.declared.row.Publication.{Publication}
+use Rattle.stream_registry.specs.declared.row.Source.{Source}
 use Rattle.stream_registry.specs.declared.row.Registration.{Registration}
 use Rattle.stream_registry.specs.declared.row.Subscription.{Subscription}
 use Rattle.stream_registry.specs.declared.wanted.Adding.{Adding}
@@ -52,8 +52,8 @@ use Rattle.driver_laws.proofs.RisingLemmas.{rises_drawn, rises_kept, rises_mappe
 abbrev client_number : Client → ℕ
 client_number client = client.number
 
-abbrev pub source_number : Publication → ℕ
-source_number publication = publication.source
+abbrev pub source_number : Source → ℕ
+source_number log = log.number
 
 abbrev registration_number : Registration → ℕ
 registration_number registration = registration.number
@@ -64,7 +64,7 @@ subscription_number subscription = subscription.number
 abbrev counter_number : Counter → ℕ
 counter_number counter = counter.number
 
-pub settled_number : (b : Bool) (now : ℕ) (log : Publication) → (cond b log (left_alone now log)).source ≡ log.source
+pub settled_number : (b : Bool) (now : ℕ) (log : Source) → (cond b log (left_alone now log)).number ≡ log.number
 settled_number true now log = refl
 settled_number false now log = refl
 
@@ -118,7 +118,7 @@ unfolding reloaded in_force answered
 reloaded_rises s policy rises = record {
   rises = record {
     clients = rises.clients;
-    publications = rises.publications;
+    sources = rises.sources;
     registrations = rises.registrations;
     subscriptions = rises.subscriptions;
     counters = rises.counters;
@@ -134,7 +134,7 @@ attached_rises s principal rises = record {
   rises = record {
     clients = rises_push client_number 0 s.clients.last (s.clients.last + 1) s.clients.rows _ rises.clients
         (omega arith) (omega arith);
-    publications = rises.publications;
+    sources = rises.sources;
     registrations = rises.registrations;
     subscriptions = rises.subscriptions;
     counters = rises.counters;
@@ -150,7 +150,7 @@ subscription_rises s request rises =
     record {
       rises = record {
         clients = rises.clients;
-        publications = rises_up_to source_number 0 last (last + 1) s.streams.publications (omega arith) rises.publications;
+        sources = rises_up_to source_number 0 last (last + 1) s.streams.sources (omega arith) rises.sources;
         registrations = rises_up_to registration_number 0 last (last + 1) s.streams.registrations (omega arith)
             rises.registrations;
         subscriptions = rises_push subscription_number 0 last (last + 1) s.streams.subscriptions _ rises.subscriptions
@@ -168,7 +168,7 @@ counter_rises s client correlation fields rises =
     record {
       rises = record {
         clients = rises.clients;
-        publications = rises_up_to source_number 0 last (last + 1) s.streams.publications (omega arith) rises.publications;
+        sources = rises_up_to source_number 0 last (last + 1) s.streams.sources (omega arith) rises.sources;
         registrations = rises_up_to registration_number 0 last (last + 1) s.streams.registrations (omega arith)
             rises.registrations;
         subscriptions = rises_up_to subscription_number 0 last (last + 1) s.streams.subscriptions (omega arith)
@@ -186,7 +186,7 @@ publication_rises s client correlation wanted (Join source session) rises =
     record {
       rises = record {
         clients = rises.clients;
-        publications = rises_up_to source_number 0 last (last + 1) s.streams.publications (omega arith) rises.publications;
+        sources = rises_up_to source_number 0 last (last + 1) s.streams.sources (omega arith) rises.sources;
         registrations = rises_push registration_number 0 last (last + 1) s.streams.registrations _ rises.registrations
             (omega arith) (omega arith);
         subscriptions = rises_up_to subscription_number 0 last (last + 1) s.streams.subscriptions (omega arith)
@@ -200,7 +200,7 @@ publication_rises s client correlation wanted (Make session) rises =
     record {
       rises = record {
         clients = rises.clients;
-        publications = rises_push source_number 0 last (last + 1) s.streams.publications _ rises.publications
+        sources = rises_push source_number 0 last (last + 1) s.streams.sources _ rises.sources
             (omega arith) (omega arith);
         registrations = rises_push registration_number 0 last (last + 1) s.streams.registrations _ rises.registrations
             (omega arith) (omega arith);
@@ -219,7 +219,7 @@ unfolding valued replied told set
 value_rises s client correlation fields rises =
     none_drawn s _ (record { last = refl; last_client = refl; epoch = refl }) (record {
       clients = rises.clients;
-      publications = rises.publications;
+      sources = rises.sources;
       registrations = rises.registrations;
       subscriptions = rises.subscriptions;
       counters = rises_mapped counter_number (set_one client.number fields.registration fields.value) 0 s.last_number
@@ -233,7 +233,7 @@ unfolding uncounted told counters_without
 counter_removal_rises s client correlation number rises =
     none_drawn s _ (record { last = refl; last_client = refl; epoch = refl }) (record {
       clients = rises.clients;
-      publications = rises.publications;
+      sources = rises.sources;
       registrations = rises.registrations;
       subscriptions = rises.subscriptions;
       counters = rises_kept counter_number (is_another client.number number) 0 s.last_number s.counters rises.counters;
@@ -245,7 +245,7 @@ unfolding unsubscribed unsubscribed_in replied told
 removal_rises s request rises =
     none_drawn s _ (record { last = refl; last_client = refl; epoch = refl }) (record {
       clients = rises.clients;
-      publications = rises.publications;
+      sources = rises.sources;
       registrations = rises.registrations;
       subscriptions = rises_kept subscription_number
           (is_another_subscription request.client.number request.fields.registration) 0 s.last_number
@@ -259,8 +259,8 @@ unfolding unpublished unregistered settled replied told
 publication_removal_rises s client correlation number rises =
     none_drawn s _ (record { last = refl; last_client = refl; epoch = refl }) (record {
       clients = rises.clients;
-      publications = rises_mapped source_number _ 0 s.last_number s.streams.publications
-          (λ log. settled_number (is_used _ log.source) s.moment log) rises.publications;
+      sources = rises_mapped source_number _ 0 s.last_number s.streams.sources
+          (λ log. settled_number (is_used _ log.number) s.moment log) rises.sources;
       registrations = rises_kept registration_number (is_another_registration client.number number) 0 s.last_number
           s.streams.registrations rises.registrations;
       subscriptions = rises.subscriptions;
@@ -271,8 +271,8 @@ one_left_rises : (s : State) (client : ℕ) → AreRising s → AreRising (left 
 unfolding left left_in settled without without_those_of
 one_left_rises s client rises = record {
   clients = rises_kept client_number (is_other client) 0 s.clients.last s.clients.rows rises.clients;
-  publications = rises_mapped source_number _ 0 s.last_number s.streams.publications
-      (λ log. settled_number (is_used _ log.source) s.moment log) rises.publications;
+  sources = rises_mapped source_number _ 0 s.last_number s.streams.sources
+      (λ log. settled_number (is_used _ log.number) s.moment log) rises.sources;
   registrations = rises_kept registration_number (is_registration_of_another client) 0 s.last_number
       s.streams.registrations rises.registrations;
   subscriptions = rises_kept subscription_number (is_subscription_of_another client) 0 s.last_number
@@ -313,8 +313,8 @@ unfolding ticked closed
 ticked_rises s between clients same rises =
     none_drawn s _ (record { last = same.last; last_client = same.last_client; epoch = same.epoch }) (record {
       clients = rises.clients;
-      publications = rises_kept source_number (is_not_past between.moment) 0 between.last_number
-          between.streams.publications rises.publications;
+      sources = rises_kept source_number (is_not_past between.moment) 0 between.last_number
+          between.streams.sources rises.sources;
       registrations = rises.registrations;
       subscriptions = rises.subscriptions;
       counters = rises.counters;
@@ -331,7 +331,7 @@ unfolding terminated stopped_for_good
 termination_rises s client correlation rises =
     none_drawn s _ (record { last = refl; last_client = refl; epoch = refl }) (record {
       clients = omega arith;
-      publications = omega arith;
+      sources = omega arith;
       registrations = omega arith;
       subscriptions = omega arith;
       counters = omega arith;
@@ -343,7 +343,7 @@ pub moment_rises : (s : State) (now : ℕ) → AreRising s → AreRising (at_mom
 unfolding at_moment
 moment_rises s now rises = record {
   clients = rises.clients;
-  publications = rises.publications;
+  sources = rises.sources;
   registrations = rises.registrations;
   subscriptions = rises.subscriptions;
   counters = rises.counters;
@@ -354,7 +354,7 @@ unfolding heard at_moment touched
 request_rises s now handle rises = record {
   clients = rises_mapped client_number _ 0 s.clients.last s.clients.rows
       (λ row. row_number (row.number == handle) row _) rises.clients;
-  publications = rises.publications;
+  sources = rises.sources;
   registrations = rises.registrations;
   subscriptions = rises.subscriptions;
   counters = rises.counters;
@@ -437,7 +437,7 @@ pub opened_rises : (settings : Settings) (policy : Rules) (peers : List Peer) �
 unfolding opened
 opened_rises settings policy peers = record {
   clients = omega arith;
-  publications = omega arith;
+  sources = omega arith;
   registrations = omega arith;
   subscriptions = omega arith;
   counters = omega arith;
@@ -449,7 +449,7 @@ numbers_rise = after_any AreRising opened_rises (λ s event inputs rising. (even
 pub are_drawn : (s : State) → AreRising s → AreDrawn s
 are_drawn s rises = record {
   clients = λ client has. rises_drawn client_number s.clients.last s.clients.rows client rises.clients has;
-  publications = λ log has. rises_drawn source_number s.last_number s.streams.publications log rises.publications has;
+  sources = λ log has. rises_drawn source_number s.last_number s.streams.sources log rises.sources has;
   registrations = λ row has.
       rises_drawn registration_number s.last_number s.streams.registrations row rises.registrations has;
   subscriptions = λ row has.

@@ -13,7 +13,7 @@ use Rattle.client_registry.specs.declared.client.Client.{Client}
 use Rattle.client_registry.specs.Clients.{admitted, client_at, is_other, principal_at, without}
 use Rattle.policy_core.specs.RuleList.{Rules}
 use Rattle.stream_registry.specs.declared.pairs.Pair.{Pair}
-use Rattle.stream_registry.specs.declared.row.Publication.{Publication}
+use Rattle.stream_registry.specs.declared.row.Source.{Source}
 use Rattle.stream_registry.specs.declared.row.Registration.{Registration}
 use Rattle.stream_registry.specs.declared.row.Subscription.{Subscription}
 use Rattle.stream_registry.specs.Leaving.{is_another_subscription, is_registration_of_another, is_subscription_of_another, left as left_in, unregistered, unsubscribed}
@@ -93,7 +93,7 @@ of_changed parts change (x ∷ xs) same = rw (same x, of_changed parts change xs
 -- ---- the pairs of one log
 
 one_settled : (b : Bool) (clients : List Client) (policy : Rules) (epoch : ℕ) (subscriptions : List Subscription) (now : ℕ)
-    (log : Publication) →
+    (log : Source) →
     pairs_at clients policy epoch subscriptions (cond b log (left_alone now log))
     ≡ pairs_at clients policy epoch subscriptions log
 unfolding fits
@@ -102,22 +102,22 @@ one_settled false clients policy epoch subscriptions now log = refl
 
 -- that a log lingers makes no difference to its pairs
 pairs_settled : (clients : List Client) (policy : Rules) (epoch : ℕ) (subscriptions : List Subscription)
-    (registrations : List Registration) (now : ℕ) (logs : List Publication) →
+    (registrations : List Registration) (now : ℕ) (logs : List Source) →
     flat_map (pairs_at clients policy epoch subscriptions) (map (settled_one registrations now) logs)
     ≡ flat_map (pairs_at clients policy epoch subscriptions) logs
 pairs_settled clients policy epoch subscriptions registrations now logs =
     of_changed (pairs_at clients policy epoch subscriptions) (settled_one registrations now) logs
-    (λ log. one_settled (is_used registrations log.source) clients policy epoch subscriptions now log)
+    (λ log. one_settled (is_used registrations log.number) clients policy epoch subscriptions now log)
 
 readers_counted : (clients : List Client) (policy : Rules) (epoch : ℕ) (subscriptions : List Subscription)
-    (log : Publication) →
+    (log : Source) →
     length (pairs_at clients policy epoch subscriptions log)
     ≡ length (filter (is_pair clients policy epoch log) subscriptions)
 readers_counted clients policy epoch subscriptions log =
     length-map (filter (is_pair clients policy epoch log) subscriptions) (pair_of log)
 
 -- whom the subscription's client acts for decides
-pair_by : (clients others : List Client) (policy : Rules) (epoch : ℕ) (log : Publication) (subscription : Subscription) →
+pair_by : (clients others : List Client) (policy : Rules) (epoch : ℕ) (log : Source) (subscription : Subscription) →
     principal_at clients subscription.client ≡ principal_at others subscription.client →
     is_pair clients policy epoch log subscription ≡ is_pair others policy epoch log subscription
 unfolding is_allowed
@@ -131,7 +131,7 @@ ActAsBefore clients others subscriptions =
     principal_at clients subscription.client ≡ principal_at others subscription.client
 
 no_more_readers : (clients others : List Client) (policy : Rules) (epoch : ℕ) (stays : Subscription → Bool)
-    (subscriptions : List Subscription) (log : Publication) → ActAsBefore clients others (filter stays subscriptions) →
+    (subscriptions : List Subscription) (log : Source) → ActAsBefore clients others (filter stays subscriptions) →
     length (pairs_at clients policy epoch (filter stays subscriptions) log)
     ≤ length (pairs_at others policy epoch subscriptions log)
 no_more_readers clients others policy epoch stays subscriptions log same =
@@ -145,7 +145,7 @@ no_more_readers clients others policy epoch stays subscriptions log same =
     omega (arith, some, all, few, fewer)
 
 same_readers : (clients others : List Client) (policy : Rules) (epoch : ℕ) (subscriptions : List Subscription)
-    (log : Publication) → ActAsBefore clients others subscriptions →
+    (log : Source) → ActAsBefore clients others subscriptions →
     length (pairs_at clients policy epoch subscriptions log) ≤ length (pairs_at others policy epoch subscriptions log)
 same_readers clients others policy epoch subscriptions log same =
     let some = readers_counted clients policy epoch subscriptions log in
@@ -203,7 +203,7 @@ pub pairs_attached : (s : State) (principal : ℕ) → HaveTheirClients s →
     HasNoMorePairs s (record s { clients = admitted s.clients principal s.moment })
 unfolding pairs_of pairs_on admitted
 pairs_attached s principal owned =
-    of_each _ _ s.streams.publications
+    of_each _ _ s.streams.sources
     (λ log.
     same_readers _ s.clients.rows s.policy s.epoch s.streams.subscriptions log
     (λ subscription has.
@@ -215,13 +215,13 @@ pub pairs_unregistered : (s : State) (client number now : ℕ) →
     pairs_of (record s { streams = unregistered s.streams client number now }) ≡ pairs_of s
 unfolding pairs_of pairs_on unregistered settled
 pairs_unregistered s client number now =
-    pairs_settled s.clients.rows s.policy s.epoch s.streams.subscriptions _ now s.streams.publications
+    pairs_settled s.clients.rows s.policy s.epoch s.streams.subscriptions _ now s.streams.sources
 
 pub pairs_unsubscribed : (s : State) (client number : ℕ) →
     HasNoMorePairs s (record s { streams = unsubscribed s.streams client number })
 unfolding pairs_of pairs_on unsubscribed
 pairs_unsubscribed s client number =
-    of_each _ _ s.streams.publications
+    of_each _ _ s.streams.sources
     (λ log.
     no_more_readers s.clients.rows s.clients.rows s.policy s.epoch (is_another_subscription client number)
     s.streams.subscriptions log (λ subscription has. refl))
@@ -237,9 +237,9 @@ pairs_left s client =
     let stays : List Subscription = filter (is_subscription_of_another client) s.streams.subscriptions in
     let same = ap (λ (pairs : List Pair). length pairs)
     (pairs_settled rows s.policy s.epoch stays (filter (is_registration_of_another client) s.streams.registrations) s.moment
-    s.streams.publications) in
+    s.streams.sources) in
     let few = of_each (pairs_at rows s.policy s.epoch stays) (pairs_at s.clients.rows s.policy s.epoch s.streams.subscriptions)
-    s.streams.publications
+    s.streams.sources
     (λ log.
     no_more_readers rows s.clients.rows s.policy s.epoch (is_subscription_of_another client) s.streams.subscriptions log
     (λ subscription has.
@@ -260,4 +260,4 @@ pairs_all_left s (client ∷ clients) =
 pub pairs_closed : (s : State) (now : ℕ) → HasNoMorePairs s (record s { streams = closed s.streams now })
 unfolding pairs_of pairs_on closed
 pairs_closed s now =
-    of_those_kept (pairs_at s.clients.rows s.policy s.epoch s.streams.subscriptions) (is_not_past now) s.streams.publications
+    of_those_kept (pairs_at s.clients.rows s.policy s.epoch s.streams.subscriptions) (is_not_past now) s.streams.sources

@@ -29,7 +29,7 @@ use Rattle.client_registry.specs.declared.client.Client.{Client}
 use Rattle.policy_core.specs.declared.decision.Decision.{Decision}
 use Rattle.policy_core.specs.declared.verdict.Verdict.{Verdict}
 use Rattle.policy_core.specs.RuleList.{Rules}
-use Rattle.stream_registry.specs.declared.row.Publication.{Publication}
+use Rattle.stream_registry.specs.declared.row.Source.{Source}
 use Rattle.stream_registry.specs.declared.row.Registration.{Registration}
 use Rattle.stream_registry.specs.declared.wanted.Adding.{Adding}
 use Rattle.stream_registry.specs.declared.wanted.Adding.TheVariants.{Join, Make}
@@ -52,38 +52,38 @@ record DraftsOnly (s : State) (event : Event) (draft : Draft) : Type 0 where
       (registration : Registration) → Contains draft.after.streams.registrations registration →
       Contains s.streams.registrations registration ⊎ IsRegisteredBy s event registration
   logs :
-      (publication : Publication) → Contains draft.after.streams.publications publication →
-      WasLive s.streams publication ⊎ IsLogMadeBy s event publication
+      (log : Source) → Contains draft.after.streams.sources log →
+      WasLive s.streams log ⊎ IsLogMadeBy s event log
   told : AllByRecursion (λ message. IsPublicationTold s event draft.after message.client message.reply) draft.replies
   later : AllByRecursion (λ message. IsPublicationTold s event draft.after message.client message.reply) draft.later
 
 -- ---- what was there
 
-is_live : (streams : Streams) (publication : Publication) → Contains streams.publications publication →
-    WasLive streams publication
-is_live streams publication has = record { before = publication; stood = has; same = refl }
+is_live : (streams : Streams) (log : Source) → Contains streams.sources log →
+    WasLive streams log
+is_live streams log has = record { before = log; stood = has; same = refl }
 
 -- a log that lingers from now on is the same else
-same_but_alone : (b : Bool) (now : ℕ) (publication : Publication) →
-    cond b publication (left_alone now publication)
-    ≡ record publication { lingering_since = (cond b publication (left_alone now publication)).lingering_since }
-same_but_alone true now publication = refl
-same_but_alone false now publication = refl
+same_but_alone : (b : Bool) (now : ℕ) (log : Source) →
+    cond b log (left_alone now log)
+    ≡ record log { lingering_since = (cond b log (left_alone now log)).lingering_since }
+same_but_alone true now log = refl
+same_but_alone false now log = refl
 
-settled_was_live : (streams : Streams) (registrations : List Registration) (now : ℕ) (publication : Publication) →
-    Contains (map (settled_one registrations now) streams.publications) publication → WasLive streams publication
-settled_was_live streams registrations now publication has =
+settled_was_live : (streams : Streams) (registrations : List Registration) (now : ℕ) (log : Source) →
+    Contains (map (settled_one registrations now) streams.sources) log → WasLive streams log
+settled_was_live streams registrations now log has =
     let settle = settled_one registrations now in
-    All-contains (WasLive streams) (map settle streams.publications) publication
-    (All-map (WasLive streams) settle streams.publications
-    (All-weaker (Contains streams.publications) (λ before. WasLive streams (settle before))
+    All-contains (WasLive streams) (map settle streams.sources) log
+    (All-map (WasLive streams) settle streams.sources
+    (All-weaker (Contains streams.sources) (λ before. WasLive streams (settle before))
     (λ before stood.
     record {
       before = before;
       stood = stood;
-      same = same_but_alone (is_used registrations before.source) now before;
+      same = same_but_alone (is_used registrations before.number) now before;
     })
-    streams.publications (All-contains_itself streams.publications)))
+    streams.sources (All-contains_itself streams.sources)))
     has
 
 -- ---- a registration that comes, and its log
@@ -128,15 +128,15 @@ added_at_the_end s client wanted place (Make session) = refl
 added_log : (s : State) (event : Event) (client : ℕ) (wanted : Wanted) (place : ℕ) (adding : Adding) →
     ((session : ℤ) → adding ≡ Make session →
     IsLogMadeBy s event (log_of s.streams (s.last_number + 1) wanted place session)) →
-    (publication : Publication) →
-    Contains (added s.streams (s.last_number + 1) client wanted place adding).publications publication →
-    WasLive s.streams publication ⊎ IsLogMadeBy s event publication
-added_log s event client wanted place (Join source session) by publication has = inl (is_live s.streams publication has)
-added_log s event client wanted place (Make session) by publication has =
+    (log : Source) →
+    Contains (added s.streams (s.last_number + 1) client wanted place adding).sources log →
+    WasLive s.streams log ⊎ IsLogMadeBy s event log
+added_log s event client wanted place (Join source session) by log has = inl (is_live s.streams log has)
+added_log s event client wanted place (Make session) by log has =
     ⊎_elim
-    (λ before. inl (is_live s.streams publication before))
+    (λ before. inl (is_live s.streams log before))
     (λ is. inr (rw (← is) (by session refl)))
-    (Contains-push_cases s.streams.publications (log_of s.streams (s.last_number + 1) wanted place session) publication has)
+    (Contains-push_cases s.streams.sources (log_of s.streams (s.last_number + 1) wanted place session) log has)
 
 ready_is_told : (s : State) (event : Event) (after : State) (client correlation number : ℕ) (session : ℤ) (channel : Shape)
     (stream : ℤ) (exclusive : Bool) → IsReadyBy s event after client correlation number session stream exclusive →
@@ -202,22 +202,22 @@ left_was_registered s [] registration has = has
 left_was_registered s (client ∷ clients) registration has =
     one_left_was_registered s client registration (left_was_registered (left s client) clients registration has)
 
-one_left_was_live : (s : State) (client : ℕ) (publication : Publication) →
-    Contains (left s client).streams.publications publication → WasLive s.streams publication
+one_left_was_live : (s : State) (client : ℕ) (log : Source) →
+    Contains (left s client).streams.sources log → WasLive s.streams log
 unfolding left left_in settled
-one_left_was_live s client publication has = settled_was_live s.streams _ s.moment publication has
+one_left_was_live s client log has = settled_was_live s.streams _ s.moment log has
 
-left_was_live : (s : State) (clients : List ℕ) (publication : Publication) →
-    Contains (all_left s clients).streams.publications publication → WasLive s.streams publication
-left_was_live s [] publication has = is_live s.streams publication has
-left_was_live s (client ∷ clients) publication has =
-    let later = left_was_live (left s client) clients publication has in
+left_was_live : (s : State) (clients : List ℕ) (log : Source) →
+    Contains (all_left s clients).streams.sources log → WasLive s.streams log
+left_was_live s [] log has = is_live s.streams log has
+left_was_live s (client ∷ clients) log has =
+    let later = left_was_live (left s client) clients log has in
     let first = one_left_was_live s client later.before later.stood in
     record {
       before = first.before;
       stood = first.stood;
       same = later.same
-          ∙ ap (λ (p : Publication). record p { lingering_since = publication.lingering_since }) first.same;
+          ∙ ap (λ (p : Source). record p { lingering_since = log.lingering_since }) first.same;
     }
 
 removal_only : (s : State) (event : Event) (now handle : ℕ) (client : Client) (correlation number : ℕ) →
@@ -226,7 +226,7 @@ unfolding unpublished unregistered settled replied told heard at_moment
 removal_only s event now handle client correlation number = record {
   registrations = λ registration has.
       inl (left_was_there (is_another_registration client.number number) s.streams.registrations registration has);
-  logs = λ publication has. inl (settled_was_live s.streams _ _ publication has);
+  logs = λ log has. inl (settled_was_live s.streams _ _ log has);
   told = (tt, tt);
   later = tt;
 }
@@ -237,7 +237,7 @@ unfolding close replied told heard at_moment
 closing_only s event now handle client correlation = record {
   registrations = λ registration has.
       inl (one_left_was_registered (at_request s now handle) client.number registration has);
-  logs = λ publication has. inl (one_left_was_live (at_request s now handle) client.number publication has);
+  logs = λ log has. inl (one_left_was_live (at_request s now handle) client.number log has);
   told = (tt, tt);
   later = tt;
 }
@@ -245,13 +245,13 @@ closing_only s event now handle client correlation = record {
 -- ---- what leaves the lists as they are
 
 same_only : (s : State) (event : Event) (draft : Draft) → draft.after.streams.registrations ≡ s.streams.registrations →
-    draft.after.streams.publications ≡ s.streams.publications →
+    draft.after.streams.sources ≡ s.streams.sources →
     AllByRecursion (λ message. IsPublicationTold s event draft.after message.client message.reply) draft.replies →
     AllByRecursion (λ message. IsPublicationTold s event draft.after message.client message.reply) draft.later →
     DraftsOnly s event draft
-same_only s event draft registrations publications told later = record {
+same_only s event draft registrations sources told later = record {
   registrations = λ registration has. inl (rw registrations at has);
-  logs = λ publication has. inl (is_live s.streams publication (rw publications at has));
+  logs = λ log has. inl (is_live s.streams log (rw sources at has));
   told = told;
   later = later;
 }
@@ -260,13 +260,13 @@ refusal_only : (s : State) (event : Event) (after : State) (decisions : List Dec
     (refusal : Refusal) → after.streams ≡ s.streams → DraftsOnly s event (refused after decisions client correlation refusal)
 unfolding refused replied told
 refusal_only s event after decisions client correlation refusal same =
-    same_only s event _ (ap (λ (t : Streams). t.registrations) same) (ap (λ (t : Streams). t.publications) same) (tt, tt) tt
+    same_only s event _ (ap (λ (t : Streams). t.registrations) same) (ap (λ (t : Streams). t.sources) same) (tt, tt) tt
 
 answer_only : (s : State) (event : Event) (after : State) (response : Response) → after.streams ≡ s.streams →
     DraftsOnly s event (answered after response)
 unfolding answered
 answer_only s event after response same =
-    same_only s event _ (ap (λ (t : Streams). t.registrations) same) (ap (λ (t : Streams). t.publications) same) tt tt
+    same_only s event _ (ap (λ (t : Streams). t.registrations) same) (ap (λ (t : Streams). t.sources) same) tt tt
 
 -- ---- any event
 
@@ -301,7 +301,7 @@ command_only s now handle bytes =
       termination = λ client correlation fields was_heard asks allows.
           record {
             registrations = λ registration has. absurd (contains_none registration has);
-            logs = λ publication has. absurd (contains_none publication has);
+            logs = λ log has. absurd (contains_none log has);
             told = (tt, tt);
             later = tt;
           };
@@ -328,9 +328,9 @@ tick_only s now =
     let clients : List ℕ = late (at_moment s now) in
     record {
       registrations = λ registration has. inl (left_was_registered (at_moment s now) clients registration has);
-      logs = λ publication has.
-          inl (left_was_live (at_moment s now) clients publication
-          (left_was_there (is_not_past _) (all_left (at_moment s now) clients).streams.publications publication has));
+      logs = λ log has.
+          inl (left_was_live (at_moment s now) clients log
+          (left_was_there (is_not_past _) (all_left (at_moment s now) clients).streams.sources log has));
       told = tt;
       later = all_timeouts _ (λ client. tt) clients;
     }

@@ -31,7 +31,7 @@ use Rattle.command_codec.specs.declared.add_counter.AddCounter.{AddCounter}
 use Rattle.command_codec.specs.declared.set_counter.SetCounter.{SetCounter}
 use Rattle.policy_core.specs.declared.decision.Decision.{Decision}
 use Rattle.policy_core.specs.RuleList.{Rules}
-use Rattle.stream_registry.specs.declared.row.Publication.{Publication}
+use Rattle.stream_registry.specs.declared.row.Source.{Source}
 use Rattle.stream_registry.specs.declared.wanted.Adding.{Adding}
 use Rattle.stream_registry.specs.Lingering.{closed, closing_of, is_past, is_not_past, place_of}
 use Rattle.stream_registry.specs.Streams.{Streams}
@@ -39,24 +39,24 @@ use Rattle.driver_core.proofs.EventCases.{Cases, command_cases, attach_cases, re
 
 -- ---- where no log closes, the lists stay
 
-nothing_past_in : (now : ℕ) (publication : Publication) (publications : List Publication) (b : Bool) →
-    is_past now publication ≡ b →
-    (map place_of (filter (is_past now) publications) ≡ [] → filter (is_not_past now) publications ≡ publications) →
-    map place_of (filter (is_past now) (publication ∷ publications)) ≡ [] →
-    filter (is_not_past now) (publication ∷ publications) ≡ publication ∷ publications
-nothing_past_in now publication publications true past rest closes = absurd (cc (past, closes))
-nothing_past_in now publication publications false stays rest closes =
-    rw stays (ap (◌∷◌ publication) (rest (rw stays at closes)))
+nothing_past_in : (now : ℕ) (log : Source) (logs : List Source) (b : Bool) →
+    is_past now log ≡ b →
+    (map place_of (filter (is_past now) logs) ≡ [] → filter (is_not_past now) logs ≡ logs) →
+    map place_of (filter (is_past now) (log ∷ logs)) ≡ [] →
+    filter (is_not_past now) (log ∷ logs) ≡ log ∷ logs
+nothing_past_in now log logs true past rest closes = absurd (cc (past, closes))
+nothing_past_in now log logs false stays rest closes =
+    rw stays (ap (◌∷◌ log) (rest (rw stays at closes)))
 
-nothing_past : (now : ℕ) (publications : List Publication) → map place_of (filter (is_past now) publications) ≡ [] →
-    filter (is_not_past now) publications ≡ publications
+nothing_past : (now : ℕ) (logs : List Source) → map place_of (filter (is_past now) logs) ≡ [] →
+    filter (is_not_past now) logs ≡ logs
 nothing_past now [] closes = refl
-nothing_past now (publication ∷ publications) closes =
-    nothing_past_in now publication publications (is_past now publication) refl (nothing_past now publications) closes
+nothing_past now (log ∷ logs) closes =
+    nothing_past_in now log logs (is_past now log) refl (nothing_past now logs) closes
 
 pub none_closed : (streams : Streams) (now : ℕ) → closing_of streams now ≡ [] → closed streams now ≡ streams
 unfolding closing_of closed
-none_closed streams now closes = rw (nothing_past now streams.publications closes) refl
+none_closed streams now closes = rw (nothing_past now streams.sources closes) refl
 
 -- ---- what an event's own rule makes of it
 

@@ -11,11 +11,11 @@ use Rattle.driver_core.specs.declared.replies.Reply.TheVariants.{AvailableImage,
 use Rattle.driver_core.specs.Conduct.{conduct, drafted}
 use Rattle.driver_core.specs.Draft.{Draft}
 use Rattle.driver_core.specs.Pairs.{pairs_of}
-use Rattle.driver_core.specs.Renewal.{renewed, images_told, images_decided, gone_from, come_to, unavailable_for, unavailable_to, subscription_at, available_for, available_to, publication_at}
+use Rattle.driver_core.specs.Renewal.{renewed, images_told, images_decided, gone_from, come_to, unavailable_for, unavailable_to, subscription_at, available_for, available_to, source_at}
 use Rattle.driver_core.specs.State.{State}
 use Rattle.driver_core.proofs.PairLemmas.{nothing_lacks}
 use Rattle.stream_registry.specs.declared.pairs.Pair.{Pair}
-use Rattle.stream_registry.specs.declared.row.Publication.{Publication}
+use Rattle.stream_registry.specs.declared.row.Source.{Source}
 use Rattle.stream_registry.specs.declared.row.Subscription.{Subscription}
 
 -- an event is its draft, renewed
@@ -73,12 +73,12 @@ unavailable_holds P holds pair None = tt
 unavailable_holds P holds pair (Some subscription) =
     (holds.unavailable subscription.client pair.source pair.subscription subscription.stream, tt)
 
-available_holds : (P : Message → Type 0) → HoldsOfImages P → (ends : List End) (pair : Pair) (publication : Option Publication)
-    (subscription : Option Subscription) → AllByRecursion P (available_to ends pair publication subscription)
+available_holds : (P : Message → Type 0) → HoldsOfImages P → (ends : List End) (pair : Pair) (log : Option Source)
+    (subscription : Option Subscription) → AllByRecursion P (available_to ends pair log subscription)
 available_holds P holds ends pair None subscription = tt
-available_holds P holds ends pair (Some publication) None = tt
-available_holds P holds ends pair (Some publication) (Some subscription) =
-    (holds.available subscription.client pair.source pair.subscription publication.session publication.stream _, tt)
+available_holds P holds ends pair (Some log) None = tt
+available_holds P holds ends pair (Some log) (Some subscription) =
+    (holds.available subscription.client pair.source pair.subscription log.session log.stream _, tt)
 
 pub all_images : (P : Message → Type 0) → HoldsOfImages P → (s : State) (inputs : Inputs) (gone come : List Pair) →
     AllByRecursion P (images_told s inputs gone come)
@@ -89,7 +89,7 @@ all_images P holds s inputs gone come =
     (λ pair. unavailable_holds P holds pair (subscription_at s.streams.subscriptions pair.subscription)) gone)
     (all_flat P (available_for s inputs.ends)
     (λ pair.
-    available_holds P holds inputs.ends pair (publication_at s.streams.publications pair.source)
+    available_holds P holds inputs.ends pair (source_at s.streams.sources pair.source)
     (subscription_at s.streams.subscriptions pair.subscription)) come)
 
 pub all_replies : (P : Message → Type 0) (s : State) (inputs : Inputs) (draft : Draft) → AllByRecursion P draft.replies →

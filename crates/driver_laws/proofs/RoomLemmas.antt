@@ -12,7 +12,7 @@ use Rattle.channel_uri.specs.Channel.{Shape}
 use Rattle.channel_uri.specs.Parameters.{stated_session_of}
 use Rattle.stream_registry.specs.declared.fault.StreamFault.{StreamFault}
 use Rattle.stream_registry.specs.declared.fault.StreamFault.TheVariants.{Conflict, Full}
-use Rattle.stream_registry.specs.declared.row.Publication.{Publication}
+use Rattle.stream_registry.specs.declared.row.Source.{Source}
 use Rattle.stream_registry.specs.declared.wanted.Adding.{Adding}
 use Rattle.stream_registry.specs.declared.wanted.Adding.TheVariants.{Join, Make}
 use Rattle.stream_registry.specs.declared.wanted.Wanted.{Wanted}
@@ -54,44 +54,44 @@ without_room false true granted is = absurd (cc is)
 without_room false false granted is = refl
 
 either_full : (streams : Streams) (one other : Bool) → nat_lt (length streams.registrations) 1024 ≡ one →
-    nat_lt (length streams.publications) 256 ≡ other → (one && other) ≡ false →
-    (1024 ≤ length streams.registrations) ⊎ (256 ≤ length streams.publications)
+    nat_lt (length streams.sources) 256 ≡ other → (one && other) ≡ false →
+    (1024 ≤ length streams.registrations) ⊎ (256 ≤ length streams.sources)
 either_full streams false other one two is = inl (ltb-false (length streams.registrations) 1024 one)
-either_full streams true false one two is = inr (ltb-false (length streams.publications) 256 two)
+either_full streams true false one two is = inr (ltb-false (length streams.sources) 256 two)
 either_full streams true true one two is = absurd (cc is)
 
 making_full : (streams : Streams) (wanted : Wanted) → making_of streams wanted ≡ Err Full →
-    (1024 ≤ length streams.registrations) ⊎ (256 ≤ length streams.publications)
+    (1024 ≤ length streams.registrations) ⊎ (256 ≤ length streams.sources)
 unfolding making_of
 making_full streams wanted is =
     either_full streams _ _ refl refl
     (without_room
-    (is_stated_again streams.publications wanted.channel.media wanted.stream (stated_session_of wanted.channel))
+    (is_stated_again streams.sources wanted.channel.media wanted.stream (stated_session_of wanted.channel))
     (has_room_for_registration streams && has_room_for_log streams) (Make (session_of streams wanted.channel)) is)
 
-joining_full : (streams : Streams) (channel : Shape) (log : Publication) → joining_of streams channel log ≡ Err Full →
-    (1024 ≤ length streams.registrations) ⊎ (256 ≤ length streams.publications)
+joining_full : (streams : Streams) (channel : Shape) (log : Source) → joining_of streams channel log ≡ Err Full →
+    (1024 ≤ length streams.registrations) ⊎ (256 ≤ length streams.sources)
 unfolding joining_of
 joining_full streams channel log is =
     inl (ltb-false (length streams.registrations) 1024
     (without_room (contradicts streams.defaults channel log) (has_room_for_registration streams)
-    (Join log.source log.session) is))
+    (Join log.number log.session) is))
 
-by_full : (streams : Streams) (wanted : Wanted) (found : Option Publication) → adding_by streams wanted found ≡ Err Full →
-    (1024 ≤ length streams.registrations) ⊎ (256 ≤ length streams.publications)
+by_full : (streams : Streams) (wanted : Wanted) (found : Option Source) → adding_by streams wanted found ≡ Err Full →
+    (1024 ≤ length streams.registrations) ⊎ (256 ≤ length streams.sources)
 by_full streams wanted None is = making_full streams wanted is
 by_full streams wanted (Some log) is = joining_full streams wanted.channel log is
 
 which_full : (streams : Streams) (wanted : Wanted) (b : Bool) →
-    cond b (making_of streams wanted) (adding_by streams wanted (joined_at streams.publications wanted.channel wanted.stream))
+    cond b (making_of streams wanted) (adding_by streams wanted (joined_at streams.sources wanted.channel wanted.stream))
     ≡ Err Full →
-    (1024 ≤ length streams.registrations) ⊎ (256 ≤ length streams.publications)
+    (1024 ≤ length streams.registrations) ⊎ (256 ≤ length streams.sources)
 which_full streams wanted true is = making_full streams wanted is
 which_full streams wanted false is =
-    by_full streams wanted (joined_at streams.publications wanted.channel wanted.stream) is
+    by_full streams wanted (joined_at streams.sources wanted.channel wanted.stream) is
 
 lists_full : (streams : Streams) (wanted : Wanted) → adding_of streams wanted ≡ Err Full →
-    (1024 ≤ length streams.registrations) ⊎ (256 ≤ length streams.publications)
+    (1024 ≤ length streams.registrations) ⊎ (256 ≤ length streams.sources)
 unfolding adding_of
 lists_full streams wanted is = which_full streams wanted wanted.exclusive is
 

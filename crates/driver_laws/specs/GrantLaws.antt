@@ -87,7 +87,7 @@ pub record IsTerminated (s : State) (now handle correlation : ℕ) (client : Cli
       ≡ record (at_moment s now) { clients = cleared s.clients; streams = all_closed s.streams; counters = []; stopped = true }
   pub told : change.outcome.replies ≡ record { client = handle; reply = OperationSuccess correlation } ∷ []
   pub decided : change.outcome.decisions ≡ decided_on s (termination_question client) ∷ []
-  pub closes : change.outcome.closes ≡ map place_of s.streams.publications
+  pub closes : change.outcome.closes ≡ map place_of s.streams.sources
 
 pub record IsTerminatedExactly (s : State) (now handle correlation : ℕ) (client : Client) (change : Change) : Type 0 where
   pub by : IsByPolicy s (termination_question client) (verdict_on s (termination_question client))

@@ -10,34 +10,34 @@ use Rattle.driver_core.specs.Verdicts.{IsByPolicy, verdict_on}
 use Rattle.driver_laws.specs.Events.{AfterAnyEvents}
 use Rattle.client_registry.specs.Clients.{principal_at}
 use Rattle.stream_registry.specs.declared.pairs.Pair.{Pair}
-use Rattle.stream_registry.specs.declared.row.Publication.{Publication}
+use Rattle.stream_registry.specs.declared.row.Source.{Source}
 use Rattle.stream_registry.specs.declared.row.Subscription.{Subscription}
 use Rattle.stream_registry.specs.Pairs.{fits, image_question, pair_of}
 
 -- a live log and a subscription that fit, where the policy in force allows the image to the subscription's client, by the
 -- first rule that matches or the default
-pub record IsReadBy (s : State) (publication : Publication) (subscription : Subscription) : Type 0 where
+pub record IsReadBy (s : State) (log : Source) (subscription : Subscription) : Type 0 where
   pub principal : ℕ
-  pub is_live : Contains s.streams.publications publication
+  pub is_live : Contains s.streams.sources log
   pub stands : Contains s.streams.subscriptions subscription
-  pub fitting : fits publication subscription ≡ true
+  pub fitting : fits log subscription ≡ true
   pub attached : principal_at s.clients.rows subscription.client ≡ Some principal
   pub by : IsByPolicy s (image_question principal subscription) (verdict_on s (image_question principal subscription))
   pub allowed : (verdict_on s (image_question principal subscription)).allow ≡ true
 
 -- a pair is of such a log and such a subscription
 pub record IsOfReader (s : State) (pair : Pair) : Type 0 where
-  pub publication : Publication
+  pub log : Source
   pub subscription : Subscription
-  pub pair_is : pair ≡ pair_of publication subscription
-  pub reads : IsReadBy s publication subscription
+  pub pair_is : pair ≡ pair_of log subscription
+  pub reads : IsReadBy s log subscription
 
 -- exactly these are the pairs; what an event takes away and brings is what they lose and gain by it
 pub record PairsExactly (s : State) : Type 0 where
   pub only : (pair : Pair) → Contains (pairs_of s) pair → IsOfReader s pair
   pub exactly :
-      (publication : Publication) (subscription : Subscription) → IsReadBy s publication subscription →
-      Contains (pairs_of s) (pair_of publication subscription)
+      (log : Source) (subscription : Subscription) → IsReadBy s log subscription →
+      Contains (pairs_of s) (pair_of log subscription)
   pub gone :
       (event : Event) (inputs : Inputs) →
       (conduct s event inputs).outcome.gone ≡ gone_from s (conduct s event inputs).after

@@ -12,7 +12,7 @@ use Rattle.driver_core.specs.Renewal.{subscription_at}
 use Rattle.driver_core.specs.State.{State}
 use Rattle.driver_laws.specs.Events.{AfterAnyEvents}
 use Rattle.stream_registry.specs.declared.pairs.Pair.{Pair}
-use Rattle.stream_registry.specs.declared.row.Publication.{Publication}
+use Rattle.stream_registry.specs.declared.row.Source.{Source}
 use Rattle.stream_registry.specs.declared.row.Subscription.{Subscription}
 use Rattle.stream_registry.specs.Pairs.{pair_of}
 
@@ -50,18 +50,18 @@ Reaches ends source position = IsTheEnd ends source position ⊎ HasNoEnd ends s
 
 -- the client of the pair's subscription is told the log's session and stream, and how far it reaches
 pub record IsToldAvailable (after : State) (ends : List End) (pair : Pair) (message : Message) : Type 0 where
-  pub publication : Publication
+  pub log : Source
   pub subscription : Subscription
-  pub is_live : Contains after.streams.publications publication
+  pub is_live : Contains after.streams.sources log
   pub stands : Contains after.streams.subscriptions subscription
-  pub pair_is : pair ≡ pair_of publication subscription
+  pub pair_is : pair ≡ pair_of log subscription
   pub position : ℕ
   pub reaches : Reaches ends pair.source position
   pub message_is :
       message
       ≡ record {
         client = subscription.client;
-        reply = AvailableImage pair.source pair.subscription publication.session publication.stream position;
+        reply = AvailableImage pair.source pair.subscription log.session log.stream position;
       }
 
 -- the client of the pair's subscription is told that the log is no more there for it

@@ -20,7 +20,7 @@ use Rattle.stream_registry.specs.Adding.{adding_of}
 -- at most 64 clients, 256 logs, 1,024 registrations with them, 512 subscriptions, 1,024 counters and 4,096 pairs
 pub record IsWithinLimits (s : State) : Type 0 where
   pub clients : length s.clients.rows ≤ 64
-  pub publications : length s.streams.publications ≤ 256
+  pub sources : length s.streams.sources ≤ 256
   pub registrations : length s.streams.registrations ≤ 1024
   pub subscriptions : length s.streams.subscriptions ≤ 512
   pub counters : length s.counters ≤ 1024
@@ -48,7 +48,7 @@ pub record HasRoomBelow (s : State) : Type 0 where
       has_room_for_publication s client wanted adding ≡ true
   pub lists :
       (wanted : Wanted) → adding_of s.streams wanted ≡ Err Full →
-      (1024 ≤ length s.streams.registrations) ⊎ (256 ≤ length s.streams.publications)
+      (1024 ≤ length s.streams.registrations) ⊎ (256 ≤ length s.streams.sources)
   pub counter : IsLeft s.last_number → length s.counters < 1024 → has_room_for_counter s ≡ true
   pub policy :
       (policy : Rules) → IsLeft s.epoch → length (pairs_of (in_force s policy)) ≤ 4096 →

@@ -5,7 +5,7 @@ use Rattle.driver_core.specs.declared.listing.Listed.TheVariants as listed_as
 use Rattle.driver_core.specs.declared.listing.Shown.{Shown}
 use Rattle.driver_core.specs.declared.listing.Shown.TheVariants as shown_as
 use Rattle.driver_core.specs.Listing.{row_of, registered_with, publication_row, publication_question, shows_publication, with_rows, list, value}
-use Rattle.driver_core.specs.Renewal.{publication_at}
+use Rattle.driver_core.specs.Renewal.{source_at}
 use Rattle.driver_core.specs.State.{State}
 use Rattle.driver_core.specs.Verdicts.{IsByPolicy, verdict_on}
 use Rattle.driver_laws.specs.DenialLaws.{denial_text}
@@ -16,7 +16,7 @@ use Rattle.counters.specs.declared.counter.Counter.{Counter}
 use Rattle.counters.specs.Counters.{counter_at, question_for}
 use Rattle.policy_core.specs.Question.{Question}
 use Rattle.policy_core.specs.Verdict.{verdict_text}
-use Rattle.stream_registry.specs.declared.row.Publication.{Publication}
+use Rattle.stream_registry.specs.declared.row.Source.{Source}
 
 -- what the policy is asked before the client is shown the counter
 abbrev pub look_question : Client → Counter → Question
@@ -27,7 +27,7 @@ abbrev pub is_shown_to : State → Client → Counter → Bool
 is_shown_to s client counter = (verdict_on s (look_question client counter)).allow
 
 -- what it is asked before the client is shown the publication
-abbrev pub publication_look : Client → Publication → Question
+abbrev pub publication_look : Client → Source → Question
 publication_look client publication = publication_question client.principal publication
 
 -- the rows are those of the counters that the policy in force shows, and of the live publications, each by the first rule
@@ -36,11 +36,11 @@ pub record ListsExactly (s : State) (client : Client) (answer : Listed) : Type 0
   pub answer_is :
       answer
       ≡ listed_as.Counters (with_rows (map row_of (filter (is_shown_to s client) s.counters))
-      (map (publication_row s) (filter (shows_publication s client.principal) s.streams.publications)))
+      (map (publication_row s) (filter (shows_publication s client.principal) s.streams.sources)))
   pub by :
       (counter : Counter) → IsByPolicy s (look_question client counter) (verdict_on s (look_question client counter))
   pub publications_by :
-      (publication : Publication) →
+      (publication : Source) →
       IsByPolicy s (publication_look client publication) (verdict_on s (publication_look client publication))
 
 -- the value where the policy in force shows it, else the denial, which names the rule or the default
@@ -54,11 +54,11 @@ pub record ShowsExactly (s : State) (client : Client) (counter : Counter) (answe
       ≡ denial_text (verdict_on s (look_question client counter)).rule s.epoch
 
 -- how many are registered with the publication, where the policy in force shows it, else the denial
-pub record ShowsPublicationExactly (s : State) (client : Client) (publication : Publication) (answer : Shown) : Type 0 where
+pub record ShowsPublicationExactly (s : State) (client : Client) (publication : Source) (answer : Shown) : Type 0 where
   pub by : IsByPolicy s (publication_look client publication) (verdict_on s (publication_look client publication))
   pub shown :
       (verdict_on s (publication_look client publication)).allow ≡ true →
-      answer ≡ shown_as.Value (registered_with s publication.source)
+      answer ≡ shown_as.Value (registered_with s publication.number)
   pub denied :
       (verdict_on s (publication_look client publication)).allow ≡ false →
       answer ≡ shown_as.Denied (verdict_on s (publication_look client publication))
@@ -75,12 +75,12 @@ pub record LooksExactly (s : State) (handle : ℕ) : Type 0 where
       (client : Client) (number : ℕ) (counter : Counter) → client_at s.clients.rows handle ≡ Some client →
       counter_at s.counters number ≡ Some counter → ShowsExactly s client counter (value s handle number)
   pub published :
-      (client : Client) (number : ℕ) (publication : Publication) → client_at s.clients.rows handle ≡ Some client →
-      counter_at s.counters number ≡ None → publication_at s.streams.publications number ≡ Some publication →
+      (client : Client) (number : ℕ) (publication : Source) → client_at s.clients.rows handle ≡ Some client →
+      counter_at s.counters number ≡ None → source_at s.streams.sources number ≡ Some publication →
       ShowsPublicationExactly s client publication (value s handle number)
   pub unknown :
       (client : Client) (number : ℕ) → client_at s.clients.rows handle ≡ Some client →
-      counter_at s.counters number ≡ None → publication_at s.streams.publications number ≡ None →
+      counter_at s.counters number ≡ None → source_at s.streams.sources number ≡ None →
       value s handle number ≡ shown_as.UnknownCounter
   pub lists_nobody : client_at s.clients.rows handle ≡ None → list s handle ≡ listed_as.WrongClient
   pub values_nobody : (number : ℕ) → client_at s.clients.rows handle ≡ None → value s handle number ≡ shown_as.WrongClient

@@ -10,7 +10,7 @@ use Rattle.driver_laws.specs.PublishingLaws.{WasLive}
 use Rattle.driver_laws.specs.ReloadLaws.{in_force_at}
 use Rattle.client_registry.specs.declared.client.Client.{Client}
 use Rattle.counters.specs.declared.counter.Counter.{Counter}
-use Rattle.stream_registry.specs.declared.row.Publication.{Publication}
+use Rattle.stream_registry.specs.declared.row.Source.{Source}
 use Rattle.stream_registry.specs.declared.row.Registration.{Registration}
 use Rattle.stream_registry.specs.declared.row.Subscription.{Subscription}
 
@@ -23,8 +23,8 @@ pub record IsDrawn (last number : ℕ) : Type 0 where
 
 pub record AreDrawn (s : State) : Type 0 where
   pub clients : (client : Client) → Contains s.clients.rows client → IsDrawn s.clients.last client.number
-  pub publications :
-      (publication : Publication) → Contains s.streams.publications publication → IsDrawn s.last_number publication.source
+  pub sources :
+      (log : Source) → Contains s.streams.sources log → IsDrawn s.last_number log.number
   pub registrations :
       (registration : Registration) → Contains s.streams.registrations registration →
       IsDrawn s.last_number registration.number
@@ -46,7 +46,7 @@ Rises number_of low last (row ∷ rows) = (low < number_of row) × Rises number_
 -- in each list the numbers rise
 pub record AreRising (s : State) : Type 0 where
   pub clients : Rises (λ (client : Client). client.number) 0 s.clients.last s.clients.rows
-  pub publications : Rises (λ (publication : Publication). publication.source) 0 s.last_number s.streams.publications
+  pub sources : Rises (λ (log : Source). log.number) 0 s.last_number s.streams.sources
   pub registrations : Rises (λ (registration : Registration). registration.number) 0 s.last_number s.streams.registrations
   pub subscriptions : Rises (λ (subscription : Subscription). subscription.number) 0 s.last_number s.streams.subscriptions
   pub counters : Rises (λ (counter : Counter). counter.number) 0 s.last_number s.counters
@@ -74,15 +74,15 @@ pub record AreApart (s : State) : Type 0 where
       ShareNoNumber (λ (subscription : Subscription). subscription.number) (λ (counter : Counter). counter.number)
       s.streams.subscriptions s.counters
   pub logs_and_subscriptions :
-      ShareNoNumber (λ (publication : Publication). publication.source)
-      (λ (subscription : Subscription). subscription.number) s.streams.publications s.streams.subscriptions
+      ShareNoNumber (λ (log : Source). log.number)
+      (λ (subscription : Subscription). subscription.number) s.streams.sources s.streams.subscriptions
   pub logs_and_counters :
-      ShareNoNumber (λ (publication : Publication). publication.source) (λ (counter : Counter). counter.number)
-      s.streams.publications s.counters
+      ShareNoNumber (λ (log : Source). log.number) (λ (counter : Counter). counter.number)
+      s.streams.sources s.counters
   pub logs_and_registrations :
-      (publication : Publication) (registration : Registration) → Contains s.streams.publications publication →
-      Contains s.streams.registrations registration → publication.source ≡ registration.number →
-      registration.source ≡ publication.source
+      (log : Source) (registration : Registration) → Contains s.streams.sources log →
+      Contains s.streams.registrations registration → log.number ≡ registration.number →
+      registration.source ≡ log.number
 
 abbrev pub ListsShareNoNumber : Type 0
 ListsShareNoNumber = AfterAnyEvents AreApart
@@ -111,9 +111,9 @@ pub record WasAttached (s : State) (client : Client) : Type 0 where
 pub record ComesAbove (s after : State) : Type 0 where
   pub clients :
       (client : Client) → Contains after.clients.rows client → WasAttached s client ⊎ (s.clients.last < client.number)
-  pub publications :
-      (publication : Publication) → Contains after.streams.publications publication →
-      WasLive s.streams publication ⊎ (s.last_number < publication.source)
+  pub sources :
+      (log : Source) → Contains after.streams.sources log →
+      WasLive s.streams log ⊎ (s.last_number < log.number)
   pub registrations :
       (registration : Registration) → Contains after.streams.registrations registration →
       Contains s.streams.registrations registration ⊎ (s.last_number < registration.number)

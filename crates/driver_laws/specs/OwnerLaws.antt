@@ -4,7 +4,7 @@ use Rattle.driver_core.specs.State.{State}
 use Rattle.driver_laws.specs.Events.{AfterAnyEvents}
 use Rattle.driver_laws.specs.LeavingLaws.{is_there}
 use Rattle.counters.specs.declared.counter.Counter.{Counter}
-use Rattle.stream_registry.specs.declared.row.Publication.{Publication}
+use Rattle.stream_registry.specs.declared.row.Source.{Source}
 use Rattle.stream_registry.specs.declared.row.Registration.{Registration}
 use Rattle.stream_registry.specs.declared.row.Subscription.{Subscription}
 use Rattle.stream_registry.specs.Streams.{Streams}
@@ -27,17 +27,17 @@ RowsHaveTheirClients = AfterAnyEvents HaveTheirClients
 -- ---- logs
 
 -- a log of that number is live, and does not linger
-pub record HasLog (publications : List Publication) (source : ℕ) : Type 0 where
-  pub log : Publication
-  pub stands : Contains publications log
-  pub source_is : log.source ≡ source
+pub record HasLog (logs : List Source) (source : ℕ) : Type 0 where
+  pub log : Source
+  pub stands : Contains logs log
+  pub source_is : log.number ≡ source
   pub in_use : log.lingering_since ≡ None
 
 -- so it is with each that somebody is registered with
 abbrev pub HaveTheirLogs : Streams → Type 0
 HaveTheirLogs streams =
     (registration : Registration) → Contains streams.registrations registration →
-    HasLog streams.publications registration.source
+    HasLog streams.sources registration.source
 
 abbrev pub RegistrationsHaveTheirLogs : Type 0
 RegistrationsHaveTheirLogs = AfterAnyEvents (λ s. HaveTheirLogs s.streams)

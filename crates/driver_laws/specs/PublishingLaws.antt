@@ -18,7 +18,7 @@ use Rattle.driver_core.specs.Verdicts.{IsByPolicy, verdict_on}
 use Rattle.driver_laws.specs.Events.{AfterAnyEvents}
 use Rattle.driver_laws.specs.GrantLaws.{IsRefusedOn, decided_on}
 use Rattle.stream_registry.specs.declared.fault.StreamFault.{StreamFault}
-use Rattle.stream_registry.specs.declared.row.Publication.{Publication}
+use Rattle.stream_registry.specs.declared.row.Source.{Source}
 use Rattle.stream_registry.specs.declared.row.Registration.{Registration}
 use Rattle.stream_registry.specs.declared.wanted.Adding.{Adding}
 use Rattle.stream_registry.specs.declared.wanted.Adding.TheVariants.{Join, Make}
@@ -104,19 +104,19 @@ pub record IsRegisteredBy (s : State) (event : Event) (registration : Registrati
       registration ≡ registration_of (s.last_number + 1) registration.client (wanted_by request) (source_of s adding)
 
 -- the log was live before, but for the moment since when it lingers
-pub record WasLive (streams : Streams) (publication : Publication) : Type 0 where
-  pub before : Publication
-  pub stood : Contains streams.publications before
-  pub same : publication ≡ record before { lingering_since = publication.lingering_since }
+pub record WasLive (streams : Streams) (log : Source) : Type 0 where
+  pub before : Source
+  pub stood : Contains streams.sources before
+  pub same : log ≡ record before { lingering_since = log.lingering_since }
 
 -- the event is such a request, joins no log, and makes this one
-pub record IsLogMadeBy (s : State) (event : Event) (publication : Publication) : Type 0 where
+pub record IsLogMadeBy (s : State) (event : Event) (log : Source) : Type 0 where
   pub registration : Registration
   pub registered : IsRegisteredBy s event registration
   pub session : ℤ
   pub makes : registered.adding ≡ Make session
   pub made_is :
-      publication
+      log
       ≡ log_of s.streams (s.last_number + 1) (wanted_by registered.request)
       (unwrap_or (place_of_new s (wanted_by registered.request)) 0) session
 
@@ -145,8 +145,8 @@ pub record PublishesOnly (s : State) (event : Event) (change : Change) : Type 0 
       (registration : Registration) → Contains change.after.streams.registrations registration →
       Contains s.streams.registrations registration ⊎ IsRegisteredBy s event registration
   pub logs :
-      (publication : Publication) → Contains change.after.streams.publications publication →
-      WasLive s.streams publication ⊎ IsLogMadeBy s event publication
+      (log : Source) → Contains change.after.streams.sources log →
+      WasLive s.streams log ⊎ IsLogMadeBy s event log
   pub told :
       AllByRecursion (λ message. IsPublicationTold s event change.after message.client message.reply)
       change.outcome.replies
