@@ -3,13 +3,14 @@
 set -e
 cd "$(dirname "$0")"
 mkdir -p out/crates/term_log_c/src
-cp -r ../crates/frame_codec ../crates/log_arena ../crates/term_log out/crates/
+cp -r ../crates/frame_codec ../crates/log_arena ../crates/log_pairs ../crates/term_log out/crates/
 # the library is kept as a text, since the gate takes every .rt file for one of a crate
 cp term_log_c.rt.txt out/crates/term_log_c/src/lib.rt
 cat > out/crates.txt <<'END'
 frame_codec: byteorder
 log_arena: std_alloc
-term_log: byteorder frame_codec log_arena
+log_pairs: frame_codec
+term_log: byteorder frame_codec log_arena log_pairs
 term_log_c staticlib: log_arena term_log
 END
 (cd out/crates/term_log_c && ${RT:-rt} lib)
