@@ -42,13 +42,17 @@ mod unpublishing;
 mod unsubscribing;
 mod view;
 
+<<<<<<< ours
 pub use cached::cached_verdicts_stay_right;
+=======
+pub use channel_uri::Address;
+>>>>>>> theirs
 pub use entry::Entry;
 pub use event::{End, Event, Inputs};
 pub use listing::{Listed, ListedCounter, Shown};
 pub use log_request::LogRequest;
 pub use outcome::{Outcome, Response};
-pub use peer::{Address, Peer};
+pub use peer::Peer;
 pub use received::Received;
 pub use refusal::Refusal;
 pub use registry::Registry;

@@ -1,4 +1,4 @@
-use crate::peer::Address;
+use channel_uri::Address;
 
 /// What a driver is set to. Moments and durations are nanoseconds, sizes are bytes.
 #[derive(Clone, Copy, Debug, PartialEq, Eq)]

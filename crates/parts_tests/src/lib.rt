@@ -8,7 +8,6 @@ mod audits;
 #[cfg(test)]
 mod compilations;
 #[cfg(test)]
-#[cfg(test)]
 mod policies;
 #[cfg(test)]
 mod resends;

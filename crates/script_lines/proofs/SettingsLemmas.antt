@@ -3,6 +3,7 @@ use Rattle.std.proofs.Common.{◌≡◌, ℕ, ◌<◌, ◌≤◌, List, Option, 
 use Rattle.std.specs.List.{list_any}
 use Rattle.std.specs.Str.{bytes_eq}
 use Rattle.std.proofs.lemmas.Bool.{cond_both, leb-true}
+use Rattle.channel_uri.specs.Address.{address_of}
 use Rattle.channel_uri.specs.Quantity.{mtu_from, term_length_from}
 use Rattle.channel_uri.specs.Session.{session_id_of}
 use Rattle.driver_core.specs.declared.settings.Settings.{Settings}
@@ -15,7 +16,7 @@ use Rattle.script_lines.specs.declared.settings.Key.{Key}
 use Rattle.script_lines.specs.declared.settings.Key.TheVariants.{Duration, TermLength, Mtu, ArenaPages, FirstSession, InitialTerm, ReceiverId, SendAddress}
 use Rattle.script_lines.specs.Hex.{◌>>=◌}
 use Rattle.script_lines.specs.Number.{number_of}
-use Rattle.script_lines.specs.Settings.{Chosen, chosen, duration_in, key_of, mtu_in, pages_of, sender_of, term_length_in, with_duration, with_value}
+use Rattle.script_lines.specs.Settings.{Chosen, chosen, duration_in, key_of, mtu_in, pages_of, term_length_in, with_duration, with_value}
 
 -- ---- what is read
 
@@ -128,7 +129,7 @@ value_sound settings ReceiverId value sound =
     holds_next AreSettings (number_of value) _
     (λ id. sound_like settings _ sound refl refl refl)
 value_sound settings SendAddress value sound =
-    holds_next AreSettings (sender_of value) _
+    holds_next AreSettings (address_of value) _
     (λ address. sound_like settings _ sound refl refl refl)
 
 -- one choice more

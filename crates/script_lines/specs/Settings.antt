@@ -5,7 +5,6 @@ use Rattle.std.specs.Str.{bytes_eq}
 use Rattle.channel_uri.specs.Address.{address_of}
 use Rattle.channel_uri.specs.Quantity.{mtu_from, term_length_from, times}
 use Rattle.channel_uri.specs.Session.{session_id_of}
-use Rattle.driver_core.specs.declared.peer.Address.{Address}
 use Rattle.driver_core.specs.declared.settings.Settings.{Settings}
 use Rattle.driver_core.specs.Settings.{default_settings}
 use Rattle.script_lines.specs.declared.settings.Duration.{Duration as DurationKey}
@@ -61,10 +60,6 @@ abbrev pub pages_of : List ℕ → Option ℕ
 pages_of value = number_of value >>= λ pages.
     if nat_le 1 pages then if nat_le pages 65536 then Some pages else None else None
 
--- an address as an endpoint's, without a name for its host
-abbrev pub sender_of : List ℕ → Option Address
-sender_of value = address_of value >>= λ address. Some (record { octets = address.octets; port = address.port })
-
 abbrev pub with_duration : Settings → DurationKey → ℕ → Settings
 with_duration settings ClientLiveness duration = record settings { client_liveness = duration }
 with_duration settings ImageLiveness duration = record settings { image_liveness = duration }
@@ -86,7 +81,7 @@ with_value settings ArenaPages value = pages_of value >>= λ pages. Some (record
 with_value settings FirstSession value = session_id_of value >>= λ id. Some (record settings { first_session = id })
 with_value settings InitialTerm value = session_id_of value >>= λ id. Some (record settings { initial_term = id })
 with_value settings ReceiverId value = number_of value >>= λ id. Some (record settings { receiver_id = id })
-with_value settings SendAddress value = sender_of value >>= λ address. Some (record settings { send_address = address })
+with_value settings SendAddress value = address_of value >>= λ address. Some (record settings { send_address = address })
 
 -- the settings with what was chosen so far, and the names of the keys that were given
 pub record Chosen : Type 0 where

@@ -1,4 +1,4 @@
-ghost use Rattle.script_lines.specs.Settings.{Chooses, chosen, key_among, key_of, no_choices, duration_in, pages_of, mtu_in, sender_of, term_length_in, with_duration, with_value};
+ghost use Rattle.script_lines.specs.Settings.{Chooses, chosen, key_among, key_of, no_choices, duration_in, pages_of, mtu_in, term_length_in, with_duration, with_value};
 ghost use Rattle.std.specs.List.{list_any};
 ghost use Rattle.std.specs.Prelude.{◌≡◌, map, IfOk, OnErr};
 ghost use Rattle.std.specs.Str.{bytes_eq};
@@ -6,7 +6,7 @@ ghost use Rattle.std.specs.Str.{bytes_eq};
 use crate::number::number;
 use byte_strings::{Items, Text};
 use channel_uri::{address_of, mtu_from, session_id_of, term_length_from};
-use driver_core::{Address, Settings};
+use driver_core::Settings;
 use std::alloc::{AllocError, Global};
 use std::marker::Model;
 
@@ -146,18 +146,6 @@ fn pages_of(value: &str) -> Option<u32>
     Some(pages as u32)
 }
 
-/// The address that datagrams are sent from.
-fn sender_of(value: &str) -> Option<Address>
-    ensures { result ≡ sender_of value.now }
-{
-    let address = address_of(value)?;
-    let octets = address.octets;
-    Some(Address {
-        octets,
-        port: address.port,
-    })
-}
-
 /// These settings, with another duration.
 fn with_duration(settings: Settings, key: Duration, nanoseconds: u64) -> Settings
     ensures { result ≡ with_duration settings key nanoseconds }
@@ -191,7 +179,7 @@ fn with_value(settings: Settings, key: Key, value: &str) -> Option<Settings>
         Key::FirstSession => settings.first_session = session_id_of(value)?,
         Key::InitialTerm => settings.initial_term = session_id_of(value)?,
         Key::ReceiverId => settings.receiver_id = number(value)?,
-        Key::SendAddress => settings.send_address = sender_of(value)?,
+        Key::SendAddress => settings.send_address = address_of(value)?,
     }
     Some(settings)
 }
