@@ -42,11 +42,8 @@ mod unpublishing;
 mod unsubscribing;
 mod view;
 
-<<<<<<< ours
 pub use cached::cached_verdicts_stay_right;
-=======
 pub use channel_uri::Address;
->>>>>>> theirs
 pub use entry::Entry;
 pub use event::{End, Event, Inputs};
 pub use listing::{Listed, ListedCounter, Shown};
