@@ -1,0 +1,65 @@
+-- Frames of a datagram that a log is given.
+use Rattle.std.proofs.Common.{◌≡◌, ℕ, zero, suc, ◌+◌, ◌≤◌, List, [], ◌∷◌, ◌++◌, length, Ok, Err, refl, sym, subst, ◌∙◌, append_assoc, length-append, arith}
+use Rattle.frame_codec.specs.declared.frames.Frames.{Frames}
+use Rattle.frame_codec.specs.declared.header.TermPlace.{TermPlace}
+use Rattle.frame_codec.specs.Frame.{Sent, frame_of}
+use Rattle.frame_codec.specs.Frames.{and_then, behind, frames_in, frames_left}
+use Rattle.frame_codec.specs.Sound.{AreBeside, AreOfOneTerm, AreTold}
+use Rattle.image_log.specs.Log.{Log}
+use Rattle.image_log.specs.Rebuilt.{Rebuilt, after_insert}
+use Rattle.image_log.specs.Stored.{Held}
+use Rattle.image_log.specs.declared.ident.Ident.{Ident}
+use Rattle.image_log.specs.declared.insert.Insert.{Insert}
+use Rattle.image_receiver.specs.Receiving.{AreOf, BeginsIn, IsIn, after_frame, after_frames, word_of, words_of}
+
+-- a frame changes no stream
+pub ident_stays : (r : Rebuilt) (frame : Sent) → (after_frame r frame).ident ≡ r.ident
+unfolding after_frame after_insert
+ident_stays r frame = refl
+
+beside_are : (ident : Ident) (place : TermPlace) (frames : List Sent) → IsIn ident place → AreTold frames → AreBeside place frames → AreOf ident frames
+beside_are ident place [] here told beside = tt
+beside_are ident place (frame ∷ later) here told beside =
+    let one : IsIn ident frame.header.place = record { session = beside.0.session_id ∙ here.session; stream = beside.0.stream_id ∙ here.stream } in
+    (told.0, one, beside_are ident place later here told.1 beside.1)
+
+pub frames_are : (ident : Ident) (frames : List Sent) → BeginsIn ident frames → AreTold frames → AreOfOneTerm frames → AreOf ident frames
+frames_are ident [] begins told one = tt
+frames_are ident (frame ∷ later) begins told one =
+    (told.0, begins, beside_are ident frame.header.place later begins told.1 one)
+
+-- a frame has a byte at least
+count_in : (n : ℕ) (bytes : List ℕ) → length (frames_in n bytes) ≤ n
+unfolding frames_in
+count_in zero bytes = omega arith
+count_in (suc n) bytes =
+    elim (frame_of bytes) as (λ read. length (and_then read (λ frame. frames_in n (behind frame bytes))) ≤ suc n) [
+      | Ok frame ↦ (let rest = count_in n (behind frame bytes) in omega (arith, rest))
+      | Err fault ↦ omega arith
+    ]
+
+pub count_left : (frames : Frames) → length (frames_left frames) ≤ length frames.rest.now
+unfolding frames_left
+count_left frames = count_in (length frames.rest.now) frames.rest.now
+
+-- what holds while frames are handed in: the words so far, and then those for the frames that are still to come
+abbrev pub IsHanding : Log → List Sent → List Insert → ℕ → List Insert → Rebuilt → Held → Type 0
+IsHanding log left words room all end held =
+    (words ++ words_of log.rebuilt left ≡ all)
+    × (after_frames log.rebuilt left ≡ end)
+    × (log.held ≡ held)
+    × AreOf log.rebuilt.ident left
+    × (length words + length left ≤ room)
+
+pub one_more : (log : Log) (frame : Sent) (left : List Sent) (words : List Insert) (room : ℕ) (all : List Insert) (end : Rebuilt) (held : Held)
+    → IsHanding log (frame ∷ left) words room all end held
+    → IsHanding (record log { rebuilt = after_frame log.rebuilt frame }) left (words ++ word_of log.rebuilt frame ∷ []) room all end held
+one_more log frame left words room all end held is =
+    let one : length (words ++ word_of log.rebuilt frame ∷ []) ≡ length words + 1 = length-append words (word_of log.rebuilt frame ∷ []) in
+    let count = is.4 in (
+      append_assoc words (word_of log.rebuilt frame ∷ []) (words_of (after_frame log.rebuilt frame) left) ∙ is.0,
+      is.1,
+      is.2,
+      subst (λ (ident : Ident). AreOf ident left) (sym (ident_stays log.rebuilt frame)) is.3.2,
+      omega (arith, one, count),
+    )

@@ -1,0 +1,15 @@
+//! What a receiver does with an image's log: it hands in the datagrams of the image's stream, and tells the sender what is
+//! missing and how far it is.
+//!
+//! `receive` and `receive_beat` do what a datagram does to a log; `Receiver::tick` says which NAK and which status message
+//! are due. But for the words that `receive` answers, nothing here takes memory. Recovery and flow control are those of the
+//! Aeron Transport Protocol Specification.
+#![tactic(auto)]
+
+mod laws;
+mod receiver;
+mod receiving;
+
+pub use laws::datagrams_may_be_received;
+pub use receiver::{Due, Receiver, Status};
+pub use receiving::{receive, receive_beat};

@@ -1,0 +1,71 @@
+use frame_codec::TermPlace;
+use image_log::{Ident, ImageLog, Insert};
+use image_log_tests::{hand_in, join, open};
+use image_receiver::{Due, Receiver, Status, receive_beat};
+use retransmit_gate::Nak;
+use std::test::Fail;
+
+// Session 9, stream 10: terms of 64 KiB from term 5 on.
+const STREAM: Ident = Ident {
+    session_id: 9,
+    stream_id: 10,
+    initial_term_id: 5,
+    term_length: 65_536,
+};
+
+// Moments, and whether a NAK and a status message are due then.
+const TICKS: [(u64, bool, bool); 5] = [
+    (0, false, true),
+    (1_000_000, false, false),
+    (1_000_001, true, false),
+    (61_000_001, false, false),
+    (61_000_002, true, false),
+];
+
+// What is due of a gap of 64 bytes from 0 on.
+fn due(nak: bool, status: bool) -> Due {
+    let missing = Nak {
+        position: 0,
+        length: 64,
+    };
+    let told = Status {
+        base: 0,
+        window: 32_768,
+    };
+    Due {
+        nak: if nak { Some(missing) } else { None },
+        status: if status { Some(told) } else { None },
+    }
+}
+
+fn ticks(receiver: &mut Receiver, log: &mut ImageLog) -> bool {
+    let mut same = true;
+    for (now, nak, status) in TICKS {
+        same &= receiver.tick(now, log) == due(nak, status);
+    }
+    same
+}
+
+#[test]
+fn nak_and_status_timing(rt: HostRuntime) -> Result<(), Fail> {
+    let mut log = open(rt.alloc(), STREAM, 0)?;
+    join(&mut log, 1);
+    let late = hand_in(&mut log, 64, 1) == Some(Insert::Taken);
+    let mut receiver = Receiver::new(200_000_000, 1_000_000, 60_000_000);
+    assert!(rt; late && ticks(&mut receiver, &mut log));
+    Ok(())
+}
+
+#[test]
+fn heartbeats_are_heard(rt: HostRuntime) -> Result<(), Fail> {
+    let mut log = open(rt.alloc(), STREAM, 0)?;
+    let place = TermPlace {
+        session_id: 9,
+        stream_id: 10,
+        term_id: 5,
+        term_offset: 96,
+    };
+    receive_beat(&mut log, 1000, &place);
+    assert!(rt; log.gap() == Some((0, 96)) && log.silent(1201, 200) && !log.silent(1200, 200));
+    Ok(())
+}
