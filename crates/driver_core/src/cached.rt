@@ -36,7 +36,7 @@ impl Registry {
     ) -> Verdict
         requires registered { Contains self.now.streams.registrations registration.now }
         requires live { Contains self.now.streams.sources log.now }
-        requires with { log.now.source ≡ registration.now.source }
+        requires with { log.now.number ≡ registration.now.source }
         requires cached { AreCached self.now cache.old }
         ensures verdict { result ≡ verdict_of self.now.policy self.now.epoch (offer_question principal registration.now log.now) }
         ensures cached { AreCached self.now cache.new }
