@@ -60,7 +60,7 @@ left_under false false f x y z u v w first second third = third
 -- the log of the publication, and the verdict on it
 abbrev asked_by : State → OfferRequest → LogRequest
 asked_by s request = record {
-  source = request.publication.source;
+  source = request.publication.number;
   decision = row_decision s request.client ToOffer request.registration.number request.registration.channel
       request.publication.stream;
 }
@@ -111,7 +111,7 @@ offer_denied e now message asked log found denies =
     ap (left_by e asked.source) under ∙ stays_left e asked.source log (Denied asked.decision.verdict) found
 
 offer_there : (e : RunEnd) (now handle number : ℕ) (message : List ℕ) (request : OfferRequest) (log : WholeLog) →
-    AsksToOffer e.registry handle number request → log_at e.logs request.publication.source ≡ Some log →
+    AsksToOffer e.registry handle number request → log_at e.logs request.publication.number ≡ Some log →
     OfferIsDecided e now message request log (moved e (Offer now handle number message))
 offer_there e now handle number message request log asks found =
     let asked : LogRequest = asked_by e.registry request in

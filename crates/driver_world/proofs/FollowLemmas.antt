@@ -12,7 +12,7 @@ use Rattle.driver_core.specs.declared.settings.Settings.{Settings}
 use Rattle.driver_core.specs.Conduct.{conduct}
 use Rattle.driver_core.specs.LogRequests.{offering_of, receiving_of}
 use Rattle.driver_core.specs.Pairs.{pairs_of}
-use Rattle.driver_core.specs.Renewal.{publication_at}
+use Rattle.driver_core.specs.Renewal.{source_at}
 use Rattle.driver_core.specs.Soundness.{AreSettings, IsSound, MovesLogs, Opens, is_left, log_of}
 use Rattle.driver_core.specs.State.{State, opened}
 use Rattle.driver_core.proofs.SoundnessLemmas.{moves_logs, registries_sound}
@@ -32,7 +32,7 @@ use Rattle.driver_world.proofs.MatchLemmas.{kept_mapped, opened_found}
 use Rattle.policy_core.specs.RuleList.{Rules}
 use Rattle.stream_registry.specs.declared.lingering.LogPlace.{LogPlace}
 use Rattle.stream_registry.specs.declared.pairs.Pair.{Pair}
-use Rattle.stream_registry.specs.declared.row.Publication.{Publication}
+use Rattle.stream_registry.specs.declared.row.Source.{Source}
 use Rattle.term_log.specs.declared.ident.Ident.{Ident}
 use Rattle.term_log.specs.declared.pair.Pair.{Pair as Reader}
 use Rattle.term_log.specs.Log.{greatest_message}
@@ -54,23 +54,23 @@ IsRead pairs log = readers_in log.whole.pairs ≡ readers_of pairs log.source
 
 -- ---- the log that an event opens
 
-begun_made : (s : State) (found : Option Publication) (log : Publication) → option_map log_of found ≡ Some log →
+begun_made : (s : State) (found : Option Source) (log : Source) → option_map log_of found ≡ Some log →
     map made_for (begun s found) ≡ made_as s.settings log ∷ []
 begun_made s None log is = absurd (cc)
 begun_made s (Some publication) log is =
-    ap (λ (o : Option Publication). made_as s.settings (unwrap_or o log) ∷ []) is
+    ap (λ (o : Option Source). made_as s.settings (unwrap_or o log) ∷ []) is
 
 opened_made : (s : State) (change : Change) (opens : Option LogPlace) → (moves : MovesLogs s change) →
     Opens s opens moves.opened →
     map made_for (opened_for change.after opens) ≡ map (made_as change.after.settings) moves.opened
 opened_made s change None moves is = sym (ap (map (made_as change.after.settings)) is)
 opened_made s change (Some place) moves is =
-    let log : Publication = is.0 in
-    let publications : List Publication = change.after.streams.publications in
-    let found : option_map log_of (publication_at publications place.source) ≡ Some log =
-    subst (λ (p : LogPlace). option_map log_of (publication_at publications p.source) ≡ Some log) is.2
+    let log : Source = is.0 in
+    let logs : List Source = change.after.streams.sources in
+    let found : option_map log_of (source_at logs place.source) ≡ Some log =
+    subst (λ (p : LogPlace). option_map log_of (source_at logs p.source) ≡ Some log) is.2
     (opened_found s change log moves is.1) in
-    begun_made change.after (publication_at publications place.source) log found
+    begun_made change.after (source_at logs place.source) log found
     ∙ sym (ap (map (made_as change.after.settings)) is.1)
 
 -- ---- what the logs are made for, after an event
@@ -86,40 +86,40 @@ rejoined_made pairs (log ∷ logs) =
     ap (λ (made : List (ℕ × Ident)). made_for log ∷ made) (rejoined_made pairs logs)
 
 -- whether it lingers or not
-made_as_logs : (settings : Settings) (logs : List Publication) →
+made_as_logs : (settings : Settings) (logs : List Source) →
     map (made_as settings) (map log_of logs) ≡ map (made_as settings) logs
 made_as_logs settings [] = refl
 made_as_logs settings (log ∷ logs) =
     ap (λ (made : List (ℕ × Ident)). made_as settings log ∷ made) (made_as_logs settings logs)
 
 made_after : (s : State) (change : Change) (logs : List WholeLog) → MovesLogs s change →
-    map made_for logs ≡ map (made_as s.settings) s.streams.publications →
-    map made_for (logs_after change logs) ≡ map (made_as change.after.settings) change.after.streams.publications
+    map made_for logs ≡ map (made_as s.settings) s.streams.sources →
+    map made_for (logs_after change logs) ≡ map (made_as change.after.settings) change.after.streams.sources
 unfolding logs_after
 made_after s change logs moves made =
     let settings : Settings = change.after.settings in
     let closes : List LogPlace = change.outcome.closes in
-    let before : List Publication = map log_of s.streams.publications in
+    let before : List Source = map log_of s.streams.sources in
     let begins : List WholeLog = opened_for change.after change.outcome.opens in
     let old : map made_for logs ≡ map (made_as settings) before =
     made
-    ∙ ap (λ (to : Settings). map (made_as to) s.streams.publications) (sym moves.settings)
-    ∙ sym (made_as_logs settings s.streams.publications) in
+    ∙ ap (λ (to : Settings). map (made_as to) s.streams.sources) (sym moves.settings)
+    ∙ sym (made_as_logs settings s.streams.sources) in
     let all : map made_for (logs ++ begins) ≡ map (made_as settings) (before ++ moves.opened) =
     map-append made_for logs begins
     ∙ ap₂ (λ (xs ys : List (ℕ × Ident)). xs ++ ys) old
     (opened_made s change change.outcome.opens moves moves.opens)
     ∙ sym (map-append (made_as settings) before moves.opened) in
-    let left : filter (is_left closes) (before ++ moves.opened) ≡ map log_of change.after.streams.publications =
+    let left : filter (is_left closes) (before ++ moves.opened) ≡ map log_of change.after.streams.sources =
     filter-append (is_left closes) before moves.opened
-    ∙ ap (λ (logs' : List Publication). filter (is_left closes) before ++ logs') moves.stays
+    ∙ ap (λ (logs' : List Source). filter (is_left closes) before ++ logs') moves.stays
     ∙ sym moves.logs in
     rejoined_made (pairs_of change.after) (filter (stays_open closes) (logs ++ begins))
     ∙ kept_mapped (stays closes) made_for (logs ++ begins)
     ∙ ap (λ (made' : List (ℕ × Ident)). filter (stays closes) made') all
     ∙ sym (kept_mapped (stays closes) (made_as settings) (before ++ moves.opened))
-    ∙ ap (λ (logs' : List Publication). map (made_as settings) logs') left
-    ∙ made_as_logs settings change.after.streams.publications
+    ∙ ap (λ (logs' : List Source). map (made_as settings) logs') left
+    ∙ made_as_logs settings change.after.streams.sources
 
 -- ---- who reads the logs, after an event
 

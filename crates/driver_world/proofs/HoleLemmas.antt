@@ -33,6 +33,6 @@ same_tests f g (i ∷ numbers) same = ap₂ (λ b bs. b ∷ bs) (same i) (same_t
 pub taken_live : (s : State) (held : HeldLogs) → Match s held → taken_pages held ≡ pages_of_logs s
 unfolding taken_pages pages_of_logs
 taken_live s held match =
-    let live : ℕ → Bool = λ page. list_any (λ publication. holds publication page) s.streams.publications in
+    let live : ℕ → Bool = λ page. list_any (λ publication. holds publication page) s.streams.sources in
     same_tests (is_taken held.logs) live (range_with_len 0 held.pages) (λ page. taken_held s held page match)
     ∙ ap (λ n. map live (range_with_len 0 n)) match.pages

@@ -13,7 +13,7 @@ use Rattle.driver_core.specs.declared.settings.Settings.{Settings}
 use Rattle.driver_core.specs.Conduct.{conduct}
 use Rattle.driver_core.specs.LogRequests.{offering_of, receiving_of}
 use Rattle.driver_core.specs.Pairs.{pairs_of}
-use Rattle.driver_core.specs.Renewal.{publication_at}
+use Rattle.driver_core.specs.Renewal.{source_at}
 use Rattle.driver_core.specs.State.{State}
 use Rattle.driver_core.proofs.ListLemmas.{contains_none, only_one}
 use Rattle.driver_world.specs.declared.answer.Answer.{Answer}
@@ -31,7 +31,7 @@ use Rattle.frame_codec.specs.declared.flags.Flags.{Flags}
 use Rattle.policy_core.specs.RuleList.{Rules}
 use Rattle.stream_registry.specs.declared.lingering.LogPlace.{LogPlace}
 use Rattle.stream_registry.specs.declared.pairs.Pair.{Pair}
-use Rattle.stream_registry.specs.declared.row.Publication.{Publication}
+use Rattle.stream_registry.specs.declared.row.Source.{Source}
 use Rattle.term_log.specs.declared.ident.Ident.{Ident}
 use Rattle.term_log.specs.declared.offer.Offer.{Offer}
 use Rattle.term_log.specs.declared.offer.Offer.TheVariants.{At, TooLong as IsTooLong, MaxPosition, BackPressured, AdminAction}
@@ -133,7 +133,7 @@ all_more granted more is logs owned = All-weaker (Owns granted) (Owns more) (own
 
 -- ---- one log
 
-begun_owns : (granted : ℕ → List Frame) (s : State) (o : Option Publication) → All (Owns granted) (begun s o)
+begun_owns : (granted : ℕ → List Frame) (s : State) (o : Option Source) → All (Owns granted) (begun s o)
 begun_owns granted s None = All-nil (Owns granted)
 begun_owns granted s (Some publication) =
     All-cons (Owns granted) _ []
@@ -142,7 +142,7 @@ begun_owns granted s (Some publication) =
 
 opened_owns : (granted : ℕ → List Frame) (s : State) (o : Option LogPlace) → All (Owns granted) (opened_for s o)
 opened_owns granted s None = All-nil (Owns granted)
-opened_owns granted s (Some place) = begun_owns granted s (publication_at s.streams.publications place.source)
+opened_owns granted s (Some place) = begun_owns granted s (source_at s.streams.sources place.source)
 
 rejoined_owns : (granted : ℕ → List Frame) (pairs : List Pair) (log : WholeLog) → Owns granted log →
     Owns granted (rejoined_log pairs log)

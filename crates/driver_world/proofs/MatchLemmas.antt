@@ -5,7 +5,7 @@ use Rattle.std.proofs.lemmas.List.{map-append}
 use Rattle.std.proofs.lemmas.List.Elements.{All-head, All-tail, filter-append}
 use Rattle.driver_core.specs.Change.{Change}
 use Rattle.driver_core.specs.declared.settings.Settings.{Settings}
-use Rattle.driver_core.specs.Renewal.{publication_at}
+use Rattle.driver_core.specs.Renewal.{source_at}
 use Rattle.driver_core.specs.Soundness.{AreSizes, Ascend, MovesLogs, Opens, is_left, log_of}
 use Rattle.driver_core.specs.State.{State}
 use Rattle.driver_world.specs.Held.{HeldLog, HeldLogs, IsLeastVacant, IsOpening, OpensFor, is_closed, is_kept, rejoined_held}
@@ -15,7 +15,7 @@ use Rattle.driver_world.specs.Standing.{LogRow, Match, row_for, row_held}
 use Rattle.driver_world.proofs.VacancyLemmas.{least_held}
 use Rattle.stream_registry.specs.declared.lingering.LogPlace.{LogPlace}
 use Rattle.stream_registry.specs.declared.pairs.Pair.{Pair}
-use Rattle.stream_registry.specs.declared.row.Publication.{Publication}
+use Rattle.stream_registry.specs.declared.row.Source.{Source}
 use Rattle.stream_registry.specs.LogPages.{log_pages}
 use Rattle.stream_registry.specs.Lingering.{place_of}
 use Rattle.term_log.specs.Log.{Log}
@@ -23,88 +23,88 @@ use Rattle.term_log.specs.Whole.{rejoined_kept}
 
 -- ---- the log of a source
 
-abbrev is_of : ℕ → Publication → Bool
-is_of source log = log.source == source
+abbrev is_of : ℕ → Source → Bool
+is_of source log = log.number == source
 
-found_step : (b : Bool) (log : Publication) (found : Option Publication)
+found_step : (b : Bool) (log : Source) (found : Option Source)
     → option_map log_of (cond b (Some log) found) ≡ cond b (Some (log_of log)) (option_map log_of found)
 found_step true log found = refl
 found_step false log found = refl
 
 -- a log is found whether it lingers or not
-found_as_log : (source : ℕ) (logs : List Publication)
-    → option_map log_of (publication_at logs source) ≡ publication_at (map log_of logs) source
+found_as_log : (source : ℕ) (logs : List Source)
+    → option_map log_of (source_at logs source) ≡ source_at (map log_of logs) source
 found_as_log source [] = refl
 found_as_log source (log ∷ logs) =
-    found_step (log.source == source) log (publication_at logs source)
-    ∙ ap (λ o. cond (log.source == source) (Some (log_of log)) o) (found_as_log source logs)
+    found_step (log.number == source) log (source_at logs source)
+    ∙ ap (λ o. cond (log.number == source) (Some (log_of log)) o) (found_as_log source logs)
 
-ascend_as_logs : (before last : ℕ) (logs : List Publication) → Ascend before last logs → Ascend before last (map log_of logs)
+ascend_as_logs : (before last : ℕ) (logs : List Source) → Ascend before last logs → Ascend before last (map log_of logs)
 ascend_as_logs before last [] ascend = ascend
-ascend_as_logs before last (log ∷ logs) ascend = (ascend.0, ascend_as_logs log.source last logs ascend.1)
+ascend_as_logs before last (log ∷ logs) ascend = (ascend.0, ascend_as_logs log.number last logs ascend.1)
 
 -- the last one came after all others
-last_behind : (before last : ℕ) (logs : List Publication) (log : Publication) → Ascend before last (logs ++ log ∷ []) → before < log.source
+last_behind : (before last : ℕ) (logs : List Source) (log : Source) → Ascend before last (logs ++ log ∷ []) → before < log.number
 last_behind before last [] log ascend = ascend.0
 last_behind before last (first ∷ logs) log ascend =
     let above = ascend.0 in
-    let behind = last_behind first.source last logs log ascend.1 in
+    let behind = last_behind first.number last logs log ascend.1 in
     omega (arith, above, behind)
 
-last_found : (before last : ℕ) (logs : List Publication) (log : Publication) → Ascend before last (logs ++ log ∷ [])
-    → publication_at (logs ++ log ∷ []) log.source ≡ Some log
-last_found before last [] log ascend = ap (λ b. cond b (Some log) None) (eq-eqb log.source log.source refl)
+last_found : (before last : ℕ) (logs : List Source) (log : Source) → Ascend before last (logs ++ log ∷ [])
+    → source_at (logs ++ log ∷ []) log.number ≡ Some log
+last_found before last [] log ascend = ap (λ b. cond b (Some log) None) (eq-eqb log.number log.number refl)
 last_found before last (first ∷ logs) log ascend =
-    let behind = last_behind first.source last logs log ascend.1 in
-    let another : (first.source == log.source) ≡ false = ne_eqb first.source log.source (λ same. omega (arith, same, behind)) in
-    ap (λ b. cond b (Some first) (publication_at (logs ++ log ∷ []) log.source)) another
-    ∙ last_found first.source last logs log ascend.1
+    let behind = last_behind first.number last logs log ascend.1 in
+    let another : (first.number == log.number) ≡ false = ne_eqb first.number log.number (λ same. omega (arith, same, behind)) in
+    ap (λ b. cond b (Some first) (source_at (logs ++ log ∷ []) log.number)) another
+    ∙ last_found first.number last logs log ascend.1
 
 -- ---- the log that opens
 
-pub opened_found : (s : State) (change : Change) (log : Publication) → (moves : MovesLogs s change) → moves.opened ≡ log ∷ []
-    → option_map log_of (publication_at change.after.streams.publications log.source) ≡ Some log
+pub opened_found : (s : State) (change : Change) (log : Source) → (moves : MovesLogs s change) → moves.opened ≡ log ∷ []
+    → option_map log_of (source_at change.after.streams.sources log.number) ≡ Some log
 opened_found s change log moves is =
-    let kept : List Publication = filter (is_left change.outcome.closes) (map log_of s.streams.publications) in
-    let all : map log_of change.after.streams.publications ≡ kept ++ log ∷ [] = moves.logs ∙ ap (λ (logs : List Publication). kept ++ logs) is in
+    let kept : List Source = filter (is_left change.outcome.closes) (map log_of s.streams.sources) in
+    let all : map log_of change.after.streams.sources ≡ kept ++ log ∷ [] = moves.logs ∙ ap (λ (logs : List Source). kept ++ logs) is in
     let ascend : Ascend 0 change.after.last_number (kept ++ log ∷ []) =
     subst (Ascend 0 change.after.last_number) all
-    (ascend_as_logs 0 change.after.last_number change.after.streams.publications moves.sound.numbered) in
-    found_as_log log.source change.after.streams.publications
-    ∙ ap (λ (logs : List Publication). publication_at logs log.source) all
+    (ascend_as_logs 0 change.after.last_number change.after.streams.sources moves.sound.numbered) in
+    found_as_log log.number change.after.streams.sources
+    ∙ ap (λ (logs : List Source). source_at logs log.number) all
     ∙ last_found 0 change.after.last_number kept log ascend
 
-if_found_step : (P : Publication → Type 0) (b : Bool) (log : Publication) (found : Option Publication) → P log → IfSome found P
+if_found_step : (P : Source → Type 0) (b : Bool) (log : Source) (found : Option Source) → P log → IfSome found P
     → IfSome (cond b (Some log) found) P
 if_found_step P true log found holds rest = holds
 if_found_step P false log found holds rest = rest
 
-if_found : (P : Publication → Type 0) (source : ℕ) (logs : List Publication) → All P logs → IfSome (publication_at logs source) P
+if_found : (P : Source → Type 0) (source : ℕ) (logs : List Source) → All P logs → IfSome (source_at logs source) P
 if_found P source [] all = tt
 if_found P source (log ∷ logs) all =
-    if_found_step P (log.source == source) log (publication_at logs source) (All-head P log logs all)
+    if_found_step P (log.number == source) log (source_at logs source) (All-head P log logs all)
     (if_found P source logs (All-tail P log logs all))
 
-is_opening : (held : HeldLogs) (found : Option Publication) (log : Publication) → option_map log_of found ≡ Some log
+is_opening : (held : HeldLogs) (found : Option Source) (log : Source) → option_map log_of found ≡ Some log
     → IfSome found (λ publication. AreSizes publication.measures) → IsLeastVacant held (log_pages log) log.place
     → IsOpening held log.place found
 is_opening held None log is sizes least = tt
 is_opening held (Some publication) log is sizes least =
-    let same : log_of publication ≡ log = ap (λ (o : Option Publication). unwrap_or o log) is in
-    (sizes, subst (λ (l : Publication). IsLeastVacant held (log_pages l) log.place) (sym same) least)
+    let same : log_of publication ≡ log = ap (λ (o : Option Source). unwrap_or o log) is in
+    (sizes, subst (λ (l : Source). IsLeastVacant held (log_pages l) log.place) (sym same) least)
 
 pub opening_fits : (s : State) (held : HeldLogs) (change : Change) (place : LogPlace) → Match s held → MovesLogs s change
     → change.outcome.opens ≡ Some place
-    → IsOpening held place.place (publication_at change.after.streams.publications place.source)
+    → IsOpening held place.place (source_at change.after.streams.sources place.source)
 opening_fits s held change place match moves opens =
     let opened = subst (λ (o : Option LogPlace). Opens s o moves.opened) opens moves.opens in
-    let log : Publication = opened.0 in
+    let log : Source = opened.0 in
     let found = opened_found s change log moves opened.1 in
-    let fits : IsOpening held log.place (publication_at change.after.streams.publications log.source) =
-    is_opening held (publication_at change.after.streams.publications log.source) log found
-    (if_found (λ publication. AreSizes publication.measures) log.source change.after.streams.publications moves.sound.sizes)
+    let fits : IsOpening held log.place (source_at change.after.streams.sources log.number) =
+    is_opening held (source_at change.after.streams.sources log.number) log found
+    (if_found (λ publication. AreSizes publication.measures) log.number change.after.streams.sources moves.sound.sizes)
     (least_held s held (log_pages log) log.place match opened.4 opened.5) in
-    subst (λ (p : LogPlace). IsOpening held p.place (publication_at change.after.streams.publications p.source)) opened.2 fits
+    subst (λ (p : LogPlace). IsOpening held p.place (source_at change.after.streams.sources p.source)) opened.2 fits
 
 can_open : (s : State) (held : HeldLogs) (change : Change) (opens : Option LogPlace) → Match s held → MovesLogs s change
     → change.outcome.opens ≡ opens → CanOpen held change.after opens
@@ -135,45 +135,45 @@ unfolding rejoined_kept
 rows_rejoined pairs [] = refl
 rows_rejoined pairs (held ∷ logs) = ap (λ rows. row_held held ∷ rows) (rows_rejoined pairs logs)
 
-rows_as_logs : (settings : Settings) (logs : List Publication) → map (row_for settings) (map log_of logs) ≡ map (row_for settings) logs
+rows_as_logs : (settings : Settings) (logs : List Source) → map (row_for settings) (map log_of logs) ≡ map (row_for settings) logs
 rows_as_logs settings [] = refl
 rows_as_logs settings (log ∷ logs) = ap (λ rows. row_for settings log ∷ rows) (rows_as_logs settings logs)
 
 -- ---- what opened
 
 -- these logs came behind the others, if any did, and have the rows of what opened
-pub record Adds (settings : Settings) (old new : HeldLogs) (opened : List Publication) : Type 0 where
+pub record Adds (settings : Settings) (old new : HeldLogs) (opened : List Source) : Type 0 where
   pub logs : List HeldLog
   pub new_is : new ≡ record old { logs = old.logs ++ logs }
   pub rows : map row_held logs ≡ map (row_for settings) opened
 
-adds_none : (settings : Settings) (old new : HeldLogs) (opened : List Publication) → new ≡ old → opened ≡ [] → Adds settings old new opened
+adds_none : (settings : Settings) (old new : HeldLogs) (opened : List Source) → new ≡ old → opened ≡ [] → Adds settings old new opened
 adds_none settings old new opened new_is none = record {
   logs = [];
   new_is = new_is ∙ ap (λ (logs : List HeldLog). record old { logs = logs }) (sym (append-nil old.logs));
   rows = sym (ap (map (row_for settings)) none);
 }
 
-row_is : (settings : Settings) (source place : ℕ) (publication log : Publication) (l : Log) → log_of publication ≡ log → place ≡ log.place
+row_is : (settings : Settings) (source place : ℕ) (publication log : Source) (l : Log) → log_of publication ≡ log → place ≡ log.place
     → l.kept.ident ≡ ident_of settings publication → l.kept.buffers.place ≡ 4096 * place
-    → row_held (record { source = publication.source; log = l }) ≡ row_for settings log
+    → row_held (record { source = publication.number; log = l }) ≡ row_for settings log
 row_is settings source place publication log l same place_is ident at =
     let there : l.kept.buffers.place ≡ 4096 * log.place = at ∙ ap (λ n. 4096 * n) place_is in
-    let first : row_held (record { source = publication.source; log = l })
-    ≡ record { source = publication.source; place = 4096 * log.place; ident = ident_of settings publication } = rw (there, ident) refl in
-    first ∙ ap (λ (p : Publication). record { source = p.source; place = 4096 * log.place; ident = ident_of settings p }) same
+    let first : row_held (record { source = publication.number; log = l })
+    ≡ record { source = publication.number; place = 4096 * log.place; ident = ident_of settings publication } = rw (there, ident) refl in
+    first ∙ ap (λ (p : Source). record { source = p.number; place = 4096 * log.place; ident = ident_of settings p }) same
 
-adds_one : (settings : Settings) (old new : HeldLogs) (place : ℕ) (found : Option Publication) (log : Publication) (opened : List Publication)
+adds_one : (settings : Settings) (old new : HeldLogs) (place : ℕ) (found : Option Source) (log : Source) (opened : List Source)
     → option_map log_of found ≡ Some log → place ≡ log.place → opened ≡ log ∷ [] → OpensFor old new settings place found
     → Adds settings old new opened
 adds_one settings old new place None log opened is place_is one opens = absurd (cc)
 adds_one settings old new place (Some publication) log opened is place_is one opens =
-    let same : log_of publication ≡ log = ap (λ (o : Option Publication). unwrap_or o log) is in
+    let same : log_of publication ≡ log = ap (λ (o : Option Source). unwrap_or o log) is in
     record {
-      logs = record { source = publication.source; log = opens.log } ∷ [];
+      logs = record { source = publication.number; log = opens.log } ∷ [];
       new_is = opens.new_is;
       rows = ap (λ (row : LogRow). row ∷ [])
-          (row_is settings publication.source place publication log opens.log same place_is opens.stands.ident opens.place_is)
+          (row_is settings publication.number place publication log opens.log same place_is opens.stands.ident opens.place_is)
           ∙ sym (ap (map (row_for settings)) one);
     }
 
@@ -181,11 +181,11 @@ adds : (s : State) (held new : HeldLogs) (change : Change) (opens : Option LogPl
     → Opens s opens moves.opened → OpensNext held new change.after opens → Adds change.after.settings held new moves.opened
 adds s held new change None moves opened is = adds_none change.after.settings held new moves.opened is opened
 adds s held new change (Some place) moves opened is =
-    let log : Publication = opened.0 in
+    let log : Source = opened.0 in
     let found = opened_found s change log moves opened.1 in
     let place_is : place_of log ≡ place = opened.2 in
-    adds_one change.after.settings held new place.place (publication_at change.after.streams.publications place.source) log moves.opened
-    (subst (λ (p : LogPlace). option_map log_of (publication_at change.after.streams.publications p.source) ≡ Some log) place_is found)
+    adds_one change.after.settings held new place.place (source_at change.after.streams.sources place.source) log moves.opened
+    (subst (λ (p : LogPlace). option_map log_of (source_at change.after.streams.sources p.source) ≡ Some log) place_is found)
     (sym (ap (λ (p : LogPlace). p.place) place_is)) opened.1 is
 
 -- ---- all logs
@@ -194,7 +194,7 @@ adds s held new change (Some place) moves opened is =
 abbrev pub left_held : Change → List Pair → List HeldLog → List HeldLog
 left_held change pairs logs = map (rejoined_held pairs) (filter (is_kept change.outcome.closes) logs)
 
-all_rows : (settings : Settings) (held new : HeldLogs) (logs opened : List Publication) → map row_held held.logs ≡ map (row_for settings) logs
+all_rows : (settings : Settings) (held new : HeldLogs) (logs opened : List Source) → map row_held held.logs ≡ map (row_for settings) logs
     → Adds settings held new opened → map row_held new.logs ≡ map (row_for settings) (map log_of logs ++ opened)
 all_rows settings held new logs opened rows added =
     ap (λ (h : HeldLogs). map row_held h.logs) added.new_is
@@ -204,23 +204,23 @@ all_rows settings held new logs opened rows added =
 
 rows_after : (s : State) (held new : HeldLogs) (change : Change) (pairs : List Pair) → Match s held → (moves : MovesLogs s change)
     → Adds change.after.settings held new moves.opened
-    → map row_held (left_held change pairs new.logs) ≡ map (row_for change.after.settings) change.after.streams.publications
+    → map row_held (left_held change pairs new.logs) ≡ map (row_for change.after.settings) change.after.streams.sources
 rows_after s held new change pairs match moves added =
     let settings : Settings = change.after.settings in
     let closes : List LogPlace = change.outcome.closes in
-    let logs : List Publication = map log_of s.streams.publications in
-    let rows : map row_held held.logs ≡ map (row_for settings) s.streams.publications =
-    match.rows ∙ ap (λ (to : Settings). map (row_for to) s.streams.publications) (sym moves.settings) in
-    let left : filter (is_left closes) (logs ++ moves.opened) ≡ map log_of change.after.streams.publications =
+    let logs : List Source = map log_of s.streams.sources in
+    let rows : map row_held held.logs ≡ map (row_for settings) s.streams.sources =
+    match.rows ∙ ap (λ (to : Settings). map (row_for to) s.streams.sources) (sym moves.settings) in
+    let left : filter (is_left closes) (logs ++ moves.opened) ≡ map log_of change.after.streams.sources =
     filter-append (is_left closes) logs moves.opened
-    ∙ ap (λ (opened : List Publication). filter (is_left closes) logs ++ opened) moves.stays
+    ∙ ap (λ (opened : List Source). filter (is_left closes) logs ++ opened) moves.stays
     ∙ sym moves.logs in
     rows_rejoined pairs (filter (is_kept closes) new.logs)
     ∙ kept_mapped (stays closes) row_held new.logs
-    ∙ ap (λ (all : List LogRow). filter (stays closes) all) (all_rows settings held new s.streams.publications moves.opened rows added)
+    ∙ ap (λ (all : List LogRow). filter (stays closes) all) (all_rows settings held new s.streams.sources moves.opened rows added)
     ∙ sym (kept_mapped (stays closes) (row_for settings) (logs ++ moves.opened))
-    ∙ ap (λ (all : List Publication). map (row_for settings) all) left
-    ∙ rows_as_logs settings change.after.streams.publications
+    ∙ ap (λ (all : List Source). map (row_for settings) all) left
+    ∙ rows_as_logs settings change.after.streams.sources
 
 pub matches_after : (s : State) (held new : HeldLogs) (change : Change) (pairs : List Pair) → Match s held → MovesLogs s change
     → OpensNext held new change.after change.outcome.opens

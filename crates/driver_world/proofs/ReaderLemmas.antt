@@ -12,7 +12,7 @@ use Rattle.driver_core.specs.State.{State}
 use Rattle.driver_core.specs.Readers.{readers_of}
 use Rattle.policy_core.specs.RuleList.{Rules}
 use Rattle.stream_registry.specs.declared.pairs.Pair.{Pair}
-use Rattle.stream_registry.specs.declared.row.Publication.{Publication}
+use Rattle.stream_registry.specs.declared.row.Source.{Source}
 use Rattle.stream_registry.specs.declared.row.Subscription.{Subscription}
 use Rattle.stream_registry.specs.Pairs.{is_pair, pair_of, pairs_at, pairs_of as pairs_on}
 
@@ -26,7 +26,7 @@ no_longer test xs =
 
 -- ---- the pairs of one log
 
-pairs_few : (clients : List Client) (policy : Rules) (epoch : ℕ) (subscriptions : List Subscription) (log : Publication)
+pairs_few : (clients : List Client) (policy : Rules) (epoch : ℕ) (subscriptions : List Subscription) (log : Source)
     → length (pairs_at clients policy epoch subscriptions log) ≤ length subscriptions
 pairs_few clients policy epoch subscriptions log =
     let kept = filter (is_pair clients policy epoch log) subscriptions in
@@ -34,7 +34,7 @@ pairs_few clients policy epoch subscriptions log =
     let few = no_longer (is_pair clients policy epoch log) subscriptions in
     omega (arith, all, few)
 
-none_of : (source : ℕ) (log : Publication) (subscriptions : List Subscription) → (log.source == source) ≡ false
+none_of : (source : ℕ) (log : Source) (subscriptions : List Subscription) → (log.number == source) ≡ false
     → filter (is_of source) (map (pair_of log) subscriptions) ≡ []
 none_of source log [] is = refl
 none_of source log (subscription ∷ subscriptions) is =
@@ -51,24 +51,24 @@ both_parts source xs ys =
 
 -- a log that came later is another
 none_later : (clients : List Client) (policy : Rules) (epoch : ℕ) (subscriptions : List Subscription) (source before last : ℕ)
-    (logs : List Publication) → source ≤ before → Ascend before last logs
+    (logs : List Source) → source ≤ before → Ascend before last logs
     → length (filter (is_of source) (flat_map (pairs_at clients policy epoch subscriptions) logs)) ≡ 0
 none_later clients policy epoch subscriptions source before last [] low ascend = refl
 none_later clients policy epoch subscriptions source before last (log ∷ logs) low ascend =
     let above = ascend.0 in
-    let another : (log.source == source) ≡ false = ne_eqb log.source source (λ same. omega (arith, same, above, low)) in
+    let another : (log.number == source) ≡ false = ne_eqb log.number source (λ same. omega (arith, same, above, low)) in
     let here = ap length (none_of source log (filter (is_pair clients policy epoch log) subscriptions) another) in
-    let there = none_later clients policy epoch subscriptions source log.source last logs (omega (arith, above, low)) ascend.1 in
+    let there = none_later clients policy epoch subscriptions source log.number last logs (omega (arith, above, low)) ascend.1 in
     let both = both_parts source (pairs_at clients policy epoch subscriptions log)
     (flat_map (pairs_at clients policy epoch subscriptions) logs) in
     omega (arith, here, there, both)
 
 few_of : (clients : List Client) (policy : Rules) (epoch : ℕ) (subscriptions : List Subscription) (source before last : ℕ)
-    (logs : List Publication) → Ascend before last logs
+    (logs : List Source) → Ascend before last logs
     → length (filter (is_of source) (flat_map (pairs_at clients policy epoch subscriptions) logs)) ≤ length subscriptions
 few_of clients policy epoch subscriptions source before last [] ascend = omega arith
 few_of clients policy epoch subscriptions source before last (log ∷ logs) ascend =
-    by (few_of clients policy epoch subscriptions source log.source last logs ascend.1) (log.source == source) refl
+    by (few_of clients policy epoch subscriptions source log.number last logs ascend.1) (log.number == source) refl
   where
     here : List Pair
     here = pairs_at clients policy epoch subscriptions log
@@ -76,13 +76,13 @@ few_of clients policy epoch subscriptions source before last (log ∷ logs) asce
     rest : List Pair
     rest = flat_map (pairs_at clients policy epoch subscriptions) logs
 
-    by : length (filter (is_of source) rest) ≤ length subscriptions → (b : Bool) → (log.source == source) ≡ b
+    by : length (filter (is_of source) rest) ≤ length subscriptions → (b : Bool) → (log.number == source) ≡ b
         → length (filter (is_of source) (here ++ rest)) ≤ length subscriptions
     by few true is =
-        let same = eqb-true log.source source is in
+        let same = eqb-true log.number source is in
         let own = pairs_few clients policy epoch subscriptions log in
         let fewer = no_longer (is_of source) here in
-        let none = none_later clients policy epoch subscriptions source log.source last logs (omega (arith, same)) ascend.1 in
+        let none = none_later clients policy epoch subscriptions source log.number last logs (omega (arith, same)) ascend.1 in
         let both = both_parts source here rest in
         omega (arith, own, fewer, none, both)
     by few false is =
@@ -94,6 +94,6 @@ pub readers_are_few : (s : State) → IsSound s → (source : ℕ) → length (r
 unfolding readers_of pairs_of pairs_on
 readers_are_few s sound source =
     let all = length-map (filter (is_of source) (pairs_of s)) (λ (pair : Pair). pair.subscription) in
-    let few = few_of s.clients.rows s.policy s.epoch s.streams.subscriptions source 0 s.last_number s.streams.publications sound.numbered in
+    let few = few_of s.clients.rows s.policy s.epoch s.streams.subscriptions source 0 s.last_number s.streams.sources sound.numbered in
     let subscriptions = sound.subscriptions in
     omega (arith, all, few, subscriptions)

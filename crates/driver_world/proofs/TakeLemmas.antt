@@ -8,7 +8,7 @@ use Rattle.driver_core.specs.declared.event.Inputs.{Inputs}
 use Rattle.driver_core.specs.declared.outcome.Outcome.{Outcome}
 use Rattle.driver_core.specs.Conduct.{conduct, outcome_of, state_after}
 use Rattle.driver_core.specs.Pairs.{pairs_of}
-use Rattle.driver_core.specs.Renewal.{publication_at}
+use Rattle.driver_core.specs.Renewal.{source_at}
 use Rattle.driver_core.specs.State.{State}
 use Rattle.driver_world.specs.Ends.{RunEnd, begun, conducted, end_of_log, inputs_of, logs_after, opened_for, rejoined_log, stays_open}
 use Rattle.driver_core.specs.Readers.{readers_of}
@@ -19,7 +19,7 @@ use Rattle.driver_world.specs.Standing.{StandAll, StandsForEnd, Takes}
 use Rattle.driver_world.proofs.MatchLemmas.{left_held}
 use Rattle.stream_registry.specs.declared.lingering.LogPlace.{LogPlace}
 use Rattle.stream_registry.specs.declared.pairs.Pair.{Pair}
-use Rattle.stream_registry.specs.declared.row.Publication.{Publication}
+use Rattle.stream_registry.specs.declared.row.Source.{Source}
 use Rattle.term_log.specs.Whole.{Stands, rejoined, rejoined_kept}
 use Rattle.term_log.proofs.Standing.{rejoin_stands, tail_stands}
 
@@ -95,19 +95,19 @@ stand_same old new logs same stand =
     let here : StandAll new.logs logs = subst (λ (h : HeldLogs). StandAll h.logs logs) (sym same) stand in
     subst (λ (whole : List WholeLog). StandAll new.logs whole) (sym (append-nil logs)) here
 
-begun_stands : (after : State) (old new : HeldLogs) (place : ℕ) (found : Option Publication) (logs : List WholeLog)
+begun_stands : (after : State) (old new : HeldLogs) (place : ℕ) (found : Option Source) (logs : List WholeLog)
     → OpensFor old new after.settings place found → StandAll old.logs logs → StandAll new.logs (logs ++ begun after found)
 begun_stands after old new place None logs is stand = stand_same old new logs is stand
 begun_stands after old new place (Some publication) logs is stand =
     subst (λ (h : HeldLogs). StandAll h.logs (logs ++ begun after (Some publication))) (sym is.new_is)
-    (stand_append old.logs (record { source = publication.source; log = is.log } ∷ []) logs (begun after (Some publication)) stand
+    (stand_append old.logs (record { source = publication.number; log = is.log } ∷ []) logs (begun after (Some publication)) stand
     (record { source_is = refl; whole = is.stands }, tt))
 
 opened_stand : (after : State) (old new : HeldLogs) (opens : Option LogPlace) (logs : List WholeLog) → OpensNext old new after opens
     → StandAll old.logs logs → StandAll new.logs (logs ++ opened_for after opens)
 opened_stand after old new None logs is stand = stand_same old new logs is stand
 opened_stand after old new (Some place) logs is stand =
-    begun_stands after old new place.place (publication_at after.streams.publications place.source) logs is stand
+    begun_stands after old new place.place (source_at after.streams.sources place.source) logs is stand
 
 -- ---- one event
 

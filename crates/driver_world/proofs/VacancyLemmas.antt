@@ -8,7 +8,7 @@ use Rattle.driver_core.specs.declared.settings.Settings.{Settings}
 use Rattle.driver_core.specs.State.{State}
 use Rattle.driver_world.specs.Held.{HeldLogs, is_taken, IsVacant as IsVacantHeld, IsLeastVacant}
 use Rattle.driver_world.specs.Standing.{LogRow, row_held, row_for, Match}
-use Rattle.stream_registry.specs.declared.row.Publication.{Publication}
+use Rattle.stream_registry.specs.declared.row.Source.{Source}
 use Rattle.stream_registry.specs.LogPages.{holds, log_pages, pages_of}
 use Rattle.stream_registry.specs.PageLaws.{HasPage, IsVacant}
 
@@ -18,14 +18,14 @@ use Rattle.stream_registry.specs.PageLaws.{HasPage, IsVacant}
 abbrev has_row : ℕ → LogRow → Bool
 has_row page row = nat_le row.place (4096 * page) && nat_lt (4096 * page) (row.place + 4096 * pages_of row.ident.term_length)
 
-row_has : (settings : Settings) (log : Publication) (page : ℕ) → HasPage log page → has_row page (row_for settings log) ≡ true
+row_has : (settings : Settings) (log : Source) (page : ℕ) → HasPage log page → has_row page (row_for settings log) ≡ true
 row_has settings log page has =
     let low : 4096 * log.place ≤ 4096 * page = omega (arith, has.0) in
     let high : 4096 * page < 4096 * log.place + 4096 * log_pages log = omega (arith, has.1) in
     and_from (nat_le (4096 * log.place) (4096 * page)) (nat_lt (4096 * page) (4096 * log.place + 4096 * log_pages log))
     (le-leb (4096 * log.place) (4096 * page) low) (lt-ltb (4096 * page) (4096 * log.place + 4096 * log_pages log) high)
 
-row_had : (settings : Settings) (log : Publication) (page : ℕ) → has_row page (row_for settings log) ≡ true → HasPage log page
+row_had : (settings : Settings) (log : Source) (page : ℕ) → has_row page (row_for settings log) ≡ true → HasPage log page
 row_had settings log page is =
     let both = and_parts (nat_le (4096 * log.place) (4096 * page)) (nat_lt (4096 * page) (4096 * log.place + 4096 * log_pages log)) is in
     let low = leb-true (4096 * log.place) (4096 * page) both.0 in
@@ -37,20 +37,20 @@ any_mapped test f [] = refl
 any_mapped test f (x ∷ xs) = ap (λ b. test (f x) || b) (any_mapped test f xs)
 
 taken_is : (s : State) (held : HeldLogs) (page : ℕ) → Match s held
-    → is_taken held.logs page ≡ list_any (λ log. has_row page (row_for s.settings log)) s.streams.publications
+    → is_taken held.logs page ≡ list_any (λ log. has_row page (row_for s.settings log)) s.streams.sources
 taken_is s held page match =
     any_mapped (has_row page) row_held held.logs
     ∙ ap (list_any (has_row page)) match.rows
-    ∙ sym (any_mapped (has_row page) (row_for s.settings) s.streams.publications)
+    ∙ sym (any_mapped (has_row page) (row_for s.settings) s.streams.sources)
 
 -- ---- one page of a live log
 
-has_held : (log : Publication) (page : ℕ) → HasPage log page → holds log page ≡ true
+has_held : (log : Source) (page : ℕ) → HasPage log page → holds log page ≡ true
 has_held log page has =
     and_from (nat_le log.place page) (nat_lt page (log.place + log_pages log))
     (le-leb log.place page has.0) (lt-ltb page (log.place + log_pages log) has.1)
 
-had_held : (log : Publication) (page : ℕ) → holds log page ≡ true → HasPage log page
+had_held : (log : Source) (page : ℕ) → holds log page ≡ true → HasPage log page
 had_held log page is =
     let both = and_parts (nat_le log.place page) (nat_lt page (log.place + log_pages log)) is in
     (leb-true log.place page both.0, ltb-true page (log.place + log_pages log) both.1)
@@ -60,21 +60,21 @@ both_ways true c to from = sym (to refl)
 both_ways false true to from = from refl
 both_ways false false to from = refl
 
-row_holds : (settings : Settings) (log : Publication) (page : ℕ) → has_row page (row_for settings log) ≡ holds log page
+row_holds : (settings : Settings) (log : Source) (page : ℕ) → has_row page (row_for settings log) ≡ holds log page
 row_holds settings log page =
     both_ways (has_row page (row_for settings log)) (holds log page)
     (λ is. has_held log page (row_had settings log page is))
     (λ is. row_has settings log page (had_held log page is))
 
-rows_hold : (settings : Settings) (logs : List Publication) (page : ℕ)
+rows_hold : (settings : Settings) (logs : List Source) (page : ℕ)
     → list_any (λ log. has_row page (row_for settings log)) logs ≡ list_any (λ log. holds log page) logs
 rows_hold settings [] page = refl
 rows_hold settings (log ∷ logs) page = ap₂ (λ a b. a || b) (row_holds settings log page) (rows_hold settings logs page)
 
 -- an open log has the page exactly where a live log of the registry does
 pub taken_held : (s : State) (held : HeldLogs) (page : ℕ) → Match s held
-    → is_taken held.logs page ≡ list_any (λ log. holds log page) s.streams.publications
-taken_held s held page match = taken_is s held page match ∙ rows_hold s.settings s.streams.publications page
+    → is_taken held.logs page ≡ list_any (λ log. holds log page) s.streams.sources
+taken_held s held page match = taken_is s held page match ∙ rows_hold s.settings s.streams.sources page
 
 -- ---- so many pages
 
@@ -87,10 +87,10 @@ vacant_held s held pages place match vacant =
       within = omega (arith, all, within);
       free = λ page low high.
           taken_is s held page match
-          ∙ list_any_none (λ log. has_row page (row_for s.settings log)) s.streams.publications
+          ∙ list_any_none (λ log. has_row page (row_for s.settings log)) s.streams.sources
           (λ k d inside.
-          false_from_ne_true (has_row page (row_for s.settings (get_or s.streams.publications k d)))
-          (λ is. vacant.free k d inside page (low, high) (row_had s.settings (get_or s.streams.publications k d) page is)));
+          false_from_ne_true (has_row page (row_for s.settings (get_or s.streams.sources k d)))
+          (λ is. vacant.free k d inside page (low, high) (row_had s.settings (get_or s.streams.sources k d) page is)));
     }
 
 pub held_vacant : (s : State) (held : HeldLogs) (pages place : ℕ) → Match s held
@@ -102,8 +102,8 @@ held_vacant s held pages place match vacant =
       within = omega (arith, all, within);
       free = λ k d inside page among has.
           true≢false
-          (sym (list_any_at (λ log. has_row page (row_for s.settings log)) s.streams.publications k d inside
-          (row_has s.settings (get_or s.streams.publications k d) page has))
+          (sym (list_any_at (λ log. has_row page (row_for s.settings log)) s.streams.sources k d inside
+          (row_has s.settings (get_or s.streams.sources k d) page has))
           ∙ (sym (taken_is s held page match) ∙ vacant.free page among.0 among.1));
     }
 

@@ -11,7 +11,7 @@ use Rattle.driver_core.specs.Conduct.{conduct}
 use Rattle.driver_core.specs.Listing.{list, value}
 use Rattle.driver_core.specs.LogRequests.{offering_of}
 use Rattle.driver_core.specs.Pairs.{pairs_of}
-use Rattle.driver_core.specs.Renewal.{publication_at}
+use Rattle.driver_core.specs.Renewal.{source_at}
 use Rattle.driver_core.specs.State.{State, opened}
 use Rattle.driver_world.specs.declared.answer.Answer.{Answer}
 use Rattle.driver_world.specs.declared.answer.Answer.TheVariants.{NoMemory, Offered as OfferedAs, Gone as IsGone}
@@ -26,7 +26,7 @@ use Rattle.driver_world.specs.Moves.{WholeLog, Move, offer_move, poll_move}
 use Rattle.policy_core.specs.RuleList.{Rules}
 use Rattle.stream_registry.specs.declared.lingering.LogPlace.{LogPlace}
 use Rattle.stream_registry.specs.declared.pairs.Pair.{Pair}
-use Rattle.stream_registry.specs.declared.row.Publication.{Publication}
+use Rattle.stream_registry.specs.declared.row.Source.{Source}
 use Rattle.term_log.specs.Whole.{fresh, rejoined, tail_of}
 
 -- the registry, and the open logs in the order in which they were opened
@@ -53,14 +53,14 @@ abbrev pub inputs_of : List WholeLog → Inputs
 inputs_of logs = record { silent = []; ends = map end_of_log logs }
 
 -- a log without frames, made for what the publication says
-abbrev pub begun : State → Option Publication → List WholeLog
+abbrev pub begun : State → Option Source → List WholeLog
 begun s None = []
 begun s (Some publication) =
-    record { source = publication.source; whole = fresh (ident_of s.settings publication) } ∷ []
+    record { source = publication.number; whole = fresh (ident_of s.settings publication) } ∷ []
 
 abbrev pub opened_for : State → Option LogPlace → List WholeLog
 opened_for s None = []
-opened_for s (Some place) = begun s (publication_at s.streams.publications place.source)
+opened_for s (Some place) = begun s (source_at s.streams.sources place.source)
 
 abbrev pub stays_open : List LogPlace → WholeLog → Bool
 stays_open closes log = not (is_closed closes log.source)

@@ -11,7 +11,7 @@ use Rattle.log_arena.specs.Homes.{Home}
 use Rattle.log_arena.specs.Pages.{Region, has_lease}
 use Rattle.stream_registry.specs.declared.lingering.LogPlace.{LogPlace}
 use Rattle.stream_registry.specs.declared.pairs.Pair.{Pair}
-use Rattle.stream_registry.specs.declared.row.Publication.{Publication}
+use Rattle.stream_registry.specs.declared.row.Source.{Source}
 use Rattle.stream_registry.specs.LogPages.{pages_of, log_pages}
 use Rattle.term_log.specs.declared.ident.Ident.{Ident}
 use Rattle.term_log.specs.Log.{Log}
@@ -122,16 +122,16 @@ abbrev pub inputs_held : List HeldLog → Inputs
 inputs_held logs = record { silent = []; ends = map end_held logs }
 
 -- the log of the publication can be opened: its sizes are sound, and that place is the least vacant one
-abbrev pub IsOpening : HeldLogs → ℕ → Option Publication → Type 0
+abbrev pub IsOpening : HeldLogs → ℕ → Option Source → Type 0
 IsOpening logs place None = Unit {0}
 IsOpening logs place (Some publication) =
     AreSizes publication.measures × IsLeastVacant logs (log_pages publication) place
 
 -- the log of the publication, if there is one, is open behind the others
-abbrev pub OpensFor : HeldLogs → HeldLogs → Settings → ℕ → Option Publication → Type 0
+abbrev pub OpensFor : HeldLogs → HeldLogs → Settings → ℕ → Option Source → Type 0
 OpensFor old new settings place None = new ≡ old
 OpensFor old new settings place (Some publication) =
-    IsOpened old new publication.source place (ident_of settings publication)
+    IsOpened old new publication.number place (ident_of settings publication)
 
 -- the first log of that source
 abbrev pub held_at : List HeldLog → ℕ → Option HeldLog

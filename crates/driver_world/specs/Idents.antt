@@ -2,7 +2,7 @@
 use Rattle.driver_core.specs.declared.settings.Settings.{Settings}
 use Rattle.channel_uri.specs.declared.media.Media.{Media}
 use Rattle.channel_uri.specs.declared.media.Media.TheVariants.{Udp, Ipc, Counter}
-use Rattle.stream_registry.specs.declared.row.Publication.{Publication}
+use Rattle.stream_registry.specs.declared.row.Source.{Source}
 use Rattle.term_log.specs.declared.ident.Ident.{Ident}
 use Rattle.term_log.specs.declared.ident.LogKind.{LogKind}
 use Rattle.term_log.specs.declared.ident.LogKind.TheVariants as kind
@@ -14,7 +14,7 @@ kind_over Ipc = kind.Ipc
 kind_over Counter = kind.Udp
 
 -- it begins at position 0, in the term of the driver's first term id
-abbrev pub ident_of : Settings → Publication → Ident
+abbrev pub ident_of : Settings → Source → Ident
 ident_of settings publication = record {
   kind = kind_over publication.channel.media;
   session = publication.session;

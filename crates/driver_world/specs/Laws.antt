@@ -9,7 +9,7 @@ use Rattle.driver_core.specs.Conduct.{outcome_of, state_of}
 use Rattle.driver_core.specs.Listing.{list, value}
 use Rattle.driver_core.specs.LogRequests.{offering_of, registration_at, has_pair}
 use Rattle.driver_core.specs.Pairs.{pairs_of}
-use Rattle.driver_core.specs.Renewal.{publication_at, subscription_at}
+use Rattle.driver_core.specs.Renewal.{source_at, subscription_at}
 use Rattle.driver_core.specs.Soundness.{AreSettings}
 use Rattle.driver_core.specs.State.{State, opened}
 use Rattle.driver_core.specs.Verdicts.{IsByPolicy}
@@ -31,7 +31,7 @@ use Rattle.policy_core.specs.declared.verdict.Verdict.{Verdict}
 use Rattle.policy_core.specs.Question.{Question}
 use Rattle.policy_core.specs.RuleList.{Rules}
 use Rattle.policy_core.specs.Rules.{verdict_of}
-use Rattle.stream_registry.specs.declared.row.Publication.{Publication}
+use Rattle.stream_registry.specs.declared.row.Source.{Source}
 use Rattle.stream_registry.specs.declared.row.Registration.{Registration}
 use Rattle.stream_registry.specs.declared.row.Subscription.{Subscription}
 use Rattle.stream_registry.specs.PageLaws.{IsLaidOut}
@@ -109,13 +109,13 @@ RunsTakeEvents =
 abbrev pub made_for : WholeLog → ℕ × Ident
 made_for log = (log.source, log.whole.ident)
 
-abbrev pub made_as : Settings → Publication → ℕ × Ident
-made_as settings publication = (publication.source, ident_of settings publication)
+abbrev pub made_as : Settings → Source → ℕ × Ident
+made_as settings publication = (publication.number, ident_of settings publication)
 
 -- each live publication has its log, in the same order; no two of them share a page; and exactly those subscriptions read
 -- it that the registry says
 pub record LogsFollow (e : RunEnd) : Type 0 where
-  pub made : map made_for e.logs ≡ map (made_as e.registry.settings) e.registry.streams.publications
+  pub made : map made_for e.logs ≡ map (made_as e.registry.settings) e.registry.streams.sources
   pub apart : IsLaidOut e.registry.settings.arena_pages e.registry.streams
   pub read :
       All (λ log. map (λ pair. pair.subscription) log.whole.pairs ≡ readers_of (pairs_of e.registry) log.source) e.logs
@@ -129,12 +129,12 @@ LogsFollowTheRegistry = AtEachEnd LogsFollow
 pub record OfferRequest : Type 0 where
   pub client : Client
   pub registration : Registration
-  pub publication : Publication
+  pub publication : Source
 
 pub record AsksToOffer (s : State) (handle number : ℕ) (request : OfferRequest) : Type 0 where
   pub client_is : client_at s.clients.rows handle ≡ Some request.client
   pub registration_is : registration_at s.streams.registrations handle number ≡ Some request.registration
-  pub publication_is : publication_at s.streams.publications request.registration.source ≡ Some request.publication
+  pub publication_is : source_at s.streams.sources request.registration.source ≡ Some request.publication
 
 -- whether the client may put messages into the log, on the registration's own channel and the log's stream
 abbrev pub offer_question : OfferRequest → Question
@@ -177,7 +177,7 @@ pub record OfferIsDecided (e : RunEnd) (now : ℕ) (message : List ℕ) (request
 pub record OffersAreDecided (e : RunEnd) : Type 0 where
   pub there :
       (now handle number : ℕ) (message : List ℕ) (request : OfferRequest) (log : WholeLog) →
-      AsksToOffer e.registry handle number request → log_at e.logs request.publication.source ≡ Some log →
+      AsksToOffer e.registry handle number request → log_at e.logs request.publication.number ≡ Some log →
       OfferIsDecided e now message request log (moved e (Offer now handle number message))
   pub unregistered :
       (now handle number : ℕ) (message : List ℕ) → registration_at e.registry.streams.registrations handle number ≡ None →

@@ -1,7 +1,7 @@
 -- The log that an event opens, if it opens one, and what becomes of the others. Own rules.
 use Rattle.std.specs.Prelude.{◌≡◌, ◌<◌, List, length, map, filter, Option, Some, None}
 use Rattle.driver_core.specs.Pairs.{pairs_of}
-use Rattle.driver_core.specs.Renewal.{publication_at}
+use Rattle.driver_core.specs.Renewal.{source_at}
 use Rattle.driver_core.specs.State.{State}
 use Rattle.driver_world.specs.declared.opening.Opening.{Opening}
 use Rattle.driver_world.specs.Held.{HeldLogs, IsOpening, OpensFor, is_kept, rejoined_held}
@@ -21,13 +21,13 @@ HasRoom logs (Some opening) = length logs.logs < logs.room
 abbrev pub CanOpen : HeldLogs → State → Option LogPlace → Type 0
 CanOpen logs after None = Unit {0}
 CanOpen logs after (Some opens) =
-    IsOpening logs opens.place (publication_at after.streams.publications opens.source)
+    IsOpening logs opens.place (source_at after.streams.sources opens.source)
 
 -- it was opened
 abbrev pub OpensNext : HeldLogs → HeldLogs → State → Option LogPlace → Type 0
 OpensNext old new after None = new ≡ old
 OpensNext old new after (Some opens) =
-    OpensFor old new after.settings opens.place (publication_at after.streams.publications opens.source)
+    OpensFor old new after.settings opens.place (source_at after.streams.sources opens.source)
 
 -- the log that the event opens is open, those are closed that it closes, and then exactly the pairs read
 pub record Follows (old new : HeldLogs) (after : State) (place : Option LogPlace) (closes : List LogPlace) : Type 0 where

@@ -17,7 +17,7 @@ use Rattle.driver_world.specs.Idents.{ident_of}
 use Rattle.driver_world.specs.Memory.{HasMemory, HaveMemory}
 use Rattle.driver_world.specs.Moves.{WholeLog, StandsForLog}
 use Rattle.policy_core.specs.RuleList.{Rules}
-use Rattle.stream_registry.specs.declared.row.Publication.{Publication}
+use Rattle.stream_registry.specs.declared.row.Source.{Source}
 use Rattle.stream_registry.specs.LogPages.{holds}
 use Rattle.term_log.specs.declared.ident.Ident.{Ident}
 
@@ -41,9 +41,9 @@ row_held held = record {
   ident = held.log.kept.ident;
 }
 
-abbrev pub row_for : Settings → Publication → LogRow
+abbrev pub row_for : Settings → Source → LogRow
 row_for settings publication = record {
-  source = publication.source;
+  source = publication.number;
   place = 4096 * publication.place;
   ident = ident_of settings publication;
 }
@@ -53,12 +53,12 @@ row_for settings publication = record {
 pub record Match (s : State) (held : HeldLogs) : Type 0 where
   pub sound : IsSound s
   pub pages : held.pages ≡ s.settings.arena_pages
-  pub rows : map row_held held.logs ≡ map (row_for s.settings) s.streams.publications
+  pub rows : map row_held held.logs ≡ map (row_for s.settings) s.streams.sources
 
 -- of each page of the arena, from the first on, whether a live log of the registry has it
 unfoldable pub pages_of_logs : State → List Bool
 pages_of_logs s =
-    map (λ page. list_any (λ publication. holds publication page) s.streams.publications)
+    map (λ page. list_any (λ publication. holds publication page) s.streams.sources)
     (range_with_len 0 s.settings.arena_pages)
 
 -- ---- which end a world stands for

@@ -1,6 +1,6 @@
 //! The log of a publication that comes.
 
-ghost use Rattle.driver_core.specs.Renewal.{publication_at};
+ghost use Rattle.driver_core.specs.Renewal.{source_at};
 ghost use Rattle.driver_world.specs.Held.{IsOpening, OpensFor};
 ghost use Rattle.driver_world.specs.Idents.{ident_of, kind_over};
 ghost use Rattle.driver_world.specs.Opening.{CanOpen, HasRoom, OpensNext, place_of};
@@ -10,7 +10,7 @@ use crate::open_logs::OpenLogs;
 use channel_uri::Media;
 use driver_core::{Registry, Settings};
 use std::alloc::{AllocError, Global};
-use stream_registry::{LogPlace, Publication};
+use stream_registry::{LogPlace, Source};
 use term_log::{Ident, LogKind, LogRoom};
 
 /// Over datagrams, or in shared memory.
@@ -24,7 +24,7 @@ fn kind_over(media: Media) -> LogKind
 }
 
 /// What the log of the publication is made for.
-fn ident_of(settings: Settings, publication: &Publication) -> Ident
+fn ident_of(settings: Settings, publication: &Source) -> Ident
     ensures { result ≡ ident_of settings publication.now }
 {
     Ident {
@@ -65,16 +65,16 @@ pub(crate) fn prepare(
 
 /// Opens the log of the publication of that source, if the registry has it, at that place. It takes no memory.
 fn open_for(logs: &mut OpenLogs, registry: &Registry, opening: Opening)
-    requires fits { IsOpening logs.old opening.place.place (publication_at registry.now.streams.publications opening.place.source) }
+    requires fits { IsOpening logs.old opening.place.place (source_at registry.now.streams.sources opening.place.source) }
     requires room { length logs.old.logs < logs.old.room }
-    ensures { OpensFor logs.old logs.new registry.now.settings opening.place.place (publication_at registry.now.streams.publications opening.place.source) }
+    ensures { OpensFor logs.old logs.new registry.now.settings opening.place.place (source_at registry.now.streams.sources opening.place.source) }
 {
     let Opening { place, memory } = opening;
-    let Some(publication) = registry.publication(place.source) else {
+    let Some(publication) = registry.source(place.source) else {
         return;
     };
     let ident = ident_of(registry.settings(), publication);
-    logs.open(memory, publication.source, place.place, ident);
+    logs.open(memory, publication.number, place.place, ident);
 }
 
 /// Opens the log that an event opens, if it opens one. It takes no memory.
