@@ -1,7 +1,7 @@
 use frame_codec::{
-    BadPacket, Datagram, Flags, Frame, Frames, Header, Kind, Nak, Packet, Setup, StatusMessage,
-    TermPlace, padded_length, position, term_of, write_beat, write_data, write_nak, write_pad,
-    write_setup, write_sm,
+    BadPacket, Datagram, Flags, Frame, Frames, Header, Join, Kind, Nak, Packet, Setup,
+    StatusMessage, TermPlace, padded_length, position, term_of, write_beat, write_data, write_nak,
+    write_pad, write_setup, write_sm,
 };
 use std::alloc::{AllocError, Global};
 
@@ -233,6 +233,81 @@ fn header_of(kind: Kind, length: u32, place: TermPlace) -> Header {
         place,
         reserved_value: 0,
     }
+}
+
+/// How many bytes there are at most in a term: 16 MiB.
+const LONGEST: i32 = 16_777_216;
+
+/// What SETUPs state: the length of a term, the MTU, the term offset, the initial and the active term, and the position
+/// at which an image joins, if no fault of theirs keeps it from joining.
+type Joining = (i32, i32, u32, i32, i32, Option<u64>);
+
+const JOININGS: [Joining; 22] = [
+    (65_536, 1408, 0, 5, 5, Some(0)),
+    (65_536, 1408, 96, 5, 7, Some(131_168)),
+    (131_072, 64, 131_040, 5, 5, Some(131_040)),
+    (LONGEST, 65_504, 32, 0, 1, Some(16_777_248)),
+    // Ids of terms wrap.
+    (65_536, 1408, 64, i32::MAX, i32::MIN, Some(65_600)),
+    (65_536, 1408, 0, 0, i32::MAX, Some(140_737_488_289_792)),
+    (65_536, 1408, 0, 0, i32::MIN, None),
+    (65_536, 1408, 0, 5, 4, None),
+    (0, 1408, 0, 5, 5, None),
+    (-65_536, 1408, 0, 5, 5, None),
+    (32_768, 1408, 0, 5, 5, None),
+    (65_568, 1408, 0, 5, 5, None),
+    (196_608, 1408, 0, 5, 5, None),
+    (33_554_432, 1408, 0, 5, 5, None),
+    (65_536, 32, 0, 5, 5, None),
+    (65_536, 65_536, 0, 5, 5, None),
+    (65_536, 1400, 0, 5, 5, None),
+    (65_536, -1408, 0, 5, 5, None),
+    (65_536, 1408, 65_536, 5, 5, None),
+    (65_536, 1408, 65_504, 5, 5, Some(65_504)),
+    (65_536, 1408, 33, 5, 5, None),
+    (131_072, 1408, 65_536, 5, 5, Some(65_536)),
+];
+
+/// Whether an image joins where the row says, and with the sizes that it says.
+fn joins_at(row: Joining) -> bool {
+    let (term_length, mtu, term_offset, initial_term_id, active_term_id, wanted) = row;
+    let setup = Setup {
+        term_offset,
+        initial_term_id,
+        active_term_id,
+        term_length,
+        mtu,
+        ..SETUP_FIELDS
+    };
+    match (setup.join(), wanted) {
+        (Some(join), Some(position)) => join == joined(term_length, mtu, position),
+        (None, None) => true,
+        _ => false,
+    }
+}
+
+fn joined(term_length: i32, mtu: i32, position: u64) -> Join {
+    Join {
+        position,
+        term_length: term_length as u32,
+        mtu: mtu as u32,
+    }
+}
+
+fn join_at(rows: &[Joining]) -> bool {
+    for &row in rows {
+        if !joins_at(row) {
+            return false;
+        }
+    }
+    true
+}
+
+#[test]
+fn images_join_by_sound_setups(rt: HostRuntime) {
+    assert!(rt; join_at(&JOININGS));
+    assert!(rt; !join_at(&[(65_536, 1408, 32, 5, 5, Some(0))]));
+    assert!(rt; !join_at(&[(65_536, 1408, 32, 5, 5, None)]));
 }
 
 fn is_setup_written() -> bool {

@@ -8,6 +8,8 @@ mod audits;
 #[cfg(test)]
 mod compilations;
 #[cfg(test)]
+mod destinations;
+#[cfg(test)]
 mod policies;
 #[cfg(test)]
 mod resends;
