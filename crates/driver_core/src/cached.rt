@@ -15,7 +15,7 @@ use crate::log_request::LogRequest;
 use crate::registry::Registry;
 use decision_cache::Cache;
 use policy_core::{Act, Decision, Request, Verdict};
-use stream_registry::{Source, Registration, Subscription};
+use stream_registry::{Registration, Source, Subscription};
 
 /// What is cached of one registry is right of each that comes after it: no event makes an entry wrong, also where it puts
 /// a policy in force, or takes a row away. An empty cache is right of any.

@@ -12,11 +12,7 @@ use std::alloc::{AllocError, Global};
 use stream_registry::{Pair, Source, Streams, Subscription, Wish, fits, is_allowed, reads};
 
 /// Puts the pairs of the subscription with the logs that it fits behind the others.
-fn push_fitting(
-    pairs: &mut Items<Pair>,
-    logs: &[Source],
-    wish: &Wish<'_>,
-) -> Result<(), AllocError>
+fn push_fitting(pairs: &mut Items<Pair>, logs: &[Source], wish: &Wish<'_>) -> Result<(), AllocError>
     ensures { OnOk result (pairs.new ≡ pairs.old ++ map (pair_with (row_of wish.now)) (filter (λ log. fits log (row_of wish.now)) logs.now)) }
 {
     for log in logs {

@@ -1,3 +1,0 @@
-pub mod Fragments
-pub mod Held
-pub mod Whole
