@@ -1,59 +1,6 @@
 use crate::faults::{is_so, pattern_fault};
 use channel_uri::{Channel, Pattern, UriError};
 
-/// Whether the pattern of the text covers the channel of the other.
-fn covers(pattern: &str, channel: &str) -> Result<bool, UriError> {
-    let pattern = Pattern::parse(pattern)?;
-    let channel = Channel::parse(channel)?;
-    Ok(pattern.covers(&channel))
-}
-
-const PORTS: &str = "aeron:udp?endpoint=127.0.0.1:4*";
-
-const LOCAL: &str = "aeron:udp?endpoint=127.0.0.1:40123|control=127.0.0.1:1|a=localhost:1";
-
-/// A pattern, a channel, and whether the one covers the other.
-const COVERED: [(&str, &str, bool); 17] = [
-    (PORTS, "aeron:udp?endpoint=localhost:40123", true),
-    (PORTS, "aeron-spy:aeron:udp?endpoint=127.0.0.1:40123", true),
-    (PORTS, "aeron:udp?endpoint=localhost:50123", false),
-    (PORTS, "aeron:udp?endpoint=127.0.0.1:50123", false),
-    (PORTS, "aeron:ipc", false),
-    (PORTS, "aeron:udp", false),
-    (
-        PORTS,
-        "aeron-spy:aeron:udp?mtu=1408|endpoint=127.0.0.1:40123",
-        true,
-    ),
-    ("*", "aeron:ipc", true),
-    ("aeron:udp?a=x*y", "aeron:udp?a=x*y", true),
-    ("aeron:udp?a=x*y", "aeron:udp?a=xzy", false),
-    // In the keys of addresses, and only there, this host's name is its address.
-    ("aeron:udp?endpoint=localhost:4*", LOCAL, true),
-    ("aeron:udp?endpoint=localhost:40123", LOCAL, true),
-    ("aeron:udp?control=localhost:*", LOCAL, true),
-    ("aeron:udp?a=localhost:*", LOCAL, true),
-    ("aeron:udp?a=127.0.0.1:*", LOCAL, false),
-    ("aeron:udp?endpoint=localhost:5*", LOCAL, false),
-    ("aeron:udp?endpoint=localhost*", LOCAL, false),
-];
-
-fn are_covered(rows: &[(&str, &str, bool)]) -> bool {
-    for &(pattern, channel, covered) in rows {
-        if covers(pattern, channel) != Ok(covered) {
-            return false;
-        }
-    }
-    true
-}
-
-#[test]
-fn pattern_covers(rt: HostRuntime) {
-    assert!(rt; are_covered(&COVERED));
-    assert!(rt; !are_covered(&[(PORTS, "aeron:ipc", true)]));
-    assert!(rt; !are_covered(&[("*", "aeron:ipc", false)]));
-}
-
 /// Whether a copy of the pattern of the text covers counters, and another that became equal to it.
 fn copies_cover_counters(text: &str) -> Result<bool, UriError> {
     let pattern = Pattern::parse(text)?;

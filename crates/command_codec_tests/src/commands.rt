@@ -1,4 +1,4 @@
-use crate::layouts::{changed, command_fault, each_front_is_malformed, is_so, longer};
+use crate::layouts::is_so;
 use byte_strings::{Bytes, ShortBytes, ShortText, Text};
 use command_codec::{
     AddCounter, AddPublication, AddSubscription, Body, Command, CommandFault, Removal, SetCounter,
@@ -40,17 +40,6 @@ const SUBSCRIBE: [u8; 45] = [
     0, 0, 0, 0, 0, 0, 0, 0, // registration correlation
     0x0a, 0, 0, 0, // stream
     0x09, 0, 0, 0, 0x61, 0x65, 0x72, 0x6f, 0x6e, 0x3a, 0x69, 0x70, 0x63, // channel
-];
-
-/// The same without its last byte.
-const CUT: [u8; 44] = [
-    0x04, 0, 0, 0, 0x01, 0, 0, 0, 0, 0, 0, 0, 0x0b, 0, 0, 0, 0, 0, 0, 0, 0, 0, 0, 0, 0, 0, 0, 0,
-    0x0a, 0, 0, 0, 0x09, 0, 0, 0, 0x61, 0x65, 0x72, 0x6f, 0x6e, 0x3a, 0x69, 0x70,
-];
-
-/// Two bytes behind a CLIENT_KEEPALIVE.
-const LONGER: [u8; 22] = [
-    0x06, 0, 0, 0, 0x02, 0, 0, 0, 0, 0, 0, 0, 0x07, 0, 0, 0, 0, 0, 0, 0, 0, 0,
 ];
 
 /// ADD_SUBSCRIPTION whose numbers have each byte, both signs, and the greatest value.
@@ -285,109 +274,4 @@ fn are_rows(alloc: Global, rows: &[Row]) -> bool {
 fn commands_have_their_bytes(rt: HostRuntime) {
     assert!(rt; are_rows(rt.alloc(), &COMMANDS));
     assert!(rt; !are_rows(rt.alloc(), &[(2, 6, Plain::ClientKeepalive, &KEEPALIVE)]));
-}
-
-/// Whether the bytes with another one, a zero, are no command because of a field, nor is a front of them.
-fn is_whole(alloc: Global, bytes: &[u8]) -> Result<bool, CommandFault> {
-    let longer = longer(alloc, bytes)?;
-    Ok(
-        each_front_is_malformed(alloc, bytes)
-            && command_fault(alloc, longer.as_slice()) == Some(CommandFault::Malformed),
-    )
-}
-
-fn are_whole(alloc: Global, rows: &[Row]) -> bool {
-    for &(_, _, _, bytes) in rows {
-        if !is_so(is_whole(alloc, bytes)) {
-            return false;
-        }
-    }
-    true
-}
-
-/// No front of a command is one, and neither is a command with another byte.
-#[test]
-fn commands_end_with_their_bytes(rt: HostRuntime) {
-    assert!(rt; are_whole(rt.alloc(), &COMMANDS));
-    assert!(rt; !are_whole(rt.alloc(), &[(2, 6, Plain::ClientKeepalive, &LONGER)]));
-    assert!(rt; !each_front_is_malformed(rt.alloc(), &LONGER));
-}
-
-/// The bytes of a command, a place, another byte that stands there, and what is wrong then.
-type ChangedRow = (&'static [u8], usize, u8, CommandFault);
-
-const CHANGED: [ChangedRow; 9] = [
-    (&SUBSCRIBE, 0, 0x55, CommandFault::Unknown),
-    // A length past the end, one below the bytes there, a negative one, a channel that is not ASCII.
-    (&SUBSCRIBE, 32, 0x0a, CommandFault::Malformed),
-    (&SUBSCRIBE, 32, 0x08, CommandFault::Malformed),
-    (&SUBSCRIBE, 35, 0x80, CommandFault::Malformed),
-    (&SUBSCRIBE, 44, 0xe9, CommandFault::Malformed),
-    (&ADD, 24, 0x0a, CommandFault::Malformed),
-    (&ADD, 24, 0x08, CommandFault::Malformed),
-    (&ADD, 27, 0x80, CommandFault::Malformed),
-    (&ADD, 36, 0xe9, CommandFault::Malformed),
-];
-
-/// Whether the bytes with another one at a place have this fault.
-fn is_faulty_at(alloc: Global, row: ChangedRow) -> Result<bool, CommandFault> {
-    let (bytes, place, byte, fault) = row;
-    let changed = changed(alloc, bytes, place, byte)?;
-    Ok(command_fault(alloc, changed.as_slice()) == Some(fault))
-}
-
-fn are_faulty_there(alloc: Global, rows: &[ChangedRow]) -> bool {
-    for &row in rows {
-        if !is_so(is_faulty_at(alloc, row)) {
-            return false;
-        }
-    }
-    true
-}
-
-#[test]
-fn fields_that_do_not_fit_are_malformed(rt: HostRuntime) {
-    assert!(rt; are_faulty_there(rt.alloc(), &CHANGED));
-    assert!(rt; !are_faulty_there(rt.alloc(), &[(&ADD, 24, 0x09, CommandFault::Malformed)]));
-}
-
-/// Bytes that are no command, why, and what stands in the place of their correlation id.
-const NO_COMMANDS: [(&[u8], CommandFault, u64); 5] = [
-    (&CUT, CommandFault::Malformed, 11),
-    (&[], CommandFault::Malformed, 0),
-    // The type is looked at before the rest.
-    (&[0x55, 0, 0, 0], CommandFault::Unknown, 0),
-    (
-        &[
-            0x55, 0, 0, 0, 0x01, 0, 0, 0, 0, 0, 0, 0, 0x0b, 0, 0, 0, 0, 0, 0, 0,
-        ],
-        CommandFault::Unknown,
-        11,
-    ),
-    (
-        &[
-            0x04, 0, 0, 0, 0x01, 0, 0, 0, 0, 0, 0, 0, 0x0b, 0, 0, 0, 0, 0, 0,
-        ],
-        CommandFault::Malformed,
-        0,
-    ),
-];
-
-/// Whether each has its fault, and its correlation id.
-fn are_answered(alloc: Global, rows: &[(&[u8], CommandFault, u64)]) -> bool {
-    for &(bytes, fault, correlation) in rows {
-        if command_fault(alloc, bytes) != Some(fault)
-            || Command::correlation_of(bytes) != correlation
-        {
-            return false;
-        }
-    }
-    true
-}
-
-#[test]
-fn malformed_commands(rt: HostRuntime) {
-    assert!(rt; are_answered(rt.alloc(), &NO_COMMANDS));
-    assert!(rt; !are_answered(rt.alloc(), &[(&CUT, CommandFault::Malformed, 12)]));
-    assert!(rt; !are_answered(rt.alloc(), &[(&CUT, CommandFault::Unknown, 11)]));
 }

@@ -1,6 +1,6 @@
 //! What the tests ask of bytes. Where no memory is there, nothing is as a test expects.
 
-use command_codec::{Command, CommandFault, Reply};
+use command_codec::{CommandFault, Reply};
 use std::alloc::{AllocError, Global};
 
 /// Whether it came about.
@@ -11,30 +11,12 @@ pub(crate) fn is_so(answered: Result<bool, CommandFault>) -> bool {
     }
 }
 
-/// Why the bytes are no command; none where they are one.
-pub(crate) fn command_fault(alloc: Global, bytes: &[u8]) -> Option<CommandFault> {
-    match Command::read(alloc, bytes) {
-        Ok(_) => None,
-        Err(fault) => Some(fault),
-    }
-}
-
 /// Why the bytes are no reply; none where they are one.
 pub(crate) fn reply_fault(alloc: Global, bytes: &[u8]) -> Option<CommandFault> {
     match Reply::read(alloc, bytes) {
         Ok(_) => None,
         Err(fault) => Some(fault),
     }
-}
-
-/// Whether each front of the bytes, short of the whole, is no command because of a field.
-pub(crate) fn each_front_is_malformed(alloc: Global, bytes: &[u8]) -> bool {
-    for len in 0..bytes.len() {
-        if command_fault(alloc, &bytes[..len]) != Some(CommandFault::Malformed) {
-            return false;
-        }
-    }
-    true
 }
 
 /// Whether each front of the bytes, short of the whole, is no reply because of a field.

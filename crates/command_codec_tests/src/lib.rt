@@ -1,4 +1,4 @@
-//! Tests of `command_codec`: the bytes of each command and reply, and of what is none.
+//! Tests of `command_codec`: the bytes of each command and reply, and of what is no reply.
 #![tactic(auto)]
 
 #[cfg(test)]
@@ -7,7 +7,5 @@ mod codes;
 mod commands;
 #[cfg(test)]
 mod layouts;
-#[cfg(test)]
-mod lengths;
 #[cfg(test)]
 mod replies;

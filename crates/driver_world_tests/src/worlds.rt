@@ -53,13 +53,17 @@ fn are_answered(answers: &[Answer], comers: &[Option<u64>]) -> bool {
     answers.len() == comers.len()
 }
 
+fn are_free(world: &World, runs: &[(usize, usize)]) -> bool {
+    world.holes() == runs
+}
+
 fn runs_to(alloc: Global, world: &mut World, row: &Row) -> Result<bool, AllocError> {
     let mut steps = Vec::new(alloc);
     for &deed in row.0 {
         steps.push(Step::Conductor(event(alloc, deed)?))?;
     }
     let answers = world.run(alloc, steps.as_slice())?;
-    Ok(are_answered(answers.as_slice(), row.1) && world.holes() == row.2)
+    Ok(are_answered(answers.as_slice(), row.1) && are_free(world, row.2))
 }
 
 /// Whether the rows' events come to the rows, one behind the other, where everything is allowed.
