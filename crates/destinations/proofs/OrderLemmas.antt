@@ -1,6 +1,5 @@
 -- A table of destinations stays orderly, whatever is done.
 use Rattle.std.proofs.Common.{◌≡◌, ℕ, ◌+◌, ◌<◌, ◌≤◌, ◌==◌, ◌||◌, Bool, true, false, cond, List, [], ◌∷◌, ◌++◌, Result, Ok, Err, length, filter, refl, sym, ap, subst, ◌∙◌, length-append, nat_lt, arith}
-use Rattle.std.specs.List.{list_any}
 use Rattle.std.specs.Str.{bytes_eq}
 use Rattle.std.proofs.lemmas.Bool.{and_parts, eqb-true, ltb-true}
 use Rattle.std.proofs.lemmas.Bool.Decides.{nat_tests}
@@ -11,7 +10,7 @@ use Rattle.channel_uri.specs.Address.{is_same}
 use Rattle.destinations.specs.declared.destination.Destination.{Destination}
 use Rattle.destinations.specs.declared.fault.DestinationFault.{DestinationFault}
 use Rattle.destinations.specs.declared.fault.DestinationFault.TheVariants.{Conflict, Full}
-use Rattle.destinations.specs.Destinations.{DestinationList, none, is_of, of, is_at, has, has_room, adding, added, is_other, without, is_of_others, without_sources, cleared}
+use Rattle.destinations.specs.Destinations.{DestinationList, is_of, of, is_at, has, has_room, adding, added, is_other, without, is_of_others, without_sources}
 use Rattle.destinations.specs.Laws.{Rises, AreOnce, AreOrderly, IsOrderly, StaysOrderly}
 
 -- ---- numbers rise

@@ -1,11 +1,10 @@
 -- The room is for 32 destinations of each of 256 logs.
 use Rattle.std.proofs.Common.{◌≡◌, ℕ, ◌+◌, ◌*◌, ◌<◌, ◌≤◌, ◌==◌, ◌||◌, Bool, true, false, List, [], ◌∷◌, length, refl, subst, arith}
 use Rattle.std.specs.List.{AllByRecursion, list_any}
-use Rattle.std.proofs.lemmas.Bool.{eqb-true}
 use Rattle.std.proofs.lemmas.Bool.Decides.{nat_tests}
 use Rattle.destinations.specs.declared.destination.Destination.{Destination}
-use Rattle.destinations.specs.Destinations.{DestinationList, is_of, of}
-use Rattle.destinations.specs.Laws.{IsAmong, IsOrderly, RoomIsForEverySource}
+use Rattle.destinations.specs.Destinations.{is_of, of}
+use Rattle.destinations.specs.Laws.{IsAmong, RoomIsForEverySource}
 
 -- how many destinations these logs have together
 abbrev total : List ℕ → List Destination → ℕ

@@ -1,5 +1,5 @@
 -- What holds of every table of destinations that calls make.
-use Rattle.std.specs.Prelude.{◌≡◌, ℕ, ◌+◌, ◌<◌, ◌≤◌, ◌==◌, Bool, true, false, List, [], ◌∷◌, length, Ok}
+use Rattle.std.specs.Prelude.{◌≡◌, ℕ, ◌<◌, ◌≤◌, ◌==◌, true, false, List, [], ◌∷◌, length, Ok}
 use Rattle.std.specs.List.{AllByRecursion, list_any}
 use Rattle.channel_uri.specs.declared.address.Address.{Address}
 use Rattle.destinations.specs.declared.destination.Destination.{Destination}

@@ -289,8 +289,8 @@ fn joins_at(row: Joining) -> bool {
 fn joined(term_length: i32, mtu: i32, position: u64) -> Join {
     Join {
         position,
-        term_length: term_length as u32,
-        mtu: mtu as u32,
+        term_length: term_length.cast_unsigned(),
+        mtu: mtu.cast_unsigned(),
     }
 }
 
