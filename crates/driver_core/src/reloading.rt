@@ -21,7 +21,12 @@ impl Registry {
         requires { self.now.epoch < 18446744073709551615 }
         ensures { result ≡ length (pairs_of (in_force self.now policy.now)) }
     {
-        log_readers::pair_count(&self.streams, &self.clients, policy, self.compiled.epoch() + 1)
+        log_readers::pair_count(
+            &self.streams,
+            &self.clients,
+            policy,
+            self.compiled.epoch() + 1,
+        )
     }
 
     /// Whether there is a number for the policy, and room for the pairs that it allows. It takes no memory.
@@ -39,7 +44,13 @@ impl Registry {
         ensures gone { IfOk result (λ turnover. turnover.gone ≡ gone_from self.now (in_force self.now policy.now)) }
         ensures come { IfOk result (λ turnover. turnover.come ≡ come_to self.now (in_force self.now policy.now)) }
     {
-        self.readers.turnover_under(alloc, &self.streams, &self.clients, policy, self.compiled.epoch() + 1)
+        self.readers.turnover_under(
+            alloc,
+            &self.streams,
+            &self.clients,
+            policy,
+            self.compiled.epoch() + 1,
+        )
     }
 
     /// What it tells, and does outside the registry, that a policy is to be in force for which there is room.
