@@ -44,7 +44,7 @@ one_stays s after entry stays cached =
     let known = cached.epoch in
     let last = stays.last in
     let registered : (row : Registration) → Contains after.streams.registrations row → row.number ≡ entry.0.subject →
-        Contains s.streams.registrations row =
+    Contains s.streams.registrations row =
     λ row has number.
     was_there _ s.last_number row.number (omega (arith, drawn, number)) (stays.registrations row has) in
     record {
@@ -137,7 +137,7 @@ pub offer_cached : (s : State) (principal : ℕ) (registration : Registration) (
 offer_cached s principal registration log sources registered has stands with =
     let last = s.last_number in
     let own : (row : Registration) → Contains s.streams.registrations row → row.number ≡ registration.number →
-        registration ≡ row =
+    registration ≡ row =
     λ row there number. unique registered_as 0 last s.streams.registrations registration row registered has there (sym number) in
     record {
       epoch = omega arith;
