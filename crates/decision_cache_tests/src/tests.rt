@@ -1,7 +1,9 @@
 use super::*;
 use byte_strings::ShortText;
 use channel_uri::{Channel, Pattern, UriError};
-use policy_core::{Act, Acts, Policy, Principals, Rule, Verdict};
+use compiled_policy::Compiled;
+use decision_cache::Cache;
+use policy_core::{Act, Acts, Policy, Principals, Request, Rule, Verdict};
 use std::alloc::Global;
 
 /// A rule on the streams up to this one, about every act.
@@ -126,4 +128,28 @@ fn are_at_most_256(alloc: Global) -> Option<bool> {
 #[test]
 fn the_257th_verdict(rt: HostRuntime) {
     assert_eq!(rt; are_at_most_256(rt.alloc()), Some(true));
+}
+
+/// Whether rules that were made ready decide for a cache as their policy does, and the cache holds what they decided.
+fn are_compiled(alloc: Global) -> Option<bool> {
+    let compiled = Compiled::build(alloc, policy(alloc, true)?, 3).ok()?;
+    let channel = Channel::parse("aeron:ipc").ok()?;
+    let request = Request {
+        principal: 2,
+        act: Act::Offer,
+        channel: &channel,
+        stream: 99,
+    };
+    let mut cache = Cache::new(alloc).ok()?;
+    let wanted = Verdict {
+        allow: false,
+        rule: Some(2),
+        epoch: 3,
+    };
+    Some(cache.verdict(&compiled, 7, &request) == wanted && cache.len() == 1)
+}
+
+#[test]
+fn compiled_rules_decide(rt: HostRuntime) {
+    assert_eq!(rt; are_compiled(rt.alloc()), Some(true));
 }

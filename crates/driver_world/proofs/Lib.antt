@@ -1,3 +1,4 @@
+pub mod CachingLemmas
 pub mod DecisionLemmas
 pub mod EndLemmas
 pub mod FollowLemmas

@@ -1,4 +1,5 @@
 pub mod Answers
+pub mod Caching
 pub mod Ends
 pub mod Held
 pub mod Idents

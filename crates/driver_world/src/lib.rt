@@ -6,6 +6,7 @@
 #![tactic(auto)]
 
 mod answer;
+mod caches;
 mod inputs;
 mod laws;
 mod offering;
