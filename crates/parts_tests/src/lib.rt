@@ -8,7 +8,7 @@ mod audits;
 #[cfg(test)]
 mod compilations;
 #[cfg(test)]
-mod destinations;
+mod destination_rows;
 #[cfg(test)]
 mod policies;
 #[cfg(test)]
