@@ -8,9 +8,10 @@ use Rattle.driver_core.specs.declared.settings.Settings.{Settings}
 use Rattle.driver_core.specs.Renewal.{source_at}
 use Rattle.driver_core.specs.Soundness.{AreSizes, Ascend, MovesLogs, Opens, is_left, log_of}
 use Rattle.driver_core.specs.State.{State}
-use Rattle.driver_world.specs.Held.{HeldLog, HeldLogs, IsLeastVacant, IsOpening, OpensFor, is_closed, is_kept, rejoined_held}
+use Rattle.driver_world.specs.Held.{HeldLog, HeldLogs, IsOpening, OpensFor, is_closed, is_kept, plots_of, rejoined_held}
 use Rattle.driver_world.specs.Idents.{ident_of}
 use Rattle.driver_world.specs.Opening.{CanOpen, OpensNext}
+use Rattle.driver_world.specs.Plots.{IsLeastVacant}
 use Rattle.driver_world.specs.Standing.{LogRow, Match, row_for, row_held}
 use Rattle.driver_world.proofs.VacancyLemmas.{least_held}
 use Rattle.stream_registry.specs.declared.lingering.LogPlace.{LogPlace}
@@ -86,12 +87,12 @@ if_found P source (log ∷ logs) all =
     (if_found P source logs (All-tail P log logs all))
 
 is_opening : (held : HeldLogs) (found : Option Source) (log : Source) → option_map log_of found ≡ Some log
-    → IfSome found (λ publication. AreSizes publication.measures) → IsLeastVacant held (log_pages log) log.place
+    → IfSome found (λ publication. AreSizes publication.measures) → IsLeastVacant held.pages (plots_of held.logs) (log_pages log) log.place
     → IsOpening held log.place found
 is_opening held None log is sizes least = tt
 is_opening held (Some publication) log is sizes least =
     let same : log_of publication ≡ log = ap (λ (o : Option Source). unwrap_or o log) is in
-    (sizes, subst (λ (l : Source). IsLeastVacant held (log_pages l) log.place) (sym same) least)
+    (sizes, subst (λ (l : Source). IsLeastVacant held.pages (plots_of held.logs) (log_pages l) log.place) (sym same) least)
 
 pub opening_fits : (s : State) (held : HeldLogs) (change : Change) (place : LogPlace) → Match s held → MovesLogs s change
     → change.outcome.opens ≡ Some place
@@ -156,12 +157,16 @@ adds_none settings old new opened new_is none = record {
 
 row_is : (settings : Settings) (source place : ℕ) (publication log : Source) (l : Log) → log_of publication ≡ log → place ≡ log.place
     → l.kept.ident ≡ ident_of settings publication → l.kept.buffers.place ≡ 4096 * place
+    → l.kept.buffers.term_length ≡ l.kept.ident.term_length
     → row_held (record { source = publication.number; log = l }) ≡ row_for settings log
-row_is settings source place publication log l same place_is ident at =
+row_is settings source place publication log l same place_is ident at terms =
     let there : l.kept.buffers.place ≡ 4096 * log.place = at ∙ ap (λ n. 4096 * n) place_is in
     let first : row_held (record { source = publication.number; log = l })
-    ≡ record { source = publication.number; place = 4096 * log.place; ident = ident_of settings publication } = rw (there, ident) refl in
-    first ∙ ap (λ (p : Source). record { source = p.number; place = 4096 * log.place; ident = ident_of settings p }) same
+    ≡ record { source = publication.number; place = 4096 * log.place; term_length = publication.measures.term_length; ident = ident_of settings publication } =
+    rw (there, terms, ident) refl in
+    first
+    ∙ ap (λ (p : Source). record { source = p.number; place = 4096 * log.place; term_length = p.measures.term_length; ident = ident_of settings p })
+    same
 
 adds_one : (settings : Settings) (old new : HeldLogs) (place : ℕ) (found : Option Source) (log : Source) (opened : List Source)
     → option_map log_of found ≡ Some log → place ≡ log.place → opened ≡ log ∷ [] → OpensFor old new settings place found
@@ -173,7 +178,8 @@ adds_one settings old new place (Some publication) log opened is place_is one op
       logs = record { source = publication.number; log = opens.log } ∷ [];
       new_is = opens.new_is;
       rows = ap (λ (row : LogRow). row ∷ [])
-          (row_is settings publication.number place publication log opens.log same place_is opens.stands.ident opens.place_is)
+          (row_is settings publication.number place publication log opens.log same place_is opens.stands.ident opens.place_is
+          opens.stands.frames.same)
           ∙ sym (ap (map (row_for settings)) one);
     }
 

@@ -26,13 +26,7 @@ pub appended_lies : (source : ℕ) (l : Log) (frames : List Frame) →
     (record { source = source; log = record l { kept = after_frames l.kept frames } })
 appended_lies source l frames =
     let same = after_frames_home l.kept frames in
-    record {
-      source_is = refl;
-      ident_is = same.0;
-      home_is = same.1;
-      place_is = same.2;
-      terms_are = same.3;
-    }
+    record { plot_is = rw (same.1, same.2, same.3) refl; ident_is = same.0 }
 
 -- ---- an offer
 
@@ -139,10 +133,4 @@ poll_gives s client subscription limit held request position is there allowed =
 pub polled_lies : (source : ℕ) (old new : Log) → new.kept ≡ old.kept →
     LiesAsBefore (record { source = source; log = old }) (record { source = source; log = new })
 polled_lies source old new same =
-    record {
-      source_is = refl;
-      ident_is = rw same refl;
-      home_is = rw same refl;
-      place_is = rw same refl;
-      terms_are = rw same refl;
-    }
+    record { plot_is = rw same refl; ident_is = rw same refl }

@@ -12,10 +12,11 @@ use Rattle.driver_core.specs.State.{State}
 use Rattle.driver_world.specs.declared.answer.Answer.{Answer}
 use Rattle.driver_world.specs.declared.step.Step.{Step}
 use Rattle.driver_world.specs.Ends.{RunEnd, opening_end, conducted, inputs_of, IsAnswer, AreAnswers, after, end_of}
-use Rattle.driver_world.specs.Held.{HeldLog, HeldLogs}
+use Rattle.driver_world.specs.Held.{HeldLog, HeldLogs, plot_of}
 use Rattle.driver_world.specs.Idents.{ident_of}
 use Rattle.driver_world.specs.Memory.{HasMemory, HaveMemory}
 use Rattle.driver_world.specs.Moves.{WholeLog, StandsForLog}
+use Rattle.driver_world.specs.Plots.{Plot}
 use Rattle.policy_core.specs.RuleList.{Rules}
 use Rattle.stream_registry.specs.declared.row.Source.{Source}
 use Rattle.stream_registry.specs.LogPages.{holds}
@@ -28,23 +29,25 @@ pub record Held : Type 0 where
 
 -- ---- what is held together: the open logs are those of the live publications
 
--- a log by its number, its first byte in the memory of all logs, and what it is made for
+-- a log by its number, its first byte in the memory of all logs, how many bytes one of its terms has, and what it is made for
 pub record LogRow : Type 0 where
   pub source : ℕ
   pub place : ℕ
+  pub term_length : ℕ
   pub ident : Ident
 
+abbrev pub row_on : Plot → Ident → LogRow
+row_on plot ident =
+    record { source = plot.source; place = plot.place; term_length = plot.term_length; ident = ident }
+
 abbrev pub row_held : HeldLog → LogRow
-row_held held = record {
-  source = held.source;
-  place = held.log.kept.buffers.place;
-  ident = held.log.kept.ident;
-}
+row_held held = row_on (plot_of held) held.log.kept.ident
 
 abbrev pub row_for : Settings → Source → LogRow
 row_for settings publication = record {
   source = publication.number;
   place = 4096 * publication.place;
+  term_length = publication.measures.term_length;
   ident = ident_of settings publication;
 }
 

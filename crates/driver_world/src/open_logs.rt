@@ -2,11 +2,12 @@
 
 ghost use Rattle.driver_core.specs.Pairs.{pairs_of as all_pairs};
 ghost use Rattle.driver_core.specs.Readers.{readers_of};
-ghost use Rattle.driver_world.specs.Held.{IsLeastVacant, IsOpened, is_closed, is_kept, place_at, rejoined_held, taken_pages, with_readers, without};
+ghost use Rattle.driver_world.specs.Held.{IsOpened, is_closed, is_kept, place_at, plots_of, rejoined_held, with_readers, without};
 ghost use Rattle.driver_world.specs.declared.answer.Answer.TheVariants.{Gone, Offered as OfferedAs};
 ghost use Rattle.driver_world.specs.declared.answer.Offered.TheVariants.{Closed};
 ghost use Rattle.driver_world.specs.Memory.{GivesFirst};
 ghost use Rattle.driver_world.specs.Moves.{MovesFirst, offer_move, poll_move};
+ghost use Rattle.driver_world.specs.Plots.{IsLeastVacant, taken_pages};
 ghost use Rattle.log_arena.specs.Pages.{holes_of};
 ghost use Rattle.std.specs.Prelude.{◌≡◌, ℕ, ◌%◌, ◌<◌, ◌≤◌, [], length, map, filter, IfOk, OnOk, OnErr};
 ghost use Rattle.stream_registry.specs.LogPages.{pages_of};
@@ -35,7 +36,8 @@ pub(crate) struct OpenLogs {
 }
 
 impl Model for OpenLogs {
-    ghost use Rattle.driver_world.specs.Held.{HeldLogs, AreHoused};
+    ghost use Rattle.driver_world.specs.Held.{HeldLogs, plots_of};
+    ghost use Rattle.driver_world.specs.Plots.{AreHoused};
     ghost use Rattle.std.specs.Vec.{vec_capacity};
 
     ghost Value = { HeldLogs };
@@ -46,7 +48,7 @@ impl Model for OpenLogs {
       room = vec_capacity held.logs;
     } };
 
-    ghost invariant = { λ held. AreHoused held.arena held.logs.items };
+    ghost invariant = { λ held. AreHoused held.arena (plots_of held.logs.items) };
 }
 
 /// Where the first log of that source is in the list.
@@ -84,7 +86,7 @@ impl OpenLogs {
 
     /// The maximal runs of pages that no log has, each as its place and its length in bytes, ascending.
     pub(crate) fn holes(&self) -> &[(usize, usize)]
-        ensures { result.now ≡ holes_of (taken_pages self.now) }
+        ensures { result.now ≡ holes_of (taken_pages self.now.pages (plots_of self.now.logs)) }
     {
         self.arena.holes()
     }
@@ -102,7 +104,7 @@ impl OpenLogs {
     pub(crate) fn open(&mut self, memory: LogRoom, source: u64, place: u64, ident: Ident)
         requires ident { IsIdent ident }
         requires whole { ident.term_length % 4096 ≡ 0 }
-        requires vacant { IsLeastVacant self.old (pages_of ident.term_length) place }
+        requires vacant { IsLeastVacant self.old.pages (plots_of self.old.logs) (pages_of ident.term_length) place }
         requires room { length self.old.logs < self.old.room }
         ensures { IsOpened self.old self.new source place ident }
     {

@@ -13,7 +13,7 @@ invariant_of-self c =
     let logs : List HeldLog = c.self.inside.logs.items in
     let within : c.args.at < length logs = subst (λ (h : HeldLogs). c.args.at < length h.logs) (sym c.self.view_is) c.requires.at in
     let new : HeldLog = record { source = c.behind-self.inside.source; log = c.rejoin.new.self } in
-    housed_set c.self.inside.arena logs c.args.at new within (λ d.
+    housed_set c.self.inside.arena logs c.args.at new (λ d.
     let was = get_or_default logs c.args.at d c.index_mut.result.now within ∙ sym c.index_mut.ensures.value ∙ sym c.behind-self.view_is in
     subst (λ (h : HeldLog). LiesAsBefore h new) (sym was)
     (readers_lie c.behind-self.inside.source c.args.subscriptions.now c.behind-self.inside.log c.rejoin.new.self c.rejoin.ensures.exact)) c.self.invariant
