@@ -3,7 +3,7 @@ use Rattle.std.proofs.Common.{◌≡◌, ℕ, ◌==◌, ◌||◌, Bool, true, fa
 use Rattle.std.specs.List.{list_any}
 use Rattle.any_log.specs.declared.any_log.AnyLog.{AnyLog}
 use Rattle.any_log.specs.declared.any_log.AnyLog.TheVariants.{Term, Image}
-use Rattle.any_log.specs.Held.{Lies, Made, for_publication, for_stream, Place, made_held, pairs_held, place_held, position_held, reach_held, rejoined_held, terms_of}
+use Rattle.any_log.specs.Held.{Lies, for_publication, for_stream, Place, made_held, pairs_held, place_held, position_held, reach_held, rejoined_held, terms_of}
 use Rattle.any_log.specs.Whole.{AnyWhole, whole, rebuilt, StandsFor, made_for, pairs_in, polled as any_polled, position_in, reach_of, readers_in, rejoined}
 use Rattle.image_log.specs.declared.ident.Ident.{Ident as ImageIdent}
 use Rattle.image_log.specs.Log.{Log as ImageLog}
