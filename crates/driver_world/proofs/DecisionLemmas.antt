@@ -152,6 +152,7 @@ rest_of (x ∷ xs) = xs
 -- so is each that is made for a publication
 all_appended : (settings : Settings) (logs : List WholeLog) (publications : List Source) →
     map made_for logs ≡ map (made_as settings) publications → All IsAppended logs
+unfolding first_of rest_of
 all_appended settings [] publications is = All-nil IsAppended
 all_appended settings (log ∷ logs) [] is = absurd (cc is)
 all_appended settings (log ∷ logs) (publication ∷ publications) is =
