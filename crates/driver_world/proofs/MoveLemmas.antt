@@ -1,5 +1,5 @@
 -- What an offer and a poll do with the log that is held, whichever whole log it stands for.
-use Rattle.std.proofs.Common.{rules, ◌≡◌, ℕ, ◌==◌, not, nat_lt, Bool, true, false, List, length, Option, Some, None, refl, sym, ap, subst, ◌∙◌}
+use Rattle.std.proofs.Common.{rules, ◌≡◌, ℕ, ◌==◌, nat_lt, true, false, List, length, Option, Some, None, refl, sym, ap, subst, ◌∙◌}
 use Rattle.any_log.specs.declared.any_log.AnyLog.{AnyLog}
 use Rattle.any_log.specs.declared.any_log.AnyLog.TheVariants.{Term, Image}
 use Rattle.any_log.specs.declared.fragment.Fragment.{Fragment}
@@ -15,7 +15,7 @@ use Rattle.driver_world.specs.declared.answer.Offered.TheVariants.{Closed, TooLo
 use Rattle.driver_world.specs.Answers.{offered_as}
 use Rattle.driver_world.specs.Held.{HeldLog, LiesAsBefore, plot_on}
 use Rattle.driver_world.specs.Memory.{Gives}
-use Rattle.driver_world.specs.Moves.{WholeLog, Move, StandsForLog, Does, answered, taken, given, offer_let, offer_to, offers, offer_move, poll_move, term_held}
+use Rattle.driver_world.specs.Moves.{WholeLog, Move, StandsForLog, Does, answered, taken, given, offer_to, offers, offer_move, poll_move, term_held}
 use Rattle.image_log.specs.Log.{Log as ImageLog}
 use Rattle.policy_core.specs.declared.verdict.Verdict.{Verdict}
 use Rattle.term_log.specs.declared.offer.Offer.{Offer}

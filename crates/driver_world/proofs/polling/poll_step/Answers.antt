@@ -1,6 +1,6 @@
 use Rattle.std.proofs.Common.{rules, ◌≡◌, None, Some, true, refl}
 use Rattle.any_log.specs.Held.{position_held}
-use Rattle.any_log.specs.Whole.{Fetches, position_in}
+use Rattle.any_log.specs.Whole.{Fetches}
 use Rattle.driver_core.specs.LogRequests.{receiving_of}
 use Rattle.driver_world.specs.Held.{HeldLog}
 use Rattle.driver_world.specs.Memory.{Gives}
