@@ -9,6 +9,10 @@ use Rattle.std.proofs.lemmas.List.Elements.{All-push}
 use Rattle.std.proofs.lemmas.List.Edits.{get_or-remove_below, get_or-remove_above, length-remove}
 use Rattle.std.proofs.lemmas.List.Folds.{list_any-append, list_any_none, list_any_at}
 use Rattle.std.proofs.lemmas.List.Quantifiers.{all_pairs_push, all_pairs_remove}
+use Rattle.any_log.specs.declared.any_log.AnyLog.{AnyLog}
+use Rattle.any_log.specs.Held.{Lies, rejoined_held as rejoined_any}
+use Rattle.any_log.proofs.AnyLemmas.{rejoined_lies}
+use Rattle.driver_world.proofs.MoveLemmas.{held_lies}
 use Rattle.driver_world.specs.Held.{HeldLog, LiesAsBefore, plot_of, plots_of}
 use Rattle.driver_world.specs.Plots.{Plot, has_page, is_taken, IsVacant, IsLeastVacant, LiesIn, ShareNoPage, AreHoused}
 use Rattle.log_arena.specs.Homes.{Home}
@@ -17,8 +21,6 @@ use Rattle.log_arena.specs.declared.lease.Lease.{Lease}
 use Rattle.log_arena.specs.Pages.{Region, has_lease, IsFree, IsLeastPlace, HasNoPlace, marked}
 use Rattle.log_arena.proofs.Marks.{first_pages, page_behind, length-marked}
 use Rattle.stream_registry.specs.LogPages.{pages_of}
-use Rattle.term_log.specs.Log.{Log}
-use Rattle.term_log.specs.Whole.{rejoined_kept}
 
 -- ---- marked pages
 
@@ -155,13 +157,10 @@ housed_set region logs at log alike housed =
     subst (AreHoused region) (sym (map-set_same plot_of logs at log log (alike log).plot_is)) housed
 
 -- others read it now
-pub readers_lie : (source : ℕ) (subscriptions : List ℕ) (old new : Log) → new ≡ rejoined_kept subscriptions old
+pub readers_lie : (source : ℕ) (subscriptions : List ℕ) (old new : AnyLog) → new ≡ rejoined_any subscriptions old
     → LiesAsBefore (record { source = source; log = old }) (record { source = source; log = new })
-unfolding rejoined_kept
-readers_lie source subscriptions old new is = record {
-  plot_is = ap (λ (l : Log). plot_of (record { source = source; log = l })) is;
-  ident_is = ap (λ (l : Log). l.kept.ident) is;
-}
+readers_lie source subscriptions old new is =
+    held_lies source old new (subst (λ (l : AnyLog). Lies old l) (sym is) (rejoined_lies subscriptions old))
 
 -- ---- a log closes
 

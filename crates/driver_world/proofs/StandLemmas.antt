@@ -89,7 +89,7 @@ gives_first e source move absent old all gives =
 -- ---- a log that lies as before is in the same row
 
 same_row : (old new : HeldLog) → LiesAsBefore old new → row_held new ≡ row_held old
-same_row old new lies = ap₂ row_on lies.plot_is lies.ident_is
+same_row old new lies = ap₂ row_on lies.plot_is lies.made_is
 
 rows_cond : (b : Bool) (first held new : HeldLog) (others others' : List HeldLog) (rest : Option HeldLog) →
     (if b then Some first else rest) ≡ Some held → LiesAsBefore held new →

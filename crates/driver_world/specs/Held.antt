@@ -1,6 +1,9 @@
 -- The logs that a driver holds open, and where each lies. Own rules.
 use Rattle.std.specs.Prelude.{◌≡◌, ℕ, zero, suc, ◌+◌, ◌*◌, Bool, not, ◌==◌, List, [], ◌∷◌, ◌++◌, map, find, position, take, drop, Option, Some, None, if◌then◌else◌}
 use Rattle.std.specs.List.{list_any}
+use Rattle.any_log.specs.declared.any_log.AnyLog.{AnyLog}
+use Rattle.any_log.specs.Held.{Place, made_held, place_held, reach_held, rejoined_held as rejoined_any, terms_of}
+use Rattle.any_log.specs.Whole.{AnyWhole, whole, StandsFor, made_for}
 use Rattle.driver_core.specs.declared.event.End.{End}
 use Rattle.driver_core.specs.declared.event.Inputs.{Inputs}
 use Rattle.driver_core.specs.declared.settings.Settings.{Settings}
@@ -12,14 +15,12 @@ use Rattle.stream_registry.specs.declared.lingering.LogPlace.{LogPlace}
 use Rattle.stream_registry.specs.declared.pairs.Pair.{Pair}
 use Rattle.stream_registry.specs.declared.row.Source.{Source}
 use Rattle.stream_registry.specs.LogPages.{log_pages}
-use Rattle.term_log.specs.declared.ident.Ident.{Ident}
-use Rattle.term_log.specs.Log.{Log}
-use Rattle.term_log.specs.Whole.{Stands, fresh, rejoined_kept}
+use Rattle.term_log.specs.Whole.{fresh}
 
 -- a log, by its source number
 pub record HeldLog : Type 0 where
   pub source : ℕ
-  pub log : Log
+  pub log : AnyLog
 
 -- how many pages there are for logs, the logs that are open, in the order in which they were opened, and for how many of
 -- them there is room in memory
@@ -31,13 +32,12 @@ pub record HeldLogs : Type 0 where
 -- ---- the memory
 
 -- where the log lies
+abbrev pub plot_on : ℕ → Place → Plot
+plot_on source place =
+    record { source = source; home = place.home; place = place.place; term_length = place.term_length }
+
 abbrev pub plot_of : HeldLog → Plot
-plot_of held = record {
-  source = held.source;
-  home = held.log.kept.buffers.home;
-  place = held.log.kept.buffers.place;
-  term_length = held.log.kept.buffers.term_length;
-}
+plot_of held = plot_on held.source (place_held held.log)
 
 abbrev pub plots_of : List HeldLog → List Plot
 plots_of logs = map plot_of logs
@@ -45,15 +45,16 @@ plots_of logs = map plot_of logs
 -- the log lies where it lay, and is made for what it was made for
 pub record LiesAsBefore (old new : HeldLog) : Type 0 where
   pub plot_is : plot_of new ≡ plot_of old
-  pub ident_is : new.log.kept.ident ≡ old.log.kept.ident
+  pub made_is : made_held new.log ≡ made_held old.log
 
 -- ---- what becomes of the logs
 
--- a log that begins was opened behind the others
-pub record IsOpened (old new : HeldLogs) (source place : ℕ) (ident : Ident) : Type 0 where
-  pub log : Log
-  pub stands : Stands log (fresh ident)
-  pub place_is : log.kept.buffers.place ≡ 4096 * place
+-- a log that begins as that one was opened behind the others
+pub record IsOpened (old new : HeldLogs) (source place : ℕ) (begins : AnyWhole) : Type 0 where
+  pub log : AnyLog
+  pub stands : StandsFor log begins
+  pub place_is : (place_held log).place ≡ 4096 * place
+  pub terms_are : (place_held log).term_length ≡ terms_of (made_for begins)
   pub new_is : new ≡ record old { logs = old.logs ++ record { source = source; log = log } ∷ [] }
 
 -- the source is one of those that close
@@ -69,19 +70,19 @@ without at logs = take at logs ++ drop (at + 1) logs
 
 -- exactly the subscriptions of these pairs read the log
 abbrev pub rejoined_held : List Pair → HeldLog → HeldLog
-rejoined_held pairs held = record held { log = rejoined_kept (readers_of pairs held.source) held.log }
+rejoined_held pairs held = record held { log = rejoined_any (readers_of pairs held.source) held.log }
 
 abbrev pub with_readers : ℕ → List ℕ → List HeldLog → List HeldLog
 with_readers at subscriptions [] = []
 with_readers zero subscriptions (held ∷ others) =
-    record held { log = rejoined_kept subscriptions held.log } ∷ others
+    record held { log = rejoined_any subscriptions held.log } ∷ others
 with_readers (suc at) subscriptions (held ∷ others) = held ∷ with_readers at subscriptions others
 
 -- ---- what the conductor is told, and what it opens
 
 -- how far each log reaches
 abbrev pub end_held : HeldLog → End
-end_held held = record { source = held.source; position = held.log.kept.tail }
+end_held held = record { source = held.source; position = reach_held held.log }
 
 abbrev pub inputs_held : List HeldLog → Inputs
 inputs_held logs = record { silent = []; ends = map end_held logs }
@@ -96,7 +97,7 @@ IsOpening logs place (Some publication) =
 abbrev pub OpensFor : HeldLogs → HeldLogs → Settings → ℕ → Option Source → Type 0
 OpensFor old new settings place None = new ≡ old
 OpensFor old new settings place (Some publication) =
-    IsOpened old new publication.number place (ident_of settings publication)
+    IsOpened old new publication.number place (whole (fresh (ident_of settings publication)))
 
 -- the first log of that source
 abbrev pub held_at : List HeldLog → ℕ → Option HeldLog

@@ -2,6 +2,7 @@
 -- goes on from each such end.
 use Rattle.std.specs.Prelude.{◌≡◌, ℕ, ◌*◌, Bool, List, [], ◌∷◌, ◌++◌, map}
 use Rattle.std.specs.List.{list_any, range_with_len}
+use Rattle.any_log.specs.Held.{Made, for_publication, made_held}
 use Rattle.driver_core.specs.declared.event.Event.{Event}
 use Rattle.driver_core.specs.declared.outcome.Outcome.{Outcome}
 use Rattle.driver_core.specs.declared.peer.Peer.{Peer}
@@ -20,7 +21,6 @@ use Rattle.driver_world.specs.Plots.{Plot}
 use Rattle.policy_core.specs.RuleList.{Rules}
 use Rattle.stream_registry.specs.declared.row.Source.{Source}
 use Rattle.stream_registry.specs.LogPages.{holds}
-use Rattle.term_log.specs.declared.ident.Ident.{Ident}
 
 -- the registry, and the open logs
 pub record Held : Type 0 where
@@ -34,21 +34,21 @@ pub record LogRow : Type 0 where
   pub source : ℕ
   pub place : ℕ
   pub term_length : ℕ
-  pub ident : Ident
+  pub made : Made
 
-abbrev pub row_on : Plot → Ident → LogRow
-row_on plot ident =
-    record { source = plot.source; place = plot.place; term_length = plot.term_length; ident = ident }
+abbrev pub row_on : Plot → Made → LogRow
+row_on plot made =
+    record { source = plot.source; place = plot.place; term_length = plot.term_length; made = made }
 
 abbrev pub row_held : HeldLog → LogRow
-row_held held = row_on (plot_of held) held.log.kept.ident
+row_held held = row_on (plot_of held) (made_held held.log)
 
 abbrev pub row_for : Settings → Source → LogRow
 row_for settings publication = record {
   source = publication.number;
   place = 4096 * publication.place;
   term_length = publication.measures.term_length;
-  ident = ident_of settings publication;
+  made = for_publication (ident_of settings publication);
 }
 
 -- Each live publication has its log, at the place that the registry gave it, and there is no other: so the pages that the

@@ -1,6 +1,6 @@
 use Rattle.std.proofs.Common.{◌≡◌, ◌++◌, map}
-use Rattle.driver_world.specs.Answers.{fragment_of}
-use Rattle.driver_world.proofs.polling.fragments_of.Given as goal
+use Rattle.any_log.specs.Fragments.{fragment_of}
+use Rattle.any_log.proofs.copies.copies_of_term.Given as goal
 
 -- the copies so far, and then those of the fragments that are still to come
 abbrev pub invariant-loop-fragment : goal.invariant-loop-fragment
