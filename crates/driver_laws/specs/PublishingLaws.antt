@@ -15,6 +15,7 @@ use Rattle.driver_core.specs.Renewal.{images_told, images_decided}
 use Rattle.driver_core.specs.Requests.{PublicationRequest, AsksToPublish, publication_question, wanted_by}
 use Rattle.driver_core.specs.State.{State, at_moment}
 use Rattle.driver_core.specs.Verdicts.{IsByPolicy, verdict_on}
+use Rattle.driver_laws.specs.ClosingLaws.{IsSameLog}
 use Rattle.driver_laws.specs.Events.{AfterAnyEvents}
 use Rattle.driver_laws.specs.GrantLaws.{IsRefusedOn, decided_on}
 use Rattle.stream_registry.specs.declared.fault.StreamFault.{StreamFault}
@@ -107,7 +108,7 @@ pub record IsRegisteredBy (s : State) (event : Event) (registration : Registrati
 pub record WasLive (streams : Streams) (log : Source) : Type 0 where
   pub before : Source
   pub stood : Contains streams.sources before
-  pub same : log ≡ record before { lingering_since = log.lingering_since }
+  pub same : IsSameLog log before
 
 -- the event is such a request, joins no log, and makes this one
 pub record IsLogMadeBy (s : State) (event : Event) (log : Source) : Type 0 where

@@ -18,6 +18,7 @@ use Rattle.driver_core.specs.Pairs.{pairs_of}
 use Rattle.driver_core.specs.Renewal.{source_at}
 use Rattle.driver_core.specs.Soundness.{AreSettings, IsSound, MovesLogs, Opens, is_left, log_of}
 use Rattle.driver_core.specs.State.{State, opened}
+use Rattle.driver_core.proofs.LogListLemmas.{all_published}
 use Rattle.driver_core.proofs.SoundnessLemmas.{moves_logs, registries_sound}
 use Rattle.driver_world.specs.declared.answer.Answer.{Answer}
 use Rattle.driver_world.specs.declared.answer.Answer.TheVariants.{Offered as OfferedAs, Gone as IsGone}
@@ -37,6 +38,7 @@ use Rattle.policy_core.specs.RuleList.{Rules}
 use Rattle.stream_registry.specs.declared.lingering.LogPlace.{LogPlace}
 use Rattle.stream_registry.specs.declared.pairs.Pair.{Pair}
 use Rattle.stream_registry.specs.declared.row.Source.{Source}
+use Rattle.stream_registry.specs.Origins.{is_published}
 use Rattle.term_log.specs.Log.{greatest_message}
 use Rattle.term_log.specs.Whole.{Whole, is_connected, offered}
 
@@ -126,14 +128,19 @@ rejoined_read pairs (log ∷ logs) =
     All-cons (IsRead pairs) (rejoined_log pairs log) (map (rejoined_log pairs) logs)
     (any_readers (readers_of pairs log.source) log.whole) (rejoined_read pairs logs)
 
-event_follows : (s : State) (change : Change) (logs : List WholeLog) → MovesLogs s change →
+made_for_all : (settings : Settings) (s : State) → IsSound s →
+    map (made_as settings) (filter is_published s.streams.sources) ≡ map (made_as settings) s.streams.sources
+made_for_all settings s sound = ap (map (made_as settings)) (all_published s.streams.sources sound.published)
+
+event_follows : (s : State) (change : Change) (logs : List WholeLog) → IsSound s → MovesLogs s change →
     LogsFollow (record { registry = s; logs = logs }) →
     Follows (record { registry = change.after; logs = logs_after change logs })
 unfolding logs_after
-event_follows s change logs moves follow = record {
+event_follows s change logs sound moves follow = record {
   sound = moves.sound;
   logs = record {
-    made = made_after s change logs moves follow.made;
+    made = made_after s change logs moves (follow.made ∙ made_for_all s.settings s sound)
+        ∙ sym (made_for_all change.after.settings change.after moves.sound);
     apart = moves.sound.laid_out;
     read = rejoined_read (pairs_of change.after)
         (filter (stays_open change.outcome.closes) (logs ++ opened_for change.after change.outcome.opens));
@@ -257,7 +264,7 @@ poll_follows e client subscription source limit follows =
 step_follows : (e : RunEnd) (step : Step) → Follows e → Follows (moved e step).after
 unfolding conducted
 step_follows e (Conductor event) follows =
-    event_follows e.registry (conduct e.registry event (inputs_of e.logs)) e.logs
+    event_follows e.registry (conduct e.registry event (inputs_of e.logs)) e.logs follows.sound
     (moves_logs e.registry event (inputs_of e.logs) follows.sound) follows.logs
 step_follows e (Offer now client registration message) follows =
     offer_follows e now client registration message (offering_of e.registry client registration) follows

@@ -13,12 +13,13 @@ use Rattle.driver_core.specs.declared.settings.Settings.{Settings}
 use Rattle.driver_core.specs.Renewal.{source_at}
 use Rattle.driver_core.specs.Soundness.{AreSizes, Ascend, MovesLogs, Opens, is_left, log_of}
 use Rattle.driver_core.specs.State.{State}
+use Rattle.driver_core.proofs.LogListLemmas.{all_published}
 use Rattle.driver_world.specs.Held.{HeldLog, HeldLogs, IsOpening, OpensFor, is_closed, is_kept, plot_on, plots_of, rejoined_held}
 use Rattle.driver_world.specs.Idents.{ident_of}
 use Rattle.driver_world.specs.Opening.{CanOpen, OpensNext}
 use Rattle.driver_world.specs.Plots.{IsLeastVacant}
 use Rattle.driver_world.specs.Standing.{LogRow, Match, row_for, row_held, row_on}
-use Rattle.driver_world.proofs.VacancyLemmas.{least_held}
+use Rattle.driver_world.proofs.VacancyLemmas.{least_held, rows_match}
 use Rattle.stream_registry.specs.declared.lingering.LogPlace.{LogPlace}
 use Rattle.stream_registry.specs.declared.pairs.Pair.{Pair}
 use Rattle.stream_registry.specs.declared.row.Source.{Source}
@@ -108,7 +109,7 @@ opening_fits s held change place match moves opens =
     let fits : IsOpening held log.place (source_at change.after.streams.sources log.number) =
     is_opening held (source_at change.after.streams.sources log.number) log found
     (if_found (λ publication. AreSizes publication.measures) log.number change.after.streams.sources moves.sound.sizes)
-    (least_held s held (log_pages log) log.place match opened.4 opened.5) in
+    (least_held s held (log_pages log) log.place match opened.5 opened.6) in
     subst (λ (p : LogPlace). IsOpening held p.place (source_at change.after.streams.sources p.source)) opened.2 fits
 
 can_open : (s : State) (held : HeldLogs) (change : Change) (opens : Option LogPlace) → Match s held → MovesLogs s change
@@ -221,7 +222,7 @@ rows_after s held new change pairs match moves added =
     let closes : List LogPlace = change.outcome.closes in
     let logs : List Source = map log_of s.streams.sources in
     let rows : map row_held held.logs ≡ map (row_for settings) s.streams.sources =
-    match.rows ∙ ap (λ (to : Settings). map (row_for to) s.streams.sources) (sym moves.settings) in
+    rows_match s held match ∙ ap (λ (to : Settings). map (row_for to) s.streams.sources) (sym moves.settings) in
     let left : filter (is_left closes) (logs ++ moves.opened) ≡ map log_of change.after.streams.sources =
     filter-append (is_left closes) logs moves.opened
     ∙ ap (λ (opened : List Source). filter (is_left closes) logs ++ opened) moves.stays
@@ -241,5 +242,6 @@ matches_after s held new change pairs match moves is =
     record {
       sound = moves.sound;
       pages = ap (λ (h : HeldLogs). h.pages) added.new_is ∙ match.pages ∙ ap (λ (to : Settings). to.arena_pages) (sym moves.settings);
-      rows = rows_after s held new change pairs match moves added;
+      rows = rows_after s held new change pairs match moves added
+          ∙ sym (ap (map (row_for change.after.settings)) (all_published change.after.streams.sources moves.sound.published));
     }

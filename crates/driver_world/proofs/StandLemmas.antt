@@ -149,6 +149,7 @@ opening_match room settings policy peers are =
         defaults = are.sizes;
         sizes = All-nil _;
         numbered = search rules;
+        published = All-nil _;
         laid_out = record { within = All-nil _; apart = λ i j d low high. absurd (omega (arith, high)) };
         subscriptions = search rules;
       };

@@ -1,5 +1,5 @@
 -- What holds at the end of every run, of the offers and polls there, and of the bytes that a poll gives.
-use Rattle.std.specs.Prelude.{◌≡◌, ℕ, ◌+◌, ◌==◌, ◌&&◌, not, nat_lt, true, false, List, [], ◌∷◌, ◌++◌, length, map, All, Contains, Option, Some, None, if◌then◌else◌}
+use Rattle.std.specs.Prelude.{◌≡◌, ℕ, ◌+◌, ◌==◌, ◌&&◌, not, nat_lt, true, false, List, [], ◌∷◌, ◌++◌, filter, length, map, All, Contains, Option, Some, None, if◌then◌else◌}
 use Rattle.any_log.specs.declared.fragment.Fragment.{Fragment}
 use Rattle.any_log.specs.Fragments.{fragment_of}
 use Rattle.any_log.specs.Held.{Made, for_publication}
@@ -39,6 +39,7 @@ use Rattle.policy_core.specs.Rules.{verdict_of}
 use Rattle.stream_registry.specs.declared.row.Source.{Source}
 use Rattle.stream_registry.specs.declared.row.Registration.{Registration}
 use Rattle.stream_registry.specs.declared.row.Subscription.{Subscription}
+use Rattle.stream_registry.specs.Origins.{is_published}
 use Rattle.stream_registry.specs.PageLaws.{IsLaidOut}
 use Rattle.term_log.specs.Cut.{cut}
 use Rattle.term_log.specs.Frames.{Frame, fragment, total}
@@ -120,7 +121,9 @@ made_as settings publication = (publication.number, for_publication (ident_of se
 -- each live publication has its log, in the same order; no two of them share a page; and exactly those subscriptions read
 -- it that the registry says
 pub record LogsFollow (e : RunEnd) : Type 0 where
-  pub made : map made_for e.logs ≡ map (made_as e.registry.settings) e.registry.streams.sources
+  pub made :
+      map made_for e.logs
+      ≡ map (made_as e.registry.settings) (filter is_published e.registry.streams.sources)
   pub apart : IsLaidOut e.registry.settings.arena_pages e.registry.streams
   pub read :
       All (λ log. readers_in log.whole ≡ readers_of (pairs_of e.registry) log.source) e.logs

@@ -1,6 +1,6 @@
 -- A world holds the registry and what is left of the logs. Each run ends where a world may stand; each call of a world
 -- goes on from each such end.
-use Rattle.std.specs.Prelude.{◌≡◌, ℕ, ◌*◌, Bool, List, [], ◌∷◌, ◌++◌, map}
+use Rattle.std.specs.Prelude.{◌≡◌, ℕ, ◌*◌, Bool, List, [], ◌∷◌, ◌++◌, filter, map}
 use Rattle.std.specs.List.{list_any, range_with_len}
 use Rattle.any_log.specs.Held.{Made, for_publication, made_held}
 use Rattle.driver_core.specs.declared.event.Event.{Event}
@@ -21,6 +21,7 @@ use Rattle.driver_world.specs.Plots.{Plot}
 use Rattle.policy_core.specs.RuleList.{Rules}
 use Rattle.stream_registry.specs.declared.row.Source.{Source}
 use Rattle.stream_registry.specs.LogPages.{holds}
+use Rattle.stream_registry.specs.Origins.{is_published}
 
 -- the registry, and the open logs
 pub record Held : Type 0 where
@@ -56,12 +57,12 @@ row_for settings publication = record {
 pub record Match (s : State) (held : HeldLogs) : Type 0 where
   pub sound : IsSound s
   pub pages : held.pages ≡ s.settings.arena_pages
-  pub rows : map row_held held.logs ≡ map (row_for s.settings) s.streams.sources
+  pub rows : map row_held held.logs ≡ map (row_for s.settings) (filter is_published s.streams.sources)
 
--- of each page of the arena, from the first on, whether a live log of the registry has it
+-- of each page of the arena, from the first on, whether a live publication of the registry has it
 unfoldable pub pages_of_logs : State → List Bool
 pages_of_logs s =
-    map (λ page. list_any (λ publication. holds publication page) s.streams.sources)
+    map (λ page. list_any (λ publication. holds publication page) (filter is_published s.streams.sources))
     (range_with_len 0 s.settings.arena_pages)
 
 -- ---- which end a world stands for
