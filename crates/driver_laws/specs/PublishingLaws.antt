@@ -159,7 +159,7 @@ PublicationsAreGrantedOnly =
 
 -- ---- and nothing else
 
--- each source is a publication, so that there is no image
+-- each is the log of a publication, and none that of a remote publisher
 abbrev pub ArePublications : List Source → Type 0
 ArePublications sources = (source : Source) → Contains sources source → IsPublication source
 

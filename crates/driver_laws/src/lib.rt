@@ -45,7 +45,7 @@ pub fn publications_are_granted_only()
     ensures { PublicationsAreGrantedOnly }
 {}
 
-/// In every registry each source is a publication, whatever the settings: no event brings an image.
+/// In every registry each log is that of a publication, whatever the settings: no event brings that of a remote publisher.
 pub fn sources_are_publications()
     ensures { SourcesArePublications }
 {}
