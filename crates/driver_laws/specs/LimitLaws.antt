@@ -19,7 +19,8 @@ use Rattle.stream_registry.specs.Origins.{is_published}
 
 -- ---- none is passed
 
--- at most 64 clients, 256 publications and 512 images, 1,024 registrations with them, 512 subscriptions, 1,024 counters and 4,096 pairs
+-- at most 64 clients, 256 publications and 512 images, 1,024 registrations with publications, 512 subscriptions, 1,024
+-- counters and 4,096 pairs
 pub record IsWithinLimits (s : State) : Type 0 where
   pub clients : length s.clients.rows ≤ 64
   pub sources : AreFew s.streams.sources

@@ -68,7 +68,7 @@ pub record ShowsPublicationExactly (s : State) (client : Client) (publication : 
       verdict_text (verdict_on s (publication_look client publication))
       ≡ denial_text (verdict_on s (publication_look client publication)).rule s.epoch
 
--- what a look is told, whoever looks
+-- what a look is told, whoever looks; the log of a remote publisher is no counter, and none is there (`SourcesArePublications`)
 pub record LooksExactly (s : State) (handle : ℕ) : Type 0 where
   pub listed :
       (client : Client) → client_at s.clients.rows handle ≡ Some client → ListsExactly s client (list s handle)

@@ -15,15 +15,15 @@ pub add_log-requires-clause-same : goal.add_log-requires-clause-same
 add_log-requires-clause-same c =
     ap (λ (readers : List (List ℕ)). length readers) c.requires.exact
     ∙ as_many_as_logs c.args.clients.now.rows c.args.policy.now c.args.epoch c.args.streams.now
-    ∙ sym (ap (λ (logs : List Source). length logs) c.sources.ensures.value)
+    ∙ sym (ap (λ (logs : List Source). length logs) c.sources-logs.ensures.value)
 
 pub add_log-requires-clause-room : goal.add_log-requires-clause-room
 add_log-requires-clause-room c =
     let room = ltb-true (length (filter is_published c.args.streams.now.sources)) 256
     (make_has_room_for_log c.args.streams.now c.args.wanted.now c.in-Make.session (c.requires.taken ∙ ap Ok c.in-Make.is)) in
-    room_for_publication c.sources.result.now
-    (subst (λ (logs : List Source). length (filter is_published logs) < 256) (sym c.sources.ensures.value) room)
-    c.sources.ensures.kinds
+    room_for_publication c.sources-logs.result.now
+    (subst (λ (logs : List Source). length (filter is_published logs) < 256) (sym c.sources-logs.ensures.value) room)
+    c.sources-logs.ensures.kinds
 
 pub returns-in-Join : goal.returns-in-Join
 returns-in-Join c =
