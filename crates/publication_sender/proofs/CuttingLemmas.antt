@@ -1,18 +1,18 @@
 -- What is due of a log that is held is what is due of each whole log that it stands for.
-use Rattle.std.proofs.Common.{◌≡◌, ℕ, ◌+◌, List, [], ◌∷◌, length, Option, Some, None, refl, sym, ap, ap₂, subst, ◌∙◌, arith}
+use Rattle.std.proofs.Common.{◌≡◌, ℕ, ◌+◌, true, List, [], ◌∷◌, length, Option, Some, None, refl, sym, ap, ap₂, subst, ◌∙◌, arith}
 use Rattle.std.specs.Prelude.{◌++◌, Bool, drop}
 use Rattle.frame_codec.specs.Setup.{setup_bytes}
 use Rattle.publication_sender.specs.declared.cutting.Due.{Due}
 use Rattle.publication_sender.specs.declared.cutting.Due.TheVariants as dues
 use Rattle.publication_sender.specs.declared.cutting.Pace.{Pace}
-use Rattle.publication_sender.specs.Cutting.{Cuts, CutsFrames, IsDue, Lays, LaysDue, beat_of, bytes_as, cut_of, datagram_of, due_of, frames_bytes, has_frames, setup_at}
+use Rattle.publication_sender.specs.Cutting.{Cuts, CutsFrames, HasFrames, IsDue, Lays, LaysDue, beat_of, bytes_as, cut_of, datagram_of, due_among, due_of, frames_bytes, setup_at}
 use Rattle.term_log.specs.declared.ident.Ident.{Ident}
 use Rattle.term_log.specs.Frames.{Frame, span}
-use Rattle.term_log.specs.Log.{Log}
+use Rattle.term_log.specs.Log.{Log, connected_of}
 use Rattle.term_log.specs.Reading.{Given, all_given}
-use Rattle.term_log.specs.Sender.{Sending, budget_of}
+use Rattle.term_log.specs.Sender.{Sending, budget_of, is_past, is_setup_due}
 use Rattle.term_log.specs.SenderSteps.{IsStartIn, ReadsFrom, datagram_cut, frames_for, next_frames, sent_on, setup_cut}
-use Rattle.term_log.specs.Whole.{Carries, Stands, Whole}
+use Rattle.term_log.specs.Whole.{Carries, Stands, Whole, is_connected}
 
 -- ---- the frames of the next datagram
 
@@ -30,6 +30,28 @@ reads_next l w position budget left reads here some start s =
     let most : budget ≡ budget_of w.sender w.ident.mtu = some ∙ rw (s.sender, s.ident) refl in
     (reads.on w s (start.on w s)).0
     ∙ ap₂ (λ (p b : ℕ). all_given w.ident p (frames_for w p b)) at most
+
+-- ---- what is due
+
+-- the first test decides alone
+pub due_setup : (pace : Pace) (now : ℕ) (l : Log) → is_setup_due l.sender (connected_of l now pace.connection_timeout) now pace.setup_interval ≡ true
+    → IsDue pace now l (Some dues.Setup)
+unfolding due_of connected_of
+due_setup pace now l ready =
+    record {
+      on = λ w s.
+          let same : is_setup_due l.sender (connected_of l now pace.connection_timeout) now pace.setup_interval
+          ≡ is_setup_due w.sender (is_connected w now pace.connection_timeout) now pace.setup_interval = rw (s.ident, s.pairs, s.sender) refl in
+          rw (sym same ∙ ready) refl;
+    }
+
+-- then all three
+pub due_behind : (pace : Pace) (now : ℕ) (l : Log) (due : Option Due) (some : Bool) → HasFrames l some
+    → due ≡ due_among (is_setup_due l.sender (connected_of l now pace.connection_timeout) now pace.setup_interval) some (is_past now l.sender.datagram pace.heartbeat_interval)
+    → IsDue pace now l due
+unfolding due_of connected_of
+due_behind pace now l due some has is =
+    record { on = λ w s. is ∙ rw (s.ident, s.pairs, s.sender, has.on w s) refl }
 
 -- ---- what is due is cut
 
