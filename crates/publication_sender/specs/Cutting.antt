@@ -8,8 +8,8 @@ use Rattle.frame_codec.specs.Frame.{beat_bytes}
 use Rattle.frame_codec.specs.Position.{term_id_of}
 use Rattle.frame_codec.specs.Setup.{setup_bytes}
 use Rattle.frame_codec.specs.Writing.{no_flags}
-use Rattle.publication_sender.specs.declared.cutting.Due.{Due}
-use Rattle.publication_sender.specs.declared.cutting.Due.TheVariants as dues
+use Rattle.publication_sender.specs.declared.cutting.DatagramKind.{DatagramKind}
+use Rattle.publication_sender.specs.declared.cutting.DatagramKind.TheVariants as kinds
 use Rattle.publication_sender.specs.declared.cutting.Pace.{Pace}
 use Rattle.term_log.specs.declared.ident.Ident.{Ident}
 use Rattle.term_log.specs.Ident.{place_at}
@@ -26,11 +26,11 @@ abbrev pub has_frames : Whole → Bool
 has_frames w = nat_lt 0 (length (next_frames w))
 
 -- the first that is
-abbrev pub due_among : Bool → Bool → Bool → Option Due
+abbrev pub due_among : Bool → Bool → Bool → Option DatagramKind
 due_among setup frames beat =
-    if setup then Some dues.Setup else if frames then Some dues.Frames else if beat then Some dues.Heartbeat else None
+    if setup then Some kinds.Setup else if frames then Some kinds.Frames else if beat then Some kinds.Heartbeat else None
 
-unfoldable pub due_of : Pace → ℕ → Whole → Option Due
+unfoldable pub due_of : Pace → ℕ → Whole → Option DatagramKind
 due_of pace now w =
     due_among (is_setup_due w.sender (is_connected w now pace.connection_timeout) now pace.setup_interval) (has_frames w)
     (is_past now w.sender.datagram pace.heartbeat_interval)
@@ -63,10 +63,10 @@ beat_of lingers i position = beat_bytes (beat_flags lingers) (place_at i positio
 abbrev pub frames_bytes : Whole → List ℕ
 frames_bytes w = sent_bytes (all_given w.ident w.sender.position (next_frames w))
 
-abbrev pub bytes_as : Bool → Whole → Due → List ℕ
-bytes_as lingers w dues.Setup = setup_bytes (setup_at w.ident w.sender.position)
-bytes_as lingers w dues.Frames = frames_bytes w
-bytes_as lingers w dues.Heartbeat = beat_of lingers w.ident w.sender.position
+abbrev pub bytes_as : Bool → Whole → DatagramKind → List ℕ
+bytes_as lingers w kinds.Setup = setup_bytes (setup_at w.ident w.sender.position)
+bytes_as lingers w kinds.Frames = frames_bytes w
+bytes_as lingers w kinds.Heartbeat = beat_of lingers w.ident w.sender.position
 
 -- The datagram that is cut, if one is due.
 unfoldable pub datagram_of : Pace → ℕ → Bool → Whole → Option (List ℕ)
@@ -74,11 +74,11 @@ datagram_of pace now lingers w = option_map (bytes_as lingers w) (due_of pace no
 
 -- ---- what becomes of the log
 
-abbrev pub after_due : ℕ → Whole → Option Due → Whole
+abbrev pub after_due : ℕ → Whole → Option DatagramKind → Whole
 after_due now w None = w
-after_due now w (Some dues.Setup) = setup_cut now w
-after_due now w (Some dues.Frames) = datagram_cut now (sent_on w)
-after_due now w (Some dues.Heartbeat) = datagram_cut now w
+after_due now w (Some kinds.Setup) = setup_cut now w
+after_due now w (Some kinds.Frames) = datagram_cut now (sent_on w)
+after_due now w (Some kinds.Heartbeat) = datagram_cut now w
 
 -- The log moves on by what was cut, whoever gets it.
 unfoldable pub cut_of : Pace → ℕ → Whole → Whole
@@ -89,7 +89,7 @@ cut_of pace now w = after_due now w (due_of pace now w)
 pub record HasFrames (l : Log) (some : Bool) : Type 0 where
   pub on : (w : Whole) → Stands l w → some ≡ has_frames w
 
-pub record IsDue (pace : Pace) (now : ℕ) (l : Log) (due : Option Due) : Type 0 where
+pub record IsDue (pace : Pace) (now : ℕ) (l : Log) (due : Option DatagramKind) : Type 0 where
   pub on : (w : Whole) → Stands l w → due ≡ due_of pace now w
 
 -- so many bytes stand at the front, and what was behind them stays

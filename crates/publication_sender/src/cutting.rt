@@ -14,7 +14,7 @@ use term_log::{Ident, LogKind, TermLog};
 
 /// What a sender cuts next.
 #[derive(Clone, Copy, Debug, PartialEq, Eq)]
-pub enum Due {
+pub enum DatagramKind {
     /// It tells receivers of the stream, and where it stands.
     Setup,
     /// Frames of one term.
@@ -50,18 +50,18 @@ fn has_frames(log: &TermLog) -> bool
 /// is connected and the last one is past its interval; frames from the sender's position on that the MTU and its limit
 /// admit; a heartbeat, where the last datagram is past its interval. What never was is past.
 #[tactic(auto, unfolding(crate::specs::Cutting::due_of))]
-pub fn due(log: &TermLog, now: u64, pace: &Pace) -> Option<Due>
+pub fn due(log: &TermLog, now: u64, pace: &Pace) -> Option<DatagramKind>
     requires { log.now.kept.ident.kind ≡ LogKind.Udp }
     ensures { IsDue pace.now now log.now result }
 {
     if log.setup_due(now, pace.connection_timeout, pace.setup_interval) {
-        return Some(Due::Setup);
+        return Some(DatagramKind::Setup);
     }
     if has_frames(log) {
-        return Some(Due::Frames);
+        return Some(DatagramKind::Frames);
     }
     if log.heartbeat_due(now, pace.heartbeat_interval) {
-        return Some(Due::Heartbeat);
+        return Some(DatagramKind::Heartbeat);
     }
     None
 }
@@ -111,31 +111,27 @@ fn beat_flags(lingers: bool) -> Flags
 }
 
 /// Cuts a SETUP.
-fn cut_setup(log: &mut TermLog, now: u64, out: &mut [u8]) -> usize
+fn cut_setup(log: &mut TermLog, setup: &Setup, now: u64, out: &mut [u8]) -> usize
     requires { 40 ≤ length out.old }
-    ensures lays { Lays (setup_bytes (setup_at log.old.kept.ident log.old.sender.position)) out.old out.new result }
+    ensures lays { Lays (setup_bytes setup.now) out.old out.new result }
     ensures exact { log.new ≡ record log.old { sender = after_setup now log.old.sender } }
     ensures whole { Carries log.old log.new (setup_cut now) }
 {
-    write_setup(out, &setup_at(&log.ident(), log.sender_position()));
+    write_setup(out, setup);
     log.setup_sent(now);
     Setup::SIZE
 }
 
 /// Cuts a heartbeat.
-fn cut_beat(log: &mut TermLog, now: u64, lingers: bool, out: &mut [u8]) -> usize
+fn cut_beat(log: &mut TermLog, flags: Flags, place: &TermPlace, now: u64, out: &mut [u8]) -> usize
     requires { 32 ≤ length out.old }
-    ensures lays { Lays (beat_of lingers log.old.kept.ident log.old.sender.position) out.old out.new result }
+    ensures lays { Lays (beat_bytes flags place.now) out.old out.new result }
     ensures exact { log.new ≡ record log.old {
       sender = record log.old.sender { datagram = later_of log.old.sender.datagram now };
     } }
     ensures whole { Carries log.old log.new (datagram_cut now) }
 {
-    write_beat(
-        out,
-        beat_flags(lingers),
-        &place_at(&log.ident(), log.sender_position()),
-    );
+    write_beat(out, flags, place);
     log.datagram_sent(now);
     Header::SIZE
 }
@@ -175,10 +171,18 @@ pub fn cut(log: &mut TermLog, now: u64, pace: &Pace, lingers: bool, out: &mut [u
     ensures forward { log.old.sender.position ≤ log.new.sender.position }
     ensures within { log.new.sender.position ≤ log.new.kept.tail }
 {
+    let ident = log.ident();
+    let position = log.sender_position();
     match due(log, now, pace) {
-        Some(Due::Setup) => Some(cut_setup(log, now, out)),
-        Some(Due::Frames) => Some(cut_frames(log, now, out)),
-        Some(Due::Heartbeat) => Some(cut_beat(log, now, lingers, out)),
+        Some(DatagramKind::Setup) => {
+            let setup = setup_at(&ident, position);
+            Some(cut_setup(log, &setup, now, out))
+        }
+        Some(DatagramKind::Frames) => Some(cut_frames(log, now, out)),
+        Some(DatagramKind::Heartbeat) => {
+            let place = place_at(&ident, position);
+            Some(cut_beat(log, beat_flags(lingers), &place, now, out))
+        }
         None => None,
     }
 }

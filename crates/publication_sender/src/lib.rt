@@ -8,5 +8,5 @@
 mod cutting;
 mod hearing;
 
-pub use cutting::{Due, Pace, cut, due};
+pub use cutting::{DatagramKind, Pace, cut, due};
 pub use hearing::{StatusAnswer, receive_status};
