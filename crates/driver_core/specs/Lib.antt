@@ -20,6 +20,7 @@ pub mod Reloading
 pub mod Renewal
 pub mod Replies
 pub mod Requests
+pub mod SettingUp
 pub mod Settings
 pub mod Soundness
 pub mod State
@@ -28,5 +29,6 @@ pub mod Terminating
 pub mod Ticking
 pub mod Told
 pub mod Unpublishing
+pub mod Unread
 pub mod Unsubscribing
 pub mod Verdicts

@@ -163,6 +163,15 @@ impl Registry {
                 self.go_on(*now);
                 self.do_tick();
             }
+            Event::Setup {
+                now,
+                local,
+                from,
+                setup,
+            } => {
+                self.go_on(*now);
+                self.do_setup(local, from, setup);
+            }
         }
     }
 
@@ -180,6 +189,12 @@ impl Registry {
             }
             Event::Reload { policy, .. } => self.outcome_of_reload(alloc, policy, inputs),
             Event::Tick { now } => self.outcome_of_tick(alloc, *now, inputs),
+            Event::Setup {
+                now,
+                local,
+                from,
+                setup,
+            } => self.outcome_of_setup(alloc, *now, local, from, setup, inputs),
         }
     }
 

@@ -9,6 +9,7 @@ mod closing;
 mod coming;
 mod counting;
 mod finding;
+mod imaging;
 mod leaving;
 mod publishing;
 mod readers;
