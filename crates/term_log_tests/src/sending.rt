@@ -1,6 +1,7 @@
 ghost use Rattle.std.specs.Prelude.{◌≡◌, []};
 
-use super::*;
+use crate::filling::{follow, opened};
+use crate::stepping::send;
 use crate::tests::ident;
 use std::alloc::Global;
 use std::test::Fail;
