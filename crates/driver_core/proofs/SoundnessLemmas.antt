@@ -25,7 +25,7 @@ use Rattle.driver_core.specs.Publishing.{has_place, opening_of, place_of_new, pu
 use Rattle.driver_core.specs.Reloading.{in_force, reloaded}
 use Rattle.driver_core.specs.Renewal.{renewed}
 use Rattle.driver_core.specs.Requests.{RemovalRequest, SubscriptionRequest, wanted_by}
-use Rattle.driver_core.specs.Soundness.{AreSettings, AreSizes, IsSound, MovesLogs, Opens, is_left, log_of}
+use Rattle.driver_core.specs.Soundness.{AreSettings, AreSizes, IsPublication, IsSound, MovesLogs, Opens, is_left, log_of}
 use Rattle.driver_core.specs.State.{State, at_moment, has_number, opened}
 use Rattle.driver_core.specs.Subscribing.{has_room_for_subscription, subscribed, with_subscription}
 use Rattle.driver_core.specs.Terminating.{stopped_for_good, terminated}
@@ -51,7 +51,7 @@ use Rattle.stream_registry.specs.PageLaws.{IsLaidOut}
 use Rattle.stream_registry.specs.Streams.{Streams}
 use Rattle.stream_registry.proofs.PageLawLemmas.{all_least, share_nothing}
 use Rattle.driver_core.proofs.EventCases.{Cases, attach_cases, command_cases, reload_cases}
-use Rattle.driver_core.proofs.LogListLemmas.{all_kept, ascend_push, ascend_up_to, closed_logs, kept_ascend, none_kept, same_logs_ascend, same_logs_sizes, settled_logs}
+use Rattle.driver_core.proofs.LogListLemmas.{all_kept, ascend_push, ascend_up_to, closed_logs, kept_ascend, none_kept, same_logs_ascend, same_logs_published, same_logs_sizes, settled_logs}
 use Rattle.driver_core.proofs.SizeLemmas.{sizes_of_made}
 
 -- what the draft leaves is sound, and its logs are those before it but for the ones that close, and the one that opens
@@ -81,6 +81,7 @@ keeps_sound s after sound keeps = record {
   sizes = same_logs_sizes s.streams.sources after.streams.sources keeps.logs sound.sizes;
   numbered = ascend_up_to 0 s.last_number after.last_number after.streams.sources keeps.numbers
       (same_logs_ascend 0 s.last_number s.streams.sources after.streams.sources keeps.logs sound.numbered);
+  published = same_logs_published s.streams.sources after.streams.sources keeps.logs sound.published;
   laid_out = rw keeps.settings keeps.laid_out;
   subscriptions = keeps.subscriptions;
 }
@@ -288,6 +289,7 @@ added_sound s client wanted session place sound found =
           (sizes_of_made s.streams.defaults wanted.channel sound.defaults);
       numbered = ascend_push 0 s.last_number (s.last_number + 1) s.streams.sources log sound.numbered
           (omega arith) (omega arith);
+      published = All-push IsPublication s.streams.sources log sound.published refl;
       laid_out = (share_nothing s.settings.arena_pages).made s.streams (s.last_number + 1) client place wanted session
           sound.laid_out found;
       subscriptions = sound.subscriptions;
@@ -334,6 +336,7 @@ publication_moves s client correlation wanted (Make session) sound placed =
         refl,
         refl,
         refl,
+        refl,
         all_least.vacant s.streams s.settings.arena_pages (log_pages log) place found,
         λ lower below. all_least.least s.streams s.settings.arena_pages (log_pages log) place lower found below,
       );
@@ -350,6 +353,7 @@ closed_sound s now sound = record {
   sizes = All-filter (is_not_past now) (λ (log : Source). AreSizes log.measures) s.streams.sources
       sound.sizes;
   numbered = kept_ascend (is_not_past now) 0 s.last_number s.streams.sources sound.numbered;
+  published = All-filter (is_not_past now) IsPublication s.streams.sources sound.published;
   laid_out = (share_nothing s.settings.arena_pages).closed s.streams now sound.laid_out;
   subscriptions = sound.subscriptions;
 }
@@ -396,6 +400,7 @@ termination_moves s client correlation sound = record {
     defaults = sound.defaults;
     sizes = All-nil (λ (log : Source). AreSizes log.measures);
     numbered = omega arith;
+    published = All-nil IsPublication;
     laid_out = (share_nothing s.settings.arena_pages).cleared s.streams sound.laid_out;
     subscriptions = omega arith;
   };
@@ -415,6 +420,7 @@ moment_sound s now sound = record {
   defaults = sound.defaults;
   sizes = sound.sizes;
   numbered = sound.numbered;
+  published = sound.published;
   laid_out = sound.laid_out;
   subscriptions = sound.subscriptions;
 }
@@ -425,6 +431,7 @@ request_sound s now handle sound = record {
   defaults = sound.defaults;
   sizes = sound.sizes;
   numbered = sound.numbered;
+  published = sound.published;
   laid_out = sound.laid_out;
   subscriptions = sound.subscriptions;
 }
@@ -539,6 +546,7 @@ opened_sound settings policy peers sound = record {
   defaults = sound.sizes;
   sizes = All-nil (λ (log : Source). AreSizes log.measures);
   numbered = omega arith;
+  published = All-nil IsPublication;
   laid_out = (share_nothing settings.arena_pages).opened _ settings.first_session;
   subscriptions = omega arith;
 }

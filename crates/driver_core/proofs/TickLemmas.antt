@@ -22,10 +22,13 @@ use Rattle.log_readers.proofs.RisingLemmas.{rises_kept}
 use Rattle.log_readers.proofs.TurnoverLemmas.{closed_by_source, stays_open}
 use Rattle.stream_registry.specs.declared.pairs.Pair.{Pair}
 use Rattle.stream_registry.specs.declared.row.Source.{Source}
+use Rattle.stream_registry.specs.declared.row.Origin.{Origin}
+use Rattle.stream_registry.specs.declared.row.Origin.TheVariants.{Published, Remote}
 use Rattle.stream_registry.specs.declared.row.Registration.{Registration}
 use Rattle.stream_registry.specs.declared.row.Subscription.{Subscription}
 use Rattle.stream_registry.specs.Leaving.{is_subscription_of_another, left as left_in}
 use Rattle.stream_registry.specs.Lingering.{closed, closing_of, is_past, is_past_since, is_used, left_alone, place_of, settled, settled_one}
+use Rattle.stream_registry.specs.Origins.{left_by, lingering_by}
 use Rattle.stream_registry.specs.Streams.{Streams}
 
 -- ---- a log that begins to linger at a moment does not close at it
@@ -35,12 +38,17 @@ just_begun : (linger now : ℕ) (since : Option ℕ) →
 just_begun linger now None = le-ltb linger (now - now) (omega arith)
 just_begun linger now (Some since) = refl
 
+left_past : (linger now : ℕ) (origin : Origin) →
+    is_past_since linger now (lingering_by (left_by now origin)) ≡ is_past_since linger now (lingering_by origin)
+left_past linger now (Published exclusive since) = just_begun linger now since
+left_past linger now (Remote address initial_term join) = refl
+
 past_alike : (registrations : List Registration) (now : ℕ) (log : Source) →
     is_past now (settled_one registrations now log) ≡ is_past now log
 past_alike registrations now log =
     elim (is_used registrations log.number) as (λ b. is_past now (cond b log (left_alone now log)) ≡ is_past now log) [
       | true ↦ refl
-      | false ↦ just_begun log.measures.linger now log.lingering_since
+      | false ↦ left_past log.measures.linger now log.origin
     ]
 
 place_alike : (registrations : List Registration) (now : ℕ) (log : Source) →

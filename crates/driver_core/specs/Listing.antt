@@ -1,5 +1,5 @@
 -- What a client is shown of the counters. It looks, and changes nothing.
-use Rattle.std.specs.Prelude.{ℕ, ℤ, pos, min, Bool, nat_lt, List, [], ◌∷◌, map, filter, Option, Some, None, if◌then◌else◌}
+use Rattle.std.specs.Prelude.{ℕ, ℤ, pos, min, Bool, ◌&&◌, nat_lt, List, [], ◌∷◌, map, filter, Option, Some, None, if◌then◌else◌}
 use Rattle.driver_core.specs.declared.listing.Listed.{Listed}
 use Rattle.driver_core.specs.declared.listing.Listed.TheVariants as listed_as
 use Rattle.driver_core.specs.declared.listing.ListedCounter.{ListedCounter}
@@ -18,6 +18,7 @@ use Rattle.policy_core.specs.Question.{Question}
 use Rattle.policy_core.specs.Rules.{verdict_of}
 use Rattle.stream_registry.specs.declared.row.Source.{Source}
 use Rattle.stream_registry.specs.Lingering.{registrations_of}
+use Rattle.stream_registry.specs.Origins.{is_published}
 
 -- ---- what is listed
 
@@ -56,8 +57,9 @@ publication_question principal publication = record {
 abbrev pub publication_verdict : State → ℕ → Source → Verdict
 publication_verdict s principal publication = verdict_of s.policy s.epoch (publication_question principal publication)
 
+-- an image is no counter
 abbrev pub shows_publication : State → ℕ → Source → Bool
-shows_publication s principal publication = (publication_verdict s principal publication).allow
+shows_publication s principal source = is_published source && (publication_verdict s principal source).allow
 
 -- the row stands before the first one of a greater number
 abbrev pub with_row : List ListedCounter → ListedCounter → List ListedCounter
@@ -98,8 +100,10 @@ value_under verdict value = if verdict.allow then shown_as.Value value else show
 
 abbrev pub publication_value : State → ℕ → Option Source → Shown
 publication_value s principal None = shown_as.UnknownCounter
-publication_value s principal (Some publication) =
-    value_under (publication_verdict s principal publication) (registered_with s publication.number)
+publication_value s principal (Some source) =
+    if is_published source
+    then value_under (publication_verdict s principal source) (registered_with s source.number)
+    else shown_as.UnknownCounter
 
 -- numbers are drawn from one sequence, so that no publication has that of a counter
 abbrev pub value_by : State → ℕ → ℕ → Option Counter → Shown

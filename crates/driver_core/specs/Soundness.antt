@@ -1,7 +1,7 @@
 -- What holds of the logs of every registry that was opened with sound settings: their sizes are sound, they are numbered in
 -- the order in which they came, and no two share a page. Each event opens and closes exactly the logs by which the lists
 -- change. Own rules.
-use Rattle.std.specs.Prelude.{◌≡◌, ℕ, ◌%◌, ◌<◌, ◌≤◌, Bool, not, ◌==◌, List, [], ◌∷◌, ◌++◌, length, map, filter, All, Option, Some, None}
+use Rattle.std.specs.Prelude.{◌≡◌, ℕ, ◌%◌, ◌<◌, ◌≤◌, Bool, true, not, ◌==◌, List, [], ◌∷◌, ◌++◌, length, map, filter, All, Option, Some, None}
 use Rattle.std.specs.List.{list_any}
 use Rattle.driver_core.specs.Change.{Change}
 use Rattle.driver_core.specs.declared.settings.Settings.{Settings}
@@ -11,6 +11,7 @@ use Rattle.stream_registry.specs.declared.measures.Measures.{Measures}
 use Rattle.stream_registry.specs.declared.row.Source.{Source}
 use Rattle.stream_registry.specs.Lingering.{place_of}
 use Rattle.stream_registry.specs.LogPages.{log_pages}
+use Rattle.stream_registry.specs.Origins.{is_published, lingering_since, unlingering}
 use Rattle.stream_registry.specs.PageLaws.{IsVacant, IsLaidOut}
 
 -- sizes that a log may have: terms of whole pages, and datagrams of whole words of 32 bytes
@@ -34,10 +35,15 @@ Ascend before last [] = before ≤ last
 Ascend before last (log ∷ logs) =
     (before < log.number) × Ascend log.number last logs
 
+-- a log that clients of the driver publish to: no event makes another one
+abbrev pub IsPublication : Source → Type 0
+IsPublication log = is_published log ≡ true
+
 pub record IsSound (s : State) : Type 0 where
   pub defaults : AreSizes s.streams.defaults
   pub sizes : All (λ log. AreSizes log.measures) s.streams.sources
   pub numbered : Ascend 0 s.last_number s.streams.sources
+  pub published : All IsPublication s.streams.sources
   pub laid_out : IsLaidOut s.settings.arena_pages s.streams
   pub subscriptions : length s.streams.subscriptions ≤ 512
 
@@ -45,7 +51,7 @@ pub record IsSound (s : State) : Type 0 where
 
 -- a log, whether it lingers or not
 abbrev pub log_of : Source → Source
-log_of log = record log { lingering_since = None }
+log_of log = record log { origin = unlingering log.origin }
 
 -- it is none of those that close
 abbrev pub is_left : List LogPlace → Source → Bool
@@ -58,7 +64,8 @@ Opens s (Some place) logs =
     (log : Source)
     × (logs ≡ log ∷ [])
     × (place_of log ≡ place)
-    × (log.lingering_since ≡ None)
+    × (is_published log ≡ true)
+    × (lingering_since log ≡ None)
     × IsVacant s.streams s.settings.arena_pages (log_pages log) log.place
     × ((lower : ℕ) → lower < log.place → ¬ IsVacant s.streams s.settings.arena_pages (log_pages log) lower)
 

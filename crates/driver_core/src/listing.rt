@@ -119,7 +119,14 @@ fn put_row(rows: &mut Vec<ListedCounter>, row: ListedCounter) -> Result<(), Allo
     Ok(())
 }
 
-/// Puts the publications, as they are listed, among the rows that the policy in force shows.
+/// Whether the source is a publication that the policy in force shows.
+fn shows_publication(registry: &Registry, principal: u32, source: &Source) -> bool
+    ensures { result ≡ shows_publication registry.now principal source.now }
+{
+    source.is_published() && publication_verdict(registry, principal, source).allow
+}
+
+/// Puts those of the publications that the policy in force shows, as they are listed, among the rows.
 fn put_publications(
     rows: &mut Vec<ListedCounter>,
     registry: &Registry,
@@ -130,7 +137,7 @@ fn put_publications(
     ensures { OnOk result (rows.new.items ≡ with_rows rows.old.items (map (publication_row registry.now) (filter (shows_publication registry.now principal) logs.now))) }
 {
     for publication in logs {
-        if publication_verdict(registry, principal, publication).allow {
+        if shows_publication(registry, principal, publication) {
             put_row(rows, publication_row(registry, alloc, publication)?)?;
         }
     }
@@ -155,6 +162,9 @@ fn publication_value(registry: &Registry, principal: u32, number: u64) -> Shown
     let Some(publication) = registry.source(number) else {
         return Shown::UnknownCounter;
     };
+    if !publication.is_published() {
+        return Shown::UnknownCounter;
+    }
     let verdict = publication_verdict(registry, principal, publication);
     value_under(verdict, registrations_of(registry, publication.number))
 }

@@ -21,6 +21,7 @@ use Rattle.client_registry.specs.declared.client.Client.{Client}
 use Rattle.stream_registry.specs.declared.lingering.LogPlace.{LogPlace}
 use Rattle.stream_registry.specs.declared.row.Source.{Source}
 use Rattle.stream_registry.specs.Lingering.{closing_of, is_past, is_past_since, place_of}
+use Rattle.stream_registry.specs.Origins.{lingering_since}
 use Rattle.driver_core.proofs.ListLemmas.{contains_none, only_one, passes_are_left}
 use Rattle.driver_core.proofs.SoundnessLemmas.{moves_logs, registries_sound}
 use Rattle.driver_laws.proofs.GoingLemmas.{moment_of}
@@ -60,7 +61,7 @@ past_closes : (s : State) (event : Event) (log : Source) → Contains s.streams.
 past_closes s event log has by =
     rw by.event_is
     (tick_closes s by.moment log has
-    (past_is log.measures.linger (max s.moment by.moment) by.since log.lingering_since by.lingers by.too_long))
+    (past_is log.measures.linger (max s.moment by.moment) by.since (lingering_since log) by.lingers by.too_long))
 
 terminated_closes : (s : State) (now handle : ℕ) (client : Client) (correlation : ℕ) (log : Source) →
     Contains s.streams.sources log →

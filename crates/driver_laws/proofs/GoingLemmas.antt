@@ -54,6 +54,7 @@ use Rattle.stream_registry.specs.declared.wanted.Wanted.{Wanted}
 use Rattle.stream_registry.specs.Adding.{added, subscribed as subscribed_in}
 use Rattle.stream_registry.specs.Leaving.{is_another_registration, is_own_registration, unregistered, unsubscribed as unsubscribed_in}
 use Rattle.stream_registry.specs.Lingering.{closed, closing_of, is_not_past, is_past, place_of, settled}
+use Rattle.stream_registry.specs.Origins.{lingering_since}
 use Rattle.stream_registry.specs.Streams.{Streams}
 use Rattle.driver_core.proofs.EventCases.{Cases, attach_cases, command_cases, reload_cases}
 use Rattle.driver_core.proofs.ListLemmas.{contains_none, left_was_there, passes_are_left}
@@ -480,7 +481,7 @@ termination_stays s event client correlation left' by same = record {
 past_by : (s : State) (now : ℕ) (log later : Source) → is_past (max s.moment now) later ≡ true →
     is_past (max s.moment now) later ≡ is_past (max s.moment now) log → IsPastBy s (Tick now) log
 past_by s now log later past same =
-    let since = past_since log.measures.linger (max s.moment now) log.lingering_since (sym same ∙ past) in
+    let since = past_since log.measures.linger (max s.moment now) (lingering_since log) (sym same ∙ past) in
     record { moment = now; since = since.0; event_is = refl; lingers = since.1; too_long = since.2 }
 
 ticked_logs : {Goes : ℕ → Type 0} (s between : State) (now : ℕ) →

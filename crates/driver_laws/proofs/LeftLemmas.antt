@@ -5,14 +5,19 @@ use Rattle.std.specs.Prelude.{unwrap_or}
 use Rattle.std.proofs.lemmas.Bool.{cases_Bool, eqb-true, le-ltb, ltb-true, not_from_false}
 use Rattle.std.proofs.lemmas.List.Elements.{All-contains, All-contains_itself, All-map, All-weaker, Contains-append_cases, Contains-append_left, Contains-append_right, Contains-push}
 use Rattle.driver_core.specs.Leaving.{all_left, left}
+use Rattle.driver_core.specs.Soundness.{log_of}
 use Rattle.driver_core.specs.State.{State}
+use Rattle.driver_laws.specs.ClosingLaws.{IsSameLog}
 use Rattle.driver_laws.specs.LeavingLaws.{is_there}
 use Rattle.counters.specs.declared.counter.Counter.{Counter}
 use Rattle.counters.specs.Counters.{is_of_another, without_those_of}
+use Rattle.stream_registry.specs.declared.row.Origin.{Origin}
+use Rattle.stream_registry.specs.declared.row.Origin.TheVariants.{Published, Remote}
 use Rattle.stream_registry.specs.declared.row.Source.{Source}
 use Rattle.stream_registry.specs.declared.row.Registration.{Registration}
 use Rattle.stream_registry.specs.Leaving.{left as left_in}
 use Rattle.stream_registry.specs.Lingering.{is_past, is_past_since, is_used, left_alone, place_of, settled, settled_one}
+use Rattle.stream_registry.specs.Origins.{left_by, lingering_by, unlingering}
 use Rattle.driver_core.proofs.ListLemmas.{contains_none, left_was_there, only_one, passes_are_left}
 use Rattle.driver_laws.proofs.GoneLemmas.{there_left}
 
@@ -60,8 +65,12 @@ settled_either : (b : Bool) (now : ℕ) (log : Source) → Settles now log (if b
 settled_either true now log = inl refl
 settled_either false now log = inr refl
 
+left_twice : (now : ℕ) (origin : Origin) → left_by now (left_by now origin) ≡ left_by now origin
+left_twice now (Published exclusive since) = refl
+left_twice now (Remote address initial_term join) = refl
+
 alone_twice : (now : ℕ) (log : Source) → left_alone now (left_alone now log) ≡ left_alone now log
-alone_twice now log = refl
+alone_twice now log = ap (λ (origin : Origin). record log { origin = origin }) (left_twice now log.origin)
 
 settles_twice : (now : ℕ) (first next last : Source) → Settles now first next → Settles now next last →
     Settles now first last
@@ -195,20 +204,32 @@ alone_since : (linger now : ℕ) (since : Option ℕ) →
 alone_since linger now None = le-ltb linger (now - now) (omega arith)
 alone_since linger now (Some since) = refl
 
+left_since : (linger now : ℕ) (origin : Origin) →
+    is_past_since linger now (lingering_by (left_by now origin)) ≡ is_past_since linger now (lingering_by origin)
+left_since linger now (Published exclusive since) = alone_since linger now since
+left_since linger now (Remote address initial_term join) = refl
+
 pub past_settles : (now : ℕ) (before after : Source) → Settles now before after →
     is_past now after ≡ is_past now before
 past_settles now before after settles =
     ⊎_elim
     (λ same. ap (is_past now) same)
-    (λ alone. ap (is_past now) alone ∙ alone_since before.measures.linger now before.lingering_since)
+    (λ alone. ap (is_past now) alone ∙ left_since before.measures.linger now before.origin)
     settles
 
 pub place_settles : (now : ℕ) (before after : Source) → Settles now before after → place_of after ≡ place_of before
 place_settles now before after settles = ⊎_elim (λ same. ap place_of same) (λ alone. ap place_of alone) settles
 
-pub same_but_since : (now : ℕ) (before after : Source) → Settles now before after →
-    after ≡ record before { lingering_since = after.lingering_since }
-same_but_since now before after settles = ⊎_elim (λ same. rw same refl) (λ alone. rw alone refl) settles
+left_origin : (now : ℕ) (origin : Origin) → unlingering (left_by now origin) ≡ unlingering origin
+left_origin now (Published exclusive since) = refl
+left_origin now (Remote address initial_term join) = refl
+
+pub same_but_alone : (now : ℕ) (log : Source) → IsSameLog (left_alone now log) log
+same_but_alone now log = ap (λ (origin : Origin). record log { origin = origin }) (left_origin now log.origin)
+
+pub same_but_since : (now : ℕ) (before after : Source) → Settles now before after → IsSameLog after before
+same_but_since now before after settles =
+    ⊎_elim (λ same. ap log_of same) (λ alone. ap log_of alone ∙ same_but_alone now before) settles
 
 pub past_since : (linger now : ℕ) (since : Option ℕ) → is_past_since linger now since ≡ true →
     (moment : ℕ) × (since ≡ Some moment) × (linger < now - moment)

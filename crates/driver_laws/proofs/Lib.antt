@@ -19,6 +19,7 @@ pub mod NewNumberLemmas
 pub mod NumberLemmas
 pub mod OwnerLemmas
 pub mod PairCountLemmas
+pub mod PublicationLemmas
 pub mod PublishingLemmas
 pub mod PublishingOnlyLemmas
 pub mod RefusalLemmas

@@ -40,6 +40,7 @@ use Rattle.stream_registry.specs.Adding.{added, adding_by, adding_of, has_room_f
 use Rattle.stream_registry.specs.Joining.{contradicts, is_joinable, joined_at}
 use Rattle.stream_registry.specs.Leaving.{is_another_registration, is_registration_of_another, left as left_in, unregistered, unsubscribed as unsubscribed_in}
 use Rattle.stream_registry.specs.Lingering.{closed, is_not_past, is_used, left_alone, settled, settled_one}
+use Rattle.stream_registry.specs.Origins.{is_published, lingering_since}
 use Rattle.stream_registry.specs.Sessions.{is_stated_again}
 use Rattle.stream_registry.specs.Streams.{Streams}
 use Rattle.channel_uri.specs.Parameters.{stated_session_of}
@@ -70,6 +71,7 @@ settled_log registrations now logs registration has was =
       stands = subst (Contains (map (settled_one registrations now) logs)) same
           (mapped (settled_one registrations now) logs was.log was.stands);
       source_is = was.source_is;
+      published = was.published;
       in_use = was.in_use;
     }
 
@@ -88,7 +90,7 @@ left_logged streams client now logged = λ registration has.
     (logged registration
     (left_was_there (is_registration_of_another client) streams.registrations registration has))
 
-not_past : (now : ℕ) (log : Source) → log.lingering_since ≡ None → is_not_past now log ≡ true
+not_past : (now : ℕ) (log : Source) → lingering_since log ≡ None → is_not_past now log ≡ true
 not_past now log in_use = rw in_use refl
 
 closed_logged : (streams : Streams) (now : ℕ) → HaveTheirLogs streams → HaveTheirLogs (closed streams now)
@@ -99,6 +101,7 @@ closed_logged streams now logged = λ registration has.
       log = was.log;
       stands = passes_are_left (is_not_past now) streams.sources was.log (not_past now was.log was.in_use) was.stands;
       source_is = was.source_is;
+      published = was.published;
       in_use = was.in_use;
     }
 
@@ -128,13 +131,22 @@ never_lingers : (since : Option ℕ) → is_none since ≡ true → since ≡ No
 never_lingers None is = refl
 never_lingers (Some since) is = absurd (cc is)
 
+open_published : (channel : Shape) (stream : ℤ) (log : Source) → is_joinable channel stream log ≡ true →
+    is_published log ≡ true
+unfolding is_joinable
+open_published channel stream log joinable =
+    let first = and_parts _ _ joinable in
+    let open' = and_parts _ _ first.0 in
+    let shared = and_parts _ _ (and_parts _ _ open'.0).0 in
+    (and_parts _ _ shared.0).0
+
 open_in_use : (channel : Shape) (stream : ℤ) (log : Source) → is_joinable channel stream log ≡ true →
-    log.lingering_since ≡ None
+    lingering_since log ≡ None
 unfolding is_joinable
 open_in_use channel stream log joinable =
     let first = and_parts _ _ joinable in
     let open' = and_parts _ _ first.0 in
-    never_lingers log.lingering_since (and_parts _ _ open'.0).1
+    never_lingers (lingering_since log) (and_parts _ _ open'.0).1
 
 -- what is granted is a new log, or this one
 abbrev IsGranted : List Source → Adding → Type 0
@@ -182,6 +194,7 @@ by_granted streams wanted adding (Some log) found is =
       log = log;
       stands = it.stands;
       source_is = refl;
+      published = open_published wanted.channel wanted.stream log it.passes;
       in_use = open_in_use wanted.channel wanted.stream log it.passes;
     }) is
 
@@ -206,6 +219,7 @@ has_more logs log source was = record {
   log = was.log;
   stands = Contains-append_left logs (log ∷ []) was.log was.stands;
   source_is = was.source_is;
+  published = was.published;
   in_use = was.in_use;
 }
 
@@ -222,7 +236,7 @@ added_logged streams number client wanted place (Make session) has logged = λ r
     ⊎_elim (λ before. has_more streams.sources log registration.source (logged registration before))
     (λ is.
     subst (λ (r : Registration). HasLog logs r.source) is
-    (record { log = log; stands = Contains-push streams.sources log; source_is = refl; in_use = refl }))
+    (record { log = log; stands = Contains-push streams.sources log; source_is = refl; published = refl; in_use = refl }))
     (Contains-push_cases streams.registrations (registration_of number client wanted number) registration stands)
 
 -- ---- each event

@@ -116,7 +116,7 @@ log_above s between log lowers first last =
     inl (record {
       before = stood.before;
       stood = stood.stood;
-      same = was.same ∙ ap (λ (p : Source). record p { lingering_since = log.lingering_since }) stood.same;
+      same = was.same ∙ stood.same;
     }))
     (λ new. inr (omega (arith, number, new)))
     (first.sources was.before was.stood))

@@ -13,12 +13,15 @@ use Rattle.client_registry.specs.declared.client.Client.{Client}
 use Rattle.client_registry.specs.Clients.{admitted, client_at, is_other, principal_at, without}
 use Rattle.policy_core.specs.RuleList.{Rules}
 use Rattle.stream_registry.specs.declared.pairs.Pair.{Pair}
+use Rattle.stream_registry.specs.declared.row.Origin.{Origin}
+use Rattle.stream_registry.specs.declared.row.Origin.TheVariants.{Published, Remote}
 use Rattle.stream_registry.specs.declared.row.Source.{Source}
 use Rattle.stream_registry.specs.declared.row.Registration.{Registration}
 use Rattle.stream_registry.specs.declared.row.Subscription.{Subscription}
 use Rattle.stream_registry.specs.Leaving.{is_another_subscription, is_registration_of_another, is_subscription_of_another, left as left_in, unregistered, unsubscribed}
 use Rattle.stream_registry.specs.Lingering.{closed, is_not_past, is_used, left_alone, settled, settled_one}
-use Rattle.stream_registry.specs.Pairs.{fits, is_allowed, is_allowed_to, is_pair, pair_of, pairs_at, pairs_of as pairs_on}
+use Rattle.stream_registry.specs.Origins.{left_by}
+use Rattle.stream_registry.specs.Pairs.{fits, is_allowed, is_allowed_to, is_pair, pair_of, pairs_at, pairs_of as pairs_on, reaches}
 
 -- ---- how many rows pass
 
@@ -92,13 +95,21 @@ of_changed parts change (x ∷ xs) same = rw (same x, of_changed parts change xs
 
 -- ---- the pairs of one log
 
+left_pairs : (clients : List Client) (policy : Rules) (epoch : ℕ) (subscriptions : List Subscription) (now : ℕ)
+    (log : Source) (origin : Origin) →
+    pairs_at clients policy epoch subscriptions (record log { origin = left_by now origin })
+    ≡ pairs_at clients policy epoch subscriptions (record log { origin = origin })
+unfolding fits reaches
+left_pairs clients policy epoch subscriptions now log (Published exclusive since) = refl
+left_pairs clients policy epoch subscriptions now log (Remote address initial_term join) = refl
+
 one_settled : (b : Bool) (clients : List Client) (policy : Rules) (epoch : ℕ) (subscriptions : List Subscription) (now : ℕ)
     (log : Source) →
     pairs_at clients policy epoch subscriptions (cond b log (left_alone now log))
     ≡ pairs_at clients policy epoch subscriptions log
-unfolding fits
 one_settled true clients policy epoch subscriptions now log = refl
-one_settled false clients policy epoch subscriptions now log = refl
+one_settled false clients policy epoch subscriptions now log =
+    left_pairs clients policy epoch subscriptions now log log.origin
 
 -- that a log lingers makes no difference to its pairs
 pairs_settled : (clients : List Client) (policy : Rules) (epoch : ℕ) (subscriptions : List Subscription)

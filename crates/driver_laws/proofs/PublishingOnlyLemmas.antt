@@ -23,6 +23,7 @@ use Rattle.driver_core.specs.Terminating.{stopped_for_good, terminated}
 use Rattle.driver_core.specs.Ticking.{late, tick, ticked}
 use Rattle.driver_core.specs.Unpublishing.{unpublished}
 use Rattle.driver_core.specs.Unsubscribing.{unsubscribed}
+use Rattle.driver_laws.specs.ClosingLaws.{IsSameLog}
 use Rattle.driver_laws.specs.PublishingLaws.{IsAllowed, IsLogMadeBy, IsPublicationTold, IsReadyBy, IsRegisteredBy, PublishesOnly, WasLive, source_of}
 use Rattle.channel_uri.specs.Channel.{Shape}
 use Rattle.client_registry.specs.declared.client.Client.{Client}
@@ -43,6 +44,7 @@ use Rattle.driver_core.proofs.ListLemmas.{contains_none, left_was_there}
 use Rattle.driver_core.proofs.VerdictLemmas.{by_policy}
 use Rattle.driver_laws.proofs.SubscribingLemmas.{found_number}
 use Rattle.driver_laws.proofs.LeavingLemmas.{all_timeouts}
+use Rattle.driver_laws.proofs.LeftLemmas.{same_but_alone}
 use Rattle.driver_laws.proofs.PublishingLemmas.{adding_is, place_is, publication_verdict, room_is}
 use Rattle.driver_laws.proofs.RenewalLemmas.{all_replies, renewed_after}
 
@@ -64,11 +66,9 @@ is_live : (streams : Streams) (log : Source) → Contains streams.sources log �
 is_live streams log has = record { before = log; stood = has; same = refl }
 
 -- a log that lingers from now on is the same else
-same_but_alone : (b : Bool) (now : ℕ) (log : Source) →
-    cond b log (left_alone now log)
-    ≡ record log { lingering_since = (cond b log (left_alone now log)).lingering_since }
-same_but_alone true now log = refl
-same_but_alone false now log = refl
+same_settled : (b : Bool) (now : ℕ) (log : Source) → IsSameLog (cond b log (left_alone now log)) log
+same_settled true now log = refl
+same_settled false now log = same_but_alone now log
 
 settled_was_live : (streams : Streams) (registrations : List Registration) (now : ℕ) (log : Source) →
     Contains (map (settled_one registrations now) streams.sources) log → WasLive streams log
@@ -81,7 +81,7 @@ settled_was_live streams registrations now log has =
     record {
       before = before;
       stood = stood;
-      same = same_but_alone (is_used registrations before.number) now before;
+      same = same_settled (is_used registrations before.number) now before;
     })
     streams.sources (All-contains_itself streams.sources)))
     has
@@ -216,8 +216,7 @@ left_was_live s (client ∷ clients) log has =
     record {
       before = first.before;
       stood = first.stood;
-      same = later.same
-          ∙ ap (λ (p : Source). record p { lingering_since = log.lingering_since }) first.same;
+      same = later.same ∙ first.same;
     }
 
 removal_only : (s : State) (event : Event) (now handle : ℕ) (client : Client) (correlation number : ℕ) →

@@ -1,5 +1,5 @@
 -- There is room where no limit would be passed.
-use Rattle.std.proofs.Common.{◌≡◌, ℕ, ◌<◌, ◌≤◌, ℤ, Bool, true, false, ◌&&◌, cond, length, Option, Some, None, inl, inr, refl, ◌⊎◌}
+use Rattle.std.proofs.Common.{◌≡◌, ℕ, ◌<◌, ◌≤◌, ℤ, Bool, true, false, ◌&&◌, cond, filter, length, Option, Some, None, inl, inr, refl, ◌⊎◌}
 use Rattle.std.specs.Prelude.{Result, Ok, Err, nat_lt}
 use Rattle.std.proofs.lemmas.Bool.{le-leb, lt-ltb, ltb-false}
 use Rattle.driver_core.specs.Pairs.{is_within_pairs, pairs_of}
@@ -18,6 +18,7 @@ use Rattle.stream_registry.specs.declared.wanted.Adding.TheVariants.{Join, Make}
 use Rattle.stream_registry.specs.declared.wanted.Wanted.{Wanted}
 use Rattle.stream_registry.specs.Adding.{adding_by, adding_of, has_room_for_log, has_room_for_registration, has_room_for_subscription as has_room_in, joining_of, making_of, session_of}
 use Rattle.stream_registry.specs.Joining.{contradicts, joined_at}
+use Rattle.stream_registry.specs.Origins.{is_published}
 use Rattle.stream_registry.specs.Sessions.{is_stated_again}
 use Rattle.stream_registry.specs.Streams.{Streams}
 
@@ -54,14 +55,14 @@ without_room false true granted is = absurd (cc is)
 without_room false false granted is = refl
 
 either_full : (streams : Streams) (one other : Bool) → nat_lt (length streams.registrations) 1024 ≡ one →
-    nat_lt (length streams.sources) 256 ≡ other → (one && other) ≡ false →
-    (1024 ≤ length streams.registrations) ⊎ (256 ≤ length streams.sources)
+    nat_lt (length (filter is_published streams.sources)) 256 ≡ other → (one && other) ≡ false →
+    (1024 ≤ length streams.registrations) ⊎ (256 ≤ length (filter is_published streams.sources))
 either_full streams false other one two is = inl (ltb-false (length streams.registrations) 1024 one)
-either_full streams true false one two is = inr (ltb-false (length streams.sources) 256 two)
+either_full streams true false one two is = inr (ltb-false (length (filter is_published streams.sources)) 256 two)
 either_full streams true true one two is = absurd (cc is)
 
 making_full : (streams : Streams) (wanted : Wanted) → making_of streams wanted ≡ Err Full →
-    (1024 ≤ length streams.registrations) ⊎ (256 ≤ length streams.sources)
+    (1024 ≤ length streams.registrations) ⊎ (256 ≤ length (filter is_published streams.sources))
 unfolding making_of
 making_full streams wanted is =
     either_full streams _ _ refl refl
@@ -70,7 +71,7 @@ making_full streams wanted is =
     (has_room_for_registration streams && has_room_for_log streams) (Make (session_of streams wanted.channel)) is)
 
 joining_full : (streams : Streams) (channel : Shape) (log : Source) → joining_of streams channel log ≡ Err Full →
-    (1024 ≤ length streams.registrations) ⊎ (256 ≤ length streams.sources)
+    (1024 ≤ length streams.registrations) ⊎ (256 ≤ length (filter is_published streams.sources))
 unfolding joining_of
 joining_full streams channel log is =
     inl (ltb-false (length streams.registrations) 1024
@@ -78,20 +79,20 @@ joining_full streams channel log is =
     (Join log.number log.session) is))
 
 by_full : (streams : Streams) (wanted : Wanted) (found : Option Source) → adding_by streams wanted found ≡ Err Full →
-    (1024 ≤ length streams.registrations) ⊎ (256 ≤ length streams.sources)
+    (1024 ≤ length streams.registrations) ⊎ (256 ≤ length (filter is_published streams.sources))
 by_full streams wanted None is = making_full streams wanted is
 by_full streams wanted (Some log) is = joining_full streams wanted.channel log is
 
 which_full : (streams : Streams) (wanted : Wanted) (b : Bool) →
     cond b (making_of streams wanted) (adding_by streams wanted (joined_at streams.sources wanted.channel wanted.stream))
     ≡ Err Full →
-    (1024 ≤ length streams.registrations) ⊎ (256 ≤ length streams.sources)
+    (1024 ≤ length streams.registrations) ⊎ (256 ≤ length (filter is_published streams.sources))
 which_full streams wanted true is = making_full streams wanted is
 which_full streams wanted false is =
     by_full streams wanted (joined_at streams.sources wanted.channel wanted.stream) is
 
 lists_full : (streams : Streams) (wanted : Wanted) → adding_of streams wanted ≡ Err Full →
-    (1024 ≤ length streams.registrations) ⊎ (256 ≤ length streams.sources)
+    (1024 ≤ length streams.registrations) ⊎ (256 ≤ length (filter is_published streams.sources))
 unfolding adding_of
 lists_full streams wanted is = which_full streams wanted wanted.exclusive is
 

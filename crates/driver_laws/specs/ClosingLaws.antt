@@ -8,7 +8,7 @@ use Rattle.driver_core.specs.declared.event.Inputs.{Inputs}
 use Rattle.driver_core.specs.declared.peer.Peer.{Peer}
 use Rattle.driver_core.specs.declared.settings.Settings.{Settings}
 use Rattle.driver_core.specs.Conduct.{conduct, state_of}
-use Rattle.driver_core.specs.Soundness.{AreSettings}
+use Rattle.driver_core.specs.Soundness.{AreSettings, log_of}
 use Rattle.driver_core.specs.State.{State, opened}
 use Rattle.driver_laws.specs.Events.{AfterAnyEvents}
 use Rattle.driver_laws.specs.LeavingLaws.{IsTerminatedBy}
@@ -16,13 +16,14 @@ use Rattle.policy_core.specs.RuleList.{Rules}
 use Rattle.stream_registry.specs.declared.lingering.LogPlace.{LogPlace}
 use Rattle.stream_registry.specs.declared.row.Source.{Source}
 use Rattle.stream_registry.specs.Lingering.{place_of}
+use Rattle.stream_registry.specs.Origins.{lingering_since}
 
 -- at a tick the log has lingered for longer than it may
 pub record IsPastBy (s : State) (event : Event) (log : Source) : Type 0 where
   pub moment : ℕ
   pub since : ℕ
   pub event_is : event ≡ Tick moment
-  pub lingers : log.lingering_since ≡ Some since
+  pub lingers : lingering_since log ≡ Some since
   pub too_long : log.measures.linger < max s.moment moment - since
 
 -- or the driver is ended
@@ -47,11 +48,15 @@ LogsCloseExactly =
 
 -- ---- closed only
 
+-- it is the same log, whether it lingers or not
+abbrev pub IsSameLog : Source → Source → Type 0
+IsSameLog log other = log_of log ≡ log_of other
+
 -- the log is live, but for the moment since when it lingers
 pub record IsLive (after : State) (log : Source) : Type 0 where
   pub now : Source
   pub stands : Contains after.streams.sources now
-  pub same : now ≡ record log { lingering_since = now.lingering_since }
+  pub same : IsSameLog now log
 
 -- what the outcome tells is the place of a log that the event closes
 pub record IsToldBy (s : State) (event : Event) (place : LogPlace) : Type 0 where

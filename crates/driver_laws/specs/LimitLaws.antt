@@ -1,5 +1,5 @@
 -- Over every list of events: no list grows past its limit.
-use Rattle.std.specs.Prelude.{◌≡◌, ℕ, ◌<◌, ◌≤◌, ℤ, true, length, Err, ◌⊎◌}
+use Rattle.std.specs.Prelude.{◌≡◌, ℕ, ◌<◌, ◌≤◌, ℤ, true, length, filter, Err, ◌⊎◌}
 use Rattle.driver_core.specs.Counting.{has_room_for_counter}
 use Rattle.driver_core.specs.Pairs.{pairs_of}
 use Rattle.driver_core.specs.Publishing.{has_room_for_publication, with_publication}
@@ -14,13 +14,16 @@ use Rattle.stream_registry.specs.declared.fault.StreamFault.TheVariants.{Full}
 use Rattle.stream_registry.specs.declared.wanted.Adding.{Adding}
 use Rattle.stream_registry.specs.declared.wanted.Wanted.{Wanted}
 use Rattle.stream_registry.specs.Adding.{adding_of}
+use Rattle.stream_registry.specs.Few.{AreFew}
+use Rattle.stream_registry.specs.Origins.{is_published}
 
 -- ---- none is passed
 
--- at most 64 clients, 256 logs, 1,024 registrations with them, 512 subscriptions, 1,024 counters and 4,096 pairs
+-- at most 64 clients, 256 publications and 512 images, 1,024 registrations with publications, 512 subscriptions, 1,024
+-- counters and 4,096 pairs
 pub record IsWithinLimits (s : State) : Type 0 where
   pub clients : length s.clients.rows ≤ 64
-  pub sources : length s.streams.sources ≤ 256
+  pub sources : AreFew s.streams.sources
   pub registrations : length s.streams.registrations ≤ 1024
   pub subscriptions : length s.streams.subscriptions ≤ 512
   pub counters : length s.counters ≤ 1024
@@ -48,7 +51,7 @@ pub record HasRoomBelow (s : State) : Type 0 where
       has_room_for_publication s client wanted adding ≡ true
   pub lists :
       (wanted : Wanted) → adding_of s.streams wanted ≡ Err Full →
-      (1024 ≤ length s.streams.registrations) ⊎ (256 ≤ length s.streams.sources)
+      (1024 ≤ length s.streams.registrations) ⊎ (256 ≤ length (filter is_published s.streams.sources))
   pub counter : IsLeft s.last_number → length s.counters < 1024 → has_room_for_counter s ≡ true
   pub policy :
       (policy : Rules) → IsLeft s.epoch → length (pairs_of (in_force s policy)) ≤ 4096 →

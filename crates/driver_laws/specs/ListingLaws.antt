@@ -17,6 +17,7 @@ use Rattle.counters.specs.Counters.{counter_at, question_for}
 use Rattle.policy_core.specs.Question.{Question}
 use Rattle.policy_core.specs.Verdict.{verdict_text}
 use Rattle.stream_registry.specs.declared.row.Source.{Source}
+use Rattle.stream_registry.specs.Origins.{is_published}
 
 -- what the policy is asked before the client is shown the counter
 abbrev pub look_question : Client → Counter → Question
@@ -67,7 +68,7 @@ pub record ShowsPublicationExactly (s : State) (client : Client) (publication : 
       verdict_text (verdict_on s (publication_look client publication))
       ≡ denial_text (verdict_on s (publication_look client publication)).rule s.epoch
 
--- what a look is told, whoever looks
+-- what a look is told, whoever looks; the log of a remote publisher is no counter, and none is there (`SourcesArePublications`)
 pub record LooksExactly (s : State) (handle : ℕ) : Type 0 where
   pub listed :
       (client : Client) → client_at s.clients.rows handle ≡ Some client → ListsExactly s client (list s handle)
@@ -77,7 +78,11 @@ pub record LooksExactly (s : State) (handle : ℕ) : Type 0 where
   pub published :
       (client : Client) (number : ℕ) (publication : Source) → client_at s.clients.rows handle ≡ Some client →
       counter_at s.counters number ≡ None → source_at s.streams.sources number ≡ Some publication →
-      ShowsPublicationExactly s client publication (value s handle number)
+      is_published publication ≡ true → ShowsPublicationExactly s client publication (value s handle number)
+  pub image :
+      (client : Client) (number : ℕ) (source : Source) → client_at s.clients.rows handle ≡ Some client →
+      counter_at s.counters number ≡ None → source_at s.streams.sources number ≡ Some source →
+      is_published source ≡ false → value s handle number ≡ shown_as.UnknownCounter
   pub unknown :
       (client : Client) (number : ℕ) → client_at s.clients.rows handle ≡ Some client →
       counter_at s.counters number ≡ None → source_at s.streams.sources number ≡ None →

@@ -7,6 +7,7 @@ use Rattle.counters.specs.declared.counter.Counter.{Counter}
 use Rattle.stream_registry.specs.declared.row.Source.{Source}
 use Rattle.stream_registry.specs.declared.row.Registration.{Registration}
 use Rattle.stream_registry.specs.declared.row.Subscription.{Subscription}
+use Rattle.stream_registry.specs.Origins.{is_published, lingering_since}
 use Rattle.stream_registry.specs.Streams.{Streams}
 
 -- ---- clients
@@ -26,12 +27,13 @@ RowsHaveTheirClients = AfterAnyEvents HaveTheirClients
 
 -- ---- logs
 
--- a log of that number is live, and does not linger
+-- a publication of that number is live, and does not linger
 pub record HasLog (logs : List Source) (source : ℕ) : Type 0 where
   pub log : Source
   pub stands : Contains logs log
   pub source_is : log.number ≡ source
-  pub in_use : log.lingering_since ≡ None
+  pub published : is_published log ≡ true
+  pub in_use : lingering_since log ≡ None
 
 -- so it is with each that somebody is registered with
 abbrev pub HaveTheirLogs : Streams → Type 0

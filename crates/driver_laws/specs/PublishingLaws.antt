@@ -13,8 +13,10 @@ use Rattle.driver_core.specs.Conduct.{conduct}
 use Rattle.driver_core.specs.Publishing.{has_place, has_room_for_publication, opening_of, place_of_new, ready_for, refused_by_streams, session_of, with_publication}
 use Rattle.driver_core.specs.Renewal.{images_told, images_decided}
 use Rattle.driver_core.specs.Requests.{PublicationRequest, AsksToPublish, publication_question, wanted_by}
+use Rattle.driver_core.specs.Soundness.{IsPublication}
 use Rattle.driver_core.specs.State.{State, at_moment}
 use Rattle.driver_core.specs.Verdicts.{IsByPolicy, verdict_on}
+use Rattle.driver_laws.specs.ClosingLaws.{IsSameLog}
 use Rattle.driver_laws.specs.Events.{AfterAnyEvents}
 use Rattle.driver_laws.specs.GrantLaws.{IsRefusedOn, decided_on}
 use Rattle.stream_registry.specs.declared.fault.StreamFault.{StreamFault}
@@ -107,7 +109,7 @@ pub record IsRegisteredBy (s : State) (event : Event) (registration : Registrati
 pub record WasLive (streams : Streams) (log : Source) : Type 0 where
   pub before : Source
   pub stood : Contains streams.sources before
-  pub same : log ≡ record before { lingering_since = log.lingering_since }
+  pub same : IsSameLog log before
 
 -- the event is such a request, joins no log, and makes this one
 pub record IsLogMadeBy (s : State) (event : Event) (log : Source) : Type 0 where
@@ -154,3 +156,12 @@ pub record PublishesOnly (s : State) (event : Event) (change : Change) : Type 0 
 abbrev pub PublicationsAreGrantedOnly : Type 0
 PublicationsAreGrantedOnly =
     AfterAnyEvents (λ s. (event : Event) (inputs : Inputs) → PublishesOnly s event (conduct s event inputs))
+
+-- ---- and nothing else
+
+-- each is the log of a publication, and none that of a remote publisher
+abbrev pub ArePublications : List Source → Type 0
+ArePublications sources = (source : Source) → Contains sources source → IsPublication source
+
+abbrev pub SourcesArePublications : Type 0
+SourcesArePublications = AfterAnyEvents (λ s. ArePublications s.streams.sources)

@@ -14,7 +14,7 @@ ghost use Rattle.driver_laws.specs.LimitLaws.{LimitsAreKept, RoomIsLeftBelowTheL
 ghost use Rattle.driver_laws.specs.ListingLaws.{CountersAreShownExactly};
 ghost use Rattle.driver_laws.specs.NumberLaws.{LastNumbersNeverFall, ListsShareNoNumber, NewNumbersAreAboveTheLast, NumbersAreAtMostTheLast, NumbersAreNeverDrawnAgain, NumbersAreUnique};
 ghost use Rattle.driver_laws.specs.OwnerLaws.{RegistrationsHaveTheirLogs, RowsHaveTheirClients};
-ghost use Rattle.driver_laws.specs.PublishingLaws.{PublicationsAreGrantedExactly, PublicationsAreGrantedOnly};
+ghost use Rattle.driver_laws.specs.PublishingLaws.{PublicationsAreGrantedExactly, PublicationsAreGrantedOnly, SourcesArePublications};
 ghost use Rattle.driver_laws.specs.RefusalLaws.{RefusalsChangeNoMoreThanMoments};
 ghost use Rattle.driver_laws.specs.ReloadLaws.{ReloadsCloseExactly, NewestPolicyIsInForce};
 ghost use Rattle.driver_laws.specs.RemovalLaws.{SubscriptionsAreRemovedExactly, SubscriptionsAreRemovedOnly, RegistrationsAreRemovedExactly, RegistrationsAreRemovedOnly};
@@ -43,6 +43,11 @@ pub fn publications_are_granted_exactly()
 /// the policy in force.
 pub fn publications_are_granted_only()
     ensures { PublicationsAreGrantedOnly }
+{}
+
+/// In every registry each log is that of a publication, whatever the settings: no event brings that of a remote publisher.
+pub fn sources_are_publications()
+    ensures { SourcesArePublications }
 {}
 
 /// A subscription reads a log exactly where the two fit and the policy in force allows the image to the subscription's
@@ -182,8 +187,8 @@ pub fn refusals_change_no_more_than_moments()
     ensures { RefusalsChangeNoMoreThanMoments }
 {}
 
-/// In a registry that was opened with sound settings, all logs have sound sizes, are numbered in the order in which they
-/// came, and share no page, whatever happened.
+/// In a registry that was opened with sound settings, all logs are those of publications, have sound sizes, are numbered in
+/// the order in which they came, and share no page, whatever happened.
 pub fn registries_are_sound()
     ensures { RegistriesAreSound }
 {}
@@ -193,7 +198,7 @@ pub fn rows_have_their_clients()
     ensures { RowsHaveTheirClients }
 {}
 
-/// In every registry the log that a registration names is live, and does not linger.
+/// In every registry the log that a registration names is that of a live publication, and does not linger.
 pub fn registrations_have_their_logs()
     ensures { RegistrationsHaveTheirLogs }
 {}
@@ -232,15 +237,15 @@ pub fn numbers_are_never_drawn_again()
     ensures { NumbersAreNeverDrawnAgain }
 {}
 
-/// In every registry there are at most 64 clients, 256 logs, 1,024 registrations with them, 512 subscriptions, 1,024
-/// counters and 4,096 pairs.
+/// In every registry there are at most 64 clients, 256 publications and 512 images, 1,024 registrations with publications,
+/// 512 subscriptions, 1,024 counters and 4,096 pairs.
 pub fn limits_are_kept()
     ensures { LimitsAreKept }
 {}
 
 /// And none of these limits is kept too soon: there is room for one more, or for a policy, where the lists concerned are
-/// below theirs (for a publication those of registrations and of logs), the pairs would stay within theirs, and a number is
-/// left.
+/// below theirs (for a publication those of registrations and of publications), the pairs would stay within theirs, and a
+/// number is left.
 pub fn room_is_left_below_the_limits()
     ensures { RoomIsLeftBelowTheLimits }
 {}

@@ -1,8 +1,13 @@
 -- Offers and polls are granted exactly where the policy in force allows them.
-use Rattle.std.proofs.Common.{◌≡◌, ℕ, ◌==◌, ◌&&◌, ◌||◌, not, nat_lt, Bool, true, false, cond, List, [], ◌∷◌, length, map, filter, find, Option, Some, None, option_map, refl, sym, ap, ◌∙◌}
+use Rattle.std.proofs.Common.{◌≡◌, ℕ, ◌==◌, ◌&&◌, ◌||◌, not, nat_lt, Bool, true, false, cond, List, [], ◌∷◌, length, map, filter, Option, Some, None, refl, sym, ap, subst, ◌∙◌}
 use Rattle.std.specs.List.{All, list_any}
 use Rattle.std.proofs.lemmas.Bool.{cond_both, eq-eqb, ne_eqb}
+use Rattle.std.proofs.lemmas.List.Elements.{All-nil, All-cons}
+use Rattle.any_log.specs.Held.{Made, for_publication, for_stream}
+use Rattle.any_log.specs.Whole.{AnyWhole, whole, rebuilt, made_for as made_any, position_in, readers_in}
+use Rattle.any_log.proofs.AnyLemmas.{reader_stands}
 use Rattle.driver_core.specs.declared.log_request.LogRequest.{LogRequest}
+use Rattle.driver_core.specs.declared.settings.Settings.{Settings}
 use Rattle.driver_core.specs.LogRequests.{offering_of, offered_by, receiving_of, received_on, registration_at, has_pair, row_decision}
 use Rattle.driver_core.specs.Pairs.{pairs_of}
 use Rattle.driver_core.specs.Renewal.{subscription_at}
@@ -16,18 +21,19 @@ use Rattle.driver_world.specs.declared.answer.Offered.TheVariants.{Closed, TooLo
 use Rattle.driver_world.specs.declared.step.Step.TheVariants.{Offer, Poll}
 use Rattle.driver_world.specs.Ends.{RunEnd, Moved, log_at, with_log, moved_on, on_log, on_offered, moved}
 use Rattle.driver_core.specs.Readers.{readers_of}
-use Rattle.driver_world.specs.Laws.{LogsFollow, OfferRequest, AsksToOffer, offer_question, stays, taken_by_log, let_through, OfferIsDecided, OffersAreDecided, OffersAreGrantedExactly, PollRequest, AsksToPoll, poll_question, given_by_log, PollIsDecided, PollsAreDecided, PollsAreGrantedExactly}
-use Rattle.driver_world.specs.Moves.{WholeLog, Move, answered, taken, given, offer_under, offer_move, poll_under, poll_move}
+use Rattle.driver_world.specs.Idents.{ident_of}
+use Rattle.driver_world.specs.Laws.{made_for, made_as, LogsFollow, OfferRequest, AsksToOffer, offer_question, stays, taken_by_log, let_through, OfferIsDecided, OffersAreDecided, OffersAreGrantedExactly, PollRequest, AsksToPoll, poll_question, given_by_log, PollIsDecided, PollsAreDecided, PollsAreGrantedExactly}
+use Rattle.driver_world.specs.Moves.{WholeLog, Move, answered, taken, given, offer_let, offer_to, offer_under, offer_move, poll_under, poll_move}
 use Rattle.driver_world.proofs.FoundLemmas.{found_holds, found_source, with_same}
 use Rattle.driver_world.proofs.FollowLemmas.{logs_follow}
 use Rattle.policy_core.specs.declared.act.Act.TheVariants.{Offer as ToOffer, Receive}
 use Rattle.stream_registry.specs.declared.pairs.Pair.{Pair}
 use Rattle.stream_registry.specs.declared.row.Subscription.{Subscription}
 use Rattle.stream_registry.specs.Pairs.{is_of}
-use Rattle.log_pairs.specs.declared.pair.Pair.{Pair as Reader}
+use Rattle.stream_registry.specs.declared.row.Source.{Source}
+use Rattle.term_log.specs.declared.ident.Ident.{Ident}
 use Rattle.term_log.specs.Log.{greatest_message}
-use Rattle.log_pairs.specs.Pairs.{position_of}
-use Rattle.term_log.specs.Whole.{is_connected}
+use Rattle.term_log.specs.Whole.{Whole, is_connected}
 
 -- ---- a move of one log
 
@@ -85,42 +91,95 @@ own_log : (asked : LogRequest) (e : RunEnd) (log : WholeLog) → log_at e.logs a
     (asked.source == log.source) ≡ true
 own_log asked e log found = eq-eqb asked.source log.source (sym (found_source asked.source log e.logs found))
 
-offer_let : (e : RunEnd) (now : ℕ) (message : List ℕ) (asked : LogRequest) (log : WholeLog) →
-    log_at e.logs asked.source ≡ Some log → asked.decision.verdict.allow ≡ true →
-    left_by e asked.source (offer_under e.registry now message log (Some asked)) ≡ let_through e now message log
-offer_let e now message asked log found allows =
+-- under the request the log of frames that were appended is offered the message
+offer_under_let : (e : RunEnd) (now : ℕ) (message : List ℕ) (asked : LogRequest) (log : WholeLog) (frames : Whole) →
+    log_at e.logs asked.source ≡ Some log → log.whole ≡ whole frames →
+    offer_under e.registry now message log (Some asked)
+    ≡ offer_let now e.registry.settings.connection_timeout asked.decision.verdict message log frames
+offer_under_let e now message asked log frames found is =
     let own = own_log asked e log found in
-    let put : left_by e asked.source (taken message log) ≡ taken_by_log e message log =
-    ap (λ (n : ℕ). left_by e n (taken message log)) (sym (found_source asked.source log e.logs found)) in
-    rw (own, allows)
-    (left_under (nat_lt (greatest_message log.whole.ident) (length message))
-    (not (is_connected log.whole now e.registry.settings.connection_timeout)) (left_by e asked.source)
-    (answered log (OfferedAs TooLong)) (answered log (OfferedAs NotConnected)) (taken message log)
-    (stays e (OfferedAs TooLong)) (stays e (OfferedAs NotConnected)) (taken_by_log e message log)
+    rw own (ap (offer_to now e.registry.settings.connection_timeout asked.decision.verdict message log) is)
+
+offer_granted : (e : RunEnd) (now : ℕ) (message : List ℕ) (asked : LogRequest) (log : WholeLog) (frames : Whole) →
+    log_at e.logs asked.source ≡ Some log → log.whole ≡ whole frames → asked.decision.verdict.allow ≡ true →
+    left_by e asked.source (offer_under e.registry now message log (Some asked)) ≡ let_through e now message log frames
+offer_granted e now message asked log frames found is allows =
+    let put : left_by e asked.source (taken message log frames) ≡ taken_by_log e message log frames =
+    ap (λ (n : ℕ). left_by e n (taken message log frames)) (sym (found_source asked.source log e.logs found)) in
+    ap (left_by e asked.source) (offer_under_let e now message asked log frames found is)
+    ∙ rw allows
+    (left_under (nat_lt (greatest_message frames.ident) (length message))
+    (not (is_connected frames now e.registry.settings.connection_timeout)) (left_by e asked.source)
+    (answered log (OfferedAs TooLong)) (answered log (OfferedAs NotConnected)) (taken message log frames)
+    (stays e (OfferedAs TooLong)) (stays e (OfferedAs NotConnected)) (taken_by_log e message log frames)
     (stays_left e asked.source log (OfferedAs TooLong) found)
     (stays_left e asked.source log (OfferedAs NotConnected) found) put)
 
-offer_denied : (e : RunEnd) (now : ℕ) (message : List ℕ) (asked : LogRequest) (log : WholeLog) →
-    log_at e.logs asked.source ≡ Some log → asked.decision.verdict.allow ≡ false →
+offer_denied : (e : RunEnd) (now : ℕ) (message : List ℕ) (asked : LogRequest) (log : WholeLog) (frames : Whole) →
+    log_at e.logs asked.source ≡ Some log → log.whole ≡ whole frames → asked.decision.verdict.allow ≡ false →
     left_by e asked.source (offer_under e.registry now message log (Some asked))
     ≡ stays e (Denied asked.decision.verdict)
-offer_denied e now message asked log found denies =
-    let own = own_log asked e log found in
-    let under : offer_under e.registry now message log (Some asked) ≡ answered log (Denied asked.decision.verdict) =
-    rw (own, denies) refl in
-    ap (left_by e asked.source) under ∙ stays_left e asked.source log (Denied asked.decision.verdict) found
+offer_denied e now message asked log frames found is denies =
+    let denied : offer_let now e.registry.settings.connection_timeout asked.decision.verdict message log frames
+    ≡ answered log (Denied asked.decision.verdict) =
+    rw denies refl in
+    ap (left_by e asked.source) (offer_under_let e now message asked log frames found is ∙ denied)
+    ∙ stays_left e asked.source log (Denied asked.decision.verdict) found
 
-offer_there : (e : RunEnd) (now handle number : ℕ) (message : List ℕ) (request : OfferRequest) (log : WholeLog) →
+-- the log of frames that were appended
+abbrev IsAppended : WholeLog → Type 0
+IsAppended log = (frames : Whole) × (log.whole ≡ whole frames)
+
+abbrev IsForPublication : Made → Type 0
+IsForPublication (for_publication ident) = Unit {0}
+IsForPublication (for_stream ident) = ⊥
+
+appended_for : (w : AnyWhole) → IsForPublication (made_any w) → (frames : Whole) × (w ≡ whole frames)
+appended_for (whole frames) is = (frames, refl)
+appended_for (rebuilt frames) is = absurd is
+
+is_appended : (w : AnyWhole) (ident : Ident) → made_any w ≡ for_publication ident → (frames : Whole) × (w ≡ whole frames)
+is_appended w ident is = appended_for w (subst IsForPublication (sym is) tt)
+
+first_of : {X : Type 0} → X → List X → X
+first_of other [] = other
+first_of other (x ∷ xs) = x
+
+rest_of : {X : Type 0} → List X → List X
+rest_of [] = []
+rest_of (x ∷ xs) = xs
+
+-- so is each that is made for a publication
+all_appended : (settings : Settings) (logs : List WholeLog) (publications : List Source) →
+    map made_for logs ≡ map (made_as settings) publications → All IsAppended logs
+unfolding first_of rest_of
+all_appended settings [] publications is = All-nil IsAppended
+all_appended settings (log ∷ logs) [] is = absurd (cc is)
+all_appended settings (log ∷ logs) (publication ∷ publications) is =
+    let first : made_for log ≡ made_as settings publication = ap (first_of (made_for log)) is in
+    let rest : map made_for logs ≡ map (made_as settings) publications = ap rest_of is in
+    All-cons IsAppended log logs (is_appended log.whole (ident_of settings publication) (ap (λ (made : ℕ × Made). made.1) first))
+    (all_appended settings logs publications rest)
+
+offer_there : (e : RunEnd) → LogsFollow e →
+    (now handle number : ℕ) (message : List ℕ) (request : OfferRequest) (log : WholeLog) →
     AsksToOffer e.registry handle number request → log_at e.logs request.publication.number ≡ Some log →
-    OfferIsDecided e now message request log (moved e (Offer now handle number message))
-offer_there e now handle number message request log asks found =
+    (frames : Whole)
+    × (log.whole ≡ whole frames)
+    × OfferIsDecided e now message request log frames (moved e (Offer now handle number message))
+offer_there e follows now handle number message request log asks found =
     let asked : LogRequest = asked_by e.registry request in
-    let is = offer_is e now handle number message asked log (offering_is e.registry handle number request asks) found in
-    record {
-      by = by_policy e.registry (offer_question request);
-      granted = λ allows. is ∙ offer_let e now message asked log found allows;
-      denied = λ denies. is ∙ offer_denied e now message asked log found denies;
-    }
+    let of = found_holds IsAppended request.publication.number log e.logs
+    (all_appended e.registry.settings e.logs e.registry.streams.sources follows.made) found in
+    let is = offer_is e now handle number message asked log (offering_is e.registry handle number request asks) found in (
+      of.0,
+      of.1,
+      record {
+        by = by_policy e.registry (offer_question request);
+        granted = λ allows. is ∙ offer_granted e now message asked log of.0 found of.1 allows;
+        denied = λ denies. is ∙ offer_denied e now message asked log of.0 found of.1 denies;
+      },
+    )
 
 no_registration : (s : State) (client : Option Client) → offered_by s client None ≡ None
 no_registration s None = refl
@@ -132,15 +191,16 @@ unfolding offering_of
 offering_none s handle number none =
     ap (offered_by s (client_at s.clients.rows handle)) none ∙ no_registration s (client_at s.clients.rows handle)
 
-offers_decided : (e : RunEnd) → OffersAreDecided e
-offers_decided e = record {
-  there = offer_there e;
+offers_decided : (e : RunEnd) → LogsFollow e → OffersAreDecided e
+offers_decided e follows = record {
+  there = offer_there e follows;
   unregistered = λ now handle number message none.
       ap (on_offered e now handle number message) (offering_none e.registry handle number none);
 }
 
 pub offers_exactly : OffersAreGrantedExactly
-offers_exactly settings policy peers steps answers sound are = offers_decided _
+offers_exactly settings policy peers steps answers sound are =
+    offers_decided _ (logs_follow settings policy peers steps answers sound are)
 
 -- ---- a poll
 
@@ -160,32 +220,17 @@ has_reader source number (first ∷ pairs) =
     ∙ ap (λ (b : Bool). (first.source == source && (first.subscription == number)) || b)
     (has_reader source number pairs)
 
-has_place : (b : Bool) (first : Reader) (found : Option Reader) (other : Bool) → (b || other) ≡ true →
-    (other ≡ true → (at : ℕ) × (option_map (λ (pair : Reader). pair.position) found ≡ Some at)) →
-    (at : ℕ) × (option_map (λ (pair : Reader). pair.position) (cond b (Some first) found) ≡ Some at)
-has_place true first found other has rest = (first.position, refl)
-has_place false first found other has rest = rest has
-
--- a reader has a position
-has_position : (number : ℕ) (readers : List Reader) →
-    list_any (λ n. n == number) (map (λ pair. pair.subscription) readers) ≡ true →
-    (at : ℕ) × (position_of readers number ≡ Some at)
-has_position number [] has = absurd (cc)
-has_position number (first ∷ readers) has =
-    has_place (first.subscription == number) first (find (λ pair. pair.subscription == number) readers)
-    (list_any (λ n. n == number) (map (λ pair. pair.subscription) readers)) has (has_position number readers)
-
 -- each reader stands somewhere in the log
 reads_somewhere : (e : RunEnd) (source number : ℕ) (log : WholeLog) →
-    All (λ log. map (λ pair. pair.subscription) log.whole.pairs ≡ readers_of (pairs_of e.registry) log.source) e.logs →
+    All (λ log. readers_in log.whole ≡ readers_of (pairs_of e.registry) log.source) e.logs →
     log_at e.logs source ≡ Some log → has_pair e.registry source number ≡ true →
-    (at : ℕ) × (position_of log.whole.pairs number ≡ Some at)
+    (at : ℕ) × (position_in log.whole number ≡ Some at)
 unfolding has_pair
 reads_somewhere e source number log read found has =
     let readers = found_holds
-    (λ log. map (λ pair. pair.subscription) log.whole.pairs ≡ readers_of (pairs_of e.registry) log.source)
+    (λ log. readers_in log.whole ≡ readers_of (pairs_of e.registry) log.source)
     source log e.logs read found in
-    has_position number log.whole.pairs
+    reader_stands log.whole number
     (ap (list_any (λ n. n == number)) readers
     ∙ ap (λ (n : ℕ). list_any (λ n. n == number) (readers_of (pairs_of e.registry) n))
     (found_source source log e.logs found)
@@ -209,7 +254,7 @@ receiving_is s handle number source request asks =
 
 poll_is : (e : RunEnd) (now handle number source limit : ℕ) (asked : LogRequest) (log : WholeLog) (at : ℕ) →
     receiving_of e.registry handle number source ≡ Some asked → log_at e.logs source ≡ Some log →
-    position_of log.whole.pairs number ≡ Some at →
+    position_in log.whole number ≡ Some at →
     moved e (Poll now handle number source limit)
     ≡ left_by e source (poll_under number limit log (Some asked) (Some at))
 unfolding poll_move
@@ -218,7 +263,7 @@ poll_is e now handle number source limit asked log at is found place =
     ap (receiving_of e.registry handle number) (found_source source log e.logs found) ∙ is in
     log_moves e source (poll_move e.registry handle number limit) IsGone log found
     ∙ ap
-    (λ (o : Option LogRequest). left_by e source (poll_under number limit log o (position_of log.whole.pairs number)))
+    (λ (o : Option LogRequest). left_by e source (poll_under number limit log o (position_in log.whole number)))
     here
     ∙ ap (λ (o : Option ℕ). left_by e source (poll_under number limit log (Some asked) o)) place
 
@@ -284,7 +329,7 @@ poll_gone e handle number source limit (Some log) found none =
     let here : receiving_of e.registry handle number log.source ≡ None =
     ap (receiving_of e.registry handle number) (found_source source log e.logs found) ∙ none in
     ap
-    (λ (o : Option LogRequest). left_by e source (poll_under number limit log o (position_of log.whole.pairs number)))
+    (λ (o : Option LogRequest). left_by e source (poll_under number limit log o (position_in log.whole number)))
     here
     ∙ stays_left e source log IsGone found
 

@@ -5,6 +5,9 @@ use Rattle.std.specs.List.{All}
 use Rattle.std.proofs.lemmas.Bool.{cond_both}
 use Rattle.std.proofs.lemmas.List.{map-append}
 use Rattle.std.proofs.lemmas.List.Elements.{All-nil, All-cons, filter-append}
+use Rattle.any_log.specs.Held.{Made}
+use Rattle.any_log.specs.Whole.{AnyWhole, whole, rebuilt, made_for as made_any, position_in, readers_in}
+use Rattle.any_log.proofs.AnyLemmas.{polled_made, polled_readers, rejoined_made as any_made, rejoined_readers as any_readers}
 use Rattle.driver_core.specs.Change.{Change}
 use Rattle.driver_core.specs.declared.log_request.LogRequest.{LogRequest}
 use Rattle.driver_core.specs.declared.peer.Peer.{Peer}
@@ -15,6 +18,7 @@ use Rattle.driver_core.specs.Pairs.{pairs_of}
 use Rattle.driver_core.specs.Renewal.{source_at}
 use Rattle.driver_core.specs.Soundness.{AreSettings, IsSound, MovesLogs, Opens, is_left, log_of}
 use Rattle.driver_core.specs.State.{State, opened}
+use Rattle.driver_core.proofs.LogListLemmas.{all_published}
 use Rattle.driver_core.proofs.SoundnessLemmas.{moves_logs, registries_sound}
 use Rattle.driver_world.specs.declared.answer.Answer.{Answer}
 use Rattle.driver_world.specs.declared.answer.Answer.TheVariants.{Offered as OfferedAs, Gone as IsGone}
@@ -25,32 +29,27 @@ use Rattle.driver_world.specs.Ends.{RunEnd, opening_end, inputs_of, begun, opene
 use Rattle.driver_core.specs.Readers.{readers_of}
 use Rattle.driver_world.specs.Held.{is_closed}
 use Rattle.driver_world.specs.Laws.{AtEachEnd, made_for, made_as, LogsFollow, LogsFollowTheRegistry}
-use Rattle.driver_world.specs.Moves.{WholeLog, Move, taken, offer_under, offer_move, given, poll_under, poll_move}
+use Rattle.driver_world.specs.Moves.{WholeLog, Move, taken, offer_to, offer_under, offer_move, given, poll_under, poll_move}
 use Rattle.driver_world.proofs.EndLemmas.{run_keeps}
 use Rattle.driver_world.proofs.LiveLemmas.{found_log, all_with}
 use Rattle.driver_world.proofs.MatchLemmas.{kept_mapped, opened_found}
+use Rattle.policy_core.specs.declared.verdict.Verdict.{Verdict}
 use Rattle.policy_core.specs.RuleList.{Rules}
 use Rattle.stream_registry.specs.declared.lingering.LogPlace.{LogPlace}
 use Rattle.stream_registry.specs.declared.pairs.Pair.{Pair}
 use Rattle.stream_registry.specs.declared.row.Source.{Source}
-use Rattle.term_log.specs.declared.ident.Ident.{Ident}
-use Rattle.log_pairs.specs.declared.pair.Pair.{Pair as Reader}
+use Rattle.stream_registry.specs.Origins.{is_published}
 use Rattle.term_log.specs.Log.{greatest_message}
-use Rattle.log_pairs.specs.Pairs.{position_of, moved_one, rejoined_pairs}
-use Rattle.term_log.specs.Whole.{tail_of, is_connected, offered, polled, polled_from, rejoined}
+use Rattle.term_log.specs.Whole.{Whole, is_connected, offered}
 
 -- the registry is sound, and the logs follow it
 pub record Follows (e : RunEnd) : Type 0 where
   pub sound : IsSound e.registry
   pub logs : LogsFollow e
 
--- who reads, by their numbers
-abbrev readers_in : List Reader → List ℕ
-readers_in pairs = map (λ pair. pair.subscription) pairs
-
 -- exactly the subscriptions of these pairs read the log
 abbrev IsRead : List Pair → WholeLog → Type 0
-IsRead pairs log = readers_in log.whole.pairs ≡ readers_of pairs log.source
+IsRead pairs log = readers_in log.whole ≡ readers_of pairs log.source
 
 -- ---- the log that an event opens
 
@@ -75,22 +74,22 @@ opened_made s change (Some place) moves is =
 
 -- ---- what the logs are made for, after an event
 
-abbrev stays : List LogPlace → ℕ × Ident → Bool
+abbrev stays : List LogPlace → ℕ × Made → Bool
 stays closes made = not (is_closed closes made.0)
 
 rejoined_made : (pairs : List Pair) (logs : List WholeLog) →
     map made_for (map (rejoined_log pairs) logs) ≡ map made_for logs
-unfolding rejoined
 rejoined_made pairs [] = refl
 rejoined_made pairs (log ∷ logs) =
-    ap (λ (made : List (ℕ × Ident)). made_for log ∷ made) (rejoined_made pairs logs)
+    ap₂ (λ (made : Made) (others : List (ℕ × Made)). (log.source, made) ∷ others)
+    (any_made (readers_of pairs log.source) log.whole) (rejoined_made pairs logs)
 
 -- whether it lingers or not
 made_as_logs : (settings : Settings) (logs : List Source) →
     map (made_as settings) (map log_of logs) ≡ map (made_as settings) logs
 made_as_logs settings [] = refl
 made_as_logs settings (log ∷ logs) =
-    ap (λ (made : List (ℕ × Ident)). made_as settings log ∷ made) (made_as_logs settings logs)
+    ap (λ (made : List (ℕ × Made)). made_as settings log ∷ made) (made_as_logs settings logs)
 
 made_after : (s : State) (change : Change) (logs : List WholeLog) → MovesLogs s change →
     map made_for logs ≡ map (made_as s.settings) s.streams.sources →
@@ -107,7 +106,7 @@ made_after s change logs moves made =
     ∙ sym (made_as_logs settings s.streams.sources) in
     let all : map made_for (logs ++ begins) ≡ map (made_as settings) (before ++ moves.opened) =
     map-append made_for logs begins
-    ∙ ap₂ (λ (xs ys : List (ℕ × Ident)). xs ++ ys) old
+    ∙ ap₂ (λ (xs ys : List (ℕ × Made)). xs ++ ys) old
     (opened_made s change change.outcome.opens moves moves.opens)
     ∙ sym (map-append (made_as settings) before moves.opened) in
     let left : filter (is_left closes) (before ++ moves.opened) ≡ map log_of change.after.streams.sources =
@@ -116,34 +115,32 @@ made_after s change logs moves made =
     ∙ sym moves.logs in
     rejoined_made (pairs_of change.after) (filter (stays_open closes) (logs ++ begins))
     ∙ kept_mapped (stays closes) made_for (logs ++ begins)
-    ∙ ap (λ (made' : List (ℕ × Ident)). filter (stays closes) made') all
+    ∙ ap (λ (made' : List (ℕ × Made)). filter (stays closes) made') all
     ∙ sym (kept_mapped (stays closes) (made_as settings) (before ++ moves.opened))
     ∙ ap (λ (logs' : List Source). map (made_as settings) logs') left
     ∙ made_as_logs settings change.after.streams.sources
 
 -- ---- who reads the logs, after an event
 
-rejoined_readers : (tail : ℕ) (pairs : List Reader) (subscriptions : List ℕ) →
-    readers_in (rejoined_pairs tail pairs subscriptions) ≡ subscriptions
-rejoined_readers tail pairs [] = refl
-rejoined_readers tail pairs (subscription ∷ subscriptions) =
-    ap (λ (others : List ℕ). subscription ∷ others) (rejoined_readers tail pairs subscriptions)
-
 rejoined_read : (pairs : List Pair) (logs : List WholeLog) → All (IsRead pairs) (map (rejoined_log pairs) logs)
-unfolding rejoined
 rejoined_read pairs [] = All-nil (IsRead pairs)
 rejoined_read pairs (log ∷ logs) =
     All-cons (IsRead pairs) (rejoined_log pairs log) (map (rejoined_log pairs) logs)
-    (rejoined_readers (tail_of log.whole) log.whole.pairs (readers_of pairs log.source)) (rejoined_read pairs logs)
+    (any_readers (readers_of pairs log.source) log.whole) (rejoined_read pairs logs)
 
-event_follows : (s : State) (change : Change) (logs : List WholeLog) → MovesLogs s change →
+made_for_all : (settings : Settings) (s : State) → IsSound s →
+    map (made_as settings) (filter is_published s.streams.sources) ≡ map (made_as settings) s.streams.sources
+made_for_all settings s sound = ap (map (made_as settings)) (all_published s.streams.sources sound.published)
+
+event_follows : (s : State) (change : Change) (logs : List WholeLog) → IsSound s → MovesLogs s change →
     LogsFollow (record { registry = s; logs = logs }) →
     Follows (record { registry = change.after; logs = logs_after change logs })
 unfolding logs_after
-event_follows s change logs moves follow = record {
+event_follows s change logs sound moves follow = record {
   sound = moves.sound;
   logs = record {
-    made = made_after s change logs moves follow.made;
+    made = made_after s change logs moves (follow.made ∙ made_for_all s.settings s sound)
+        ∙ sym (made_for_all change.after.settings change.after moves.sound);
     apart = moves.sound.laid_out;
     read = rejoined_read (pairs_of change.after)
         (filter (stays_open change.outcome.closes) (logs ++ opened_for change.after change.outcome.opens));
@@ -155,14 +152,28 @@ event_follows s change logs moves follow = record {
 -- a log for the same, which the same read
 record IsAlike (log new : WholeLog) : Type 0 where
   made : made_for new ≡ made_for log
-  readers : readers_in new.whole.pairs ≡ readers_in log.whole.pairs
+  readers : readers_in new.whole ≡ readers_in log.whole
 
 is_itself : (log : WholeLog) → IsAlike log log
 is_itself log = record { made = refl; readers = refl }
 
-taken_alike : (message : List ℕ) (log : WholeLog) → IsAlike log (taken message log).after
+taken_alike : (message : List ℕ) (log : WholeLog) (frames : Whole) → log.whole ≡ whole frames →
+    IsAlike log (taken message log frames).after
 unfolding offered
-taken_alike message log = record { made = refl; readers = refl }
+taken_alike message log frames is = record {
+  made = ap (λ (w : AnyWhole). (log.source, made_any w)) (sym is);
+  readers = ap readers_in (sym is);
+}
+
+offered_alike : (now timeout : ℕ) (verdict : Verdict) (message : List ℕ) (log : WholeLog) (w : AnyWhole) → log.whole ≡ w →
+    IsAlike log (offer_to now timeout verdict message log w).after
+offered_alike now timeout verdict message log (whole frames) is =
+    let P : Move → Type 0 = λ move. IsAlike log move.after in
+    cond_both (not verdict.allow) _ _ P (λ _. is_itself log)
+    (λ _. cond_both (nat_lt (greatest_message frames.ident) (length message)) _ _ P (λ _. is_itself log)
+    (λ _. cond_both (not (is_connected frames now timeout)) _ _ P (λ _. is_itself log)
+    (λ _. taken_alike message log frames is)))
+offered_alike now timeout verdict message log (rebuilt frames) is = is_itself log
 
 offer_alike : (s : State) (now : ℕ) (message : List ℕ) (log : WholeLog) (o : Option LogRequest) →
     IsAlike log (offer_under s now message log o).after
@@ -170,32 +181,13 @@ offer_alike s now message log None = is_itself log
 offer_alike s now message log (Some request) =
     let P : Move → Type 0 = λ move. IsAlike log move.after in
     cond_both (not (request.source == log.source)) _ _ P (λ _. is_itself log)
-    (λ _. cond_both (not request.decision.verdict.allow) _ _ P (λ _. is_itself log)
-    (λ _. cond_both (nat_lt (greatest_message log.whole.ident) (length message)) _ _ P (λ _. is_itself log)
-    (λ _. cond_both (not (is_connected log.whole now s.settings.connection_timeout)) _ _ P (λ _. is_itself log)
-    (λ _. taken_alike message log))))
-
-one_moved : (b : Bool) (position : ℕ) (pair : Reader) →
-    (cond b (record pair { position = position }) pair).subscription ≡ pair.subscription
-one_moved true position pair = refl
-one_moved false position pair = refl
-
-moved_readers : (subscription position : ℕ) (pairs : List Reader) →
-    readers_in (map (moved_one subscription position) pairs) ≡ readers_in pairs
-moved_readers subscription position [] = refl
-moved_readers subscription position (pair ∷ pairs) =
-    ap₂ (λ (number : ℕ) (others : List ℕ). number ∷ others)
-    (one_moved (pair.subscription == subscription) position pair) (moved_readers subscription position pairs)
-
-polled_alike : (subscription limit : ℕ) (log : WholeLog) (o : Option ℕ) →
-    IsAlike log (record log { whole = (polled_from log.whole subscription limit o).after })
-polled_alike subscription limit log None = is_itself log
-polled_alike subscription limit log (Some at) =
-    record { made = refl; readers = moved_readers subscription _ log.whole.pairs }
+    (λ _. offered_alike now s.settings.connection_timeout request.decision.verdict message log log.whole refl)
 
 given_alike : (subscription limit : ℕ) (log : WholeLog) → IsAlike log (given subscription limit log).after
-unfolding polled
-given_alike subscription limit log = polled_alike subscription limit log (position_of log.whole.pairs subscription)
+given_alike subscription limit log = record {
+  made = ap (λ (made : Made). (log.source, made)) (polled_made log.whole subscription limit);
+  readers = polled_readers log.whole subscription limit;
+}
 
 poll_alike : (subscription limit : ℕ) (log : WholeLog) (o : Option LogRequest) (at : Option ℕ) →
     IsAlike log (poll_under subscription limit log o at).after
@@ -214,9 +206,9 @@ one_with_made : (b : Bool) (source : ℕ) (first log new : WholeLog) (logs : Lis
     map made_for (cond b (new ∷ logs) (first ∷ with_log logs source new)) ≡ made_for first ∷ map made_for logs
 one_with_made true source first log new logs same rest found =
     let is : first ≡ log = cc in
-    ap (λ (made : ℕ × Ident). made ∷ map made_for logs) (same ∙ sym (ap made_for is))
+    ap (λ (made : ℕ × Made). made ∷ map made_for logs) (same ∙ sym (ap made_for is))
 one_with_made false source first log new logs same rest found =
-    ap (λ (made : List (ℕ × Ident)). made_for first ∷ made) (rest found)
+    ap (λ (made : List (ℕ × Made)). made_for first ∷ made) (rest found)
 
 with_made : (source : ℕ) (log new : WholeLog) (logs : List WholeLog) → made_for new ≡ made_for log →
     log_at logs source ≡ Some log → map made_for (with_log logs source new) ≡ map made_for logs
@@ -228,7 +220,7 @@ alike_read : (pairs : List Pair) (log new : WholeLog) → IsAlike log new → Is
 alike_read pairs log new alike read =
     alike.readers
     ∙ read
-    ∙ ap (λ (made : ℕ × Ident). readers_of pairs made.0) (sym alike.made)
+    ∙ ap (λ (made : ℕ × Made). readers_of pairs made.0) (sym alike.made)
 
 move_follows : (e : RunEnd) (source : ℕ) (move : WholeLog → Move) (absent : Answer) (o : Option WholeLog) →
     log_at e.logs source ≡ o → ((log : WholeLog) → IsAlike log (move log).after) → Follows e →
@@ -264,7 +256,7 @@ poll_follows e client subscription source limit follows =
     move_follows e source (poll_move e.registry client subscription limit) IsGone (log_at e.logs source) refl
     (λ log.
     poll_alike subscription limit log (receiving_of e.registry client subscription log.source)
-    (position_of log.whole.pairs subscription))
+    (position_in log.whole subscription))
     follows
 
 -- ---- runs
@@ -272,7 +264,7 @@ poll_follows e client subscription source limit follows =
 step_follows : (e : RunEnd) (step : Step) → Follows e → Follows (moved e step).after
 unfolding conducted
 step_follows e (Conductor event) follows =
-    event_follows e.registry (conduct e.registry event (inputs_of e.logs)) e.logs
+    event_follows e.registry (conduct e.registry event (inputs_of e.logs)) e.logs follows.sound
     (moves_logs e.registry event (inputs_of e.logs) follows.sound) follows.logs
 step_follows e (Offer now client registration message) follows =
     offer_follows e now client registration message (offering_of e.registry client registration) follows

@@ -4,13 +4,13 @@ use Rattle.std.specs.Prelude.{nat_lt, slice_set}
 use Rattle.std.specs.List.{position_or_len}
 use Rattle.std.proofs.lemmas.Bool.{ltb-true, ltb-false}
 use Rattle.std.proofs.lemmas.List.{drop_more, length-map, length-take-le, map-append, take_more}
+use Rattle.any_log.specs.Held.{rejoined_held as rejoined_any}
 use Rattle.driver_world.specs.declared.answer.Answer.{Answer}
 use Rattle.driver_core.specs.Readers.{readers_of}
 use Rattle.driver_world.specs.Held.{HeldLog, HeldLogs, LiesAsBefore, held_at, with_held, place_at, with_readers, rejoined_held}
 use Rattle.driver_world.specs.Memory.{Gives, GivesFirst, GivesHeld}
 use Rattle.driver_world.specs.Moves.{WholeLog, Move, Does, MovesFirst, MovesHeld}
 use Rattle.stream_registry.specs.declared.pairs.Pair.{Pair}
-use Rattle.term_log.specs.Whole.{rejoined_kept}
 
 -- ---- the first of a source
 
@@ -120,7 +120,7 @@ err_given P is (Err e) = is
 -- ---- who reads
 
 pub readers_set : (logs : List HeldLog) (at : ℕ) (subscriptions : List ℕ) (log : HeldLog) → at < length logs
-    → ((d : HeldLog) → log ≡ record (get_or logs at d) { log = rejoined_kept subscriptions (get_or logs at d).log })
+    → ((d : HeldLog) → log ≡ record (get_or logs at d) { log = rejoined_any subscriptions (get_or logs at d).log })
     → slice_set logs at log ≡ with_readers at subscriptions logs
 readers_set [] at subscriptions log within is = absurd (omega arith)
 readers_set (held ∷ logs) zero subscriptions log within is = ap (λ (h : HeldLog). h ∷ logs) (is held)
@@ -128,7 +128,7 @@ readers_set (held ∷ logs) (suc at) subscriptions log within is =
     ap (λ l. held ∷ l) (readers_set logs at subscriptions log (omega arith) is)
 
 readers_front : (pre : List HeldLog) (held : HeldLog) (others : List HeldLog) (subscriptions : List ℕ)
-    → let read : HeldLog = record held { log = rejoined_kept subscriptions held.log } in
+    → let read : HeldLog = record held { log = rejoined_any subscriptions held.log } in
     with_readers (length pre) subscriptions (pre ++ held ∷ others) ≡ pre ++ read ∷ others
 readers_front [] held others subscriptions = refl
 readers_front (first ∷ pre) held others subscriptions = ap (λ l. first ∷ l) (readers_front pre held others subscriptions)
@@ -150,7 +150,7 @@ rejoin_more pairs old now new at held subscriptions within is found read more =
     let read_here : subscriptions ≡ readers_of pairs here.source = read ∙ ap (λ (h : HeldLog). readers_of pairs h.source) same in
     let done : with_readers at subscriptions now ≡ pre ++ f here ∷ rest =
     ap₂ (λ n l. with_readers n subscriptions l) (sym long) parts ∙ readers_front pre here rest subscriptions
-    ∙ ap (λ s. let h : HeldLog = record here { log = rejoined_kept s here.log } in pre ++ h ∷ rest) read_here in
+    ∙ ap (λ s. let h : HeldLog = record here { log = rejoined_any s here.log } in pre ++ h ∷ rest) read_here in
     let front : map f (take (at + 1) old) ≡ pre ++ f here ∷ [] =
     ap (map f) (take_more old at held within) ∙ map-append f (take at old) (here ∷ []) in
     more ∙ done ∙ sym (append_assoc pre (f here ∷ []) rest) ∙ ap (λ l. l ++ rest) (sym front)

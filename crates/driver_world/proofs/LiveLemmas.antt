@@ -6,6 +6,10 @@ use Rattle.std.specs.Prelude.{IfSome}
 use Rattle.std.proofs.lemmas.Bool.{cond_both, eqb-true, eq-eqb}
 use Rattle.std.proofs.lemmas.Bool.Decides.{nat_tests}
 use Rattle.std.proofs.lemmas.List.Elements.{All-nil, All-cons, All-head, All-tail, All-append, All-map, All-filter, All-weaker, Contains-append_cases, Contains-append_left, Contains-append_right, Contains-push}
+use Rattle.any_log.specs.declared.fragment.Fragment.{Fragment}
+use Rattle.any_log.specs.Fragments.{fragment_of}
+use Rattle.any_log.specs.Whole.{AnyWhole, whole, rebuilt, polled as any_polled, position_in, rejoined}
+use Rattle.any_log.proofs.AnyLemmas.{moved_there}
 use Rattle.driver_core.specs.Change.{Change}
 use Rattle.driver_core.specs.declared.log_request.LogRequest.{LogRequest}
 use Rattle.driver_core.specs.declared.peer.Peer.{Peer}
@@ -18,16 +22,19 @@ use Rattle.driver_core.specs.State.{State}
 use Rattle.driver_core.proofs.ListLemmas.{contains_none, only_one}
 use Rattle.driver_world.specs.declared.answer.Answer.{Answer}
 use Rattle.driver_world.specs.declared.answer.Answer.TheVariants.{NoMemory, Attached, Full, Stopped, PolicyInForce, PolicyFull, Replies, Offered as OfferedAs, Polled, Gone as IsGone, Counters, Value as ValueIs, Denied, UnknownCounter, WrongClient}
-use Rattle.driver_world.specs.declared.answer.Fragment.{Fragment}
 use Rattle.driver_world.specs.declared.answer.Offered.TheVariants.{At as PutAt, Closed}
 use Rattle.driver_world.specs.declared.step.Step.{Step}
 use Rattle.driver_world.specs.declared.step.Step.TheVariants.{Conductor, Offer as Offers, Poll as Polls, List as Lists, Value}
-use Rattle.driver_world.specs.Answers.{offered_as, fragment_of}
+use Rattle.driver_world.specs.Answers.{offered_as}
 use Rattle.driver_world.specs.Ends.{RunEnd, opening_end, inputs_of, begun, opened_for, stays_open, rejoined_log, logs_after, log_at, with_log, moved_on, on_log, on_offered, conducted, moved, after, IsAnswer, AreAnswers, end_of}
 use Rattle.driver_core.specs.Readers.{readers_of}
-use Rattle.driver_world.specs.Laws.{put_into, granted_by, granted_in, ComesFromLog, BytesComeFromTheLiveLog}
-use Rattle.driver_world.specs.Moves.{WholeLog, Move, answered, taken, offer_under, offer_move, given, poll_under, poll_move}
+use Rattle.driver_world.specs.Idents.{ident_of}
+use Rattle.driver_world.specs.Laws.{frames_for, put_into, granted_by, granted_in, AreNext, AreNextWhole, AreNextIn, ComeFromLog, BytesComeFromTheLiveLog}
+use Rattle.driver_world.specs.Moves.{WholeLog, Move, answered, taken, offer_to, offer_under, offer_move, given, poll_under, poll_move}
 use Rattle.frame_codec.specs.declared.flags.Flags.{Flags}
+use Rattle.image_log.specs.Polling.{Poll as ImagePoll, polled as image_polled, polled_frame, polled_from as image_polled_from, whole_from}
+use Rattle.image_log.specs.Rebuilt.{Rebuilt, settled}
+use Rattle.policy_core.specs.declared.verdict.Verdict.{Verdict}
 use Rattle.policy_core.specs.RuleList.{Rules}
 use Rattle.stream_registry.specs.declared.lingering.LogPlace.{LogPlace}
 use Rattle.stream_registry.specs.declared.pairs.Pair.{Pair}
@@ -44,7 +51,7 @@ use Rattle.term_log.specs.PollLaws.{AreFragmentsOf}
 use Rattle.log_pairs.specs.Polling.{Fetched, Polled as Passed, behind as behind_all, fragments_of, passed}
 use Rattle.log_pairs.proofs.Pairing.{at_found, at_map, at_rejoined}
 use Rattle.term_log.specs.Polling.{polled_run}
-use Rattle.term_log.specs.Whole.{Whole, tail_of, answer_to, is_connected, offered, rejoined, frames_behind, polled_from, polled, IsStart, AreStarts}
+use Rattle.term_log.specs.Whole.{Whole, Poll, fresh, tail_of, answer_to, is_connected, offered, rejoined as term_rejoined, frames_behind, polled_from, polled, IsStart, AreStarts}
 use Rattle.term_log.proofs.Held.{total_both}
 use Rattle.term_log.proofs.Polls.{Taken, behind_taken, taken as taken_from}
 use Rattle.term_log.proofs.Standing.{end_start, starts_more}
@@ -109,22 +116,36 @@ polled_frames w subscription limit starts =
 
 -- ---- the logs whose fragments were granted
 
--- All who read the log stand where a frame begins, and each fragment in it was granted to its source.
-record Owns (granted : ℕ → List Frame) (log : WholeLog) : Type 0 where
-  read : AreStarts log.whole.ident.start log.whole.frames log.whole.pairs
+-- All who read the log stand where a frame begins, and each fragment in it was granted.
+record OwnsFrames (granted : List Frame) (frames : Whole) : Type 0 where
+  read : AreStarts frames.ident.start frames.frames frames.pairs
   owned :
-      (flags : Flags) (payload : List ℕ) → Contains log.whole.frames (fragment flags payload) →
-      Contains (granted log.source) (fragment flags payload)
+      (flags : Flags) (payload : List ℕ) → Contains frames.frames (fragment flags payload) →
+      Contains granted (fragment flags payload)
+
+-- a remote stream's frames are granted by nobody here
+abbrev OwnsAny : List Frame → AnyWhole → Type 0
+OwnsAny granted (whole frames) = OwnsFrames granted frames
+OwnsAny granted (rebuilt frames) = Unit {0}
+
+-- to the log's source
+abbrev Owns : (ℕ → List Frame) → WholeLog → Type 0
+Owns granted log = OwnsAny (granted log.source) log.whole
 
 -- what was granted stays granted
 abbrev IsMore : (ℕ → List Frame) → (ℕ → List Frame) → Type 0
 IsMore granted more = (source : ℕ) (frame : Frame) → Contains (granted source) frame → Contains (more source) frame
 
-owns_more : (granted more : ℕ → List Frame) → IsMore granted more → (log : WholeLog) → Owns granted log → Owns more log
-owns_more granted more is log owns = record {
+any_more : (granted more : List Frame) → ((frame : Frame) → Contains granted frame → Contains more frame) → (w : AnyWhole) →
+    OwnsAny granted w → OwnsAny more w
+any_more granted more is (whole frames) owns = record {
   read = owns.read;
-  owned = λ flags payload has. is log.source (fragment flags payload) (owns.owned flags payload has);
+  owned = λ flags payload has. is (fragment flags payload) (owns.owned flags payload has);
 }
+any_more granted more is (rebuilt frames) owns = tt
+
+owns_more : (granted more : ℕ → List Frame) → IsMore granted more → (log : WholeLog) → Owns granted log → Owns more log
+owns_more granted more is log owns = any_more (granted log.source) (more log.source) (is log.source) log.whole owns
 
 all_more : (granted more : ℕ → List Frame) → IsMore granted more → (logs : List WholeLog) → All (Owns granted) logs →
     All (Owns more) logs
@@ -135,30 +156,38 @@ all_more granted more is logs owned = All-weaker (Owns granted) (Owns more) (own
 begun_owns : (granted : ℕ → List Frame) (s : State) (o : Option Source) → All (Owns granted) (begun s o)
 begun_owns granted s None = All-nil (Owns granted)
 begun_owns granted s (Some publication) =
-    All-cons (Owns granted) _ []
-    (record { read = tt; owned = λ flags payload has. absurd (contains_none (fragment flags payload) has) })
-    (All-nil (Owns granted))
+    let frames : Whole = fresh (ident_of s.settings publication) in
+    let log : WholeLog = record { source = publication.number; whole = whole frames } in
+    let owns : OwnsFrames (granted publication.number) frames = record {
+      read = tt;
+      owned = λ flags payload has. absurd (contains_none (fragment flags payload) has);
+    } in
+    All-cons (Owns granted) log [] owns (All-nil (Owns granted))
 
 opened_owns : (granted : ℕ → List Frame) (s : State) (o : Option LogPlace) → All (Owns granted) (opened_for s o)
 opened_owns granted s None = All-nil (Owns granted)
 opened_owns granted s (Some place) = begun_owns granted s (source_at s.streams.sources place.source)
 
-rejoined_owns : (granted : ℕ → List Frame) (pairs : List Pair) (log : WholeLog) → Owns granted log →
-    Owns granted (rejoined_log pairs log)
-unfolding rejoined
-rejoined_owns granted pairs log owns = record {
+rejoined_any : (granted : List Frame) (subscriptions : List ℕ) (w : AnyWhole) → OwnsAny granted w →
+    OwnsAny granted (rejoined subscriptions w)
+unfolding term_rejoined
+rejoined_any granted subscriptions (whole frames) owns = record {
   read =
-      at_rejoined (IsStart log.whole.ident.start log.whole.frames) (tail_of log.whole) log.whole.pairs
-      (readers_of pairs log.source) owns.read (end_start log.whole.ident.start log.whole.frames);
+      at_rejoined (IsStart frames.ident.start frames.frames) (tail_of frames) frames.pairs subscriptions owns.read
+      (end_start frames.ident.start frames.frames);
   owned = owns.owned;
 }
+rejoined_any granted subscriptions (rebuilt frames) owns = tt
 
-polled_from_owns : (granted : ℕ → List Frame) (subscription limit : ℕ) (log : WholeLog) (o : Option ℕ) →
-    IfSome o (IsStart log.whole.ident.start log.whole.frames) → Owns granted log →
-    Owns granted (record log { whole = (polled_from log.whole subscription limit o).after })
-polled_from_owns granted subscription limit log None start owns = owns
-polled_from_owns granted subscription limit log (Some at) start owns =
-    let w : Whole = log.whole in
+rejoined_owns : (granted : ℕ → List Frame) (pairs : List Pair) (log : WholeLog) → Owns granted log →
+    Owns granted (rejoined_log pairs log)
+rejoined_owns granted pairs log owns = rejoined_any (granted log.source) (readers_of pairs log.source) log.whole owns
+
+polled_from_owns : (granted : List Frame) (subscription limit : ℕ) (w : Whole) (o : Option ℕ) →
+    IfSome o (IsStart w.ident.start w.frames) → OwnsFrames granted w →
+    OwnsFrames granted (polled_from w subscription limit o).after
+polled_from_owns granted subscription limit w None start owns = owns
+polled_from_owns granted subscription limit w (Some at) start owns =
     let from = behind_start w at start in
     let later : List Frame = frames_behind at w.ident.start w.frames in
     let t = taken_from at limit later in
@@ -177,12 +206,17 @@ polled_from_owns granted subscription limit log (Some at) start owns =
       owned = owns.owned;
     }
 
+polled_any : (granted : List Frame) (subscription limit : ℕ) (w : AnyWhole) → OwnsAny granted w →
+    OwnsAny granted (any_polled w subscription limit).after
+unfolding polled
+polled_any granted subscription limit (whole frames) owns =
+    polled_from_owns granted subscription limit frames (position_of frames.pairs subscription)
+    (at_found (IsStart frames.ident.start frames.frames) subscription frames.pairs owns.read) owns
+polled_any granted subscription limit (rebuilt frames) owns = tt
+
 given_owns : (granted : ℕ → List Frame) (subscription limit : ℕ) (log : WholeLog) → Owns granted log →
     Owns granted (given subscription limit log).after
-unfolding polled
-given_owns granted subscription limit log owns =
-    polled_from_owns granted subscription limit log (position_of log.whole.pairs subscription)
-    (at_found (IsStart log.whole.ident.start log.whole.frames) subscription log.whole.pairs owns.read) owns
+given_owns granted subscription limit log owns = polled_any (granted log.source) subscription limit log.whole owns
 
 -- a fragment is appended only where the log answers a position, and is a part of the message then
 record IsPut (offer : Offer) (i : Ident) (message : List ℕ) (frame : Frame) : Type 0 where
@@ -206,22 +240,24 @@ appended_is_put BackPressured i tail message flags payload has = absurd (contain
 abbrev IsGranted : (ℕ → List Frame) → List ℕ → WholeLog → Answer → Type 0
 IsGranted more message log answer =
     (position : ℕ) → answer ≡ OfferedAs (PutAt position) →
-    (frame : Frame) → Contains (cut (payload_length log.whole.ident) message) frame → Contains (more log.source) frame
+    (frame : Frame) → Contains (frames_for log.whole message) frame → Contains (more log.source) frame
 
-taken_owns : (granted more : ℕ → List Frame) (message : List ℕ) (log : WholeLog) → IsMore granted more →
-    IsGranted more message log (taken message log).answer → Owns granted log → Owns more (taken message log).after
+taken_owns : (granted more : ℕ → List Frame) (message : List ℕ) (log : WholeLog) (w : Whole) → log.whole ≡ whole w →
+    IsMore granted more → IsGranted more message log (taken message log w).answer → Owns granted log →
+    Owns more (taken message log w).after
 unfolding offered
-taken_owns granted more message log is puts owns =
-    let w : Whole = log.whole in
+taken_owns granted more message log w same is puts owns =
     let new : List Frame = appended_at (answer_to w message) w.ident (tail_of w) message in
+    let own : OwnsFrames (granted log.source) w = subst (OwnsAny (granted log.source)) same owns in
     record {
-      read = starts_more w.ident.start w.frames new w.pairs owns.read;
+      read = starts_more w.ident.start w.frames new w.pairs own.read;
       owned = λ flags payload has.
           let frame : Frame = fragment flags payload in
-          ⊎_elim (λ old. is log.source frame (owns.owned flags payload old))
+          ⊎_elim (λ old. is log.source frame (own.owned flags payload old))
           (λ added.
           let put = appended_is_put (answer_to w message) w.ident (tail_of w) message flags payload added in
-          puts put.position (ap (λ (o : Offer). OfferedAs (offered_as o)) put.is) frame put.part)
+          puts put.position (ap (λ (o : Offer). OfferedAs (offered_as o)) put.is) frame
+          (subst (λ (l : AnyWhole). Contains (frames_for l message) frame) (sym same) put.part))
           (Contains-append_cases w.frames new frame has);
     }
 
@@ -229,18 +265,28 @@ taken_owns granted more message log is puts owns =
 abbrev LeavesOwned : (ℕ → List Frame) → List ℕ → WholeLog → Move → Type 0
 LeavesOwned more message log move = IsGranted more message log move.answer → Owns more move.after
 
+offers_owns : (granted more : ℕ → List Frame) (now timeout : ℕ) (verdict : Verdict) (message : List ℕ) (log : WholeLog)
+    (w : AnyWhole) → log.whole ≡ w → IsMore granted more → Owns granted log →
+    LeavesOwned more message log (offer_to now timeout verdict message log w)
+offers_owns granted more now timeout verdict message log (whole frames) same is owns =
+    let P : Move → Type 0 = LeavesOwned more message log in
+    let stays : (answer : Answer) → P (answered log answer) = λ answer puts. owns_more granted more is log owns in
+    cond_both (not verdict.allow) _ _ P (λ _. stays _)
+    (λ _. cond_both (nat_lt (greatest_message frames.ident) (length message)) _ _ P (λ _. stays _)
+    (λ _. cond_both (not (is_connected frames now timeout)) _ _ P (λ _. stays _)
+    (λ _. λ puts. taken_owns granted more message log frames same is puts owns)))
+offers_owns granted more now timeout verdict message log (rebuilt frames) same is owns =
+    λ puts. owns_more granted more is log owns
+
 offer_under_owns : (granted more : ℕ → List Frame) (s : State) (now : ℕ) (message : List ℕ) (log : WholeLog)
     (o : Option LogRequest) → IsMore granted more → Owns granted log →
     LeavesOwned more message log (offer_under s now message log o)
 offer_under_owns granted more s now message log None is owns = λ puts. owns_more granted more is log owns
 offer_under_owns granted more s now message log (Some request) is owns =
     let P : Move → Type 0 = LeavesOwned more message log in
-    let same : (answer : Answer) → P (answered log answer) = λ answer puts. owns_more granted more is log owns in
-    cond_both (not (request.source == log.source)) _ _ P (λ _. same _)
-    (λ _. cond_both (not request.decision.verdict.allow) _ _ P (λ _. same _)
-    (λ _. cond_both (nat_lt (greatest_message log.whole.ident) (length message)) _ _ P (λ _. same _)
-    (λ _. cond_both (not (is_connected log.whole now s.settings.connection_timeout)) _ _ P (λ _. same _)
-    (λ _. λ puts. taken_owns granted more message log is puts owns))))
+    cond_both (not (request.source == log.source)) _ _ P (λ _. λ puts. owns_more granted more is log owns)
+    (λ _.
+    offers_owns granted more now s.settings.connection_timeout request.decision.verdict message log log.whole refl is owns)
 
 poll_under_owns : (granted : ℕ → List Frame) (subscription limit : ℕ) (log : WholeLog) (o : Option LogRequest)
     (at : Option ℕ) → Owns granted log → Owns granted (poll_under subscription limit log o at).after
@@ -307,19 +353,25 @@ is_allowed : (verdict : Bool) → not verdict ≡ false → verdict ≡ true
 is_allowed true is = refl
 is_allowed false is = absurd (cc is)
 
+offers_allowed : (now timeout : ℕ) (verdict : Verdict) (message : List ℕ) (log : WholeLog) (w : AnyWhole) (position : ℕ) →
+    (offer_to now timeout verdict message log w).answer ≡ OfferedAs (PutAt position) → verdict.allow ≡ true
+offers_allowed now timeout verdict message log (whole frames) position =
+    let P : Move → Type 0 = λ move. move.answer ≡ OfferedAs (PutAt position) → verdict.allow ≡ true in
+    cond_both (not verdict.allow) _ _ P (λ _ other. absurd (cc other)) (λ granted _. is_allowed verdict.allow granted)
+offers_allowed now timeout verdict message log (rebuilt frames) position = λ other. absurd (cc other)
+
 put_is_allowed : (s : State) (now : ℕ) (message : List ℕ) (request : LogRequest) (log : WholeLog) (position : ℕ) →
     (offer_under s now message log (Some request)).answer ≡ OfferedAs (PutAt position) →
     request.decision.verdict.allow ≡ true
 put_is_allowed s now message request log position =
-    let allows : Bool = request.decision.verdict.allow in
-    let P : Move → Type 0 = λ move. move.answer ≡ OfferedAs (PutAt position) → allows ≡ true in
+    let P : Move → Type 0 = λ move. move.answer ≡ OfferedAs (PutAt position) → request.decision.verdict.allow ≡ true in
     cond_both (not (request.source == log.source)) _ _ P (λ _ other. absurd (cc other))
-    (λ _. cond_both (not allows) _ _ P (λ _ other. absurd (cc other)) (λ granted _. is_allowed allows granted))
+    (λ _. offers_allowed now s.settings.connection_timeout request.decision.verdict message log log.whole position)
 
 -- the log that took the message is the one whose cut counts as granted
 put_into_found : (e : RunEnd) (message : List ℕ) (request : LogRequest) (log : WholeLog) →
     log_at e.logs request.source ≡ Some log → log.source ≡ request.source → request.decision.verdict.allow ≡ true →
-    put_into e log.source message (Some request) ≡ cut (payload_length log.whole.ident) message
+    put_into e log.source message (Some request) ≡ frames_for log.whole message
 put_into_found e message request log found source_is allows =
     rw (source_is, eq-eqb request.source request.source refl, allows, found) refl
 
@@ -366,7 +418,7 @@ poll_owns granted e client subscription source limit (Some log) found owned =
     let there = found_log (Owns granted) source log e.logs owned found in
     all_with (Owns granted) source _ e.logs owned
     (poll_under_owns granted subscription limit log (receiving_of e.registry client subscription log.source)
-    (position_of log.whole.pairs subscription) there.holds)
+    (position_in log.whole subscription) there.holds)
 
 -- what was granted before a step, and by it
 abbrev granted_with : (ℕ → List Frame) → RunEnd → Step → Answer → ℕ → List Frame
@@ -461,59 +513,124 @@ run_owns granted e (step ∷ steps) (answer ∷ answers) are owned =
 
 -- ---- what a poll gives then
 
-fetched_come : (e : RunEnd) (source : ℕ) (granted : List Frame) (log : WholeLog) → log_at e.logs source ≡ Some log →
-    ((flags : Flags) (payload : List ℕ) → Contains log.whole.frames (fragment flags payload) →
+-- what a poll gives was granted
+fetched_granted : (granted : List Frame) (w : Whole) →
+    ((flags : Flags) (payload : List ℕ) → Contains w.frames (fragment flags payload) →
     Contains granted (fragment flags payload)) →
-    (fs : List Fetched) → AreFragmentsOf log.whole fs → All (ComesFromLog e source granted) (map fragment_of fs)
-fetched_come e source granted log found owned [] are = All-nil (ComesFromLog e source granted)
-fetched_come e source granted log found owned (f ∷ fs) are =
+    (fs : List Fetched) → AreFragmentsOf w fs →
+    All (λ (part : Fragment). Contains granted (fragment part.flags part.payload)) (map fragment_of fs)
+fetched_granted granted w owned [] are = All-nil (λ (part : Fragment). Contains granted (fragment part.flags part.payload))
+fetched_granted granted w owned (f ∷ fs) are =
     let frame : Frame = fragment f.flags f.payload in
     let is = are.0 in
-    let there : Contains log.whole.frames frame =
+    let there : Contains w.frames frame =
     subst (λ (gs : List Frame). Contains gs frame) (sym is.is)
     (Contains-append_right is.before (frame ∷ is.after) frame
     (Contains-append_left (frame ∷ []) is.after frame (Contains-push [] frame))) in
-    All-cons (ComesFromLog e source granted) (fragment_of f) (map fragment_of fs)
-    (record {
-      log = log;
-      live = found;
-      fetched = f;
-      given_is = refl;
-      frame = is;
-      offered = owned f.flags f.payload there;
-    })
-    (fetched_come e source granted log found owned fs are.1)
+    All-cons (λ (part : Fragment). Contains granted (fragment part.flags part.payload)) (fragment_of f)
+    (map fragment_of fs) (owned f.flags f.payload there) (fetched_granted granted w owned fs are.1)
+
+polled_is : (w : Whole) (subscription limit at : ℕ) → position_of w.pairs subscription ≡ Some at →
+    polled w subscription limit ≡ polled_from w subscription limit (Some at)
+unfolding polled
+polled_is w subscription limit at is = ap (polled_from w subscription limit) is
+
+image_polled_is : (r : Rebuilt) (subscription limit at : ℕ) → position_of r.pairs subscription ≡ Some at →
+    image_polled r subscription limit ≡ image_polled_from r subscription limit (Some at)
+unfolding image_polled
+image_polled_is r subscription limit at is = ap (image_polled_from r subscription limit) is
+
+next_of_term : (granted : List Frame) (subscription limit at : ℕ) (fragments : List Fragment) (w : Whole) →
+    OwnsFrames granted w → position_of w.pairs subscription ≡ Some at →
+    fragments ≡ map fragment_of (polled w subscription limit).fragments → AreNext granted subscription limit fragments w
+next_of_term granted subscription limit at fragments w owns stood given_is =
+    let start : IsStart w.ident.start w.frames at =
+    subst (λ (o : Option ℕ). IfSome o (IsStart w.ident.start w.frames)) stood
+    (at_found (IsStart w.ident.start w.frames) subscription w.pairs owns.read) in
+    let from = behind_start w at start in
+    let later : List Frame = frames_behind at w.ident.start w.frames in
+    let t = taken_from at limit later in
+    let is = polled_is w subscription limit at stood in
+    record {
+      at = at;
+      before = from.before;
+      next = t.front;
+      left = t.rest;
+      stood = stood;
+      frames_are = passed_behind w limit at from t;
+      from = from.place;
+      as_many = sym t.passes ∙ ap (λ (fs : List Frame). passed limit (polled_run at fs)) t.is;
+      given_are = given_is ∙ ap (λ (p : Poll). map fragment_of p.fragments) is
+          ∙ ap (λ (fs : List Passed). map fragment_of (fragments_of fs)) t.passes;
+      stands = ap (λ (p : Poll). position_of p.after.pairs subscription) is
+          ∙ moved_there subscription (behind_all at (passed limit (polled_run at later))) at w.pairs stood
+          ∙ ap (λ (n : ℕ). Some n) (behind_taken at limit later t);
+      offered = subst (All (λ (part : Fragment). Contains granted (fragment part.flags part.payload))) (sym given_is)
+          (fetched_granted granted w owns.owned (polled w subscription limit).fragments
+          (polled_frames w subscription limit owns.read));
+    }
+
+next_of_image : (subscription limit at : ℕ) (fragments : List Fragment) (r : Rebuilt) →
+    position_of r.pairs subscription ≡ Some at →
+    fragments ≡ map fragment_of (image_polled r subscription limit).fragments → AreNextWhole subscription limit fragments r
+unfolding settled
+next_of_image subscription limit at fragments r stood given_is =
+    let is = image_polled_is r subscription limit at stood in
+    record {
+      at = at;
+      stood = stood;
+      given_are = given_is ∙ ap (λ (p : ImagePoll). map fragment_of p.fragments) is;
+      stands = ap (λ (p : ImagePoll). position_of p.after.pairs subscription) is
+          ∙ moved_there subscription (behind_all at (passed limit (map polled_frame (whole_from r at)))) at r.pairs stood;
+    }
+
+next_of : (granted : List Frame) (subscription limit at : ℕ) (fragments : List Fragment) (w : AnyWhole) → OwnsAny granted w →
+    position_in w subscription ≡ Some at → fragments ≡ (any_polled w subscription limit).fragments →
+    AreNextIn granted subscription limit fragments w
+next_of granted subscription limit at fragments (whole frames) owns stood given_is =
+    next_of_term granted subscription limit at fragments frames owns stood given_is
+next_of granted subscription limit at fragments (rebuilt frames) owns stood given_is =
+    next_of_image subscription limit at fragments frames stood given_is
+
+-- where the subscription stood, and what it is given
+record IsGiven (subscription limit : ℕ) (fragments : List Fragment) (w : AnyWhole) : Type 0 where
+  at : ℕ
+  stood : position_in w subscription ≡ Some at
+  given_is : fragments ≡ (any_polled w subscription limit).fragments
 
 -- a poll that gives fragments gives those of the log
 poll_gives : (subscription limit : ℕ) (log : WholeLog) (o : Option LogRequest) (at : Option ℕ)
-    (fragments : List Fragment) →
-    Polled fragments ≡ (poll_under subscription limit log o at).answer →
-    fragments ≡ map fragment_of (polled log.whole subscription limit).fragments
-poll_gives subscription limit log None at fragments is = absurd (cc)
-poll_gives subscription limit log (Some request) None fragments is = absurd (cc)
-poll_gives subscription limit log (Some request) (Some at) fragments is =
-    cond_both (not request.decision.verdict.allow) _ _
-    (λ (move : Move).
-    Polled fragments ≡ move.answer → fragments ≡ map fragment_of (polled log.whole subscription limit).fragments)
-    (λ _ other. absurd (cc other)) (λ _ same. cc same) is
+    (fragments : List Fragment) → position_in log.whole subscription ≡ at →
+    Polled fragments ≡ (poll_under subscription limit log o at).answer → IsGiven subscription limit fragments log.whole
+poll_gives subscription limit log None at fragments stood is = absurd (cc is)
+poll_gives subscription limit log (Some request) None fragments stood is = absurd (cc is)
+poll_gives subscription limit log (Some request) (Some at) fragments stood is =
+    record {
+      at = at;
+      stood = stood;
+      given_is = cond_both (not request.decision.verdict.allow) _ _
+          (λ (move : Move).
+          Polled fragments ≡ move.answer → fragments ≡ (any_polled log.whole subscription limit).fragments)
+          (λ _ other. absurd (cc other)) (λ _ same. cc same) is;
+    }
 
 poll_comes : (granted : ℕ → List Frame) (e : RunEnd) (client subscription source limit : ℕ) (fragments : List Fragment)
     (o : Option WholeLog) → log_at e.logs source ≡ o → All (Owns granted) e.logs →
     Polled fragments ≡ (moved_on e source (poll_move e.registry client subscription limit) IsGone o).answer →
-    All (ComesFromLog e source (granted source)) fragments
+    ComeFromLog e source subscription limit (granted source) fragments
 unfolding poll_move
-poll_comes granted e client subscription source limit fragments None found owned is = absurd (cc)
+poll_comes granted e client subscription source limit fragments None found owned is = absurd (cc is)
 poll_comes granted e client subscription source limit fragments (Some log) found owned is =
     let there = found_log (Owns granted) source log e.logs owned found in
-    let owns = there.holds in
     let gives =
     poll_gives subscription limit log (receiving_of e.registry client subscription log.source)
-    (position_of log.whole.pairs subscription) fragments is in
-    subst (All (ComesFromLog e source (granted source))) (sym gives)
-    (fetched_come e source (granted source) log found
-    (λ flags payload has.
-    subst (λ (n : ℕ). Contains (granted n) (fragment flags payload)) there.source_is (owns.owned flags payload has))
-    (polled log.whole subscription limit).fragments (polled_frames log.whole subscription limit owns.read))
+    (position_in log.whole subscription) fragments refl is in
+    record {
+      log = log;
+      live = found;
+      next = next_of (granted source) subscription limit gives.at fragments log.whole
+          (subst (λ (n : ℕ). OwnsAny (granted n) log.whole) there.source_is there.holds) gives.stood gives.given_is;
+    }
 
 -- in a run that begins without logs
 opening_owns : (settings : Settings) (policy : Rules) (peers : List Peer) →

@@ -3,23 +3,29 @@ use Rattle.std.proofs.Common.{◌≡◌, ℕ, ◌*◌, ◌<◌, ◌==◌, Bool, 
 use Rattle.std.proofs.lemmas.Bool.{eq-eqb, ne_eqb}
 use Rattle.std.proofs.lemmas.List.{map-append}
 use Rattle.std.proofs.lemmas.List.Elements.{All-head, All-tail, filter-append}
+use Rattle.any_log.specs.declared.any_log.AnyLog.{AnyLog}
+use Rattle.any_log.specs.Held.{Made, for_publication, made_held, place_held}
+use Rattle.any_log.specs.Whole.{whole}
+use Rattle.any_log.proofs.AnyLemmas.{made_stands, rejoined_lies}
 use Rattle.driver_core.specs.Change.{Change}
+use Rattle.driver_core.specs.Readers.{readers_of}
 use Rattle.driver_core.specs.declared.settings.Settings.{Settings}
 use Rattle.driver_core.specs.Renewal.{source_at}
 use Rattle.driver_core.specs.Soundness.{AreSizes, Ascend, MovesLogs, Opens, is_left, log_of}
 use Rattle.driver_core.specs.State.{State}
-use Rattle.driver_world.specs.Held.{HeldLog, HeldLogs, IsLeastVacant, IsOpening, OpensFor, is_closed, is_kept, rejoined_held}
+use Rattle.driver_core.proofs.LogListLemmas.{all_published}
+use Rattle.driver_world.specs.Held.{HeldLog, HeldLogs, IsOpening, OpensFor, is_closed, is_kept, plot_on, plots_of, rejoined_held}
 use Rattle.driver_world.specs.Idents.{ident_of}
 use Rattle.driver_world.specs.Opening.{CanOpen, OpensNext}
-use Rattle.driver_world.specs.Standing.{LogRow, Match, row_for, row_held}
-use Rattle.driver_world.proofs.VacancyLemmas.{least_held}
+use Rattle.driver_world.specs.Plots.{IsLeastVacant}
+use Rattle.driver_world.specs.Standing.{LogRow, Match, row_for, row_held, row_on}
+use Rattle.driver_world.proofs.VacancyLemmas.{least_held, rows_match}
 use Rattle.stream_registry.specs.declared.lingering.LogPlace.{LogPlace}
 use Rattle.stream_registry.specs.declared.pairs.Pair.{Pair}
 use Rattle.stream_registry.specs.declared.row.Source.{Source}
 use Rattle.stream_registry.specs.LogPages.{log_pages}
 use Rattle.stream_registry.specs.Lingering.{place_of}
-use Rattle.term_log.specs.Log.{Log}
-use Rattle.term_log.specs.Whole.{rejoined_kept}
+use Rattle.term_log.specs.Whole.{fresh}
 
 -- ---- the log of a source
 
@@ -86,12 +92,12 @@ if_found P source (log ∷ logs) all =
     (if_found P source logs (All-tail P log logs all))
 
 is_opening : (held : HeldLogs) (found : Option Source) (log : Source) → option_map log_of found ≡ Some log
-    → IfSome found (λ publication. AreSizes publication.measures) → IsLeastVacant held (log_pages log) log.place
+    → IfSome found (λ publication. AreSizes publication.measures) → IsLeastVacant held.pages (plots_of held.logs) (log_pages log) log.place
     → IsOpening held log.place found
 is_opening held None log is sizes least = tt
 is_opening held (Some publication) log is sizes least =
     let same : log_of publication ≡ log = ap (λ (o : Option Source). unwrap_or o log) is in
-    (sizes, subst (λ (l : Source). IsLeastVacant held (log_pages l) log.place) (sym same) least)
+    (sizes, subst (λ (l : Source). IsLeastVacant held.pages (plots_of held.logs) (log_pages l) log.place) (sym same) least)
 
 pub opening_fits : (s : State) (held : HeldLogs) (change : Change) (place : LogPlace) → Match s held → MovesLogs s change
     → change.outcome.opens ≡ Some place
@@ -103,7 +109,7 @@ opening_fits s held change place match moves opens =
     let fits : IsOpening held log.place (source_at change.after.streams.sources log.number) =
     is_opening held (source_at change.after.streams.sources log.number) log found
     (if_found (λ publication. AreSizes publication.measures) log.number change.after.streams.sources moves.sound.sizes)
-    (least_held s held (log_pages log) log.place match opened.4 opened.5) in
+    (least_held s held (log_pages log) log.place match opened.5 opened.6) in
     subst (λ (p : LogPlace). IsOpening held p.place (source_at change.after.streams.sources p.source)) opened.2 fits
 
 can_open : (s : State) (held : HeldLogs) (change : Change) (opens : Option LogPlace) → Match s held → MovesLogs s change
@@ -131,9 +137,11 @@ kept_mapped test f (x ∷ xs) =
     ∙ ap (λ ys. cond (test (f x)) (f x ∷ ys) ys) (kept_mapped test f xs)
 
 rows_rejoined : (pairs : List Pair) (logs : List HeldLog) → map row_held (map (rejoined_held pairs) logs) ≡ map row_held logs
-unfolding rejoined_kept
 rows_rejoined pairs [] = refl
-rows_rejoined pairs (held ∷ logs) = ap (λ rows. row_held held ∷ rows) (rows_rejoined pairs logs)
+rows_rejoined pairs (held ∷ logs) =
+    let lies = rejoined_lies (readers_of pairs held.source) held.log in
+    ap₂ (λ (row : LogRow) (rows : List LogRow). row ∷ rows)
+    (ap₂ row_on (ap (plot_on held.source) lies.place_is) lies.made_is) (rows_rejoined pairs logs)
 
 rows_as_logs : (settings : Settings) (logs : List Source) → map (row_for settings) (map log_of logs) ≡ map (row_for settings) logs
 rows_as_logs settings [] = refl
@@ -154,14 +162,17 @@ adds_none settings old new opened new_is none = record {
   rows = sym (ap (map (row_for settings)) none);
 }
 
-row_is : (settings : Settings) (source place : ℕ) (publication log : Source) (l : Log) → log_of publication ≡ log → place ≡ log.place
-    → l.kept.ident ≡ ident_of settings publication → l.kept.buffers.place ≡ 4096 * place
+row_is : (settings : Settings) (place : ℕ) (publication log : Source) (l : AnyLog) → log_of publication ≡ log → place ≡ log.place
+    → made_held l ≡ for_publication (ident_of settings publication) → (place_held l).place ≡ 4096 * place
+    → (place_held l).term_length ≡ publication.measures.term_length
     → row_held (record { source = publication.number; log = l }) ≡ row_for settings log
-row_is settings source place publication log l same place_is ident at =
-    let there : l.kept.buffers.place ≡ 4096 * log.place = at ∙ ap (λ n. 4096 * n) place_is in
-    let first : row_held (record { source = publication.number; log = l })
-    ≡ record { source = publication.number; place = 4096 * log.place; ident = ident_of settings publication } = rw (there, ident) refl in
-    first ∙ ap (λ (p : Source). record { source = p.number; place = 4096 * log.place; ident = ident_of settings p }) same
+row_is settings place publication log l same place_is made at terms =
+    let there : (place_held l).place ≡ 4096 * log.place = at ∙ ap (λ n. 4096 * n) place_is in
+    ap₂ (λ (p t : ℕ). let row : LogRow = record { source = publication.number; place = p; term_length = t; made = made_held l } in row) there terms
+    ∙ ap (λ (m : Made). let row : LogRow = record { source = publication.number; place = 4096 * log.place; term_length = publication.measures.term_length; made = m } in row) made
+    ∙ ap (λ (p : Source).
+    let row : LogRow = record { source = p.number; place = 4096 * log.place; term_length = p.measures.term_length; made = for_publication (ident_of settings p) } in row)
+    same
 
 adds_one : (settings : Settings) (old new : HeldLogs) (place : ℕ) (found : Option Source) (log : Source) (opened : List Source)
     → option_map log_of found ≡ Some log → place ≡ log.place → opened ≡ log ∷ [] → OpensFor old new settings place found
@@ -173,7 +184,8 @@ adds_one settings old new place (Some publication) log opened is place_is one op
       logs = record { source = publication.number; log = opens.log } ∷ [];
       new_is = opens.new_is;
       rows = ap (λ (row : LogRow). row ∷ [])
-          (row_is settings publication.number place publication log opens.log same place_is opens.stands.ident opens.place_is)
+          (row_is settings place publication log opens.log same place_is
+          (made_stands opens.log (whole (fresh (ident_of settings publication))) opens.stands) opens.place_is opens.terms_are)
           ∙ sym (ap (map (row_for settings)) one);
     }
 
@@ -210,7 +222,7 @@ rows_after s held new change pairs match moves added =
     let closes : List LogPlace = change.outcome.closes in
     let logs : List Source = map log_of s.streams.sources in
     let rows : map row_held held.logs ≡ map (row_for settings) s.streams.sources =
-    match.rows ∙ ap (λ (to : Settings). map (row_for to) s.streams.sources) (sym moves.settings) in
+    rows_match s held match ∙ ap (λ (to : Settings). map (row_for to) s.streams.sources) (sym moves.settings) in
     let left : filter (is_left closes) (logs ++ moves.opened) ≡ map log_of change.after.streams.sources =
     filter-append (is_left closes) logs moves.opened
     ∙ ap (λ (opened : List Source). filter (is_left closes) logs ++ opened) moves.stays
@@ -230,5 +242,6 @@ matches_after s held new change pairs match moves is =
     record {
       sound = moves.sound;
       pages = ap (λ (h : HeldLogs). h.pages) added.new_is ∙ match.pages ∙ ap (λ (to : Settings). to.arena_pages) (sym moves.settings);
-      rows = rows_after s held new change pairs match moves added;
+      rows = rows_after s held new change pairs match moves added
+          ∙ sym (ap (map (row_for change.after.settings)) (all_published change.after.streams.sources moves.sound.published));
     }

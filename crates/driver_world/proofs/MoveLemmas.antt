@@ -1,100 +1,147 @@
 -- What an offer and a poll do with the log that is held, whichever whole log it stands for.
-use Rattle.std.proofs.Common.{rules, ◌≡◌, ℕ, ◌==◌, nat_lt, true, false, List, length, map, Option, Some, None, refl}
+use Rattle.std.proofs.Common.{rules, ◌≡◌, ℕ, ◌==◌, nat_lt, true, false, List, length, Option, Some, None, refl, sym, ap, subst, ◌∙◌}
+use Rattle.any_log.specs.declared.any_log.AnyLog.{AnyLog}
+use Rattle.any_log.specs.declared.any_log.AnyLog.TheVariants.{Term, Image}
+use Rattle.any_log.specs.declared.fragment.Fragment.{Fragment}
+use Rattle.any_log.specs.Held.{Lies, position_held}
+use Rattle.any_log.specs.Whole.{AnyWhole, whole, rebuilt, StandsFor, Carries, Fetches, polled, position_in}
+use Rattle.any_log.proofs.AnyLemmas.{position_stands}
 use Rattle.driver_core.specs.declared.log_request.LogRequest.{LogRequest}
 use Rattle.driver_core.specs.LogRequests.{offering_of, receiving_of}
 use Rattle.driver_core.specs.State.{State}
-use Rattle.driver_world.specs.declared.answer.Answer.TheVariants.{Offered as OfferedAs, Polled}
-use Rattle.driver_world.specs.declared.answer.Fragment.{Fragment}
-use Rattle.driver_world.specs.declared.answer.Offered.TheVariants.{NotConnected}
-use Rattle.driver_world.specs.Answers.{offered_as, fragment_of}
-use Rattle.driver_world.specs.Held.{HeldLog, LiesAsBefore}
+use Rattle.driver_world.specs.declared.answer.Answer.{Answer}
+use Rattle.driver_world.specs.declared.answer.Answer.TheVariants.{Offered as OfferedAs, Polled, Denied}
+use Rattle.driver_world.specs.declared.answer.Offered.TheVariants.{Closed, TooLong, NotConnected}
+use Rattle.driver_world.specs.Answers.{offered_as}
+use Rattle.driver_world.specs.Held.{HeldLog, LiesAsBefore, plot_on}
 use Rattle.driver_world.specs.Memory.{Gives}
-use Rattle.driver_world.specs.Moves.{Does, CopiesFetched, answered, taken, given, offer_move, poll_move}
+use Rattle.driver_world.specs.Moves.{WholeLog, Move, StandsForLog, Does, answered, taken, given, offer_to, offers, offer_move, poll_move, term_held}
+use Rattle.image_log.specs.Log.{Log as ImageLog}
+use Rattle.policy_core.specs.declared.verdict.Verdict.{Verdict}
 use Rattle.term_log.specs.declared.offer.Offer.{Offer}
 use Rattle.term_log.specs.Frames.{Frame}
 use Rattle.term_log.specs.Kept.{after_frames}
 use Rattle.term_log.specs.Log.{Log, greatest_message, connected_of}
-use Rattle.log_pairs.specs.Pairs.{position_of}
-use Rattle.log_pairs.specs.Polling.{Fetched}
-use Rattle.term_log.specs.Whole.{Whole, Stands, Carries, Offers, Fetches, is_connected, polled}
+use Rattle.term_log.specs.Whole.{Whole, Stands, Offers, is_connected}
 use Rattle.term_log.proofs.Appending.{after_frames_home}
+use Rattle.term_log.proofs.Standing.{connected_stands}
 
--- ---- frames that are appended leave the log where it lies
+-- ---- where a log lies
 
-pub appended_lies : (source : ℕ) (l : Log) (frames : List Frame) →
-    LiesAsBefore (record { source = source; log = l })
-    (record { source = source; log = record l { kept = after_frames l.kept frames } })
-appended_lies source l frames =
+-- a log that lies as before does so under its number
+pub held_lies : (source : ℕ) (old new : AnyLog) → Lies old new →
+    LiesAsBefore (record { source = source; log = old }) (record { source = source; log = new })
+held_lies source old new lies = record { plot_is = ap (plot_on source) lies.place_is; made_is = lies.made_is }
+
+-- frames that are appended leave the log where it lies
+pub appended_lies : (l : Log) (frames : List Frame) → Lies (Term l) (Term (record l { kept = after_frames l.kept frames }))
+appended_lies l frames =
     let same = after_frames_home l.kept frames in
-    record {
-      source_is = refl;
-      ident_is = same.0;
-      home_is = same.1;
-      place_is = same.2;
-      terms_are = same.3;
-    }
+    record { place_is = rw (same.1, same.2, same.3) refl; made_is = rw same.0 refl }
+
+-- ---- an offer to a log of a publication
+
+-- what the move makes of a log that is known as that, where it stands for frames that were appended
+abbrev DoesTo : (WholeLog → Move) → ℕ → Log → Answer → ℕ → AnyWhole → Type 0
+DoesTo move source new answer n w =
+    let log : WholeLog = record { source = n; whole = w } in
+    (answer ≡ (move log).answer) × StandsForLog (term_held source new) (move log).after
+
+does_by : (move : WholeLog → Move) (source : ℕ) (old new : Log) (answer : Answer) →
+    ((n : ℕ) (w : Whole) → source ≡ n → Stands old w → DoesTo move source new answer n (whole w)) → (n : ℕ) (w : AnyWhole) →
+    source ≡ n → StandsFor (Term old) w → DoesTo move source new answer n w
+does_by move source old new answer does n (whole w) same stands = does n w same stands
+does_by move source old new answer does n (rebuilt r) same stands = absurd stands
+
+does_term : (move : WholeLog → Move) (source : ℕ) (old new : Log) (answer : Answer) →
+    ((n : ℕ) (w : Whole) → source ≡ n → Stands old w → DoesTo move source new answer n (whole w)) →
+    Does move (term_held source old) (term_held source new) answer
+does_term move source old new answer does =
+    record { on = λ log stands. does_by move source old new answer does log.source log.whole stands.source_is stands.whole }
+
+-- it is denied
+pub offer_denied : (now timeout : ℕ) (verdict : Verdict) (message : List ℕ) (l : Log) → verdict.allow ≡ false → (source : ℕ) →
+    Does (offers now timeout verdict message) (term_held source l) (term_held source l) (Denied verdict)
+offer_denied now timeout verdict message l denied source =
+    does_term (offers now timeout verdict message) source l l (Denied verdict) (λ n w same stands.
+    let log : WholeLog = record { source = n; whole = whole w } in
+    let left : offers now timeout verdict message log ≡ answered log (Denied verdict) = rw denied refl in
+    rw left (refl, record { source_is = same; whole = stands }))
+
+-- the message is too long
+pub offer_too_long : (now timeout : ℕ) (verdict : Verdict) (message : List ℕ) (l : Log) → verdict.allow ≡ true →
+    nat_lt (greatest_message l.kept.ident) (length message) ≡ true → (source : ℕ) →
+    Does (offers now timeout verdict message) (term_held source l) (term_held source l) (OfferedAs TooLong)
+offer_too_long now timeout verdict message l allowed long source =
+    does_term (offers now timeout verdict message) source l l (OfferedAs TooLong) (λ n w same stands.
+    let log : WholeLog = record { source = n; whole = whole w } in
+    let past : nat_lt (greatest_message w.ident) (length message) ≡ true = rw (← stands.ident) long in
+    let left : offers now timeout verdict message log ≡ answered log (OfferedAs TooLong) = rw (allowed, past) refl in
+    rw left (refl, record { source_is = same; whole = stands }))
+
+-- nobody reads the log
+pub offer_alone : (now timeout : ℕ) (verdict : Verdict) (message : List ℕ) (l : Log) → verdict.allow ≡ true →
+    nat_lt (greatest_message l.kept.ident) (length message) ≡ false → connected_of l now timeout ≡ false → (source : ℕ) →
+    Does (offers now timeout verdict message) (term_held source l) (term_held source l) (OfferedAs NotConnected)
+offer_alone now timeout verdict message l allowed short alone source =
+    does_term (offers now timeout verdict message) source l l (OfferedAs NotConnected) (λ n w same stands.
+    let log : WholeLog = record { source = n; whole = whole w } in
+    let fits : nat_lt (greatest_message w.ident) (length message) ≡ false = rw (← stands.ident) short in
+    let nobody : is_connected w now timeout ≡ false = rw (← connected_stands l w now timeout stands) alone in
+    let left : offers now timeout verdict message log ≡ answered log (OfferedAs NotConnected) =
+    rw (allowed, fits, nobody) refl in
+    rw left (refl, record { source_is = same; whole = stands }))
+
+-- the log itself is offered the message
+pub offer_taken : (now timeout : ℕ) (verdict : Verdict) (message : List ℕ) (l after : Log) (answer : Offer) → verdict.allow ≡ true →
+    nat_lt (greatest_message l.kept.ident) (length message) ≡ false → connected_of l now timeout ≡ true →
+    Offers l after message answer → (source : ℕ) →
+    Does (offers now timeout verdict message) (term_held source l) (term_held source after) (OfferedAs (offered_as answer))
+offer_taken now timeout verdict message l after answer allowed short read offers' source =
+    does_term (offers now timeout verdict message) source l after (OfferedAs (offered_as answer)) (λ n w same stands.
+    let log : WholeLog = record { source = n; whole = whole w } in
+    let fits : nat_lt (greatest_message w.ident) (length message) ≡ false = rw (← stands.ident) short in
+    let heard : is_connected w now timeout ≡ true = rw (← connected_stands l w now timeout stands) read in
+    let left : offers now timeout verdict message log ≡ taken message log w = rw (allowed, fits, heard) refl in
+    let made = offers'.on w stands in
+    rw (left, made.0) (refl, record { source_is = same; whole = made.1 }))
 
 -- ---- an offer
 
--- both sides know alike whether anybody takes what is sent
-connected_alike : (l : Log) (w : Whole) (now timeout : ℕ) → Stands l w → connected_of l now timeout ≡ is_connected w now timeout
-unfolding connected_of
-connected_alike l w now timeout stands = rw (stands.ident, stands.pairs, stands.sender) refl
-
--- nobody reads the log
-pub offer_alone : (s : State) (now client registration : ℕ) (message : List ℕ) (held : HeldLog) (request : LogRequest) →
+-- what the log makes of it where the client has a registration with it
+pub offer_passed : (s : State) (now client registration : ℕ) (message : List ℕ) (held after : HeldLog) (request : LogRequest) (answer : Answer) →
     offering_of s client registration ≡ Some request → request.source ≡ held.source →
-    request.decision.verdict.allow ≡ true → nat_lt (greatest_message held.log.kept.ident) (length message) ≡ false →
-    connected_of held.log now s.settings.connection_timeout ≡ false →
-    Does (offer_move s now client registration message) held held (OfferedAs NotConnected)
+    Does (offers now s.settings.connection_timeout request.decision.verdict message) held after answer →
+    Does (offer_move s now client registration message) held after answer
 unfolding offer_move
-offer_alone s now client registration message held request is own allowed short alone =
+offer_passed s now client registration message held after request answer is own does =
     record {
       on = λ log stands.
           let source : request.source ≡ log.source = rw own stands.source_is in
           let same : (request.source == log.source) ≡ true = search rules in
-          let fits : nat_lt (greatest_message log.whole.ident) (length message) ≡ false = rw (← stands.whole.ident) short in
-          let nobody : is_connected log.whole now s.settings.connection_timeout ≡ false =
-          rw (← connected_alike held.log log.whole now s.settings.connection_timeout stands.whole) alone in
-          let left : offer_move s now client registration message log ≡ answered log (OfferedAs NotConnected) =
-          rw (is, same, allowed, fits, nobody) refl in
+          let left : offer_move s now client registration message log
+          ≡ offers now s.settings.connection_timeout request.decision.verdict message log =
+          rw (is, same) refl in
+          rw left (does.on log stands);
+    }
+
+closed_by : (now timeout : ℕ) (verdict : Verdict) (message : List ℕ) (l : ImageLog) (log : WholeLog) (w : AnyWhole) →
+    StandsFor (Image l) w → offer_to now timeout verdict message log w ≡ answered log (OfferedAs Closed)
+closed_by now timeout verdict message l log (whole w) stands = absurd stands
+closed_by now timeout verdict message l log (rebuilt r) stands = refl
+
+-- a remote stream's log takes none
+pub offer_closed : (now timeout : ℕ) (verdict : Verdict) (message : List ℕ) (held : HeldLog) (l : ImageLog) → held.log ≡ Image l →
+    Does (offers now timeout verdict message) held held (OfferedAs Closed)
+offer_closed now timeout verdict message held l is =
+    record {
+      on = λ log stands.
+          let left : offers now timeout verdict message log ≡ answered log (OfferedAs Closed) =
+          closed_by now timeout verdict message l log log.whole (subst (λ (h : AnyLog). StandsFor h log.whole) is stands.whole) in
           rw left (refl, stands);
     }
 
--- the log itself is offered the message
-pub offer_taken : (s : State) (now client registration : ℕ) (message : List ℕ) (held after : HeldLog) (request : LogRequest) (answer : Offer) →
-    offering_of s client registration ≡ Some request → request.source ≡ held.source →
-    request.decision.verdict.allow ≡ true → nat_lt (greatest_message held.log.kept.ident) (length message) ≡ false →
-    connected_of held.log now s.settings.connection_timeout ≡ true → after.source ≡ held.source →
-    Offers held.log after.log message answer →
-    Does (offer_move s now client registration message) held after (OfferedAs (offered_as answer))
-unfolding offer_move
-offer_taken s now client registration message held after request answer is own allowed short read stays offers =
-    record {
-      on = λ log stands.
-          let source : request.source ≡ log.source = rw own stands.source_is in
-          let same : (request.source == log.source) ≡ true = search rules in
-          let fits : nat_lt (greatest_message log.whole.ident) (length message) ≡ false = rw (← stands.whole.ident) short in
-          let heard : is_connected log.whole now s.settings.connection_timeout ≡ true =
-          rw (← connected_alike held.log log.whole now s.settings.connection_timeout stands.whole) read in
-          let left : offer_move s now client registration message log ≡ taken message log =
-          rw (is, same, allowed, fits, heard) refl in
-          let made = offers.on log.whole stands.whole in
-          rw (left, made.0) (refl, record { source_is = rw stays stands.source_is; whole = made.1 });
-    }
-
 -- ---- a poll
-
--- the copies of what a poll gives
-pub copies_fetched : (l : Log) (subscription limit : ℕ) (left : List Fetched) (fragments : List Fragment) →
-    Fetches l subscription limit left → fragments ≡ map fragment_of left → CopiesFetched l subscription limit fragments
-copies_fetched l subscription limit left fragments fetches copies =
-    record { on = λ whole stands. rw (← fetches.on whole stands) copies }
-
--- which position the subscription has in the whole log
-position_alike : (l : Log) (w : Whole) (subscription : ℕ) (position : Option ℕ) → Stands l w →
-    position_of l.pairs subscription ≡ position → position_of w.pairs subscription ≡ position
-position_alike l w subscription position stands is = rw (← stands.pairs) is
 
 -- it has one, where it is not without one
 pub some_position : (position : Option ℕ) → ¬ (position ≡ None) → (at : ℕ) × (position ≡ Some at)
@@ -103,8 +150,8 @@ some_position (Some at) some = (at, refl)
 
 -- the log itself is polled
 pub poll_given : (s : State) (client subscription limit : ℕ) (held after : HeldLog) (request : LogRequest) (position : ℕ) (fragments : List Fragment) →
-    receiving_of s client subscription held.source ≡ Some request → position_of held.log.pairs subscription ≡ Some position →
-    request.decision.verdict.allow ≡ true → CopiesFetched held.log subscription limit fragments →
+    receiving_of s client subscription held.source ≡ Some request → position_held held.log subscription ≡ Some position →
+    request.decision.verdict.allow ≡ true → Fetches held.log subscription limit fragments →
     after.source ≡ held.source → Carries held.log after.log (λ w. (polled w subscription limit).after) →
     Does (poll_move s client subscription limit) held after (Polled fragments)
 unfolding poll_move
@@ -112,7 +159,8 @@ poll_given s client subscription limit held after request position fragments is 
     record {
       on = λ log stands.
           let asked : receiving_of s client subscription log.source ≡ Some request = rw (← stands.source_is) is in
-          let place = position_alike held.log log.whole subscription (Some position) stands.whole there in
+          let place : position_in log.whole subscription ≡ Some position =
+          sym (position_stands held.log log.whole subscription stands.whole) ∙ there in
           let left : poll_move s client subscription limit log ≡ given subscription limit log =
           rw (asked, place, allowed) refl in
           let made = copies.on log.whole stands.whole in
@@ -122,27 +170,21 @@ poll_given s client subscription limit held after request position fragments is 
 
 -- so fragments are given, for which memory may be wanting
 pub poll_gives : (s : State) (client subscription limit : ℕ) (held : HeldLog) (request : LogRequest) (position : ℕ) →
-    receiving_of s client subscription held.source ≡ Some request → position_of held.log.pairs subscription ≡ Some position →
+    receiving_of s client subscription held.source ≡ Some request → position_held held.log subscription ≡ Some position →
     request.decision.verdict.allow ≡ true → Gives (poll_move s client subscription limit) held
 unfolding poll_move
 poll_gives s client subscription limit held request position is there allowed =
     record {
       on = λ log stands.
           let asked : receiving_of s client subscription log.source ≡ Some request = rw (← stands.source_is) is in
-          let place = position_alike held.log log.whole subscription (Some position) stands.whole there in
+          let place : position_in log.whole subscription ≡ Some position =
+          sym (position_stands held.log log.whole subscription stands.whole) ∙ there in
           let left : poll_move s client subscription limit log ≡ given subscription limit log =
           rw (asked, place, allowed) refl in
           rw left refl;
     }
 
--- only who reads moves
-pub polled_lies : (source : ℕ) (old new : Log) → new.kept ≡ old.kept →
-    LiesAsBefore (record { source = source; log = old }) (record { source = source; log = new })
-polled_lies source old new same =
-    record {
-      source_is = refl;
-      ident_is = rw same refl;
-      home_is = rw same refl;
-      place_is = rw same refl;
-      terms_are = rw same refl;
-    }
+-- it has a position, where the log held gives one
+pub gone_position : (held : HeldLog) (log : WholeLog) (subscription : ℕ) → StandsForLog held log →
+    position_held held.log subscription ≡ None → position_in log.whole subscription ≡ None
+gone_position held log subscription stands none = sym (position_stands held.log log.whole subscription stands.whole) ∙ none

@@ -1,6 +1,7 @@
 -- Runs are put together of steps.
 use Rattle.std.proofs.Common.{◌≡◌, ℕ, ◌==◌, not, nat_lt, Bool, true, false, List, [], ◌∷◌, ◌++◌, length, Option, Some, None, if◌then◌else◌, refl}
 use Rattle.std.specs.Option.{option_map}
+use Rattle.any_log.specs.Whole.{AnyWhole, whole, rebuilt, position_in}
 use Rattle.driver_core.specs.declared.event.Event.{Event}
 use Rattle.driver_core.specs.declared.log_request.LogRequest.{LogRequest}
 use Rattle.driver_core.specs.declared.outcome.Outcome.{Outcome}
@@ -18,11 +19,11 @@ use Rattle.driver_world.specs.Answers.{answered_by, answer_of}
 use Rattle.driver_world.specs.Ends.{RunEnd, IsAnswer, AreAnswers, after, end_of, moved, moved_on, on_log, log_at, conducted}
 use Rattle.driver_world.specs.Held.{HeldLogs}
 use Rattle.driver_world.specs.Memory.{GivesFirst, HasMemory, HaveMemory, takes_memory}
-use Rattle.driver_world.specs.Moves.{WholeLog, Move, MovesFirst, offer_move, offer_under, poll_move, poll_under}
+use Rattle.driver_world.specs.Moves.{WholeLog, Move, MovesFirst, offer_move, offer_to, offer_under, poll_move, poll_under}
 use Rattle.driver_world.specs.Standing.{Held, StandsForEnd, Takes, Serves, Runs, Continues}
 use Rattle.driver_world.proofs.StandLemmas.{gives_first, moves_first}
+use Rattle.policy_core.specs.declared.verdict.Verdict.{Verdict}
 use Rattle.term_log.specs.Log.{greatest_message}
-use Rattle.log_pairs.specs.Pairs.{position_of}
 use Rattle.term_log.specs.Whole.{is_connected}
 
 -- ---- answers that are not want of memory
@@ -128,14 +129,20 @@ told_cond : (b : Bool) (one other : Move) → IsTold one.answer → IsTold other
 told_cond true one other is_told others = is_told
 told_cond false one other is_told others = others
 
+offers_told : (now timeout : ℕ) (verdict : Verdict) (message : List ℕ) (log : WholeLog) (w : AnyWhole) →
+    IsTold (offer_to now timeout verdict message log w).answer
+offers_told now timeout verdict message log (whole frames) =
+    told_cond (not verdict.allow) _ _ tt
+    (told_cond (nat_lt (greatest_message frames.ident) (length message)) _ _ tt
+    (told_cond (not (is_connected frames now timeout)) _ _ tt tt))
+offers_told now timeout verdict message log (rebuilt frames) = tt
+
 offer_told : (s : State) (now : ℕ) (message : List ℕ) (log : WholeLog) (request : Option LogRequest) →
     IsTold (offer_under s now message log request).answer
 offer_told s now message log None = tt
 offer_told s now message log (Some request) =
     told_cond (not (request.source == log.source)) _ _ tt
-    (told_cond (not request.decision.verdict.allow) _ _ tt
-    (told_cond (nat_lt (greatest_message log.whole.ident) (length message)) _ _ tt
-    (told_cond (not (is_connected log.whole now s.settings.connection_timeout)) _ _ tt tt)))
+    (offers_told now s.settings.connection_timeout request.decision.verdict message log log.whole)
 
 poll_told : (subscription limit : ℕ) (log : WholeLog) (request : Option LogRequest) (position : Option ℕ) →
     IsTold (poll_under subscription limit log request position).answer
@@ -223,7 +230,7 @@ poll_served registry old new now client subscription source limit answer moves =
     let is_told : IsTold answer =
     rw made.0
     (moved_told e source (poll_move e.registry client subscription limit) IsGone (log_at e.logs source) tt
-    (λ log. poll_told subscription limit log (receiving_of e.registry client subscription log.source) (position_of log.whole.pairs subscription))) in
+    (λ log. poll_told subscription limit log (receiving_of e.registry client subscription log.source) (position_in log.whole subscription))) in
     record { is_told = is_told; given = made.0; stands = record { registry = rw made.2 stands.registry; logs = made.1 } })
 
 -- a poll for whose fragments there is no memory serves it too

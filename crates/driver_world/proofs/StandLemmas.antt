@@ -1,5 +1,5 @@
 -- Logs that are held stand for the logs of an end, one for one.
-use Rattle.std.proofs.Common.{rules, ◌≡◌, ℕ, ◌==◌, Bool, true, false, List, [], ◌∷◌, map, Option, Some, None, if◌then◌else◌, refl, ap, ◌∙◌, arith}
+use Rattle.std.proofs.Common.{rules, ◌≡◌, ℕ, ◌==◌, Bool, true, false, List, [], ◌∷◌, map, Option, Some, None, if◌then◌else◌, refl, ap, ap₂, ◌∙◌, arith}
 use Rattle.std.proofs.lemmas.List.Elements.{All-nil}
 use Rattle.driver_core.specs.declared.peer.Peer.{Peer}
 use Rattle.driver_core.specs.declared.settings.Settings.{Settings}
@@ -11,7 +11,7 @@ use Rattle.driver_world.specs.Held.{HeldLog, HeldLogs, LiesAsBefore, held_at, wi
 use Rattle.driver_world.specs.Memory.{GivesHeld, is_polled}
 use Rattle.driver_world.specs.Moves.{WholeLog, Move, StandsForLog, MovesHeld}
 use Rattle.policy_core.specs.RuleList.{Rules}
-use Rattle.driver_world.specs.Standing.{Match, StandAll, row_held}
+use Rattle.driver_world.specs.Standing.{Match, StandAll, row_held, row_on}
 
 -- ---- the first log of a source
 
@@ -89,7 +89,7 @@ gives_first e source move absent old all gives =
 -- ---- a log that lies as before is in the same row
 
 same_row : (old new : HeldLog) → LiesAsBefore old new → row_held new ≡ row_held old
-same_row old new lies = rw (lies.source_is, lies.place_is, lies.ident_is) refl
+same_row old new lies = ap₂ row_on lies.plot_is lies.made_is
 
 rows_cond : (b : Bool) (first held new : HeldLog) (others others' : List HeldLog) (rest : Option HeldLog) →
     (if b then Some first else rest) ≡ Some held → LiesAsBefore held new →
@@ -149,6 +149,7 @@ opening_match room settings policy peers are =
         defaults = are.sizes;
         sizes = All-nil _;
         numbered = search rules;
+        published = All-nil _;
         laid_out = record { within = All-nil _; apart = λ i j d low high. absurd (omega (arith, high)) };
         subscriptions = search rules;
       };

@@ -1,5 +1,8 @@
 -- An event that was taken goes on from each end that the world stands for.
 use Rattle.std.proofs.Common.{◌≡◌, ℕ, Bool, true, false, not, cond, List, [], ◌∷◌, ◌++◌, map, filter, Option, Some, None, refl, sym, ap, ap₂, subst, ◌∙◌, append-nil}
+use Rattle.any_log.specs.Held.{rejoined_held as rejoined_any}
+use Rattle.any_log.specs.Whole.{StandsFor, rejoined}
+use Rattle.any_log.proofs.AnyLemmas.{reach_stands, rejoined_stands as any_rejoined}
 use Rattle.driver_core.specs.Change.{Change}
 use Rattle.driver_core.specs.declared.entry.Entry.{Entry}
 use Rattle.driver_core.specs.declared.event.End.{End}
@@ -20,8 +23,6 @@ use Rattle.driver_world.proofs.MatchLemmas.{left_held}
 use Rattle.stream_registry.specs.declared.lingering.LogPlace.{LogPlace}
 use Rattle.stream_registry.specs.declared.pairs.Pair.{Pair}
 use Rattle.stream_registry.specs.declared.row.Source.{Source}
-use Rattle.term_log.specs.Whole.{Stands, rejoined, rejoined_kept}
-use Rattle.term_log.proofs.Standing.{rejoin_stands, tail_stands}
 
 -- ---- what the conductor is told
 
@@ -31,7 +32,7 @@ end_at source position = record { source = source; position = position }
 end_stands : (held : HeldLog) (log : WholeLog) → StandsForLog held log → end_held held ≡ end_of_log log
 end_stands held log stands =
     ap₂ end_at stands.source_is
-    (tail_stands held.log log.whole stands.whole)
+    (reach_stands held.log log.whole stands.whole)
 
 ends_stand : (held : List HeldLog) (logs : List WholeLog) → StandAll held logs → map end_held held ≡ map end_of_log logs
 ends_stand [] [] stand = refl
@@ -76,9 +77,8 @@ rejoined_stands : (pairs : List Pair) (held : HeldLog) (log : WholeLog) → Stan
     → StandsForLog (rejoined_held pairs held) (rejoined_log pairs log)
 rejoined_stands pairs held log stands = record {
   source_is = stands.source_is;
-  whole = subst (λ (source : ℕ). Stands (rejoined_kept (readers_of pairs held.source) held.log) (rejoined (readers_of pairs source) log.whole))
-      stands.source_is
-      ((rejoin_stands held.log (readers_of pairs held.source)).on log.whole stands.whole);
+  whole = subst (λ (source : ℕ). StandsFor (rejoined_any (readers_of pairs held.source) held.log) (rejoined (readers_of pairs source) log.whole))
+      stands.source_is (any_rejoined (readers_of pairs held.source) held.log log.whole stands.whole);
 }
 
 pub stand_rejoin : (pairs : List Pair) (held : List HeldLog) (logs : List WholeLog) → StandAll held logs

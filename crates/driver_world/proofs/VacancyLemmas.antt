@@ -6,7 +6,9 @@ use Rattle.std.proofs.lemmas.Bool.{and_from, and_parts, false_from_ne_true, leb-
 use Rattle.std.proofs.lemmas.List.Folds.{list_any_at, list_any_none}
 use Rattle.driver_core.specs.declared.settings.Settings.{Settings}
 use Rattle.driver_core.specs.State.{State}
-use Rattle.driver_world.specs.Held.{HeldLogs, is_taken, IsVacant as IsVacantHeld, IsLeastVacant}
+use Rattle.driver_core.proofs.LogListLemmas.{all_published}
+use Rattle.driver_world.specs.Held.{HeldLogs, plot_of, plots_of}
+use Rattle.driver_world.specs.Plots.{has_page, is_taken, IsVacant as IsVacantAmong, IsLeastVacant}
 use Rattle.driver_world.specs.Standing.{LogRow, row_held, row_for, Match}
 use Rattle.stream_registry.specs.declared.row.Source.{Source}
 use Rattle.stream_registry.specs.LogPages.{holds, log_pages, pages_of}
@@ -16,7 +18,7 @@ use Rattle.stream_registry.specs.PageLaws.{HasPage, IsVacant}
 
 -- the page is one of the row's
 abbrev has_row : ℕ → LogRow → Bool
-has_row page row = nat_le row.place (4096 * page) && nat_lt (4096 * page) (row.place + 4096 * pages_of row.ident.term_length)
+has_row page row = nat_le row.place (4096 * page) && nat_lt (4096 * page) (row.place + 4096 * pages_of row.term_length)
 
 row_has : (settings : Settings) (log : Source) (page : ℕ) → HasPage log page → has_row page (row_for settings log) ≡ true
 row_has settings log page has =
@@ -36,11 +38,18 @@ any_mapped : {X Y : Type 0} (test : Y → Bool) (f : X → Y) (xs : List X) → 
 any_mapped test f [] = refl
 any_mapped test f (x ∷ xs) = ap (λ b. test (f x) || b) (any_mapped test f xs)
 
+-- as long as all logs are publications, the rows are those of all
+pub rows_match : (s : State) (held : HeldLogs) → Match s held
+    → map row_held held.logs ≡ map (row_for s.settings) s.streams.sources
+rows_match s held match =
+    match.rows ∙ ap (map (row_for s.settings)) (all_published s.streams.sources match.sound.published)
+
 taken_is : (s : State) (held : HeldLogs) (page : ℕ) → Match s held
-    → is_taken held.logs page ≡ list_any (λ log. has_row page (row_for s.settings log)) s.streams.sources
+    → is_taken (plots_of held.logs) page ≡ list_any (λ log. has_row page (row_for s.settings log)) s.streams.sources
 taken_is s held page match =
-    any_mapped (has_row page) row_held held.logs
-    ∙ ap (list_any (has_row page)) match.rows
+    sym (any_mapped (has_page page) plot_of held.logs)
+    ∙ any_mapped (has_row page) row_held held.logs
+    ∙ ap (list_any (has_row page)) (rows_match s held match)
     ∙ sym (any_mapped (has_row page) (row_for s.settings) s.streams.sources)
 
 -- ---- one page of a live log
@@ -73,13 +82,13 @@ rows_hold settings (log ∷ logs) page = ap₂ (λ a b. a || b) (row_holds setti
 
 -- an open log has the page exactly where a live log of the registry does
 pub taken_held : (s : State) (held : HeldLogs) (page : ℕ) → Match s held
-    → is_taken held.logs page ≡ list_any (λ log. holds log page) s.streams.sources
+    → is_taken (plots_of held.logs) page ≡ list_any (λ log. holds log page) s.streams.sources
 taken_held s held page match = taken_is s held page match ∙ rows_hold s.settings s.streams.sources page
 
 -- ---- so many pages
 
 pub vacant_held : (s : State) (held : HeldLogs) (pages place : ℕ) → Match s held
-    → IsVacant s.streams s.settings.arena_pages pages place → IsVacantHeld held pages place
+    → IsVacant s.streams s.settings.arena_pages pages place → IsVacantAmong held.pages (plots_of held.logs) pages place
 vacant_held s held pages place match vacant =
     let all = match.pages in
     let within = vacant.within in
@@ -94,7 +103,7 @@ vacant_held s held pages place match vacant =
     }
 
 pub held_vacant : (s : State) (held : HeldLogs) (pages place : ℕ) → Match s held
-    → IsVacantHeld held pages place → IsVacant s.streams s.settings.arena_pages pages place
+    → IsVacantAmong held.pages (plots_of held.logs) pages place → IsVacant s.streams s.settings.arena_pages pages place
 held_vacant s held pages place match vacant =
     let all = match.pages in
     let within = vacant.within in
@@ -111,7 +120,7 @@ held_vacant s held pages place match vacant =
 pub least_held : (s : State) (held : HeldLogs) (pages place : ℕ) → Match s held
     → IsVacant s.streams s.settings.arena_pages pages place
     → ((lower : ℕ) → lower < place → ¬ IsVacant s.streams s.settings.arena_pages pages lower)
-    → IsLeastVacant held pages place
+    → IsLeastVacant held.pages (plots_of held.logs) pages place
 least_held s held pages place match vacant least = record {
   vacant = vacant_held s held pages place match vacant;
   least = λ lower below lower_vacant. least lower below (held_vacant s held pages lower match lower_vacant);

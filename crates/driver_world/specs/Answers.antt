@@ -10,12 +10,10 @@ use Rattle.driver_core.specs.declared.outcome.Response.TheVariants as response
 use Rattle.driver_core.specs.declared.replies.Message.{Message}
 use Rattle.driver_world.specs.declared.answer.Answer.{Answer}
 use Rattle.driver_world.specs.declared.answer.Answer.TheVariants.{Attached, Full, Stopped, PolicyInForce, PolicyFull, Replies, Counters, Value, Denied, UnknownCounter, WrongClient}
-use Rattle.driver_world.specs.declared.answer.Fragment.{Fragment}
 use Rattle.driver_world.specs.declared.answer.Offered.{Offered}
 use Rattle.driver_world.specs.declared.answer.Offered.TheVariants as offered
 use Rattle.term_log.specs.declared.offer.Offer.{Offer}
 use Rattle.term_log.specs.declared.offer.Offer.TheVariants as offer
-use Rattle.log_pairs.specs.Polling.{Fetched}
 
 -- what an event is answered
 abbrev pub answered_by : Response → List Message → Answer
@@ -47,11 +45,3 @@ offered_as offer.TooLong = offered.TooLong
 offered_as offer.MaxPosition = offered.MaxPositionExceeded
 offered_as offer.BackPressured = offered.BackPressured
 offered_as offer.AdminAction = offered.AdminAction
-
--- a fragment, as the log lends it
-abbrev pub fragment_of : Fetched → Fragment
-fragment_of fetched = record {
-  position = fetched.position;
-  flags = fetched.flags;
-  payload = fetched.payload;
-}

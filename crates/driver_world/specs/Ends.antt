@@ -1,5 +1,6 @@
 -- What stands at the end of a run, its logs as whole lists of frames; what each step leaves, and what it is answered.
 use Rattle.std.specs.Prelude.{◌≡◌, ℕ, Bool, List, [], ◌∷◌, ◌++◌, map, filter, find, not, ◌==◌, if◌then◌else◌, Option, Some, None}
+use Rattle.any_log.specs.Whole.{whole, reach_of, rejoined}
 use Rattle.driver_core.specs.Change.{Change}
 use Rattle.driver_core.specs.declared.event.End.{End}
 use Rattle.driver_core.specs.declared.event.Event.{Event}
@@ -27,7 +28,7 @@ use Rattle.policy_core.specs.RuleList.{Rules}
 use Rattle.stream_registry.specs.declared.lingering.LogPlace.{LogPlace}
 use Rattle.stream_registry.specs.declared.pairs.Pair.{Pair}
 use Rattle.stream_registry.specs.declared.row.Source.{Source}
-use Rattle.term_log.specs.Whole.{fresh, rejoined, tail_of}
+use Rattle.term_log.specs.Whole.{fresh}
 
 -- the registry, and the open logs in the order in which they were opened
 pub record RunEnd : Type 0 where
@@ -47,7 +48,7 @@ pub record Moved : Type 0 where
 
 -- what the logs tell the conductor: how far each reaches
 abbrev pub end_of_log : WholeLog → End
-end_of_log log = record { source = log.source; position = tail_of log.whole }
+end_of_log log = record { source = log.source; position = reach_of log.whole }
 
 abbrev pub inputs_of : List WholeLog → Inputs
 inputs_of logs = record { silent = []; ends = map end_of_log logs }
@@ -56,7 +57,7 @@ inputs_of logs = record { silent = []; ends = map end_of_log logs }
 abbrev pub begun : State → Option Source → List WholeLog
 begun s None = []
 begun s (Some publication) =
-    record { source = publication.number; whole = fresh (ident_of s.settings publication) } ∷ []
+    record { source = publication.number; whole = whole (fresh (ident_of s.settings publication)) } ∷ []
 
 abbrev pub opened_for : State → Option LogPlace → List WholeLog
 opened_for s None = []
@@ -65,7 +66,7 @@ opened_for s (Some place) = begun s (source_at s.streams.sources place.source)
 abbrev pub stays_open : List LogPlace → WholeLog → Bool
 stays_open closes log = not (is_closed closes log.source)
 
--- exactly the subscriptions of these pairs read the log: one that did from where it is, a new one from the tail
+-- exactly the subscriptions of these pairs read the log: one that did from where it is, a new one from as far as it reaches
 abbrev pub rejoined_log : List Pair → WholeLog → WholeLog
 rejoined_log pairs log = record log { whole = rejoined (readers_of pairs log.source) log.whole }
 

@@ -1,5 +1,11 @@
 -- What holds at the end of every run, of the offers and polls there, and of the bytes that a poll gives.
-use Rattle.std.specs.Prelude.{◌≡◌, ℕ, ◌==◌, ◌&&◌, not, nat_lt, true, false, List, [], ◌∷◌, ◌++◌, length, map, All, Contains, Option, Some, None, if◌then◌else◌}
+use Rattle.std.specs.Prelude.{◌≡◌, ℕ, ◌+◌, ◌==◌, ◌&&◌, not, nat_lt, true, false, List, [], ◌∷◌, ◌++◌, filter, length, map, All, Contains, Option, Some, None, if◌then◌else◌}
+use Rattle.any_log.specs.declared.fragment.Fragment.{Fragment}
+use Rattle.any_log.specs.Fragments.{fragment_of}
+use Rattle.any_log.specs.Held.{Made, for_publication}
+use Rattle.any_log.specs.Whole.{AnyWhole, whole, rebuilt, made_for as made_any, polled, readers_in}
+use Rattle.image_log.specs.Polling.{polled as image_polled, polled_frame, whole_from}
+use Rattle.image_log.specs.Rebuilt.{Rebuilt}
 use Rattle.driver_core.specs.declared.event.Event.{Event}
 use Rattle.driver_core.specs.declared.event.Inputs.{Inputs}
 use Rattle.driver_core.specs.declared.log_request.LogRequest.{LogRequest}
@@ -15,11 +21,10 @@ use Rattle.driver_core.specs.State.{State, opened}
 use Rattle.driver_core.specs.Verdicts.{IsByPolicy}
 use Rattle.driver_world.specs.declared.answer.Answer.{Answer}
 use Rattle.driver_world.specs.declared.answer.Answer.TheVariants.{NoMemory, Offered as OfferedAs, Polled, Gone as IsGone, Denied}
-use Rattle.driver_world.specs.declared.answer.Fragment.{Fragment}
 use Rattle.driver_world.specs.declared.answer.Offered.TheVariants.{At, Closed, TooLong, NotConnected}
 use Rattle.driver_world.specs.declared.step.Step.{Step}
 use Rattle.driver_world.specs.declared.step.Step.TheVariants.{Conductor, Offer, Poll, List as Lists, Value}
-use Rattle.driver_world.specs.Answers.{answer_of, answer_listed, answer_shown, offered_as, fragment_of}
+use Rattle.driver_world.specs.Answers.{answer_of, answer_listed, answer_shown, offered_as}
 use Rattle.driver_world.specs.Ends.{RunEnd, Moved, opening_end, inputs_of, log_at, with_log, moved, after, IsAnswer, AreAnswers, end_of}
 use Rattle.driver_core.specs.Readers.{readers_of}
 use Rattle.driver_world.specs.Idents.{ident_of}
@@ -34,15 +39,16 @@ use Rattle.policy_core.specs.Rules.{verdict_of}
 use Rattle.stream_registry.specs.declared.row.Source.{Source}
 use Rattle.stream_registry.specs.declared.row.Registration.{Registration}
 use Rattle.stream_registry.specs.declared.row.Subscription.{Subscription}
+use Rattle.stream_registry.specs.Origins.{is_published}
 use Rattle.stream_registry.specs.PageLaws.{IsLaidOut}
-use Rattle.term_log.specs.declared.ident.Ident.{Ident}
 use Rattle.term_log.specs.Cut.{cut}
-use Rattle.term_log.specs.Frames.{Frame, fragment}
+use Rattle.term_log.specs.Frames.{Frame, fragment, total}
 use Rattle.term_log.specs.Ident.{payload_length}
 use Rattle.term_log.specs.Log.{greatest_message}
-use Rattle.term_log.specs.PollLaws.{IsFragmentOf}
-use Rattle.log_pairs.specs.Polling.{Fetched}
-use Rattle.term_log.specs.Whole.{answer_to, is_connected, offered, polled}
+use Rattle.log_pairs.specs.Pairs.{position_of}
+use Rattle.log_pairs.specs.Polling.{behind, fragments_of, passed}
+use Rattle.term_log.specs.Polling.{polled_run}
+use Rattle.term_log.specs.Whole.{Whole, answer_to, is_connected, offered, polled as term_polled}
 
 -- whatever happened since a driver was opened with sound settings
 abbrev pub AtEachEnd : (RunEnd → Type 0) → Type 0
@@ -106,19 +112,21 @@ RunsTakeEvents =
 -- ---- the logs of a run
 
 -- a log by its number, and what it is made for
-abbrev pub made_for : WholeLog → ℕ × Ident
-made_for log = (log.source, log.whole.ident)
+abbrev pub made_for : WholeLog → ℕ × Made
+made_for log = (log.source, made_any log.whole)
 
-abbrev pub made_as : Settings → Source → ℕ × Ident
-made_as settings publication = (publication.number, ident_of settings publication)
+abbrev pub made_as : Settings → Source → ℕ × Made
+made_as settings publication = (publication.number, for_publication (ident_of settings publication))
 
 -- each live publication has its log, in the same order; no two of them share a page; and exactly those subscriptions read
 -- it that the registry says
 pub record LogsFollow (e : RunEnd) : Type 0 where
-  pub made : map made_for e.logs ≡ map (made_as e.registry.settings) e.registry.streams.sources
+  pub made :
+      map made_for e.logs
+      ≡ map (made_as e.registry.settings) (filter is_published e.registry.streams.sources)
   pub apart : IsLaidOut e.registry.settings.arena_pages e.registry.streams
   pub read :
-      All (λ log. map (λ pair. pair.subscription) log.whole.pairs ≡ readers_of (pairs_of e.registry) log.source) e.logs
+      All (λ log. readers_in log.whole ≡ readers_of (pairs_of e.registry) log.source) e.logs
 
 abbrev pub LogsFollowTheRegistry : Type 0
 LogsFollowTheRegistry = AtEachEnd LogsFollow
@@ -152,33 +160,36 @@ offer_verdict s request = verdict_of s.policy s.epoch (offer_question request)
 abbrev pub stays : RunEnd → Answer → Moved
 stays e answer = record { after = e; answer = answer }
 
--- the log takes the message as it can, and no other log is changed
-abbrev pub taken_by_log : RunEnd → List ℕ → WholeLog → Moved
-taken_by_log e message log = record {
-  after = record e { logs = with_log e.logs log.source (record log { whole = offered log.whole message }) };
-  answer = OfferedAs (offered_as (answer_to log.whole message));
+-- the log of these frames takes the message as it can, and no other log is changed
+abbrev pub taken_by_log : RunEnd → List ℕ → WholeLog → Whole → Moved
+taken_by_log e message log frames = record {
+  after = record e { logs = with_log e.logs log.source (record log { whole = whole (offered frames message) }) };
+  answer = OfferedAs (offered_as (answer_to frames message));
 }
 
 -- an allowed offer: too long, to nobody, or taken as the log can
-abbrev pub let_through : RunEnd → ℕ → List ℕ → WholeLog → Moved
-let_through e now message log =
-    if nat_lt (greatest_message log.whole.ident) (length message) then stays e (OfferedAs TooLong)
-    else if not (is_connected log.whole now e.registry.settings.connection_timeout) then stays e (OfferedAs NotConnected)
-    else taken_by_log e message log
+abbrev pub let_through : RunEnd → ℕ → List ℕ → WholeLog → Whole → Moved
+let_through e now message log frames =
+    if nat_lt (greatest_message frames.ident) (length message) then stays e (OfferedAs TooLong)
+    else if not (is_connected frames now e.registry.settings.connection_timeout) then stays e (OfferedAs NotConnected)
+    else taken_by_log e message log frames
 
 -- The verdict decides, which is the first matching rule's or the default's: the offer goes on to the log exactly where it
 -- allows it, and else names it.
-pub record OfferIsDecided (e : RunEnd) (now : ℕ) (message : List ℕ) (request : OfferRequest) (log : WholeLog) (what : Moved) : Type 0 where
+pub record OfferIsDecided (e : RunEnd) (now : ℕ) (message : List ℕ) (request : OfferRequest) (log : WholeLog) (frames : Whole) (what : Moved) : Type 0 where
   pub by : IsByPolicy e.registry (offer_question request) (offer_verdict e.registry request)
-  pub granted : (offer_verdict e.registry request).allow ≡ true → what ≡ let_through e now message log
+  pub granted : (offer_verdict e.registry request).allow ≡ true → what ≡ let_through e now message log frames
   pub denied :
       (offer_verdict e.registry request).allow ≡ false → what ≡ stays e (Denied (offer_verdict e.registry request))
 
+-- the log of a publication is one of frames that were appended
 pub record OffersAreDecided (e : RunEnd) : Type 0 where
   pub there :
       (now handle number : ℕ) (message : List ℕ) (request : OfferRequest) (log : WholeLog) →
       AsksToOffer e.registry handle number request → log_at e.logs request.publication.number ≡ Some log →
-      OfferIsDecided e now message request log (moved e (Offer now handle number message))
+      (frames : Whole)
+      × (log.whole ≡ whole frames)
+      × OfferIsDecided e now message request log frames (moved e (Offer now handle number message))
   pub unregistered :
       (now handle number : ℕ) (message : List ℕ) → registration_at e.registry.streams.registrations handle number ≡ None →
       moved e (Offer now handle number message) ≡ stays e (OfferedAs Closed)
@@ -215,7 +226,7 @@ poll_verdict s request = verdict_of s.policy s.epoch (poll_question request)
 abbrev pub given_by_log : RunEnd → ℕ → ℕ → WholeLog → Moved
 given_by_log e number limit log = record {
   after = record e { logs = with_log e.logs log.source (record log { whole = (polled log.whole number limit).after }) };
-  answer = Polled (map fragment_of (polled log.whole number limit).fragments);
+  answer = Polled (polled log.whole number limit).fragments;
 }
 
 pub record PollIsDecided (e : RunEnd) (number limit : ℕ) (request : PollRequest) (log : WholeLog) (what : Moved) : Type 0 where
@@ -243,9 +254,13 @@ PollsAreGrantedExactly = AtEachEnd PollsAreDecided
 -- ---- bytes only from the live log
 
 -- the frames of a message that an allowed offer put into the log of that source
+abbrev pub frames_for : AnyWhole → List ℕ → List Frame
+frames_for (whole frames) message = cut (payload_length frames.ident) message
+frames_for (rebuilt frames) message = []
+
 abbrev pub frames_in : Option WholeLog → List ℕ → List Frame
 frames_in None message = []
-frames_in (Some log) message = cut (payload_length log.whole.ident) message
+frames_in (Some log) message = frames_for log.whole message
 
 abbrev pub put_into : RunEnd → ℕ → List ℕ → Option LogRequest → List Frame
 put_into e source message None = []
@@ -265,15 +280,41 @@ granted_in e source (step ∷ steps) [] = []
 granted_in e source (step ∷ steps) (answer ∷ answers) =
     granted_by e source step answer ++ granted_in (after e step answer) source steps answers
 
--- a fragment that was polled is a frame of the log of that source, which is open, and was put into it by an offer that was
--- granted
-pub record ComesFromLog (e : RunEnd) (source : ℕ) (granted : List Frame) (given : Fragment) : Type 0 where
+-- A poll of a publication's log: the frames go on from where the subscription stands, as many as it takes, until so many
+-- fragments were given or there are no more. What they carry is given, in their order, each frame's once: pads carry
+-- nothing, and the subscription stands behind all of them then. Each fragment was put into the log by an offer that was
+-- granted.
+pub record AreNext (granted : List Frame) (subscription limit : ℕ) (given : List Fragment) (w : Whole) : Type 0 where
+  pub at : ℕ
+  pub before : List Frame
+  pub next : List Frame
+  pub left : List Frame
+  pub stood : position_of w.pairs subscription ≡ Some at
+  pub frames_are : w.frames ≡ before ++ (next ++ left)
+  pub from : at ≡ w.ident.start + total before
+  pub as_many : polled_run at next ≡ passed limit (polled_run at (next ++ left))
+  pub given_are : given ≡ map fragment_of (fragments_of (polled_run at next))
+  pub stands : position_of (term_polled w subscription limit).after.pairs subscription ≡ Some (at + total next)
+  pub offered : All (λ part. Contains granted (fragment part.flags part.payload)) given
+
+-- a poll of a remote stream's log: the same, of the frames from there on up to where the stream is whole
+pub record AreNextWhole (subscription limit : ℕ) (given : List Fragment) (r : Rebuilt) : Type 0 where
+  pub at : ℕ
+  pub stood : position_of r.pairs subscription ≡ Some at
+  pub given_are : given ≡ map fragment_of (fragments_of (passed limit (map polled_frame (whole_from r at))))
+  pub stands :
+      position_of (image_polled r subscription limit).after.pairs subscription
+      ≡ Some (behind at (passed limit (map polled_frame (whole_from r at))))
+
+abbrev pub AreNextIn : List Frame → ℕ → ℕ → List Fragment → AnyWhole → Type 0
+AreNextIn granted subscription limit given (whole frames) = AreNext granted subscription limit given frames
+AreNextIn granted subscription limit given (rebuilt frames) = AreNextWhole subscription limit given frames
+
+-- what was polled comes from the log of that source, which is open
+pub record ComeFromLog (e : RunEnd) (source subscription limit : ℕ) (granted : List Frame) (given : List Fragment) : Type 0 where
   pub log : WholeLog
   pub live : log_at e.logs source ≡ Some log
-  pub fetched : Fetched
-  pub given_is : given ≡ fragment_of fetched
-  pub frame : IsFragmentOf log.whole fetched
-  pub offered : Contains granted (fragment given.flags given.payload)
+  pub next : AreNextIn granted subscription limit given log.whole
 
 abbrev pub BytesComeFromTheLiveLog : Type 0
 BytesComeFromTheLiveLog =
@@ -281,7 +322,5 @@ BytesComeFromTheLiveLog =
     (now client subscription source limit : ℕ) (fragments : List Fragment) →
     AreAnswers (opening_end settings policy peers) steps answers →
     IsAnswer (end_of (opening_end settings policy peers) steps answers) (Poll now client subscription source limit) (Polled fragments) →
-    All
-    (ComesFromLog (end_of (opening_end settings policy peers) steps answers) source
-    (granted_in (opening_end settings policy peers) source steps answers))
-    fragments
+    ComeFromLog (end_of (opening_end settings policy peers) steps answers) source subscription limit
+    (granted_in (opening_end settings policy peers) source steps answers) fragments

@@ -6,4 +6,5 @@ pub mod Laws
 pub mod Memory
 pub mod Moves
 pub mod Opening
+pub mod Plots
 pub mod Standing

@@ -1,7 +1,8 @@
 -- A world holds the registry and what is left of the logs. Each run ends where a world may stand; each call of a world
 -- goes on from each such end.
-use Rattle.std.specs.Prelude.{◌≡◌, ℕ, ◌*◌, Bool, List, [], ◌∷◌, ◌++◌, map}
+use Rattle.std.specs.Prelude.{◌≡◌, ℕ, ◌*◌, Bool, List, [], ◌∷◌, ◌++◌, filter, map}
 use Rattle.std.specs.List.{list_any, range_with_len}
+use Rattle.any_log.specs.Held.{Made, for_publication, made_held}
 use Rattle.driver_core.specs.declared.event.Event.{Event}
 use Rattle.driver_core.specs.declared.outcome.Outcome.{Outcome}
 use Rattle.driver_core.specs.declared.peer.Peer.{Peer}
@@ -12,14 +13,15 @@ use Rattle.driver_core.specs.State.{State}
 use Rattle.driver_world.specs.declared.answer.Answer.{Answer}
 use Rattle.driver_world.specs.declared.step.Step.{Step}
 use Rattle.driver_world.specs.Ends.{RunEnd, opening_end, conducted, inputs_of, IsAnswer, AreAnswers, after, end_of}
-use Rattle.driver_world.specs.Held.{HeldLog, HeldLogs}
+use Rattle.driver_world.specs.Held.{HeldLog, HeldLogs, plot_of}
 use Rattle.driver_world.specs.Idents.{ident_of}
 use Rattle.driver_world.specs.Memory.{HasMemory, HaveMemory}
 use Rattle.driver_world.specs.Moves.{WholeLog, StandsForLog}
+use Rattle.driver_world.specs.Plots.{Plot}
 use Rattle.policy_core.specs.RuleList.{Rules}
 use Rattle.stream_registry.specs.declared.row.Source.{Source}
 use Rattle.stream_registry.specs.LogPages.{holds}
-use Rattle.term_log.specs.declared.ident.Ident.{Ident}
+use Rattle.stream_registry.specs.Origins.{is_published}
 
 -- the registry, and the open logs
 pub record Held : Type 0 where
@@ -28,24 +30,26 @@ pub record Held : Type 0 where
 
 -- ---- what is held together: the open logs are those of the live publications
 
--- a log by its number, its first byte in the memory of all logs, and what it is made for
+-- a log by its number, its first byte in the memory of all logs, how many bytes one of its terms has, and what it is made for
 pub record LogRow : Type 0 where
   pub source : ℕ
   pub place : ℕ
-  pub ident : Ident
+  pub term_length : ℕ
+  pub made : Made
+
+abbrev pub row_on : Plot → Made → LogRow
+row_on plot made =
+    record { source = plot.source; place = plot.place; term_length = plot.term_length; made = made }
 
 abbrev pub row_held : HeldLog → LogRow
-row_held held = record {
-  source = held.source;
-  place = held.log.kept.buffers.place;
-  ident = held.log.kept.ident;
-}
+row_held held = row_on (plot_of held) (made_held held.log)
 
 abbrev pub row_for : Settings → Source → LogRow
 row_for settings publication = record {
   source = publication.number;
   place = 4096 * publication.place;
-  ident = ident_of settings publication;
+  term_length = publication.measures.term_length;
+  made = for_publication (ident_of settings publication);
 }
 
 -- Each live publication has its log, at the place that the registry gave it, and there is no other: so the pages that the
@@ -53,12 +57,12 @@ row_for settings publication = record {
 pub record Match (s : State) (held : HeldLogs) : Type 0 where
   pub sound : IsSound s
   pub pages : held.pages ≡ s.settings.arena_pages
-  pub rows : map row_held held.logs ≡ map (row_for s.settings) s.streams.sources
+  pub rows : map row_held held.logs ≡ map (row_for s.settings) (filter is_published s.streams.sources)
 
--- of each page of the arena, from the first on, whether a live log of the registry has it
+-- of each page of the arena, from the first on, whether a live publication of the registry has it
 unfoldable pub pages_of_logs : State → List Bool
 pages_of_logs s =
-    map (λ page. list_any (λ publication. holds publication page) s.streams.sources)
+    map (λ page. list_any (λ publication. holds publication page) (filter is_published s.streams.sources))
     (range_with_len 0 s.settings.arena_pages)
 
 -- ---- which end a world stands for

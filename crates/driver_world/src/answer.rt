@@ -1,9 +1,9 @@
 ghost use Rattle.driver_world.specs.Answers.{answer_of, answer_listed, answer_shown, offered_as};
 ghost use Rattle.std.specs.Prelude.{◌≡◌};
 
-use byte_strings::{Bytes, Items};
+use any_log::Fragment;
+use byte_strings::Items;
 use driver_core::{Listed, ListedCounter, Message, Outcome, Response, Shown};
-use frame_codec::Flags;
 use policy_core::Verdict;
 use term_log::Offer;
 
@@ -24,16 +24,6 @@ pub enum Offered {
     BackPressured,
     /// The rest of the term was too short for it, and is filled now: to be offered again.
     AdminAction,
-}
-
-/// A fragment that a client is given by a poll.
-#[derive(Debug, PartialEq, Eq, Drop)]
-pub struct Fragment {
-    /// The position behind its frame.
-    pub position: u64,
-    /// The flags of its frame.
-    pub flags: Flags,
-    pub payload: Bytes,
 }
 
 /// What a step is answered.

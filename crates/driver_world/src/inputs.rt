@@ -16,7 +16,7 @@ fn ends_of(alloc: Global, logs: &[OpenLog]) -> Result<Items<End>, AllocError>
     for open in logs {
         ends.push(End {
             source: open.source,
-            position: open.log.tail(),
+            position: open.log.reach(),
         })?;
     }
     Ok(ends)

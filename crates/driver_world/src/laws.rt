@@ -30,8 +30,9 @@ pub fn polls_are_granted_exactly()
     ensures { PollsAreGrantedExactly }
 {}
 
-/// Each fragment that a poll gives is a frame of the log that was asked for, which is open, and was put into it by an offer
-/// that the policy in force allowed.
+/// What a poll gives is what the next frames carry of the log that was asked for, which is open: from where the subscription
+/// stood on, in their order, each once, as many as it asked for while there were some. Each fragment of a publication's log
+/// was put into it by an offer that the policy in force allowed.
 pub fn bytes_come_from_the_live_log()
     ensures { BytesComeFromTheLiveLog }
 {}

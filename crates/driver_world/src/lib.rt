@@ -16,7 +16,8 @@ mod polling;
 mod step;
 mod world;
 
-pub use answer::{Answer, Fragment, Offered};
+pub use answer::{Answer, Offered};
+pub use any_log::Fragment;
 pub use laws::{
     bytes_come_from_the_live_log, logs_follow_the_registry, offers_are_granted_exactly,
     polls_are_granted_exactly, runs_take_events,

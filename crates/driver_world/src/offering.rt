@@ -1,19 +1,43 @@
 //! A message that a client offers to a log.
 
+ghost use Rattle.any_log.specs.declared.any_log.AnyLog.TheVariants.{Term};
+ghost use Rattle.any_log.specs.Held.{Lies};
 ghost use Rattle.driver_world.specs.Held.{LiesAsBefore};
-ghost use Rattle.driver_world.specs.Moves.{Does, offer_move};
+ghost use Rattle.driver_world.specs.Moves.{Does, offer_move, offers, term_held};
+ghost use Rattle.std.specs.Prelude.{ℕ};
 
 use crate::answer::{Answer, Offered};
 use crate::open_log::OpenLog;
+use any_log::AnyLog;
 use driver_core::View;
+use policy_core::Verdict;
+use term_log::TermLog;
+
+/// A message is offered to a publication's log, where the verdict is that: denied, too long, to nobody, or taken as the log
+/// can.
+fn offer_to(log: &mut TermLog, now: u64, timeout: u64, verdict: Verdict, message: &[u8]) -> Answer
+    ensures does { (source : ℕ) → Does (offers now timeout verdict message.now) (term_held source log.old) (term_held source log.new) result }
+    ensures lies { Lies (Term log.old) (Term log.new) }
+{
+    if !verdict.allow {
+        return Answer::Denied(verdict);
+    }
+    if message.len() > log.greatest_message() {
+        return Answer::Offered(Offered::TooLong);
+    }
+    if !log.connected(now, timeout) {
+        return Answer::Offered(Offered::NotConnected);
+    }
+    Answer::Offered(Offered::of(log.offer(message)))
+}
 
 /// A client offers a message to the log that its registration is with, at the moment `now` in nanoseconds, as the registry
 /// that the view shows says. It takes no memory.
 ///
 /// The answer is the first that applies: [`Offered::Closed`] where the client has no such registration, or one with another
-/// log; [`Answer::Denied`] by the policy of that registry; [`Offered::TooLong`]; [`Offered::NotConnected`];
-/// [`Offered::MaxPositionExceeded`]; [`Offered::BackPressured`]; [`Offered::AdminAction`], by which the rest of the term is
-/// filled; else the message is appended, and the answer is the position behind it.
+/// log, or the log is that of a remote stream; [`Answer::Denied`] by the policy of that registry; [`Offered::TooLong`];
+/// [`Offered::NotConnected`]; [`Offered::MaxPositionExceeded`]; [`Offered::BackPressured`]; [`Offered::AdminAction`], by
+/// which the rest of the term is filled; else the message is appended, and the answer is the position behind it.
 #[tactic(auto, unfolding(crate::specs::Moves::offer_move))]
 pub fn offer_step<V: View>(
     view: &V,
@@ -33,17 +57,9 @@ pub fn offer_step<V: View>(
     if request.source != log.source {
         return Answer::Offered(Offered::Closed);
     }
-    if !request.decision.verdict.allow {
-        return Answer::Denied(request.decision.verdict);
+    let timeout = registry.settings().connection_timeout;
+    match &mut log.log {
+        AnyLog::Term(term) => offer_to(term, now, timeout, request.decision.verdict, message),
+        AnyLog::Image(_) => Answer::Offered(Offered::Closed),
     }
-    if message.len() > log.log.greatest_message() {
-        return Answer::Offered(Offered::TooLong);
-    }
-    if !log
-        .log
-        .connected(now, registry.settings().connection_timeout)
-    {
-        return Answer::Offered(Offered::NotConnected);
-    }
-    Answer::Offered(Offered::of(log.log.offer(message)))
 }

@@ -1,11 +1,11 @@
+use any_log::AnyLog;
 use std::marker::Model;
-use term_log::TermLog;
 
-/// The log of a live publication, with the number by which it is known.
+/// An open log, with the number by which it is known.
 #[derive(Drop)]
 pub struct OpenLog {
     pub(crate) source: u64,
-    pub(crate) log: TermLog,
+    pub(crate) log: AnyLog,
 }
 
 impl Model for OpenLog {

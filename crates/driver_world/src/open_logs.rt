@@ -1,22 +1,28 @@
 //! The open logs of a driver, in one arena.
 
+ghost use Rattle.any_log.specs.Whole.{rebuilt, whole};
 ghost use Rattle.driver_core.specs.Pairs.{pairs_of as all_pairs};
 ghost use Rattle.driver_core.specs.Readers.{readers_of};
-ghost use Rattle.driver_world.specs.Held.{IsLeastVacant, IsOpened, is_closed, is_kept, place_at, rejoined_held, taken_pages, with_readers, without};
+ghost use Rattle.driver_world.specs.Held.{IsOpened, is_closed, is_kept, place_at, plots_of, rejoined_held, with_readers, without};
 ghost use Rattle.driver_world.specs.declared.answer.Answer.TheVariants.{Gone, Offered as OfferedAs};
 ghost use Rattle.driver_world.specs.declared.answer.Offered.TheVariants.{Closed};
 ghost use Rattle.driver_world.specs.Memory.{GivesFirst};
 ghost use Rattle.driver_world.specs.Moves.{MovesFirst, offer_move, poll_move};
+ghost use Rattle.driver_world.specs.Plots.{IsLeastVacant, taken_pages};
+ghost use Rattle.image_log.specs.Rebuilt.{opened};
 ghost use Rattle.log_arena.specs.Pages.{holes_of};
-ghost use Rattle.std.specs.Prelude.{◌≡◌, ℕ, ◌%◌, ◌<◌, ◌≤◌, [], length, map, filter, IfOk, OnOk, OnErr};
+ghost use Rattle.std.specs.Prelude.{◌≡◌, ℕ, ◌*◌, ◌%◌, ◌^◌, ◌<◌, ◌≤◌, [], length, map, filter, IfOk, OnOk, OnErr};
 ghost use Rattle.stream_registry.specs.LogPages.{pages_of};
 ghost use Rattle.term_log.specs.Ident.{IsIdent};
+ghost use Rattle.term_log.specs.Whole.{fresh};
 
 use crate::answer::{Answer, Offered};
 use crate::offering::offer_step;
 use crate::open_log::OpenLog;
 use crate::polling::poll_step;
+use any_log::AnyLog;
 use driver_core::{Registry, View};
+use image_log::{ImageLog, ImageRoom};
 use log_arena::Arena;
 use rows::Rows;
 use std::alloc::{AllocError, Global};
@@ -35,7 +41,8 @@ pub(crate) struct OpenLogs {
 }
 
 impl Model for OpenLogs {
-    ghost use Rattle.driver_world.specs.Held.{HeldLogs, AreHoused};
+    ghost use Rattle.driver_world.specs.Held.{HeldLogs, plots_of};
+    ghost use Rattle.driver_world.specs.Plots.{AreHoused};
     ghost use Rattle.std.specs.Vec.{vec_capacity};
 
     ghost Value = { HeldLogs };
@@ -46,7 +53,7 @@ impl Model for OpenLogs {
       room = vec_capacity held.logs;
     } };
 
-    ghost invariant = { λ held. AreHoused held.arena held.logs.items };
+    ghost invariant = { λ held. AreHoused held.arena (plots_of held.logs.items) };
 }
 
 /// Where the first log of that source is in the list.
@@ -84,7 +91,7 @@ impl OpenLogs {
 
     /// The maximal runs of pages that no log has, each as its place and its length in bytes, ascending.
     pub(crate) fn holes(&self) -> &[(usize, usize)]
-        ensures { result.now ≡ holes_of (taken_pages self.now) }
+        ensures { result.now ≡ holes_of (taken_pages self.now.pages (plots_of self.now.logs)) }
     {
         self.arena.holes()
     }
@@ -102,16 +109,48 @@ impl OpenLogs {
     pub(crate) fn open(&mut self, memory: LogRoom, source: u64, place: u64, ident: Ident)
         requires ident { IsIdent ident }
         requires whole { ident.term_length % 4096 ≡ 0 }
-        requires vacant { IsLeastVacant self.old (pages_of ident.term_length) place }
+        requires vacant { IsLeastVacant self.old.pages (plots_of self.old.logs) (pages_of ident.term_length) place }
         requires room { length self.old.logs < self.old.room }
-        ensures { IsOpened self.old self.new source place ident }
+        ensures { IsOpened self.old self.new source place (whole (fresh ident)) }
     {
         let Ok(lease) = self.arena.lease(3 * ident.term_length as usize) else {
             // the place is there
             unreachable!()
         };
         let log = TermLog::open_in(memory, lease, ident);
-        self.logs.push_reserved(OpenLog { source, log });
+        self.logs.push_reserved(OpenLog {
+            source,
+            log: AnyLog::Term(log),
+        });
+    }
+
+    /// Opens the log of a remote stream without frames behind the others, which joins at that position, as
+    /// [`OpenLogs::open`] opens that of a publication.
+    pub(crate) fn open_image(
+        &mut self,
+        memory: ImageRoom,
+        source: u64,
+        place: u64,
+        ident: image_log::Ident,
+        join: u64,
+    )
+        requires memory { memory ≡ 3 * ident.term_length }
+        requires terms { (65536 ≤ ident.term_length) × (ident.term_length ≤ 16777216) }
+        requires whole { ident.term_length % 4096 ≡ 0 }
+        requires join { (join % 32 ≡ 0) × (join < ident.term_length * 2 ^ 31) }
+        requires vacant { IsLeastVacant self.old.pages (plots_of self.old.logs) (pages_of ident.term_length) place }
+        requires room { length self.old.logs < self.old.room }
+        ensures { IsOpened self.old self.new source place (rebuilt (opened ident join)) }
+    {
+        let Ok(lease) = self.arena.lease(3 * ident.term_length as usize) else {
+            // the place is there
+            unreachable!()
+        };
+        let log = ImageLog::open_in(memory, lease, ident, join);
+        self.logs.push_reserved(OpenLog {
+            source,
+            log: AnyLog::Image(log),
+        });
     }
 
     /// Closes the log at that place of the list: its pages are free again.

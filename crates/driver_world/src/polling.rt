@@ -2,35 +2,13 @@
 
 ghost use Rattle.driver_world.specs.Held.{LiesAsBefore};
 ghost use Rattle.driver_world.specs.Memory.{Gives};
-ghost use Rattle.driver_world.specs.Moves.{CopiesFetched, Does, poll_move};
+ghost use Rattle.driver_world.specs.Moves.{Does, poll_move};
 ghost use Rattle.std.specs.Prelude.{◌≡◌, IfOk, OnErr};
 
-use crate::answer::{Answer, Fragment};
+use crate::answer::Answer;
 use crate::open_log::OpenLog;
-use byte_strings::{Bytes, Items};
 use driver_core::View;
 use std::alloc::{AllocError, Global};
-use term_log::TermLog;
-
-/// Copies of the fragments that a poll gives.
-fn fragments_of(
-    alloc: Global,
-    log: &TermLog,
-    subscription: u64,
-    limit: usize,
-) -> Result<Items<Fragment>, AllocError>
-    ensures { IfOk result (λ fragments. CopiesFetched log.now subscription limit fragments) }
-{
-    let mut fragments = Items::new(alloc);
-    for fragment in log.fragments(subscription, limit) {
-        fragments.push(Fragment {
-            position: fragment.position,
-            flags: fragment.flags,
-            payload: Bytes::new(alloc, fragment.payload)?,
-        })?;
-    }
-    Ok(fragments)
-}
 
 /// A client polls a log by one of its subscriptions, as the registry that the view shows says, and is given so many
 /// fragments at most.
@@ -65,7 +43,7 @@ pub fn poll_step<V: View>(
         return Ok(Answer::Denied(request.decision.verdict));
     }
     let limit = limit as usize;
-    let fragments = fragments_of(alloc, &log.log, subscription, limit)?;
+    let fragments = log.log.fragments(alloc, subscription, limit)?;
     log.log.poll(subscription, limit);
     Ok(Answer::Polled(fragments))
 }

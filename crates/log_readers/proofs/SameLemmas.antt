@@ -6,6 +6,8 @@ use Rattle.std.proofs.lemmas.List.Elements.{All-weaker, filter_passes}
 use Rattle.log_readers.specs.Numbering.{IsOwned, number_of}
 use Rattle.log_readers.specs.Readers.{all_readers, readers_at}
 use Rattle.log_readers.specs.Turnover.{IsReadAlike}
+use Rattle.stream_registry.specs.declared.row.Origin.{Origin}
+use Rattle.stream_registry.specs.declared.row.Origin.TheVariants.{Published, Remote}
 use Rattle.stream_registry.specs.declared.row.Source.{Source}
 use Rattle.stream_registry.specs.declared.row.Registration.{Registration}
 use Rattle.stream_registry.specs.declared.row.Subscription.{Subscription}
@@ -14,7 +16,8 @@ use Rattle.stream_registry.specs.declared.wanted.Wanted.{Wanted}
 use Rattle.stream_registry.specs.Adding.{added}
 use Rattle.stream_registry.specs.Leaving.{is_another_registration, is_registration_of_another, is_subscription_of_another, left, unregistered}
 use Rattle.stream_registry.specs.Lingering.{is_used, left_alone, settled, settled_one}
-use Rattle.stream_registry.specs.Pairs.{fits, is_allowed, is_allowed_to, is_pair, pair_of, pairs_at, pairs_of}
+use Rattle.stream_registry.specs.Origins.{left_by}
+use Rattle.stream_registry.specs.Pairs.{fits, is_allowed, is_allowed_to, is_pair, pair_of, pairs_at, pairs_of, reaches}
 use Rattle.stream_registry.specs.Streams.{Streams}
 use Rattle.client_registry.specs.declared.client.Client.{Client}
 use Rattle.client_registry.specs.Clients.{ClientList, admitted, is_other, touched, without}
@@ -69,6 +72,13 @@ module _ (policy : Rules) (epoch : ℕ) where
 
   -- ---- publications that begin to linger
 
+  pairs_left : (clients : List Client) (subs : List Subscription) (now : ℕ) (log : Source) (origin : Origin) →
+      pairs_at clients policy epoch subs (record log { origin = left_by now origin })
+      ≡ pairs_at clients policy epoch subs (record log { origin = origin })
+  unfolding fits reaches
+  pairs_left clients subs now log (Published exclusive since) = refl
+  pairs_left clients subs now log (Remote address initial_term join) = refl
+
   pairs_settled : (clients : List Client) (subs : List Subscription) (registrations : List Registration) (now : ℕ)
       (log : Source) →
       pairs_at clients policy epoch subs (settled_one registrations now log) ≡ pairs_at clients policy epoch subs log
@@ -77,8 +87,15 @@ module _ (policy : Rules) (epoch : ℕ) where
       elim (is_used registrations log.number) as
       (λ b. pairs_at clients policy epoch subs (cond b log (left_alone now log)) ≡ pairs_at clients policy epoch subs log) [
         | true ↦ refl
-        | false ↦ refl
+        | false ↦ pairs_left clients subs now log log.origin
       ]
+
+  readers_left : (clients : List Client) (subs : List Subscription) (now : ℕ) (log : Source) (origin : Origin) →
+      readers_at clients policy epoch subs (record log { origin = left_by now origin })
+      ≡ readers_at clients policy epoch subs (record log { origin = origin })
+  unfolding fits reaches
+  readers_left clients subs now log (Published exclusive since) = refl
+  readers_left clients subs now log (Remote address initial_term join) = refl
 
   readers_settled : (clients : List Client) (subs : List Subscription) (registrations : List Registration) (now : ℕ)
       (log : Source) →
@@ -88,7 +105,7 @@ module _ (policy : Rules) (epoch : ℕ) where
       elim (is_used registrations log.number) as
       (λ b. readers_at clients policy epoch subs (cond b log (left_alone now log)) ≡ readers_at clients policy epoch subs log) [
         | true ↦ refl
-        | false ↦ refl
+        | false ↦ readers_left clients subs now log log.origin
       ]
 
   pub settled_alike : (s : Streams) (clients : List Client) (now : ℕ) → IsReadAlike s (settled s now) clients clients policy epoch

@@ -68,7 +68,7 @@ pub fn logs_read(
     wish: &Wish<'_>,
 ) -> usize
     ensures exact { result ≡ length (pairs_with clients.now.rows policy.now epoch streams.now.sources (row_of wish.now)) }
-    ensures few { result ≤ 256 }
+    ensures few { result ≤ 768 }
 {
     if !is_allowed(clients, policy, epoch, wish) {
         return 0;

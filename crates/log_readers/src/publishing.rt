@@ -29,28 +29,30 @@ fn ask_at(
 }
 
 impl Readers {
-    /// A log comes behind the others.
+    /// A log comes behind the others, as many as `logs`.
     fn add_log(
         &mut self,
         clients: &Clients,
         policy: &Policy,
         epoch: u64,
+        logs: usize,
         subscriptions: &[Subscription],
         log: &Source,
     )
-        requires room { length self.old < 256 }
+        requires same { length self.old ≡ logs }
+        requires room { logs < 768 }
         requires few { length subscriptions.now ≤ 512 }
         ensures { self.new ≡ self.old ++ readers_at clients.now.rows policy.now epoch subscriptions.now log.now ∷ [] }
     {
         ask_at(
-            &mut self.slots[self.used],
+            &mut self.slots[logs],
             clients,
             policy,
             epoch,
             subscriptions,
             log,
         );
-        self.used += 1;
+        self.used = logs + 1;
     }
 
     /// A client publishes: [`Streams::add_publication`] follows. `adding` is the answer of [`Streams::adding`]. Where a log
@@ -75,7 +77,8 @@ impl Readers {
             Adding::Join { .. } => {}
             Adding::Make { session } => {
                 let log = streams.log(number, wanted, place, session);
-                self.add_log(clients, policy, epoch, streams.subscriptions(), &log);
+                let logs = streams.sources().len();
+                self.add_log(clients, policy, epoch, logs, streams.subscriptions(), &log);
             }
         }
     }

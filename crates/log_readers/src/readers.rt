@@ -14,8 +14,8 @@ use std::alloc::{AllocError, Global};
 use std::marker::Model;
 use stream_registry::{Source, Streams, Subscription, Wish, fits, is_allowed};
 
-/// How many logs there are at most.
-const LOGS: usize = 256;
+/// How many logs there are at most: 256 publications and 512 images.
+const LOGS: usize = 768;
 
 /// The numbers of the subscriptions that read each log, log by log. There is room from the beginning for as many as there
 /// may be.
@@ -33,12 +33,12 @@ impl Model for Readers {
 
     ghost view = { λ readers. take readers.used readers.slots.items };
 
-    ghost invariant = { λ readers. (readers.used ≤ 256) × (length readers.slots.items ≡ 256) };
+    ghost invariant = { λ readers. (readers.used ≤ 768) × (length readers.slots.items ≡ 768) };
 }
 
 /// Room for the readers of all logs that there may be.
 fn room(alloc: Global) -> Result<Vec<Rows<u64, 512>>, AllocError>
-    ensures { IfOk result (λ slots. length slots.items ≡ 256) }
+    ensures { IfOk result (λ slots. length slots.items ≡ 768) }
 {
     let mut slots = Vec::with_capacity(alloc, LOGS)?;
     for _slot in 0..LOGS {
@@ -163,7 +163,7 @@ impl Readers {
     /// How many readers there are of all logs together: as many as there are pairs.
     pub fn total(&self) -> usize
         ensures exact { result ≡ sum_by (λ numbers. length numbers) self.now }
-        ensures few { result ≤ 131072 }
+        ensures few { result ≤ 393216 }
         ensures pairs { (s : StreamLists) (clients : List Client) (policy : Rules) (epoch : ℕ) → self.now ≡ all_readers s clients policy epoch → result ≡ length (pairs_of s clients policy epoch) }
     {
         total_of(&self.slots[..self.used])
@@ -171,7 +171,7 @@ impl Readers {
 
     /// The logs have no readers.
     fn empty(&mut self, logs: &[Source])
-        requires { length logs.now ≤ 256 }
+        requires { length logs.now ≤ 768 }
         ensures { self.new ≡ map (λ log. []) logs.now }
     {
         self.used = logs.len();
@@ -212,7 +212,7 @@ impl Readers {
         logs: &[Source],
         subscriptions: &[Subscription],
     )
-        requires few_logs { length logs.now ≤ 256 }
+        requires few_logs { length logs.now ≤ 768 }
         requires few { length subscriptions.now ≤ 512 }
         ensures { self.new ≡ map (readers_at clients.now.rows policy.now epoch subscriptions.now) logs.now }
     {
@@ -240,7 +240,7 @@ impl Readers {
 
 /// How many numbers there are.
 fn total_of(slots: &[Rows<u64, 512>]) -> usize
-    requires { length slots.now ≤ 256 }
+    requires { length slots.now ≤ 768 }
     ensures exact { result ≡ sum_by (λ numbers. length numbers) slots.now }
     ensures few { result ≤ 512 * length slots.now }
 {

@@ -1,24 +1,28 @@
 -- No list grows past its limit.
-use Rattle.std.proofs.Common.{◌≡◌, ℕ, ◌+◌, ◌<◌, ◌≤◌, ℤ, Bool, true, false, not, ◌&&◌, cond, List, [], ◌∷◌, ◌++◌, length, map, filter, Option, Some, None, refl, subst, arith}
+use Rattle.std.proofs.Common.{◌≡◌, ℕ, ◌+◌, ◌<◌, ◌≤◌, ℤ, Bool, true, false, not, ◌&&◌, cond, List, [], ◌∷◌, ◌++◌, length, filter, Option, Some, None, refl, subst, arith}
 use Rattle.std.specs.Prelude.{Result, Ok, Err}
 use Rattle.std.proofs.lemmas.Bool.{ltb-true}
-use Rattle.std.proofs.lemmas.List.{length-append, length-map}
+use Rattle.std.proofs.lemmas.List.{length-append}
 use Rattle.std.proofs.lemmas.List.Filters.{length-filter_both}
 use Rattle.stream_registry.specs.declared.fault.StreamFault.{StreamFault}
 use Rattle.stream_registry.specs.declared.fault.StreamFault.TheVariants.{Conflict, Full}
 use Rattle.stream_registry.specs.declared.row.Source.{Source}
 use Rattle.stream_registry.specs.declared.wanted.Adding.{Adding}
 use Rattle.stream_registry.specs.declared.wanted.Adding.TheVariants.{Join, Make}
+use Rattle.stream_registry.specs.declared.wanted.ImageWanted.{ImageWanted}
 use Rattle.stream_registry.specs.declared.wanted.Wanted.{Wanted}
 use Rattle.stream_registry.specs.Adding.{adding_by, adding_of, added, has_room_for_log, has_room_for_registration, has_room_for_subscription, joining_of, log_of, making_of, registration_of, session_of, subscribed}
 use Rattle.stream_registry.specs.Joining.{contradicts, joined_at}
+use Rattle.stream_registry.specs.Images.{has_room_for_image, image_of, imaged, stays_beside, without_images}
 use Rattle.stream_registry.specs.Leaving.{is_another_registration, is_another_subscription, is_registration_of_another, is_subscription_of_another, left, unregistered, unsubscribed}
 use Rattle.stream_registry.specs.LimitLaws.{IsWithinLimits, StaysWithinLimits}
-use Rattle.stream_registry.specs.Lingering.{closed, is_not_past, settled, settled_one}
+use Rattle.stream_registry.specs.Lingering.{closed, is_not_past, settled}
+use Rattle.stream_registry.specs.Origins.{is_published, is_remote}
 use Rattle.stream_registry.specs.Sessions.{is_stated_again}
 use Rattle.stream_registry.specs.Streams.{Streams}
 use Rattle.channel_uri.specs.Channel.{Shape}
 use Rattle.channel_uri.specs.Parameters.{stated_session_of}
+use Rattle.stream_registry.proofs.FewLemmas.{imaged_few, kept_few, none_few, published_few, settled_few}
 
 -- ---- what is granted finds room
 
@@ -105,10 +109,18 @@ added_within s number client place wanted (Join source session) h room = record 
   subscriptions = h.subscriptions;
 }
 added_within s number client place wanted (Make session) h room = record {
-  logs = one_more s.sources (log_of s number wanted place session) 256
-      (ltb-true (length s.sources) 256 (second_of (has_room_for_registration s) (has_room_for_log s) room));
+  logs = published_few s.sources (log_of s number wanted place session) refl
+      (ltb-true (length (filter is_published s.sources)) 256 (second_of (has_room_for_registration s) (has_room_for_log s) room)) h.logs;
   registrations = one_more s.registrations (registration_of number client wanted number) 1024
       (ltb-true (length s.registrations) 1024 (first_of (has_room_for_registration s) (has_room_for_log s) room));
+  subscriptions = h.subscriptions;
+}
+
+imaged_within : (s : Streams) (number place : ℕ) (wanted : ImageWanted) → IsWithinLimits s → has_room_for_image s ≡ true →
+    IsWithinLimits (imaged s number wanted place)
+imaged_within s number place wanted h room = record {
+  logs = imaged_few s.sources (image_of s number wanted place) refl (ltb-true (length (filter is_remote s.sources)) 512 room) h.logs;
+  registrations = h.registrations;
   subscriptions = h.subscriptions;
 }
 
@@ -123,14 +135,11 @@ subscribed_within s number client channel stream h room = record {
 
 settled_within : (s : Streams) (now : ℕ) → IsWithinLimits s → IsWithinLimits (settled s now)
 unfolding settled
-settled_within s now h =
-    let same : length (map (settled_one s.registrations now) s.sources) ≡ length s.sources =
-    length-map s.sources (settled_one s.registrations now) in
-    record {
-      logs = omega (arith, same, h.logs);
-      registrations = h.registrations;
-      subscriptions = h.subscriptions;
-    }
+settled_within s now h = record {
+  logs = settled_few s.registrations now s.sources h.logs;
+  registrations = h.registrations;
+  subscriptions = h.subscriptions;
+}
 
 unregistered_within : (s : Streams) (client number now : ℕ) → IsWithinLimits s → IsWithinLimits (unregistered s client number now)
 unfolding unregistered
@@ -164,19 +173,29 @@ left_within s client now h =
 closed_within : (s : Streams) (now : ℕ) → IsWithinLimits s → IsWithinLimits (closed s now)
 unfolding closed
 closed_within s now h = record {
-  logs = fewer (is_not_past now) s.sources 256 h.logs;
+  logs = kept_few (is_not_past now) s.sources h.logs;
+  registrations = h.registrations;
+  subscriptions = h.subscriptions;
+}
+
+without_within : (s : Streams) (numbers : List ℕ) → IsWithinLimits s → IsWithinLimits (without_images s numbers)
+unfolding without_images
+without_within s numbers h = record {
+  logs = kept_few (stays_beside numbers) s.sources h.logs;
   registrations = h.registrations;
   subscriptions = h.subscriptions;
 }
 
 pub stays_within_limits : StaysWithinLimits
 stays_within_limits = record {
-  opened = λ defaults first. record { logs = omega arith; registrations = omega arith; subscriptions = omega arith };
+  opened = λ defaults first. record { logs = none_few; registrations = omega arith; subscriptions = omega arith };
   added = λ s number client place wanted adding h is. added_within s number client place wanted adding h (granted_room s wanted adding is);
+  imaged = imaged_within;
   subscribed = subscribed_within;
   unregistered = unregistered_within;
   unsubscribed = unsubscribed_within;
   left = left_within;
   closed = closed_within;
-  cleared = λ s h. record { logs = omega arith; registrations = omega arith; subscriptions = omega arith };
+  without_images = without_within;
+  cleared = λ s h. record { logs = none_few; registrations = omega arith; subscriptions = omega arith };
 }

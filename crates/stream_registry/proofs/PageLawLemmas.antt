@@ -10,8 +10,10 @@ use Rattle.std.proofs.lemmas.List.Quantifiers.{all_pairs_push}
 use Rattle.stream_registry.specs.declared.row.Source.{Source}
 use Rattle.stream_registry.specs.declared.wanted.Adding.TheVariants.{Make}
 use Rattle.stream_registry.specs.declared.row.Registration.{Registration}
+use Rattle.stream_registry.specs.declared.wanted.ImageWanted.{ImageWanted}
 use Rattle.stream_registry.specs.declared.wanted.Wanted.{Wanted}
 use Rattle.stream_registry.specs.Adding.{added, log_of, subscribed}
+use Rattle.stream_registry.specs.Images.{image_of, image_place_for, imaged, stays_beside, without_images}
 use Rattle.stream_registry.specs.Leaving.{is_another_registration, is_registration_of_another, is_subscription_of_another, left, unregistered, unsubscribed}
 use Rattle.stream_registry.specs.Lingering.{closed, is_not_past, is_used, left_alone, settled, settled_one}
 use Rattle.stream_registry.specs.LogPages.{fits, free_place, holds_some, log_pages, place_for}
@@ -102,6 +104,16 @@ made_laid_out arena s number client place wanted session h is =
       apart = all_pairs_push ShareNoPage s.sources log h.apart (λ k d within page has new. vacant.free k d within page new has);
     }
 
+imaged_laid_out : (arena : ℕ) (s : Streams) (number place : ℕ) (wanted : ImageWanted) → IsLaidOut arena s →
+    image_place_for s arena wanted ≡ Some place → IsLaidOut arena (imaged s number wanted place)
+imaged_laid_out arena s number place wanted h is =
+    let log = image_of s number wanted place in
+    let vacant : IsVacant s arena (log_pages log) place = vacant_found s arena (log_pages log) place is in
+    record {
+      within = All-push (λ one. one.place + log_pages one ≤ arena) s.sources log h.within vacant.within;
+      apart = all_pairs_push ShareNoPage s.sources log h.apart (λ k d within page has new. vacant.free k d within page new has);
+    }
+
 kept_laid_out : (arena : ℕ) (s t : Streams) (stays : Source → Bool) → t.sources ≡ filter stays s.sources → IsLaidOut arena s →
     IsLaidOut arena t
 kept_laid_out arena s t stays is h = record {
@@ -175,15 +187,21 @@ closed_laid_out : (arena : ℕ) (s : Streams) (now : ℕ) → IsLaidOut arena s 
 unfolding closed
 closed_laid_out arena s now h = kept_laid_out arena s (closed s now) (is_not_past now) refl h
 
+without_laid_out : (arena : ℕ) (s : Streams) (numbers : List ℕ) → IsLaidOut arena s → IsLaidOut arena (without_images s numbers)
+unfolding without_images
+without_laid_out arena s numbers h = kept_laid_out arena s (without_images s numbers) (stays_beside numbers) refl h
+
 pub share_nothing : PlacesShareNothing
 share_nothing arena = record {
   opened = λ defaults first. nothing_laid_out arena _ refl;
   made = made_laid_out arena;
   joined = λ s number client place source wanted session h. record { within = h.within; apart = h.apart };
+  imaged = imaged_laid_out arena;
   subscribed = subscribed_laid_out arena;
   unregistered = unregistered_laid_out arena;
   unsubscribed = unsubscribed_laid_out arena;
   left = left_laid_out arena;
   closed = closed_laid_out arena;
+  without_images = without_laid_out arena;
   cleared = λ s h. nothing_laid_out arena _ refl;
 }

@@ -1,12 +1,14 @@
 -- Among one more session than there are logs, one is free.
-use Rattle.std.proofs.Common.{◌≡◌, ℕ, zero, suc, ◌+◌, ◌%◌, ◌^◌, ◌<◌, ◌≤◌, ℤ, Bool, true, false, not, ◌||◌, cond, List, [], ◌∷◌, length, filter, refl, sym, ap, subst, ◌∙◌, arith}
+use Rattle.std.proofs.Common.{◌≡◌, ℕ, zero, suc, ◌+◌, ◌%◌, ◌^◌, ◌<◌, ◌≤◌, ℤ, Bool, true, false, not, ◌&&◌, ◌||◌, cond, List, [], ◌∷◌, length, filter, refl, sym, ap, subst, ◌∙◌, arith}
 use Rattle.std.specs.Prelude.{FitsSigned, nat_lt}
+use Rattle.std.specs.Ordering.{int_eq}
 use Rattle.std.specs.Int.{w32, cast_signed, cast_unsigned}
 use Rattle.std.proofs.lemmas.Bool.Decides.{Decides-int_eq, nat_tests}
 use Rattle.std.proofs.lemmas.Int.{of_z-to_z, to_z-of_z}
 use Rattle.std.proofs.lemmas.List.Filters.{length-filter_both}
 use Rattle.std.proofs.Math.Facts.{Fits-of_z}
 use Rattle.stream_registry.specs.declared.row.Source.{Source}
+use Rattle.stream_registry.specs.Origins.{is_published}
 use Rattle.stream_registry.specs.Sessions.{after, has_session, is_taken, free_from, free_session}
 use Rattle.stream_registry.specs.SessionLaws.{nth_after, SessionsAreFree}
 
@@ -54,12 +56,19 @@ taken_step : (b : Bool) (session : ℤ) (log : Source) (logs kept : List Source)
 taken_step true session log logs kept never more is = more (rest_has (has_session session log) (is_taken logs session) (never refl) is)
 taken_step false session log logs kept never more is = either_has (has_session session log) (is_taken logs session) (is_taken kept session) more is
 
+behind_kind : (published same : Bool) → (published && same) ≡ true → same ≡ true
+behind_kind true same is = is
+behind_kind false same is = absurd (cc)
+
+session_is : (session : ℤ) (log : Source) → has_session session log ≡ true → log.session ≡ session
+session_is session log has = (Decides-int_eq log.session session).0 (behind_kind (is_published log) (int_eq log.session session) has)
+
 still_taken : (session other : ℤ) (logs : List Source) → (session ≡ other → ⊥) → is_taken logs session ≡ true →
     is_taken (filter (lacks other) logs) session ≡ true
 still_taken session other [] never is = is
 still_taken session other (log ∷ logs) never is =
     taken_step (has_session other log) session log logs (filter (lacks other) logs)
-    (λ has one. never (sym ((Decides-int_eq log.session session).0 one) ∙ (Decides-int_eq log.session other).0 has))
+    (λ has one. never (sym (session_is session log one) ∙ session_is other log has))
     (still_taken session other logs never) is
 
 shorter_step : (b : Bool) (log : Source) (logs kept : List Source) (rest : Bool) → length kept ≤ length logs →

@@ -1,22 +1,25 @@
 -- What becomes of an ADD.
-use Rattle.std.specs.Prelude.{ℕ, ℤ, Bool, ◌&&◌, nat_lt, [], ◌∷◌, ◌++◌, length, Option, Some, None, Result, Ok, Err, is_some, unwrap_or, if◌then◌else◌}
+use Rattle.std.specs.Prelude.{ℕ, ℤ, Bool, true, ◌&&◌, nat_lt, [], ◌∷◌, ◌++◌, length, filter, Option, Some, None, Result, Ok, Err, is_some, unwrap_or, if◌then◌else◌}
 use Rattle.stream_registry.specs.declared.fault.StreamFault.{StreamFault}
 use Rattle.stream_registry.specs.declared.fault.StreamFault.TheVariants.{Conflict, Full}
 use Rattle.stream_registry.specs.declared.row.Source.{Source}
+use Rattle.stream_registry.specs.declared.row.Origin.TheVariants.{Published}
 use Rattle.stream_registry.specs.declared.row.Registration.{Registration}
 use Rattle.stream_registry.specs.declared.wanted.Adding.{Adding}
 use Rattle.stream_registry.specs.declared.wanted.Adding.TheVariants.{Join, Make}
 use Rattle.stream_registry.specs.declared.wanted.Wanted.{Wanted}
 use Rattle.stream_registry.specs.Joining.{joined_at, contradicts}
 use Rattle.stream_registry.specs.Measures.{measures_of}
+use Rattle.stream_registry.specs.Origins.{is_published}
 use Rattle.stream_registry.specs.Sessions.{after, free_session, is_stated_again}
+use Rattle.stream_registry.specs.Slots.{free_slot}
 use Rattle.stream_registry.specs.Streams.{Streams}
 use Rattle.channel_uri.specs.Channel.{Shape}
 use Rattle.channel_uri.specs.Parameters.{stated_session_of}
 
 -- there are at most 256 logs of publications, 1,024 registrations with them, and 512 subscriptions
 abbrev pub has_room_for_log : Streams → Bool
-has_room_for_log s = nat_lt (length s.sources) 256
+has_room_for_log s = nat_lt (length (filter is_published s.sources)) 256
 
 abbrev pub has_room_for_registration : Streams → Bool
 has_room_for_registration s = nat_lt (length s.registrations) 1024
@@ -68,10 +71,10 @@ log_of s number wanted place session = record {
   channel = wanted.channel;
   stream = wanted.stream;
   session = session;
-  exclusive = wanted.exclusive;
   place = place;
+  slot = free_slot true s.sources;
   measures = measures_of s.defaults wanted.channel;
-  lingering_since = None;
+  origin = Published wanted.exclusive None;
 }
 
 -- the next session is looked for behind one that was found; one that is stated moves nothing

@@ -4,15 +4,16 @@ use Rattle.std.specs.Ordering.{int_eq}
 use Rattle.stream_registry.specs.declared.measures.Measures.{Measures}
 use Rattle.stream_registry.specs.declared.row.Source.{Source}
 use Rattle.stream_registry.specs.Measures.{measures_of, is_same}
+use Rattle.stream_registry.specs.Origins.{is_exclusive, is_published, lingering_since}
 use Rattle.stream_registry.specs.Places.{is_same_place, is_manual}
 use Rattle.stream_registry.specs.Sessions.{agrees_with}
 use Rattle.channel_uri.specs.Channel.{Shape}
 use Rattle.channel_uri.specs.Parameters.{stated_session_of}
 
--- it is shared, its destinations are not named by hand, and somebody is registered with it
+-- it is a publication that is shared, its destinations are not named by hand, and somebody is registered with it
 abbrev pub is_open : Source → Bool
 is_open log =
-    not log.exclusive && not (is_manual log.channel) && is_none log.lingering_since
+    is_published log && not (is_exclusive log) && not (is_manual log.channel) && is_none (lingering_since log)
 
 -- it is of this place and stream, and others may join it
 unfoldable pub is_joinable : Shape → ℤ → Source → Bool

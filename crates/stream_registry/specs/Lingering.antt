@@ -1,9 +1,10 @@
 -- A publication with which nobody is registered lingers, and goes once that lasted too long.
-use Rattle.std.specs.Prelude.{ℕ, ◌-◌, Bool, false, not, ◌==◌, List, map, filter, length, Option, Some, None, nat_lt, unwrap_or, if◌then◌else◌}
+use Rattle.std.specs.Prelude.{ℕ, ◌-◌, Bool, false, not, ◌==◌, List, map, filter, length, Option, Some, None, nat_lt, if◌then◌else◌}
 use Rattle.std.specs.List.{list_any}
 use Rattle.stream_registry.specs.declared.lingering.LogPlace.{LogPlace}
 use Rattle.stream_registry.specs.declared.row.Source.{Source}
 use Rattle.stream_registry.specs.declared.row.Registration.{Registration}
+use Rattle.stream_registry.specs.Origins.{left_by, lingering_since}
 use Rattle.stream_registry.specs.Streams.{Streams}
 
 -- it is registered with the publication of this source number
@@ -17,10 +18,10 @@ is_used registrations source = list_any (is_with source) registrations
 abbrev pub registrations_of : Streams → ℕ → ℕ
 registrations_of s source = length (filter (is_with source) s.registrations)
 
--- from now on nobody is registered with it, unless that was so before
+-- from now on nobody is registered with it, unless that was so before; an image stays as it is
 abbrev pub left_alone : ℕ → Source → Source
 left_alone now log =
-    record log { lingering_since = Some (unwrap_or log.lingering_since now) }
+    record log { origin = left_by now log.origin }
 
 abbrev pub settled_one : List Registration → ℕ → Source → Source
 settled_one registrations now log =
@@ -36,7 +37,7 @@ is_past_since linger now None = false
 is_past_since linger now (Some since) = nat_lt linger (now - since)
 
 abbrev pub is_past : ℕ → Source → Bool
-is_past now log = is_past_since log.measures.linger now log.lingering_since
+is_past now log = is_past_since log.measures.linger now (lingering_since log)
 
 abbrev pub is_not_past : ℕ → Source → Bool
 is_not_past now log = not (is_past now log)

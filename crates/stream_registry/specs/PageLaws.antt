@@ -1,10 +1,12 @@
 -- A log goes to the least place that is free, and no two logs ever share a page.
-use Rattle.std.specs.Prelude.{◌≡◌, ℕ, ◌+◌, ◌<◌, ◌≤◌, ℤ, All, AllPairs, Some, None}
+use Rattle.std.specs.Prelude.{◌≡◌, ℕ, ◌+◌, ◌<◌, ◌≤◌, ℤ, List, All, AllPairs, Some, None}
 use Rattle.stream_registry.specs.declared.measures.Measures.{Measures}
 use Rattle.stream_registry.specs.declared.row.Source.{Source}
 use Rattle.stream_registry.specs.declared.wanted.Adding.TheVariants.{Join, Make}
+use Rattle.stream_registry.specs.declared.wanted.ImageWanted.{ImageWanted}
 use Rattle.stream_registry.specs.declared.wanted.Wanted.{Wanted}
 use Rattle.stream_registry.specs.Adding.{added, subscribed}
+use Rattle.stream_registry.specs.Images.{image_place_for, imaged, without_images}
 use Rattle.stream_registry.specs.Leaving.{unregistered, unsubscribed, left}
 use Rattle.stream_registry.specs.Lingering.{closed}
 use Rattle.stream_registry.specs.LogPages.{free_place, log_pages, place_for}
@@ -50,6 +52,8 @@ pub record StaysLaidOut (arena_pages : ℕ) : Type 0 where
       IsLaidOut arena_pages (added s number client wanted place (Make session))
   pub joined : (s : Streams) (number client place source : ℕ) (wanted : Wanted) (session : ℤ) → IsLaidOut arena_pages s →
       IsLaidOut arena_pages (added s number client wanted place (Join source session))
+  pub imaged : (s : Streams) (number place : ℕ) (wanted : ImageWanted) → IsLaidOut arena_pages s →
+      image_place_for s arena_pages wanted ≡ Some place → IsLaidOut arena_pages (imaged s number wanted place)
   pub subscribed : (s : Streams) (number client : ℕ) (channel : Shape) (stream : ℤ) → IsLaidOut arena_pages s →
       IsLaidOut arena_pages (subscribed s number client channel stream)
   pub unregistered : (s : Streams) (client number now : ℕ) → IsLaidOut arena_pages s →
@@ -58,6 +62,8 @@ pub record StaysLaidOut (arena_pages : ℕ) : Type 0 where
       IsLaidOut arena_pages (unsubscribed s client number)
   pub left : (s : Streams) (client now : ℕ) → IsLaidOut arena_pages s → IsLaidOut arena_pages (left s client now)
   pub closed : (s : Streams) (now : ℕ) → IsLaidOut arena_pages s → IsLaidOut arena_pages (closed s now)
+  pub without_images : (s : Streams) (numbers : List ℕ) → IsLaidOut arena_pages s →
+      IsLaidOut arena_pages (without_images s numbers)
   pub cleared : (s : Streams) → IsLaidOut arena_pages s → IsLaidOut arena_pages (cleared s)
 
 -- whatever the arena

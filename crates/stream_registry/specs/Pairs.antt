@@ -1,13 +1,15 @@
 -- Which subscription reads which log: a function of the lists and the policy alone. Own rules.
-use Rattle.std.specs.Prelude.{ℕ, Bool, false, ◌==◌, ◌&&◌, List, map, filter, Option, Some, None}
+use Rattle.std.specs.Prelude.{ℕ, Bool, false, not, ◌==◌, ◌&&◌, List, map, filter, Option, Some, None, if◌then◌else◌}
 use Rattle.std.specs.List.{flat_map, list_any}
 use Rattle.std.specs.Ordering.{int_eq}
 use Rattle.stream_registry.specs.declared.pairs.Pair.{Pair}
 use Rattle.stream_registry.specs.declared.row.Source.{Source}
 use Rattle.stream_registry.specs.declared.row.Subscription.{Subscription}
-use Rattle.stream_registry.specs.Places.{is_ipc}
+use Rattle.stream_registry.specs.Origins.{is_published}
+use Rattle.stream_registry.specs.Places.{is_ipc, is_udp, is_same_place}
 use Rattle.stream_registry.specs.Sessions.{agrees_with}
 use Rattle.stream_registry.specs.Streams.{Streams}
+use Rattle.channel_uri.specs.Channel.{Shape}
 use Rattle.channel_uri.specs.Parameters.{stated_session_of}
 use Rattle.client_registry.specs.declared.client.Client.{Client}
 use Rattle.client_registry.specs.Clients.{principal_at}
@@ -16,11 +18,17 @@ use Rattle.policy_core.specs.Question.{Question}
 use Rattle.policy_core.specs.RuleList.{Rules}
 use Rattle.policy_core.specs.Rules.{verdict_of}
 
--- a subscription to shared memory reads the logs there that are of its stream, and of its session where it states one
+-- a channel of shared memory reaches the publications there; one of an endpoint reaches the images of what is sent to it,
+-- and none of them where it asks for a spy
+unfoldable pub reaches : Shape → Source → Bool
+reaches channel log =
+    if is_published log then is_ipc log.channel.media && is_ipc channel.media
+    else is_udp channel.media && not channel.spy && is_same_place log.channel channel
+
+-- a subscription reads the logs that its channel reaches, of its stream, and of its session where it states one
 unfoldable pub fits : Source → Subscription → Bool
 fits log subscription =
-    is_ipc log.channel.media && is_ipc subscription.channel.media
-    && int_eq log.stream subscription.stream
+    reaches subscription.channel log && int_eq log.stream subscription.stream
     && agrees_with log.session (stated_session_of subscription.channel)
 
 -- what the policy is asked of a pair: whether the subscriber may have the messages of a log on the subscription's channel

@@ -32,6 +32,11 @@ is_manual channel = is_manual_spot (spot_of channel)
 abbrev pub is_same_media : Media → Media → Bool
 is_same_media media other = media_number media == media_number other
 
+abbrev pub is_udp : Media → Bool
+is_udp Udp = true
+is_udp Ipc = false
+is_udp Counter = false
+
 abbrev pub is_ipc : Media → Bool
 is_ipc Ipc = true
 is_ipc Udp = false

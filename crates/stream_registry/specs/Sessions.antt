@@ -4,6 +4,7 @@ use Rattle.std.specs.Int.{int_wrapping_add, w32}
 use Rattle.std.specs.List.{list_any}
 use Rattle.std.specs.Ordering.{int_eq}
 use Rattle.stream_registry.specs.declared.row.Source.{Source}
+use Rattle.stream_registry.specs.Origins.{is_published}
 use Rattle.stream_registry.specs.Places.{is_same_media}
 use Rattle.channel_uri.specs.declared.media.Media.{Media}
 
@@ -11,8 +12,9 @@ use Rattle.channel_uri.specs.declared.media.Media.{Media}
 abbrev pub after : ℤ → ℤ
 after session = int_wrapping_add w32 session (pos 1)
 
+-- it is a publication of that session; an image's session is its publisher's, and takes none of ours
 abbrev pub has_session : ℤ → Source → Bool
-has_session session log = int_eq log.session session
+has_session session log = is_published log && int_eq log.session session
 
 -- a live publication has the session
 abbrev pub is_taken : List Source → ℤ → Bool

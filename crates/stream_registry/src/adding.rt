@@ -3,13 +3,14 @@ ghost use Rattle.std.specs.Prelude.{◌≡◌, Ok, true};
 
 use crate::fault::StreamFault;
 use crate::joining::{contradicts, joined_at};
-use crate::row::{Registration, Source, Subscription};
+use crate::row::{Origin, Registration, Source, Subscription};
 use crate::sessions::{after, free_session, is_stated_again};
+use crate::slots::free_slot;
 use crate::streams::Streams;
 use crate::wanted::{Adding, Wanted};
 use channel_uri::Channel;
 
-/// How many logs of publications there are at most.
+/// How many publications there are at most.
 const LOGS: usize = 256;
 
 /// How many registrations with publications there are at most.
@@ -22,7 +23,7 @@ impl Streams {
     fn has_room_for_log(&self) -> bool
         ensures { result ≡ has_room_for_log self.now }
     {
-        self.sources.len() < LOGS
+        self.sources.publications() < LOGS
     }
 
     fn has_room_for_registration(&self) -> bool
@@ -88,7 +89,7 @@ impl Streams {
     /// # Errors
     /// [`StreamFault::Conflict`] where the publication that it would join has another log or session than its channel
     /// says, or where it would make a log and states the session of another one of its medium and stream.
-    /// [`StreamFault::Full`] where 1,024 registrations are there, or 256 logs and one would be made.
+    /// [`StreamFault::Full`] where 1,024 registrations are there, or 256 publications and one would be made.
     #[tactic(auto, unfolding(crate::specs::Adding::adding_of))]
     pub fn adding(&self, wanted: &Wanted) -> Result<Adding, StreamFault>
         ensures { result ≡ adding_of self.now wanted.now }
@@ -112,10 +113,13 @@ impl Streams {
             channel: wanted.channel.copy(),
             stream: wanted.stream,
             session,
-            exclusive: wanted.exclusive,
             place,
+            slot: free_slot(self.sources.as_slice(), true),
             measures: self.defaults.with_those_of(&wanted.channel),
-            lingering_since: None,
+            origin: Origin::Published {
+                exclusive: wanted.exclusive,
+                lingering_since: None,
+            },
         }
     }
 
@@ -125,7 +129,7 @@ impl Streams {
         ensures { self.new ≡ made self.old number wanted.now place session }
     {
         let log = self.log(number, wanted, place, session);
-        self.sources.push(log);
+        self.sources.push_publication(log);
         if wanted.channel.session_id().is_none() {
             self.next_session = after(session);
         }

@@ -13,9 +13,10 @@ use channel_uri::Channel;
 fn is_joinable(log: &Source, channel: &Channel, stream: i32) -> bool
     ensures { result ≡ is_joinable channel.now stream log.now }
 {
-    !log.exclusive
+    log.is_published()
+        && !log.is_exclusive()
         && !is_manual(&log.channel)
-        && log.lingering_since.is_none()
+        && log.lingering_since().is_none()
         && log.stream == stream
         && is_same_place(&log.channel, channel)
 }

@@ -24,20 +24,20 @@ fn is_used(registrations: &[Registration], source: u64) -> bool
         .any(|registration| registration.source == source)
 }
 
-/// Lets the publication linger where nobody is registered with it.
+/// Lets the log linger where nobody is registered with it; an image never does.
 fn settle_one(log: &mut Source, registrations: &[Registration], now: u64)
     ensures { log.new ≡ settled_one registrations.now now log.old }
 {
     if !is_used(registrations, log.number) {
-        log.lingering_since = Some(log.lingering_since.unwrap_or(now));
+        log.origin = log.origin.left_at(now);
     }
 }
 
 /// Lets publications linger from `now` on with which none of these is registered.
 #[derive(Clone, Copy)]
-struct Settling<'a> {
-    registrations: &'a [Registration],
-    now: u64,
+pub(crate) struct Settling<'a> {
+    pub(crate) registrations: &'a [Registration],
+    pub(crate) now: u64,
 }
 
 impl Change<Source> for Settling<'_> {
@@ -48,20 +48,20 @@ impl Change<Source> for Settling<'_> {
     }
 }
 
-/// Whether the publication lingers for longer than it may at `now`.
+/// Whether the log lingers for longer than it may at `now`. No image does.
 pub fn is_past(log: &Source, now: u64) -> bool
     ensures { result ≡ is_past now log.now }
 {
-    match log.lingering_since {
+    match log.lingering_since() {
         Some(since) => now.saturating_sub(since) > log.measures.linger,
         None => false,
     }
 }
 
-/// Keeps the publications that don't linger for longer than they may at this moment.
+/// Keeps the logs that don't linger for longer than they may at this moment.
 #[derive(Clone, Copy)]
-struct NotPast {
-    now: u64,
+pub(crate) struct NotPast {
+    pub(crate) now: u64,
 }
 
 impl Test<Source> for NotPast {
@@ -89,10 +89,7 @@ impl Streams {
     pub(crate) fn settle(&mut self, now: u64)
         ensures { self.new ≡ settled self.old now }
     {
-        self.sources.change(&Settling {
-            registrations: self.registrations.as_slice(),
-            now,
-        });
+        self.sources.settle(self.registrations.as_slice(), now);
     }
 
     /// The logs of the publications that linger for longer than they may at `now`, by their source numbers.
@@ -118,6 +115,6 @@ impl Streams {
     pub fn close(&mut self, now: u64)
         ensures { self.new ≡ closed self.old now }
     {
-        self.sources.retain(&NotPast { now });
+        self.sources.close(now);
     }
 }

@@ -12,7 +12,7 @@ use crate::wanted::Wanted;
 const PAGE: u64 = 4096;
 
 /// How many pages a log has whose terms are so many bytes long.
-fn pages_of(term_length: u32) -> u64
+pub(crate) fn pages_of(term_length: u32) -> u64
     ensures { result ≡ pages_of term_length }
 {
     3 * u64::from(term_length) / PAGE
@@ -84,7 +84,7 @@ fn is_below(place: u64, least: Option<u64>) -> bool
 impl Streams {
     /// The least place for so many pages: place 0, or where a log ends.
     #[tactic(auto, unfolding(crate::specs::LogPages::free_place))]
-    fn free_place(&self, arena_pages: u32, pages: u64) -> Option<u64>
+    pub(crate) fn free_place(&self, arena_pages: u32, pages: u64) -> Option<u64>
         ensures { result ≡ free_place self.now arena_pages pages }
     {
         let logs = self.sources.as_slice();

@@ -1,14 +1,15 @@
-ghost use Rattle.stream_registry.specs.Pairs.{fits, is_allowed, is_of, is_pair, is_read, pairs_at, pairs_of, reads_as};
+ghost use Rattle.stream_registry.specs.Pairs.{fits, is_allowed, is_of, is_pair, is_read, pairs_at, pairs_of, reaches, reads_as};
 ghost use Rattle.stream_registry.specs.Wish.{row_of};
 ghost use Rattle.std.specs.List.{list_any};
 ghost use Rattle.std.specs.Prelude.{◌≡◌, ◌++◌, IfOk, OnOk};
 
-use crate::places::is_ipc;
+use crate::places::{is_ipc, is_same_place, is_udp};
 use crate::row::{Source, Subscription};
 use crate::sessions::agrees_with;
 use crate::streams::Streams;
 use crate::wish::Wish;
 use byte_strings::Items;
+use channel_uri::Channel;
 use client_registry::Clients;
 use policy_core::{Act, Policy, Request};
 use std::alloc::{AllocError, Global};
@@ -22,13 +23,25 @@ pub struct Pair {
     pub subscription: u64,
 }
 
+/// Whether the channel reaches the log: one of shared memory the publications there, one of an endpoint the images of what
+/// is sent to it. A spy reaches none.
+#[tactic(auto, unfolding(crate::specs::Pairs::reaches))]
+fn reaches(channel: &Channel, log: &Source) -> bool
+    ensures { result ≡ reaches channel.now log.now }
+{
+    if log.is_published() {
+        is_ipc(log.channel.media()) && is_ipc(channel.media())
+    } else {
+        is_udp(channel.media()) && !channel.is_spy() && is_same_place(&log.channel, channel)
+    }
+}
+
 /// Whether the subscription reads the log, if the policy lets it.
 #[tactic(auto, unfolding(crate::specs::Pairs::fits))]
 pub fn fits(log: &Source, wish: &Wish<'_>) -> bool
     ensures { result ≡ fits log.now (row_of wish.now) }
 {
-    is_ipc(log.channel.media())
-        && is_ipc(wish.channel.media())
+    reaches(wish.channel, log)
         && log.stream == wish.stream
         && agrees_with(log.session, wish.channel.session_id())
 }

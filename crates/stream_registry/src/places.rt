@@ -1,4 +1,4 @@
-ghost use Rattle.stream_registry.specs.Places.{is_same_place, is_manual, is_same_media, is_ipc};
+ghost use Rattle.stream_registry.specs.Places.{is_same_place, is_manual, is_same_media, is_udp, is_ipc};
 ghost use Rattle.std.specs.Prelude.{◌≡◌};
 
 use channel_uri::{Channel, Media, Place};
@@ -28,6 +28,12 @@ pub(crate) fn is_same_media(media: Media, other: Media) -> bool
     ensures { result ≡ is_same_media media other }
 {
     media == other
+}
+
+pub(crate) fn is_udp(media: Media) -> bool
+    ensures { result ≡ is_udp media }
+{
+    media == Media::Udp
 }
 
 pub(crate) fn is_ipc(media: Media) -> bool

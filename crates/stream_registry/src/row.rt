@@ -1,25 +1,45 @@
 use crate::measures::Measures;
-use channel_uri::Channel;
+use channel_uri::{Address, Channel};
 use rows::Twin;
 
-/// A log that is live. All that are registered with it share it.
+/// Where a log comes from.
+#[derive(Clone, Copy, Debug, PartialEq, Eq)]
+pub enum Origin {
+    /// It is a publication: clients of this driver publish there.
+    Published {
+        /// Whether nobody else may join it.
+        exclusive: bool,
+        /// The moment from which on nobody was registered with it, in nanoseconds; `None` while somebody is.
+        lingering_since: Option<u64>,
+    },
+    /// It is an image: the log of a remote publisher.
+    Remote {
+        /// From where the publisher sends.
+        address: Address,
+        /// The term id with which its log began.
+        initial_term: i32,
+        /// The position at which the image begins.
+        join: u64,
+    },
+}
+
+/// A log that is live: a publication, which all that are registered with it share, or an image.
 #[derive(Debug, Drop)]
 pub struct Source {
-    /// The registration number of the ADD that made it, by which the log is known.
+    /// The number by which the log is known: of a publication, the registration number of the ADD that made it.
     pub number: u64,
-    /// The channel of that ADD.
+    /// The channel of that ADD; of an image, the one that names the endpoint to which its publisher sends.
     pub channel: Channel,
     /// The stream id.
     pub stream: i32,
     /// The session id.
     pub session: i32,
-    /// Whether nobody else may join it.
-    pub exclusive: bool,
     /// The page at which the log's memory begins.
     pub place: u64,
+    /// A number that is the log's own among all live publications, or among all live images.
+    pub slot: u16,
     pub measures: Measures,
-    /// The moment from which on nobody was registered with it, in nanoseconds; `None` while somebody is.
-    pub lingering_since: Option<u64>,
+    pub origin: Origin,
 }
 
 /// A client's registration with a publication.
@@ -54,10 +74,10 @@ impl Twin for Source {
             channel: self.channel.copy(),
             stream: self.stream,
             session: self.session,
-            exclusive: self.exclusive,
             place: self.place,
+            slot: self.slot,
             measures: self.measures,
-            lingering_since: self.lingering_since,
+            origin: self.origin,
         }
     }
 }

@@ -1,4 +1,4 @@
-ghost use Rattle.stream_registry.specs.Sessions.{after, is_taken, free_session, agrees_with, has_session_at, is_stated_again};
+ghost use Rattle.stream_registry.specs.Sessions.{after, has_session, is_taken, free_session, agrees_with, has_session_at, is_stated_again};
 ghost use Rattle.std.specs.List.{list_any};
 ghost use Rattle.std.specs.Prelude.{◌≡◌};
 
@@ -13,11 +13,18 @@ pub(crate) fn after(session: i32) -> i32
     session.wrapping_add(1)
 }
 
+/// Whether it is a publication of this session. An image's session is its publisher's, and takes none of ours.
+fn has_session(log: &Source, session: i32) -> bool
+    ensures { result ≡ has_session session log.now }
+{
+    log.is_published() && log.session == session
+}
+
 /// Whether a live publication has this session.
 fn is_taken(logs: &[Source], session: i32) -> bool
     ensures { result ≡ is_taken logs.now session }
 {
-    logs.iter().any(|log| log.session == session)
+    logs.iter().any(|log| has_session(log, session))
 }
 
 /// The first session from this one on that no live publication has.
@@ -50,7 +57,7 @@ pub(crate) fn agrees_with(session: i32, stated: Option<i32>) -> bool
 fn has_session_at(log: &Source, media: Media, stream: i32, session: i32) -> bool
     ensures { result ≡ has_session_at media stream session log.now }
 {
-    is_same_media(log.channel.media(), media) && log.stream == stream && log.session == session
+    is_same_media(log.channel.media(), media) && log.stream == stream && has_session(log, session)
 }
 
 /// Whether a publication has the session, on this medium and stream.

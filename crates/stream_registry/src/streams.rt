@@ -1,12 +1,14 @@
+ghost use Rattle.stream_registry.specs.Few.{AreFew};
 ghost use Rattle.std.specs.Prelude.{◌≡◌, ◌≤◌, IfOk, length};
 
 use crate::measures::Measures;
 use crate::row::{Registration, Source, Subscription};
+use crate::sources::Sources;
 use rows::Rows;
 use std::alloc::{AllocError, Global};
 use std::marker::Model;
 
-/// What is published, who is registered with it, and what is subscribed to. There is room from the beginning for as much
+/// Which logs there are, who is registered with them, and what is subscribed to. There is room from the beginning for as much
 /// as there may be, so that what changes these lists takes no memory.
 #[derive(Debug, Drop)]
 pub struct Streams {
@@ -14,7 +16,7 @@ pub struct Streams {
     pub(crate) defaults: Measures,
     /// The number from which on the next session is looked for.
     pub(crate) next_session: i32,
-    pub(crate) sources: Rows<Source, 256>,
+    pub(crate) sources: Sources,
     pub(crate) registrations: Rows<Registration, 1024>,
     pub(crate) subscriptions: Rows<Subscription, 512>,
 }
@@ -44,7 +46,7 @@ impl Streams {
         Ok(Streams {
             defaults,
             next_session: first_session,
-            sources: Rows::new(alloc)?,
+            sources: Sources::new(alloc)?,
             registrations: Rows::new(alloc)?,
             subscriptions: Rows::new(alloc)?,
         })
@@ -63,10 +65,11 @@ impl Streams {
         })
     }
 
-    /// The live publications, those that linger too, by their source numbers.
+    /// The live logs, those that linger too, by their numbers.
     pub fn sources(&self) -> &[Source]
         ensures value { result.now ≡ self.now.sources }
-        ensures few { length result.now ≤ 256 }
+        ensures few { length result.now ≤ 768 }
+        ensures kinds { AreFew result.now }
     {
         self.sources.as_slice()
     }

@@ -4,6 +4,8 @@
 #[cfg(test)]
 mod differing;
 #[cfg(test)]
+mod imaging;
+#[cfg(test)]
 mod leaving;
 #[cfg(test)]
 mod limits;

@@ -1,8 +1,10 @@
 //! Streams that tests play with, all on stream 10. Where no memory is there, nothing is as a test expects.
 
-use channel_uri::{Channel, UriError};
+use channel_uri::{Address, Channel, UriError};
+use client_registry::Clients;
+use policy_core::Policy;
 use std::alloc::{AllocError, Global};
-use stream_registry::{Adding, LogPlace, Measures, StreamFault, Streams, Wanted};
+use stream_registry::{Adding, ImageWanted, LogPlace, Measures, StreamFault, Streams, Wanted};
 
 /// How long a log lingers whose channel does not say.
 pub(crate) const LINGER: u64 = 5_000_000_000;
@@ -30,6 +32,39 @@ fn wanted(text: &str, stream: i32, exclusive: bool) -> Result<Wanted, UriError> 
         stream,
         exclusive,
     })
+}
+
+/// The log of a remote publisher that sends there.
+pub(crate) fn image_wanted(text: &str, stream: i32, session: i32) -> Result<ImageWanted, UriError> {
+    Ok(ImageWanted {
+        channel: Channel::parse(text)?,
+        stream,
+        session,
+        address: Address {
+            octets: [127, 0, 0, 1],
+            port: 50_000,
+        },
+        initial_term: 3,
+        join: 64,
+        measures: Measures {
+            mtu: 1408,
+            term_length: 65_536,
+            linger: 0,
+        },
+    })
+}
+
+/// Whether a subscription reads a log where client 1 is there and all is allowed.
+fn is_read(
+    alloc: Global,
+    streams: &Streams,
+    source: u64,
+    subscription: u64,
+) -> Result<bool, AllocError> {
+    let mut clients = Clients::new(alloc, 10)?;
+    let _first = clients.admit(1, 0);
+    let policy = Policy::new(Vec::new(alloc), true)?;
+    Ok(streams.has_pair(&clients, &policy, 1, source, subscription))
 }
 
 impl Play {
@@ -134,6 +169,34 @@ impl Play {
         has_room
     }
 
+    /// Whether an image finds room. It is there then, and its log lies at the page of its number.
+    pub(crate) fn images(&mut self, number: u64, text: &str, stream: i32, session: i32) -> bool {
+        let Ok(wanted) = image_wanted(text, stream, session) else {
+            return false;
+        };
+        let has_room = self.streams.has_room_for_image();
+        if has_room {
+            self.streams.add_image(number, &wanted, number);
+        }
+        has_room
+    }
+
+    /// Whether a subscription reads a log where client 1 is there and all is allowed.
+    pub(crate) fn reads(&self, source: u64, subscription: u64) -> bool {
+        match is_read(self.alloc, &self.streams, source, subscription) {
+            Ok(reads) => reads,
+            Err(_) => false,
+        }
+    }
+
+    /// Whether the log of this number is there, and has that slot.
+    pub(crate) fn has_slot(&self, number: u64, slot: u16) -> bool {
+        self.streams
+            .sources()
+            .iter()
+            .any(|log| log.number == number && log.slot == slot)
+    }
+
     /// Whether these logs close at this moment.
     pub(crate) fn closes(&mut self, now: u64, logs: &[LogPlace]) -> bool {
         let closes = match self.streams.closing(self.alloc, now) {
@@ -146,10 +209,8 @@ impl Play {
 
     /// Whether the log of this source is there, and lingers since this moment, or not at all.
     pub(crate) fn lingers(&self, source: u64, since: Option<u64>) -> bool {
-        self.streams
-            .sources()
-            .iter()
-            .any(|log| log.number == source && log.lingering_since == since)
+        self.streams.sources().iter().any(|log| log.number == source
+            && log.lingering_since() == since)
     }
 
     /// Whether there are so many logs, registrations and subscriptions.

@@ -1,5 +1,5 @@
 -- Where frames that are read begin and end.
-use Rattle.std.proofs.Common.{◌≡◌, ℕ, zero, suc, ◌+◌, ◌-◌, ◌≤◌, true, false, cond, List, [], ◌∷◌, length, take, drop, All, Option, Some, None, refl, sym, ap, subst, arith}
+use Rattle.std.proofs.Common.{◌≡◌, ℕ, zero, suc, ◌+◌, ◌-◌, ◌≤◌, true, false, cond, List, [], ◌∷◌, length, take, drop, All, Option, Some, None, refl, sym, ap, subst, arith, length-append}
 use Rattle.std.specs.Prelude.{slice_index, nat_lt, ◌==◌, IfSome}
 use Rattle.std.proofs.lemmas.Bool.Decides.{nat_tests}
 use Rattle.std.proofs.lemmas.List.{length-drop, length-take-le}
@@ -8,7 +8,7 @@ use Rattle.byteorder.specs.Endian.{little_number}
 use Rattle.frame_codec.specs.Frame.{padded}
 use Rattle.term_log.specs.declared.reading.Frames.{Frames}
 use Rattle.term_log.specs.Frames.{Frame, fragment, pad, span}
-use Rattle.term_log.specs.Reading.{Given, pad_at, pad_of, fragment_at, first_of, admitted, behind, and_then, frames_in, frames_left, spans, AreFrom, EndsBy}
+use Rattle.term_log.specs.Reading.{Given, pad_at, pad_of, fragment_at, first_of, admitted, behind, and_then, frames_in, frames_left, sent_bytes, spans, AreFrom, EndsBy}
 use Rattle.term_log.proofs.Walks.{none_in}
 
 -- a frame takes no more positions than there are bytes, and what is behind it is the rest; behind a pad is nothing
@@ -109,6 +109,33 @@ in_row (suc n) end budget bytes =
     row_by (admitted budget (first_of (end - length bytes) bytes)) n end budget bytes
     (admitted_leaves budget (end - length bytes) bytes (first_of (end - length bytes) bytes) (first_leaves (end - length bytes) bytes))
     (λ g. in_row n end (budget - length g.bytes) (behind g g.frame bytes))
+
+-- ---- how many bytes are given
+
+sized_by : (o : Option Given) (n end budget : ℕ) (bytes : List ℕ)
+    → ((g : Given) → length (sent_bytes (frames_in n end (budget - length g.bytes) (behind g g.frame bytes))) ≤ budget - length g.bytes)
+    → length (sent_bytes (and_then (admitted budget o) (λ g. frames_in n end (budget - length g.bytes) (behind g g.frame bytes)))) ≤ budget
+sized_by None n end budget bytes more = omega arith
+sized_by (Some g) n end budget bytes more =
+    let others : List Given = frames_in n end (budget - length g.bytes) (behind g g.frame bytes) in
+    elim (nat_lt budget (length g.bytes)) as (λ b. nat_lt budget (length g.bytes) ≡ b → length (sent_bytes (and_then (cond b None (Some g)) (λ g. frames_in n end (budget - length g.bytes) (behind g g.frame bytes)))) ≤ budget) [
+      | true ↦ λ less. omega arith
+      | false ↦ λ fits.
+          let there : length g.bytes ≤ budget = grind (arith, nat_tests, fits) in
+          omega (arith, there, length-append g.bytes (sent_bytes others), more g)
+    ]
+    refl
+
+in_sized : (n end budget : ℕ) (bytes : List ℕ) → length (sent_bytes (frames_in n end budget bytes)) ≤ budget
+unfolding frames_in
+in_sized zero end budget bytes = omega arith
+in_sized (suc n) end budget bytes =
+    sized_by (first_of (end - length bytes) bytes) n end budget bytes (λ g. in_sized n end (budget - length g.bytes) (behind g g.frame bytes))
+
+-- they are no more than the budget
+pub left_sized : (left : List Given) (end budget : ℕ) (bytes : List ℕ) → left ≡ frames_in (length bytes) end budget bytes → length (sent_bytes left) ≤ budget
+left_sized left end budget bytes is =
+    omega (arith, ap (λ (gs : List Given). length (sent_bytes gs)) is, in_sized (length bytes) end budget bytes)
 
 -- ---- what is lent
 

@@ -9,7 +9,7 @@ ghost use Rattle.term_log.specs.Frames.{Frame, fragment, pad, total};
 ghost use Rattle.term_log.specs.Ident.{IsIdent, greatest_position, payload_length, place_at};
 ghost use Rattle.term_log.specs.Log.{low_of};
 ghost use Rattle.term_log.specs.Ranges.{GivesOver, over_left};
-ghost use Rattle.term_log.specs.Reading.{AreFrom, EndsBy, GivesAll, GivesFrom, frames_left, spans};
+ghost use Rattle.term_log.specs.Reading.{AreFrom, EndsBy, GivesAll, GivesFrom, frames_left, sent_bytes, spans};
 ghost use Rattle.term_log.specs.Kept.{Kept, after_frame, after_frames, offset_of, opened, rest_of};
 
 use crate::buffers::TermBuffers;
@@ -188,6 +188,7 @@ impl Appender {
         ensures behind { AreFrom position (frames_left result) }
         ensures within { position + spans (frames_left result) ≤ self.now.tail }
         ensures fits { position + spans (frames_left result) < 2 ^ 64 }
+        ensures size { length (sent_bytes (frames_left result)) ≤ budget }
     {
         let term_length = u64::from(self.ident.term_length);
         let offset = position % term_length;

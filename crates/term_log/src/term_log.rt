@@ -8,7 +8,7 @@ ghost use Rattle.term_log.specs.Ident.{IsIdent};
 ghost use Rattle.term_log.specs.Kept.{StandsFor, after_frames, opened};
 ghost use Rattle.term_log.specs.Log.{HasRoom, appended, connected_of, greatest_message, limit_of, low_of, offer_of};
 ghost use Rattle.term_log.specs.Ranges.{GivesOver, over_left};
-ghost use Rattle.term_log.specs.Reading.{AreFrom, EndsBy, GivesFrom, frames_left, spans};
+ghost use Rattle.term_log.specs.Reading.{AreFrom, EndsBy, GivesFrom, frames_left, sent_bytes, spans};
 ghost use Rattle.term_log.specs.Sender.{after_setup, after_status, budget_of, is_past, is_setup_due, later_of, sending, status_of};
 ghost use Rattle.term_log.specs.SenderSteps.{IsStartIn, ReadsFrom, datagram_cut, elicited, heard, sent_to, setup_cut};
 ghost use Rattle.term_log.specs.Whole.{Carries, Fetches, Offers, Stands, fresh, polled, rejoined, rejoined_kept};
@@ -144,6 +144,7 @@ impl TermLog {
         ensures behind { AreFrom position (frames_left result) }
         ensures within { position + spans (frames_left result) ≤ self.now.kept.tail }
         ensures fits { position + spans (frames_left result) < 2 ^ 64 }
+        ensures size { length (sent_bytes (frames_left result)) ≤ bytes }
         ensures whole { ReadsFrom self.now position bytes (frames_left result) }
         ensures end { IsStartIn self.now position → IsStartIn self.now (position + spans (frames_left result)) }
     {

@@ -1,33 +1,46 @@
-use Rattle.std.proofs.Common.{rules, ◌≡◌, Some, true, false, nat_lt, length, refl}
+use Rattle.std.proofs.Common.{rules, ◌≡◌, ℕ, Some, refl, sym, subst}
+use Rattle.any_log.specs.declared.any_log.AnyLog.{AnyLog}
+use Rattle.any_log.specs.declared.any_log.AnyLog.TheVariants.{Term}
 use Rattle.driver_core.specs.LogRequests.{offering_of}
-use Rattle.driver_world.specs.Held.{HeldLog}
-use Rattle.term_log.specs.Log.{appended, connected_of, greatest_message}
-use Rattle.driver_world.proofs.MoveLemmas.{offer_alone, offer_taken, appended_lies}
+use Rattle.driver_world.specs.declared.answer.Answer.TheVariants.{Offered as OfferedAs}
+use Rattle.driver_world.specs.declared.answer.Offered.TheVariants.{Closed}
+use Rattle.driver_world.specs.Held.{HeldLog, LiesAsBefore}
+use Rattle.driver_world.specs.Moves.{Does, offers, term_held}
+use Rattle.driver_world.proofs.MoveLemmas.{held_lies, offer_closed, offer_passed}
 use Rattle.driver_world.proofs.offering.offer_step.Goals as goal
-
-pub returns-then-not-connected-clause-does : goal.returns-then-not-connected-clause-does
-returns-then-not-connected-clause-does over c =
-    let held : HeldLog = record { source = c.log.inside.source; log = c.log.inside.log } in
-    let asked : offering_of (over.V.View.shows c.args.view.now) c.args.client c.args.registration ≡ Some c.in-Some.request = search rules in
-    let own : c.in-Some.request.source ≡ held.source = search rules in
-    let allowed : c.in-Some.request.decision.verdict.allow ≡ true = search rules in
-    let short : nat_lt (greatest_message held.log.kept.ident) (length c.args.message.now) ≡ false = search rules in
-    let alone : connected_of held.log c.args.now (over.V.View.shows c.args.view.now).settings.connection_timeout ≡ false = search rules in
-    rw (← c.log.view_is)
-    (offer_alone (over.V.View.shows c.args.view.now) c.args.now c.args.client c.args.registration c.args.message.now held c.in-Some.request asked own allowed short alone)
+use Rattle.driver_world.proofs.offering.offer_step.Goals.{in-Term, in-Image}
 
 pub returns-clause-does : goal.returns-clause-does
 returns-clause-does over c =
-    let held : HeldLog = record { source = c.log.inside.source; log = c.log.inside.log } in
-    let after : HeldLog = record { source = c.log.inside.source; log = c.offer.new.self } in
-    let asked : offering_of (over.V.View.shows c.args.view.now) c.args.client c.args.registration ≡ Some c.in-Some.request = search rules in
-    let own : c.in-Some.request.source ≡ held.source = search rules in
-    let allowed : c.in-Some.request.decision.verdict.allow ≡ true = search rules in
-    let short : nat_lt (greatest_message held.log.kept.ident) (length c.args.message.now) ≡ false = search rules in
-    let read : connected_of held.log c.args.now (over.V.View.shows c.args.view.now).settings.connection_timeout ≡ true = search rules in
-    rw (← c.log.view_is, c.of.ensures)
-    (offer_taken (over.V.View.shows c.args.view.now) c.args.now c.args.client c.args.registration c.args.message.now held after c.in-Some.request c.offer.result asked own allowed short read refl c.offer.ensures.whole)
+    let s = over.V.View.shows c.args.view.now in
+    let source : ℕ = c.log.inside.source in
+    let held : HeldLog = record { source = source; log = c.log.inside.log } in
+    let verdict = c.in-Some.request.decision.verdict in
+    let asked : offering_of s c.args.client c.args.registration ≡ Some c.in-Some.request = search rules in
+    let own : c.in-Some.request.source ≡ source = search rules in
+    let timeout : c.settings-timeout.result.connection_timeout ≡ s.settings.connection_timeout = search rules in
+    elim c.match-log.branch [
+      | in-Term w ↦
+          let after : HeldLog = term_held source w.offer_to.new.log in
+          let does : Does (offers c.args.now s.settings.connection_timeout verdict c.args.message.now) held after w.offer_to.result =
+          subst (λ (l : AnyLog). Does (offers c.args.now s.settings.connection_timeout verdict c.args.message.now) (record { source = source; log = l }) after w.offer_to.result)
+          (sym w.in-Term.is)
+          (subst (λ n. Does (offers c.args.now n verdict c.args.message.now) (term_held source w.in-Term.term) after w.offer_to.result) timeout (w.offer_to.ensures.does source)) in
+          rw (← c.log.view_is, w.log-inside-is, w.result-is)
+          (offer_passed s c.args.now c.args.client c.args.registration c.args.message.now held after c.in-Some.request w.offer_to.result asked own does)
+      | in-Image w ↦
+          rw (← c.log.view_is, w.log-inside-is, w.result-is)
+          (offer_passed s c.args.now c.args.client c.args.registration c.args.message.now held held c.in-Some.request (OfferedAs Closed) asked own
+          (offer_closed c.args.now s.settings.connection_timeout verdict c.args.message.now held w.in-Image.field-0 w.in-Image.is))
+    ]
 
 pub returns-clause-lies : goal.returns-clause-lies
 returns-clause-lies over c =
-    rw (← c.log.view_is, c.offer.ensures.exact) (appended_lies c.log.inside.source c.log.inside.log (appended c.offer.result c.log.inside.log.kept c.args.message.now))
+    let source : ℕ = c.log.inside.source in
+    elim c.match-log.branch [
+      | in-Term w ↦
+          rw (← c.log.view_is, w.log-inside-is)
+          (subst (λ (l : AnyLog). LiesAsBefore (record { source = source; log = l }) (term_held source w.offer_to.new.log)) (sym w.in-Term.is)
+          (held_lies source (Term w.in-Term.term) (Term w.offer_to.new.log) w.offer_to.ensures.lies))
+      | in-Image w ↦ rw (← c.log.view_is, w.log-inside-is) record { plot_is = refl; made_is = refl }
+    ]

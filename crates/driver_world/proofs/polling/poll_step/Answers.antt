@@ -1,11 +1,12 @@
 use Rattle.std.proofs.Common.{rules, ◌≡◌, None, Some, true, refl}
+use Rattle.any_log.specs.Held.{position_held}
+use Rattle.any_log.specs.Whole.{Fetches}
 use Rattle.driver_core.specs.LogRequests.{receiving_of}
 use Rattle.driver_world.specs.Held.{HeldLog}
 use Rattle.driver_world.specs.Memory.{Gives}
-use Rattle.driver_world.specs.Moves.{CopiesFetched, poll_move}
-use Rattle.log_pairs.specs.Pairs.{position_of}
+use Rattle.driver_world.specs.Moves.{poll_move}
 use Rattle.driver_world.proofs.HeldLemmas.{err_given}
-use Rattle.driver_world.proofs.MoveLemmas.{some_position, poll_given, poll_gives, polled_lies}
+use Rattle.driver_world.proofs.MoveLemmas.{held_lies, some_position, poll_given, poll_gives}
 use Rattle.driver_world.proofs.polling.poll_step.Goals as goal
 
 pub returns : goal.returns
@@ -13,14 +14,14 @@ returns over c =
     let held : HeldLog = record { source = c.log.inside.source; log = c.log.inside.log } in
     let after : HeldLog = record { source = c.log.inside.source; log = c.poll.new.self } in
     let asked : receiving_of (over.V.View.shows c.args.view.now) c.args.client c.args.subscription held.source ≡ Some c.in-Some.request = search rules in
-    let there : ¬ (position_of held.log.pairs c.args.subscription ≡ None) = search rules in
-    let at = some_position (position_of held.log.pairs c.args.subscription) there in
+    let there : ¬ (position_held held.log c.args.subscription ≡ None) = search rules in
+    let at = some_position (position_held held.log c.args.subscription) there in
     let allowed : c.in-Some.request.decision.verdict.allow ≡ true = search rules in
-    let copies : CopiesFetched held.log c.args.subscription c.args.limit c.in_ok-fragments.fragments = search rules in
+    let copies : Fetches held.log c.args.subscription c.args.limit c.in_ok-fragments.fragments = search rules in
     rw (← c.log.view_is) record {
       does = poll_given (over.V.View.shows c.args.view.now) c.args.client c.args.subscription c.args.limit held after
           c.in-Some.request at.0 c.in_ok-fragments.fragments asked at.1 allowed copies refl c.poll.ensures.whole;
-      lies = polled_lies c.log.inside.source c.log.inside.log c.poll.new.self c.poll.ensures.kept;
+      lies = held_lies c.log.inside.source c.log.inside.log c.poll.new.self c.poll.ensures.lies;
       err = tt;
       without_memory = tt;
     }
@@ -29,8 +30,8 @@ pub returns-in_err-fragments-clause-without_memory : goal.returns-in_err-fragmen
 returns-in_err-fragments-clause-without_memory over c =
     let held : HeldLog = record { source = c.log.inside.source; log = c.log.inside.log } in
     let asked : receiving_of (over.V.View.shows c.args.view.now) c.args.client c.args.subscription held.source ≡ Some c.in-Some.request = search rules in
-    let there : ¬ (position_of held.log.pairs c.args.subscription ≡ None) = search rules in
-    let at = some_position (position_of held.log.pairs c.args.subscription) there in
+    let there : ¬ (position_held held.log c.args.subscription ≡ None) = search rules in
+    let at = some_position (position_held held.log c.args.subscription) there in
     let allowed : c.in-Some.request.decision.verdict.allow ≡ true = search rules in
     rw (← c.log.view_is)
     (err_given (Gives (poll_move (over.V.View.shows c.args.view.now) c.args.client c.args.subscription c.args.limit) held)

@@ -9,5 +9,5 @@ invariant-loop-subscription l = record {
   so_far :
       l.pairs
       ≡ length (flat_map (pairs_at l.clients.rows l.policy l.epoch (take l.subscription-index l.subscriptions)) l.streams.sources);
-  few : l.pairs ≤ 256 * l.subscription-index;
+  few : l.pairs ≤ 768 * l.subscription-index;
 }

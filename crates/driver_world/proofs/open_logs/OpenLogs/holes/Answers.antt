@@ -1,6 +1,6 @@
 use Rattle.std.proofs.Common.{ap, ◌∙◌}
-use Rattle.std.specs.Vec.{vec_capacity}
-use Rattle.driver_world.specs.Held.{HeldLogs, taken_pages}
+use Rattle.driver_world.specs.Held.{HeldLogs, plots_of}
+use Rattle.driver_world.specs.Plots.{taken_pages}
 use Rattle.driver_world.proofs.HoleLemmas.{leased_taken}
 use Rattle.log_arena.specs.Pages.{holes_of}
 use Rattle.driver_world.proofs.open_logs.OpenLogs.holes.Goals as goal
@@ -8,5 +8,5 @@ use Rattle.driver_world.proofs.open_logs.OpenLogs.holes.Goals as goal
 pub returns : goal.returns
 returns c =
     c.holes.ensures
-    ∙ ap holes_of (leased_taken c.self.inside.arena c.self.inside.logs.items (vec_capacity c.self.inside.logs) c.self.invariant)
-    ∙ ap (λ (h : HeldLogs). holes_of (taken_pages h)) c.self.view_is
+    ∙ ap holes_of (leased_taken c.self.inside.arena (plots_of c.self.inside.logs.items) c.self.invariant)
+    ∙ ap (λ (h : HeldLogs). holes_of (taken_pages h.pages (plots_of h.logs))) c.self.view_is

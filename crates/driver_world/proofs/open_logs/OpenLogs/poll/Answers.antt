@@ -25,7 +25,7 @@ invariant_of-self g c =
     let place : place_at logs c.args.source ≡ Some c.in-Some.at =
     ap (λ l. place_at l c.args.source) (sym c.as_slice.ensures.value) ∙ sym c.place_of.ensures ∙ c.in-Some.is in
     let within : c.in-Some.at < length logs = (found_at logs c.args.source c.in-Some.at place).0 in
-    housed_set c.self.inside.arena logs c.in-Some.at c.poll_step.new.log within (λ d.
+    housed_set c.self.inside.arena logs c.in-Some.at c.poll_step.new.log (λ d.
     let was = get_or_default logs c.in-Some.at d c.index_mut.result.now within ∙ sym c.index_mut.ensures.value in
     subst (λ (h : HeldLog). LiesAsBefore h c.poll_step.new.log) (sym was) c.poll_step.ensures.lies) c.self.invariant
 

@@ -1,22 +1,29 @@
-use Rattle.std.proofs.Common.{◌≡◌, ℕ, List, [], ◌∷◌, ◌++◌, length, Ok, sym, ap, ◌∙◌, arith, rules}
+use Rattle.std.proofs.Common.{◌≡◌, ◌<◌, ℕ, List, [], ◌∷◌, ◌++◌, filter, length, Ok, sym, ap, subst, ◌∙◌, rules}
 use Rattle.std.proofs.lemmas.Bool.{ltb-true}
 use Rattle.log_readers.specs.Readers.{readers_at}
 use Rattle.stream_registry.specs.declared.row.Source.{Source}
 use Rattle.stream_registry.specs.declared.row.Subscription.{Subscription}
 use Rattle.stream_registry.specs.Adding.{log_of}
+use Rattle.stream_registry.specs.Origins.{is_published}
+use Rattle.stream_registry.proofs.FewLemmas.{room_for_publication}
 use Rattle.stream_registry.proofs.LimitLemmas.{make_has_room_for_log}
 use Rattle.log_readers.proofs.ReaderLemmas.{as_many_as_logs, made_readers}
 use Rattle.log_readers.proofs.SameLemmas.{joined_alike}
 use Rattle.log_readers.proofs.readers.Readers.add_publication.Goals as goal
 
+pub add_log-requires-clause-same : goal.add_log-requires-clause-same
+add_log-requires-clause-same c =
+    ap (λ (readers : List (List ℕ)). length readers) c.requires.exact
+    ∙ as_many_as_logs c.args.clients.now.rows c.args.policy.now c.args.epoch c.args.streams.now
+    ∙ sym (ap (λ (logs : List Source). length logs) c.sources-logs.ensures.value)
+
 pub add_log-requires-clause-room : goal.add_log-requires-clause-room
 add_log-requires-clause-room c =
-    let same : length c.args.self.now ≡ length c.args.streams.now.sources =
-    ap (λ (readers : List (List ℕ)). length readers) c.requires.exact
-    ∙ as_many_as_logs c.args.clients.now.rows c.args.policy.now c.args.epoch c.args.streams.now in
-    let room = ltb-true (length c.args.streams.now.sources) 256
+    let room = ltb-true (length (filter is_published c.args.streams.now.sources)) 256
     (make_has_room_for_log c.args.streams.now c.args.wanted.now c.in-Make.session (c.requires.taken ∙ ap Ok c.in-Make.is)) in
-    omega (arith, same, room)
+    room_for_publication c.sources-logs.result.now
+    (subst (λ (logs : List Source). length (filter is_published logs) < 256) (sym c.sources-logs.ensures.value) room)
+    c.sources-logs.ensures.kinds
 
 pub returns-in-Join : goal.returns-in-Join
 returns-in-Join c =

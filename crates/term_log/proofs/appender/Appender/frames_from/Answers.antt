@@ -4,7 +4,7 @@ use Rattle.term_log.specs.Buffers.{IsBase}
 use Rattle.term_log.specs.Kept.{Kept}
 use Rattle.term_log.specs.Reading.{frames_left}
 use Rattle.std.proofs.lemmas.Nat.{div-add-mod', mul-le}
-use Rattle.term_log.proofs.Ends.{row_from}
+use Rattle.term_log.proofs.Ends.{left_sized, row_from}
 use Rattle.term_log.proofs.Held.{base_is, term_near, gives_from}
 use Rattle.term_log.proofs.appender.Appender.frames_from.Goals as goal
 
@@ -80,3 +80,6 @@ returns-clause-fits c =
     let high = c.self.invariant.high in
     let term_high = c.self.invariant.ident.term_high in
     omega (arith, within, high, term_high)
+
+pub returns-clause-size : goal.returns-clause-size
+returns-clause-size c = left_sized (frames_left c.new.result) c.min-end.result c.args.budget c.part-bytes.result.now c.new.ensures

@@ -1,0 +1,3 @@
+pub mod Fragments
+pub mod Held
+pub mod Whole

@@ -1,0 +1,73 @@
+-- A log of either kind as if nothing of it were lost: what calls make of it, and which log stands for it.
+use Rattle.std.specs.Prelude.{◌≡◌, ℕ, List, map, Option}
+use Rattle.any_log.specs.declared.any_log.AnyLog.{AnyLog}
+use Rattle.any_log.specs.declared.any_log.AnyLog.TheVariants.{Term, Image}
+use Rattle.any_log.specs.declared.fragment.Fragment.{Fragment}
+use Rattle.any_log.specs.Fragments.{fragment_of}
+use Rattle.any_log.specs.Held.{Made, for_publication, for_stream}
+use Rattle.image_log.specs.Polling.{polled as image_polled}
+use Rattle.image_log.specs.Rebuilt.{Rebuilt, contiguous_of, settled, rejoined as image_rejoined}
+use Rattle.log_pairs.specs.Pairs.{position_of}
+use Rattle.log_pairs.specs.declared.pair.Pair.{Pair}
+use Rattle.term_log.specs.Whole.{Whole, Stands, tail_of, rejoined as term_rejoined, polled as term_polled}
+
+-- all frames that were ever appended to a publication's log; or what is kept of the frames that came of a remote stream
+pub data AnyWhole : Type 0 where
+  whole : Whole → AnyWhole
+  rebuilt : Rebuilt → AnyWhole
+
+-- a publication's log holds of all frames what has to be held; a remote stream's keeps all that is kept
+abbrev pub StandsFor : AnyLog → AnyWhole → Type 0
+StandsFor (Term log) (whole w) = Stands log w
+StandsFor (Term log) (rebuilt r) = ⊥
+StandsFor (Image log) (whole w) = ⊥
+StandsFor (Image log) (rebuilt r) = log.rebuilt ≡ r
+
+abbrev pub made_for : AnyWhole → Made
+made_for (whole w) = for_publication w.ident
+made_for (rebuilt r) = for_stream r.ident
+
+abbrev pub reach_of : AnyWhole → ℕ
+reach_of (whole w) = tail_of w
+reach_of (rebuilt r) = contiguous_of r
+
+-- who reads, in the order in which they joined
+abbrev pub pairs_in : AnyWhole → List Pair
+pairs_in (whole w) = w.pairs
+pairs_in (rebuilt r) = r.pairs
+
+abbrev pub readers_in : AnyWhole → List ℕ
+readers_in w = map (λ pair. pair.subscription) (pairs_in w)
+
+abbrev pub position_in : AnyWhole → ℕ → Option ℕ
+position_in w subscription = position_of (pairs_in w) subscription
+
+-- exactly these subscriptions read from now on: one that was there from where it is, a new one from as far as the log
+-- reaches
+abbrev pub rejoined : List ℕ → AnyWhole → AnyWhole
+rejoined subscriptions (whole w) = whole (term_rejoined subscriptions w)
+rejoined subscriptions (rebuilt r) = rebuilt (settled (image_rejoined r subscriptions))
+
+-- what a poll gives, and what it leaves
+pub record Poll : Type 0 where
+  pub fragments : List Fragment
+  pub after : AnyWhole
+
+abbrev pub polled : AnyWhole → ℕ → ℕ → Poll
+polled (whole w) subscription limit = record {
+  fragments = map fragment_of (term_polled w subscription limit).fragments;
+  after = whole (term_polled w subscription limit).after;
+}
+polled (rebuilt r) subscription limit = record {
+  fragments = map fragment_of (image_polled r subscription limit).fragments;
+  after = rebuilt (image_polled r subscription limit).after;
+}
+
+-- ---- what calls do, whatever the log stands for
+
+pub record Carries (old new : AnyLog) (f : AnyWhole → AnyWhole) : Type 0 where
+  pub on : (w : AnyWhole) → StandsFor old w → StandsFor new (f w)
+
+-- what a poll is to give
+pub record Fetches (log : AnyLog) (subscription limit : ℕ) (fragments : List Fragment) : Type 0 where
+  pub on : (w : AnyWhole) → StandsFor log w → fragments ≡ (polled w subscription limit).fragments

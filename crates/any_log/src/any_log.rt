@@ -1,0 +1,99 @@
+ghost use Rattle.any_log.specs.Held.{Lies, place_held, position_held, reach_held, rejoined_held};
+ghost use Rattle.any_log.specs.Whole.{Carries, Fetches, polled, rejoined};
+ghost use Rattle.log_arena.specs.Lease.{lease_home, lease_len, lease_place};
+ghost use Rattle.std.specs.Prelude.{◌≡◌, ◌*◌, ◌≤◌, IfOk, length};
+
+use crate::copies::{copies_of_image, copies_of_term};
+use crate::fragment::Fragment;
+use byte_strings::Items;
+use image_log::ImageLog;
+use log_arena::Lease;
+use std::alloc::{AllocError, Global};
+use term_log::TermLog;
+
+/// A log of either kind.
+#[derive(Drop)]
+pub enum AnyLog {
+    /// That of a publication, which takes messages.
+    Term(TermLog),
+    /// That of a remote stream, which is rebuilt from the frames that come.
+    Image(ImageLog),
+}
+
+impl AnyLog {
+    /// How far the log reaches: the position behind the last frame of a publication, or up to which a remote stream is
+    /// whole.
+    pub fn reach(&self) -> u64
+        ensures { result ≡ reach_held self.now }
+    {
+        match self {
+            AnyLog::Term(log) => log.tail(),
+            AnyLog::Image(log) => log.contiguous(),
+        }
+    }
+
+    /// How far a subscription has read, if it reads the log.
+    pub fn pair_position(&self, subscription: u64) -> Option<u64>
+        ensures { result ≡ position_held self.now subscription }
+    {
+        match self {
+            AnyLog::Term(log) => log.pair_position(subscription),
+            AnyLog::Image(log) => log.pair_position(subscription),
+        }
+    }
+
+    /// Exactly these subscriptions read the log from now on: one that read it before from where it is, a new one from as far
+    /// as the log reaches. All others read it no longer.
+    pub fn rejoin(&mut self, subscriptions: &[u64])
+        requires { length subscriptions.now ≤ 512 }
+        ensures { self.new ≡ rejoined_held subscriptions.now self.old }
+    {
+        match self {
+            AnyLog::Term(log) => log.rejoin(subscriptions),
+            AnyLog::Image(log) => log.rejoin(subscriptions),
+        }
+    }
+
+    /// Copies of the fragments that a poll of a subscription gives, so many at most; none where it does not read the log.
+    /// Nothing is passed yet: [`AnyLog::poll`] does that.
+    ///
+    /// # Errors
+    /// Where there is no memory for the copies.
+    pub fn fragments(
+        &self,
+        alloc: Global,
+        subscription: u64,
+        limit: usize,
+    ) -> Result<Items<Fragment>, AllocError>
+        ensures { IfOk result (λ fragments. Fetches self.now subscription limit fragments) }
+    {
+        match self {
+            AnyLog::Term(log) => copies_of_term(alloc, log.fragments(subscription, limit)),
+            AnyLog::Image(log) => copies_of_image(alloc, log.fragments(subscription, limit)),
+        }
+    }
+
+    /// A subscription is polled: it has read the frames from its position on, until so many fragments were given or there
+    /// are no more. Pads do not count, and one behind the last fragment is left.
+    pub fn poll(&mut self, subscription: u64, limit: usize)
+        ensures whole { Carries self.old self.new (λ w. (polled w subscription limit).after) }
+        ensures lies { Lies self.old self.new }
+    {
+        match self {
+            AnyLog::Term(log) => log.poll(subscription, limit),
+            AnyLog::Image(log) => log.poll(subscription, limit),
+        }
+    }
+
+    /// The lease, for its arena to take back.
+    pub fn close(self) -> Lease
+        ensures home { lease_home result ≡ (place_held self).home }
+        ensures place { lease_place result ≡ (place_held self).place }
+        ensures len { lease_len result ≡ 3 * (place_held self).term_length }
+    {
+        match self {
+            AnyLog::Term(log) => log.close(),
+            AnyLog::Image(log) => log.close(),
+        }
+    }
+}

@@ -1,0 +1,110 @@
+-- Which datagram of a publication's log is cut next, and what becomes of the log by it (Aeron Transport Protocol
+-- Specification, SETUP frames, data frames and heartbeats). The order is this project's own.
+use Rattle.std.specs.Prelude.{◌≡◌, ℕ, pos, ◌%◌, Bool, nat_lt, List, ◌++◌, drop, length, Option, Some, None, if◌then◌else◌}
+use Rattle.std.specs.Option.{option_map}
+use Rattle.frame_codec.specs.declared.flags.Flags.{Flags}
+use Rattle.frame_codec.specs.declared.setup.Setup.{Setup}
+use Rattle.frame_codec.specs.Frame.{beat_bytes}
+use Rattle.frame_codec.specs.Position.{term_id_of}
+use Rattle.frame_codec.specs.Setup.{setup_bytes}
+use Rattle.frame_codec.specs.Writing.{no_flags}
+use Rattle.publication_sender.specs.declared.cutting.DatagramKind.{DatagramKind}
+use Rattle.publication_sender.specs.declared.cutting.DatagramKind.TheVariants as kinds
+use Rattle.publication_sender.specs.declared.cutting.Pace.{Pace}
+use Rattle.term_log.specs.declared.ident.Ident.{Ident}
+use Rattle.term_log.specs.Ident.{place_at}
+use Rattle.term_log.specs.Log.{Log}
+use Rattle.term_log.specs.Reading.{all_given, sent_bytes}
+use Rattle.term_log.specs.Sender.{is_past, is_setup_due}
+use Rattle.term_log.specs.SenderSteps.{datagram_cut, next_frames, sent_on, setup_cut}
+use Rattle.term_log.specs.Whole.{Stands, Whole, is_connected}
+
+-- ---- what is due
+
+-- some frame may be sent
+abbrev pub has_frames : Whole → Bool
+has_frames w = nat_lt 0 (length (next_frames w))
+
+-- the first that is
+abbrev pub due_among : Bool → Bool → Bool → Option DatagramKind
+due_among setup frames beat =
+    if setup then Some kinds.Setup else if frames then Some kinds.Frames else if beat then Some kinds.Heartbeat else None
+
+unfoldable pub due_of : Pace → ℕ → Whole → Option DatagramKind
+due_of pace now w =
+    due_among (is_setup_due w.sender (is_connected w now pace.connection_timeout) now pace.setup_interval) (has_frames w)
+    (is_past now w.sender.datagram pace.heartbeat_interval)
+
+-- ---- its bytes
+
+-- a SETUP tells where the sender stands, by term and offset
+abbrev pub setup_at : Ident → ℕ → Setup
+setup_at i position = record {
+  flags = no_flags;
+  term_offset = position % i.term_length;
+  session_id = i.session;
+  stream_id = i.stream;
+  initial_term_id = i.initial_term;
+  active_term_id = term_id_of i.initial_term position i.term_length;
+  term_length = pos i.term_length;
+  mtu = pos i.mtu;
+  ttl = pos 0;
+}
+
+-- of a publication that lingers the stream has ended
+abbrev pub beat_flags : Bool → Flags
+beat_flags lingers = record { bits = if lingers then 224 else 192 }
+
+-- a heartbeat tells where the sender stands
+abbrev pub beat_of : Bool → Ident → ℕ → List ℕ
+beat_of lingers i position = beat_bytes (beat_flags lingers) (place_at i position)
+
+-- the frames that the sender's next datagram has, one behind the other
+abbrev pub frames_bytes : Whole → List ℕ
+frames_bytes w = sent_bytes (all_given w.ident w.sender.position (next_frames w))
+
+abbrev pub bytes_as : Bool → Whole → DatagramKind → List ℕ
+bytes_as lingers w kinds.Setup = setup_bytes (setup_at w.ident w.sender.position)
+bytes_as lingers w kinds.Frames = frames_bytes w
+bytes_as lingers w kinds.Heartbeat = beat_of lingers w.ident w.sender.position
+
+-- The datagram that is cut, if one is due.
+unfoldable pub datagram_of : Pace → ℕ → Bool → Whole → Option (List ℕ)
+datagram_of pace now lingers w = option_map (bytes_as lingers w) (due_of pace now w)
+
+-- ---- what becomes of the log
+
+abbrev pub after_due : ℕ → Whole → Option DatagramKind → Whole
+after_due now w None = w
+after_due now w (Some kinds.Setup) = setup_cut now w
+after_due now w (Some kinds.Frames) = datagram_cut now (sent_on w)
+after_due now w (Some kinds.Heartbeat) = datagram_cut now w
+
+-- The log moves on by what was cut, whoever gets it.
+unfoldable pub cut_of : Pace → ℕ → Whole → Whole
+cut_of pace now w = after_due now w (due_of pace now w)
+
+-- ---- of a log that is held, whichever whole log it stands for
+
+pub record HasFrames (l : Log) (some : Bool) : Type 0 where
+  pub on : (w : Whole) → Stands l w → some ≡ has_frames w
+
+pub record IsDue (pace : Pace) (now : ℕ) (l : Log) (due : Option DatagramKind) : Type 0 where
+  pub on : (w : Whole) → Stands l w → due ≡ due_of pace now w
+
+-- so many bytes stand at the front, and what was behind them stays
+pub record Lays (bytes old new : List ℕ) (size : ℕ) : Type 0 where
+  pub size_is : size ≡ length bytes
+  pub bytes_are : new ≡ bytes ++ drop (length bytes) old
+
+pub record CutsFrames (now : ℕ) (old new : Log) (out_old out_new : List ℕ) (size : ℕ) : Type 0 where
+  pub on : (w : Whole) → Stands old w → Lays (frames_bytes w) out_old out_new size × Stands new (datagram_cut now (sent_on w))
+
+-- a datagram stands at the front, or nothing is changed
+abbrev pub LaysDue : Option (List ℕ) → List ℕ → List ℕ → Option ℕ → Type 0
+LaysDue None old new size = (size ≡ None) × (new ≡ old)
+LaysDue (Some bytes) old new size = (size ≡ Some (length bytes)) × (new ≡ bytes ++ drop (length bytes) old)
+
+pub record Cuts (pace : Pace) (now : ℕ) (lingers : Bool) (old new : Log) (out_old out_new : List ℕ) (size : Option ℕ) : Type 0 where
+  pub on : (w : Whole) → Stands old w
+      → LaysDue (datagram_of pace now lingers w) out_old out_new size × Stands new (cut_of pace now w)

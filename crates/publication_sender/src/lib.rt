@@ -1,0 +1,12 @@
+//! The sender's side of a publication's log: steps that are lent one log and what they decide by.
+//!
+//! [`due`] says which datagram is cut next, and [`cut`] cuts it; [`receive_status`] is what a receiver's status message does.
+//! Nothing here takes memory. Flow control by status messages, SETUP frames and heartbeats are those of the Aeron Transport
+//! Protocol Specification.
+#![tactic(auto)]
+
+mod cutting;
+mod hearing;
+
+pub use cutting::{DatagramKind, Pace, cut, due};
+pub use hearing::{StatusAnswer, receive_status};

@@ -1,0 +1,5 @@
+//! Tests of `publication_sender`, and the program that they run.
+#![tactic(auto)]
+
+#[cfg(test)]
+mod tests;

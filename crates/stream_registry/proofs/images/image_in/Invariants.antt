@@ -1,0 +1,8 @@
+use Rattle.std.proofs.Common.{◌≡◌, drop, find}
+use Rattle.stream_registry.specs.Images.{is_image_at}
+use Rattle.stream_registry.proofs.images.image_in.Given as goal
+
+-- the logs that are left decide
+abbrev pub invariant-loop-log : goal.invariant-loop-log
+invariant-loop-log l =
+    find (is_image_at l.channel l.session l.stream) (drop l.log-index l.logs) ≡ find (is_image_at l.channel l.session l.stream) l.logs

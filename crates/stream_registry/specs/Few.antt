@@ -1,0 +1,9 @@
+-- How many logs there may be.
+use Rattle.std.specs.Prelude.{◌≤◌, List, length, filter}
+use Rattle.stream_registry.specs.declared.row.Source.{Source}
+use Rattle.stream_registry.specs.Origins.{is_published, is_remote}
+
+-- at most 256 publications and 512 images
+pub record AreFew (logs : List Source) : Type 0 where
+  pub published : length (filter is_published logs) ≤ 256
+  pub remote : length (filter is_remote logs) ≤ 512

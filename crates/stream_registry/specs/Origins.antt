@@ -1,0 +1,47 @@
+-- Where logs come from: clients of this driver publish there, or a remote publisher does, whose log is an image here.
+use Rattle.std.specs.Prelude.{ℕ, Bool, true, false, not, Option, Some, None, unwrap_or, if◌then◌else◌}
+use Rattle.stream_registry.specs.declared.row.Origin.{Origin}
+use Rattle.stream_registry.specs.declared.row.Origin.TheVariants.{Published, Remote}
+use Rattle.stream_registry.specs.declared.row.Source.{Source}
+
+abbrev pub is_published_by : Origin → Bool
+is_published_by (Published exclusive since) = true
+is_published_by (Remote address initial_term join) = false
+
+-- clients of this driver publish there
+abbrev pub is_published : Source → Bool
+is_published log = is_published_by log.origin
+
+-- it is an image
+abbrev pub is_remote : Source → Bool
+is_remote log = not (is_published log)
+
+-- publications, or images
+abbrev pub is_of_kind : Bool → Source → Bool
+is_of_kind published log = if published then is_published log else is_remote log
+
+abbrev pub is_exclusive_by : Origin → Bool
+is_exclusive_by (Published exclusive since) = exclusive
+is_exclusive_by (Remote address initial_term join) = false
+
+-- it is a publication that nobody else may join
+abbrev pub is_exclusive : Source → Bool
+is_exclusive log = is_exclusive_by log.origin
+
+abbrev pub lingering_by : Origin → Option ℕ
+lingering_by (Published exclusive since) = since
+lingering_by (Remote address initial_term join) = None
+
+-- the moment since when it lingers, which an image never does
+abbrev pub lingering_since : Source → Option ℕ
+lingering_since log = lingering_by log.origin
+
+-- a publication lingers from now on, unless it did before
+abbrev pub left_by : ℕ → Origin → Origin
+left_by now (Published exclusive since) = Published exclusive (Some (unwrap_or since now))
+left_by now (Remote address initial_term join) = Remote address initial_term join
+
+-- the same origin, whether the publication lingers or not
+abbrev pub unlingering : Origin → Origin
+unlingering (Published exclusive since) = Published exclusive None
+unlingering (Remote address initial_term join) = Remote address initial_term join

@@ -1,0 +1,127 @@
+ghost use Rattle.stream_registry.specs.Few.{AreFew};
+ghost use Rattle.stream_registry.specs.Images.{stays_beside};
+ghost use Rattle.stream_registry.specs.Lingering.{is_not_past, settled_one};
+ghost use Rattle.stream_registry.specs.Origins.{is_published, is_remote};
+ghost use Rattle.std.specs.Prelude.{◌≡◌, ◌≤◌, ◌<◌, ◌++◌, ◌∷◌, [], IfOk, length, filter, map, true};
+
+use crate::images::Beside;
+use crate::lingering::{NotPast, Settling};
+use crate::row::{Registration, Source};
+use rows::Rows;
+use std::alloc::{AllocError, Global};
+use std::marker::Model;
+
+/// The live logs, at most 256 publications and 512 images, in room that is there from the beginning.
+#[derive(Debug, Drop)]
+pub(crate) struct Sources {
+    rows: Rows<Source, 768>,
+}
+
+impl Model for Sources {
+    ghost use Rattle.stream_registry.specs.declared.row.Source.{Source};
+    ghost use Rattle.stream_registry.specs.Few.{AreFew};
+    ghost use Rattle.std.specs.Prelude.{List};
+
+    ghost Value = { List Source };
+
+    ghost view = { λ sources. sources.rows };
+
+    ghost invariant = { λ sources. AreFew sources.rows };
+}
+
+impl Sources {
+    /// No logs yet.
+    #[tactic(auto, using(crate::proofs::FewLemmas::none_few))]
+    pub(crate) fn new(alloc: Global) -> Result<Sources, AllocError>
+        ensures { IfOk result (λ sources. sources ≡ []) }
+    {
+        Ok(Sources {
+            rows: Rows::new(alloc)?,
+        })
+    }
+
+    /// Other logs, equal to these.
+    pub(crate) fn copy(&self, alloc: Global) -> Result<Sources, AllocError>
+        ensures { IfOk result (λ sources. sources ≡ self.now) }
+    {
+        Ok(Sources {
+            rows: self.rows.copy(alloc)?,
+        })
+    }
+
+    pub(crate) fn as_slice(&self) -> &[Source]
+        ensures value { result.now ≡ self.now }
+        ensures few { length result.now ≤ 768 }
+        ensures kinds { AreFew result.now }
+    {
+        self.rows.as_slice()
+    }
+
+    /// How many publications there are.
+    pub(crate) fn publications(&self) -> usize
+        ensures { result ≡ length (filter is_published self.now) }
+    {
+        self.rows
+            .as_slice()
+            .iter()
+            .filter(|log| log.is_published())
+            .count()
+    }
+
+    /// How many images there are.
+    pub(crate) fn images(&self) -> usize
+        ensures { result ≡ length (filter is_remote self.now) }
+    {
+        self.rows
+            .as_slice()
+            .iter()
+            .filter(|log| !log.is_published())
+            .count()
+    }
+
+    /// Puts a publication behind the others.
+    pub(crate) fn push_publication(&mut self, log: Source)
+        requires kind { is_published log ≡ true }
+        requires room { length (filter is_published self.old) < 256 }
+        ensures { self.new ≡ self.old ++ log ∷ [] }
+    {
+        self.rows.push(log);
+    }
+
+    /// Puts an image behind the others.
+    pub(crate) fn push_image(&mut self, log: Source)
+        requires kind { is_remote log ≡ true }
+        requires room { length (filter is_remote self.old) < 512 }
+        ensures { self.new ≡ self.old ++ log ∷ [] }
+    {
+        self.rows.push(log);
+    }
+
+    /// Lets each publication linger from `now` on with which none of these is registered.
+    pub(crate) fn settle(&mut self, registrations: &[Registration], now: u64)
+        ensures { self.new ≡ map (settled_one registrations.now now) self.old }
+    {
+        self.rows.change(&Settling { registrations, now });
+    }
+
+    /// Takes the logs away that linger for longer than they may.
+    pub(crate) fn close(&mut self, now: u64)
+        ensures { self.new ≡ filter (is_not_past now) self.old }
+    {
+        self.rows.retain(&NotPast { now });
+    }
+
+    /// Takes the images of these numbers away.
+    pub(crate) fn remove_images(&mut self, numbers: &[u64])
+        ensures { self.new ≡ filter (stays_beside numbers.now) self.old }
+    {
+        self.rows.retain(&Beside { numbers });
+    }
+
+    /// Takes all logs away.
+    pub(crate) fn clear(&mut self)
+        ensures { self.new ≡ [] }
+    {
+        self.rows.clear();
+    }
+}
