@@ -29,6 +29,7 @@ use Rattle.driver_world.proofs.FollowLemmas.{logs_follow}
 use Rattle.policy_core.specs.declared.act.Act.TheVariants.{Offer as ToOffer, Receive}
 use Rattle.stream_registry.specs.declared.pairs.Pair.{Pair}
 use Rattle.stream_registry.specs.declared.row.Subscription.{Subscription}
+use Rattle.stream_registry.specs.Origins.{is_published}
 use Rattle.stream_registry.specs.Pairs.{is_of}
 use Rattle.stream_registry.specs.declared.row.Source.{Source}
 use Rattle.term_log.specs.declared.ident.Ident.{Ident}
@@ -170,7 +171,7 @@ offer_there : (e : RunEnd) → LogsFollow e →
 offer_there e follows now handle number message request log asks found =
     let asked : LogRequest = asked_by e.registry request in
     let of = found_holds IsAppended request.publication.number log e.logs
-    (all_appended e.registry.settings e.logs e.registry.streams.sources follows.made) found in
+    (all_appended e.registry.settings e.logs (filter is_published e.registry.streams.sources) follows.made) found in
     let is = offer_is e now handle number message asked log (offering_is e.registry handle number request asks) found in (
       of.0,
       of.1,
