@@ -1,7 +1,10 @@
 ghost use Rattle.std.specs.Prelude.{◌≡◌, ◌%◌, ◌^◌, ◌*◌, ◌<◌, [], pos};
 ghost use Rattle.term_log.specs.Ident.{IsIdent};
 
-use super::*;
+use crate::filling::{fill, is_held};
+use crate::opening::opened;
+use crate::plain::Plain;
+use crate::reading::{begin_at, gives_all};
 use log_arena::NoRoom;
 use std::alloc::{AllocError, Global};
 use std::test::Fail;
