@@ -194,6 +194,25 @@ fn terms_are_used_again(rt: HostRuntime) -> Result<(), Fail> {
     Ok(())
 }
 
+// A list with a frame more than the log: the first answer is told apart, and so are those up to the end of the term. Behind
+// its pad log and list are level, so that the last of 26 answers and those that follow are the same.
+fn tells_answers(alloc: Global, log: &mut TermLog, plain: &mut Plain) -> Result<bool, AllocError> {
+    plain.put_message(b"")?;
+    let first = fill(alloc, log, plain, 1)?;
+    let term = fill(alloc, log, plain, 26)?;
+    let level = log.tail() == plain.tail();
+    let behind = fill(alloc, log, plain, 26)?;
+    Ok(!first && !term && level && behind)
+}
+
+#[test]
+fn other_answers_are_told(rt: HostRuntime) -> Result<(), Fail> {
+    let mut log = opened(rt.alloc(), ident(LogKind::Udp, 0))?;
+    let mut plain = Plain::new(rt.alloc());
+    assert!(rt; tells_answers(rt.alloc(), &mut log, &mut plain)?);
+    Ok(())
+}
+
 // A log with a pad at the end of a term, and two messages behind it: of 64 and of 160 positions.
 fn padded_log(alloc: Global) -> Result<TermLog, NoRoom> {
     let mut log = opened(alloc, ident(LogKind::Udp, 65_504))?;
