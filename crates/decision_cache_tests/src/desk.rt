@@ -1,4 +1,6 @@
-ghost use Rattle.std.specs.Prelude.{◌≡◌, ◌++◌, ◌∷◌, [], IfOk, OnOk};
+ghost use Rattle.decision_cache.specs.Entries.{AddsAtMost, key_of};
+ghost use Rattle.decision_cache_tests.specs.Questions.{answer_of, asked};
+ghost use Rattle.std.specs.Prelude.{◌≡◌, ◌++◌, ◌∷◌, [], IfNone, IfOk, IfSome, OnErr, OnOk, length};
 
 use channel_uri::Channel;
 use decision_cache::{Cache, Numbered, cached_verdicts_stay_sound};
@@ -16,14 +18,12 @@ pub struct Desk {
 }
 
 impl Model for Desk {
-    ghost use Rattle.std.specs.Prelude.{List};
-    ghost use Rattle.policy_core.specs.RuleList.{Rules};
     ghost use Rattle.decision_cache.specs.Entries.{IsSoundIn};
-    ghost use Rattle.decision_cache_tests.specs.Questions.{question_on};
+    ghost use Rattle.decision_cache_tests.specs.Questions.{Held, question_on};
 
-    ghost Value = { List Rules };
+    ghost Value = { Held };
 
-    ghost view = { λ desk. desk.policies.items };
+    ghost view = { λ desk. record { channel = desk.channel; policies = desk.policies.items; verdicts = desk.cache } };
 
     ghost invariant = { λ desk. IsSoundIn desk.policies.items (question_on desk.channel) desk.cache };
 }
@@ -31,7 +31,7 @@ impl Model for Desk {
 impl Desk {
     /// No policy, and no verdict.
     pub fn new(alloc: Global, channel: Channel) -> Result<Desk, AllocError>
-        ensures { IfOk result (λ desk. desk ≡ []) }
+        ensures { IfOk result (λ desk. desk ≡ record { channel = channel; policies = []; verdicts = [] }) }
     {
         cached_verdicts_stay_sound();
         let cache = Cache::new(alloc)?;
@@ -44,7 +44,8 @@ impl Desk {
 
     /// Puts one more policy in force, under the next number. No verdict is thrown away.
     pub fn reload(&mut self, policy: Policy) -> Result<(), AllocError>
-        ensures { OnOk result (self.new ≡ self.old ++ policy ∷ []) }
+        ensures value { OnOk result (self.new ≡ record { channel = self.old.channel; policies = self.old.policies ++ policy ∷ []; verdicts = self.old.verdicts }) }
+        ensures err { OnErr result (self.new ≡ self.old) }
     {
         cached_verdicts_stay_sound();
         self.policies.push(policy)?;
@@ -52,12 +53,21 @@ impl Desk {
     }
 
     /// How many verdicts are held.
-    pub fn held(&self) -> usize {
+    pub fn held(&self) -> usize
+        ensures { result ≡ length self.now.verdicts }
+    {
         self.cache.len()
     }
 
     /// What the policy of this number decides, from the cache where it is there; `None` where there is no such policy.
-    pub fn ask(&mut self, epoch: u64, subject: u16, principal: u32, act: Act) -> Option<Verdict> {
+    pub fn ask(&mut self, epoch: u64, subject: u16, principal: u32, act: Act) -> Option<Verdict>
+        ensures answer { result ≡ answer_of self.old epoch (asked self.old.channel subject principal act) }
+        ensures channel { self.new.channel ≡ self.old.channel }
+        ensures policies { self.new.policies ≡ self.old.policies }
+        ensures kept { IfSome result (λ verdict. AddsAtMost self.old.verdicts self.new.verdicts
+            (key_of epoch subject (asked self.old.channel subject principal act)) verdict) }
+        ensures unknown { IfNone result (self.new ≡ self.old) }
+    {
         let place = (epoch as usize).checked_sub(1)?;
         let policy = self.policies.get(place)?;
         let request = Request {

@@ -1,13 +1,13 @@
-//! Tests of `image_log`, and the program that they run.
+//! Tests of `image_log` and `image_receiver`, and the plain table that they compare a log with.
 #![tactic(auto)]
 
+#[cfg(test)]
 mod reading;
+#[cfg(test)]
+mod receiving;
+#[cfg(test)]
 mod shuffling;
+#[cfg(test)]
 mod table;
-
-pub use reading::{fill, gives, join, polls, read_portion, read_to, reads, take_all};
-pub use shuffling::{agree, go_on, hand_in, hand_in_cell, open, open_later};
-pub use table::{Cell, Table};
-
 #[cfg(test)]
 mod tests;

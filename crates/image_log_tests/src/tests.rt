@@ -1,6 +1,8 @@
 ghost use Rattle.std.specs.Prelude.{◌≡◌, []};
 
-use super::*;
+use crate::reading::{fill, gives, join, polls, read_to, reads, take_all};
+use crate::shuffling::{agree, go_on, hand_in, open, open_later};
+use crate::table::{Cell, Table};
 use image_log::{Ident, ImageLog, Insert};
 use std::alloc::Global;
 use std::test::Fail;

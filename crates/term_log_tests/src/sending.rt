@@ -1,6 +1,8 @@
 ghost use Rattle.std.specs.Prelude.{◌≡◌, []};
 
-use super::*;
+use crate::filling::follow;
+use crate::opening::opened;
+use crate::stepping::send;
 use crate::tests::ident;
 use std::alloc::Global;
 use std::test::Fail;

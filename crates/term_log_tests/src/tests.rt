@@ -1,7 +1,10 @@
 ghost use Rattle.std.specs.Prelude.{◌≡◌, ◌%◌, ◌^◌, ◌*◌, ◌<◌, [], pos};
 ghost use Rattle.term_log.specs.Ident.{IsIdent};
 
-use super::*;
+use crate::filling::{fill, is_held};
+use crate::opening::opened;
+use crate::plain::Plain;
+use crate::reading::{begin_at, gives_all};
 use log_arena::NoRoom;
 use std::alloc::{AllocError, Global};
 use std::test::Fail;
@@ -188,6 +191,25 @@ fn terms_are_used_again(rt: HostRuntime) -> Result<(), Fail> {
     assert!(rt; lists_are_kept(rt.alloc(), &mut log, &mut plain)?);
     assert!(rt; plain.tail() > 655_360 && log.tail() == plain.tail() && log.messages() == 400);
     assert!(rt; keeps_list(log, &plain));
+    Ok(())
+}
+
+// A list with a frame more than the log: the first answer is told apart, and so are those up to the end of the term. Behind
+// its pad log and list are level, so that the last of 26 answers and those that follow are the same.
+fn tells_answers(alloc: Global, log: &mut TermLog, plain: &mut Plain) -> Result<bool, AllocError> {
+    plain.put_message(b"")?;
+    let first = fill(alloc, log, plain, 1)?;
+    let term = fill(alloc, log, plain, 26)?;
+    let level = log.tail() == plain.tail();
+    let behind = fill(alloc, log, plain, 26)?;
+    Ok(!first && !term && level && behind)
+}
+
+#[test]
+fn other_answers_are_told(rt: HostRuntime) -> Result<(), Fail> {
+    let mut log = opened(rt.alloc(), ident(LogKind::Udp, 0))?;
+    let mut plain = Plain::new(rt.alloc());
+    assert!(rt; tells_answers(rt.alloc(), &mut log, &mut plain)?);
     Ok(())
 }
 

@@ -1,11 +1,13 @@
-use Rattle.std.proofs.Common.{rules, arith, true, nat_lt, ◌≡◌, ◌-◌, ◌<◌, ℕ, ℤ, pos, List, length, get_or, Some, slice_get, to_z, of_z, w32, ap, refl, subst}
+use Rattle.std.proofs.Common.{rules, arith, true, nat_lt, ◌≡◌, ◌-◌, ◌<◌, ℕ, ℤ, pos, List, length, get_or, Some, slice_get, to_z, of_z, w32, ap, ◌∙◌, refl, subst, Contains, inl, inr, ⊎_elim}
 use Rattle.std.proofs.lemmas.Bool.Decides.{nat_tests}
 use Rattle.std.proofs.lemmas.Option.{slice_get_read}
 use Rattle.policy_core.specs.RuleList.{Rules}
 use Rattle.channel_uri.specs.Channel.{Shape}
 use Rattle.policy_core.specs.Question.{Question}
 use Rattle.policy_core.specs.declared.act.Act.{Act}
-use Rattle.decision_cache_tests.specs.Questions.{question_on}
+use Rattle.policy_core.specs.declared.verdict.Verdict.{Verdict}
+use Rattle.decision_cache.specs.declared.key.Key.{Key}
+use Rattle.decision_cache_tests.specs.Questions.{Held, question_on}
 use Rattle.decision_cache_tests.proofs.desk.Desk.ask.Goals as goal
 
 asked : ℕ → Act → Shape → ℤ → Question
@@ -42,3 +44,13 @@ invariant_of-self c =
     c.in_ok-policy.ensures.lookup.0 c.in_ok-policy.ensures.lookup.1 in
     c.verdict.ensures.keeps c.self.inside.policies.items (question_on c.self.inside.channel) among
     (same_stream c.args.principal c.args.act c.self.inside.channel _ _ stream) c.self.invariant
+
+pub returns-clause-kept : goal.returns-clause-kept
+returns-clause-kept c =
+    let subject : c.from-2.result ≡ c.args.subject = search rules in
+    let viewed : c.self.inside.cache ≡ c.args.self.now.verdicts = ap (λ (held : Held). held.verdicts) c.self.view_is in
+    λ entry there.
+    ⊎_elim
+    (λ was. inl (subst (λ (es : List (Key × Verdict)). Contains es entry) viewed was))
+    (λ is. inr (is ∙ ap (λ (n : ℕ). (record { epoch = c.args.epoch; subject = n; principal = c.args.principal; act = c.args.act }, c.verdict.result)) subject))
+    (c.verdict.ensures.entries entry there)

@@ -1,17 +1,13 @@
+//! Tests of `image_receiver`.
+
+use crate::reading::join;
+use crate::shuffling::{hand_in, open};
+use crate::tests::STREAM;
 use frame_codec::TermPlace;
-use image_log::{Ident, ImageLog, Insert};
-use image_log_tests::{hand_in, join, open};
+use image_log::{ImageLog, Insert};
 use image_receiver::{Due, Receiver, Status, receive_beat};
 use retransmit_gate::Nak;
 use std::test::Fail;
-
-// Session 9, stream 10: terms of 64 KiB from term 5 on.
-const STREAM: Ident = Ident {
-    session_id: 9,
-    stream_id: 10,
-    initial_term_id: 5,
-    term_length: 65_536,
-};
 
 // Moments, and whether a NAK and a status message are due then.
 const TICKS: [(u64, bool, bool); 5] = [

@@ -1,5 +1,0 @@
-//! Tests of `image_receiver`, and the program that they run.
-#![tactic(auto)]
-
-#[cfg(test)]
-mod tests;
