@@ -1,2 +1,3 @@
 pub mod CuttingLemmas
+pub mod DatagramLemmas
 pub mod HearingLemmas

@@ -1,2 +1,4 @@
 pub mod Cutting
+pub mod Datagrams
 pub mod Hearing
+pub mod Resending
