@@ -1,5 +1,5 @@
 -- How frames go into datagrams.
-use Rattle.std.proofs.Common.{◌≡◌, ◌≤◌, ℕ, zero, suc, ◌+◌, ◌-◌, ◌/◌, true, false, List, [], ◌∷◌, length, take, Option, Some, None, refl, sym, ap, subst, ◌∙◌, arith, absurd}
+use Rattle.std.proofs.Common.{◌≡◌, ◌≤◌, ℕ, zero, suc, ◌+◌, ◌-◌, ◌/◌, true, false, List, [], ◌∷◌, length, take, Option, Some, None, refl, sym, ap, subst, ◌∙◌, arith}
 use Rattle.std.specs.Prelude.{◌++◌, ◌==◌, drop, nat_le}
 use Rattle.std.proofs.lemmas.Bool.{eq-eqb}
 use Rattle.std.proofs.lemmas.Bool.Decides.{nat_tests}
@@ -48,6 +48,12 @@ filled_none term number mtu all out =
 
 pub fits_within : (term number budget : ℕ) (g : Given) → fits term number budget g ≡ true → length g.bytes ≤ budget
 fits_within term number budget g is = grind (arith, nat_tests, is)
+
+-- what is written into keeps its size
+pub filled_length : (term number mtu : ℕ) (all left : List Given) (out_old out : List ℕ) (size : ℕ) → Filled term number mtu all left out_old out size
+    → mtu ≤ length out_old → length out ≡ length out_old
+filled_length term number mtu all left out_old out size f room =
+    omega (arith, ap (λ (bs : List ℕ). length bs) f.bytes, length-append (sent_bytes f.taken) (drop size out_old), length-drop size out_old, f.sized, f.within, room)
 
 pub filled_more : (term number mtu : ℕ) (all left later : List Given) (g : Given) (out_old out new : List ℕ) (size : ℕ)
     → Filled term number mtu all left out_old out size → left ≡ g ∷ later → fits term number (mtu - size) g ≡ true

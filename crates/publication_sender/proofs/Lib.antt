@@ -1,3 +1,4 @@
 pub mod CuttingLemmas
 pub mod DatagramLemmas
 pub mod HearingLemmas
+pub mod ResendingLemmas

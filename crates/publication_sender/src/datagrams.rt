@@ -23,6 +23,7 @@ pub struct Datagrams<'a> {
 
 impl<'a> Model for Datagrams<'a> {
     ghost use Rattle.publication_sender.specs.Datagrams.{Resending, datagrams_of};
+    ghost use Rattle.std.specs.Prelude.{◌<◌};
     ghost use Rattle.term_log.specs.Ranges.{over_left};
 
     ghost Value = { Resending };
@@ -60,6 +61,7 @@ fn put(out: &mut [u8], at: usize, bytes: &[u8])
 }
 
 /// Writes the frames of that term that fit at the front, and takes them. The answer is how many bytes they have.
+#[tactic(auto, using(crate::proofs::DatagramLemmas::filled_none, crate::proofs::DatagramLemmas::filled_more, crate::proofs::DatagramLemmas::filled_all, crate::proofs::DatagramLemmas::filled_length, crate::proofs::DatagramLemmas::fits_within))]
 fn fill(
     frames: &mut FramesOver<'_>,
     term_length: u64,
@@ -81,6 +83,7 @@ fn fill(
 
 /// Writes the frames of the first datagram at the front, and takes them. The answer is how many bytes they have; none where
 /// no frame is left.
+#[tactic(auto, using(crate::proofs::DatagramLemmas::first_none, crate::proofs::DatagramLemmas::first_long, crate::proofs::DatagramLemmas::first_fits))]
 fn fill_first(
     frames: &mut FramesOver<'_>,
     term_length: u64,
@@ -113,6 +116,7 @@ impl<'a> Datagrams<'a> {
     }
 
     /// Writes the next datagram at the front of `out`. The answer is how many bytes it has; none where all were given.
+    #[tactic(auto, using(crate::proofs::DatagramLemmas::gives_first))]
     pub fn next_into(&mut self, out: &mut [u8]) -> Option<usize>
         requires { self.old.mtu ≤ length out.old }
         ensures gives { GivesFirst self.old.datagrams self.new.datagrams out.old out.new result }

@@ -40,6 +40,7 @@ fn window_of(log: &TermLog) -> Range<u64>
 /// A NAK of the log's session and stream came at the moment `now`, in nanoseconds; `decision` is what the policy says of
 /// sending again to who asks. A NAK that is denied is not seen by the log's gate. Else the gate decides, of what is held
 /// within one term below the sender's position; where it grants, each frame that the NAK's range meets is sent again, whole.
+#[tactic(auto, using(crate::proofs::ResendingLemmas::resends_over))]
 pub fn receive_nak<'a>(
     log: &'a TermLog,
     gate: &mut Gate,
