@@ -23,7 +23,7 @@ none_left term number budget gs is = rw (is) refl
 
 pub none_fits : (term number budget : ℕ) (gs later : List Given) (g : Given) → gs ≡ g ∷ later → fits term number budget g ≡ false
     → fitting term number budget gs ≡ []
-none_fits term number budget gs later g is no = rw (is, no) refl
+none_fits term number budget gs later g is fails = rw (is, fails) refl
 
 -- so far these were taken, and stand at the front
 pub record Filled (term number mtu : ℕ) (all left : List Given) (out_old out : List ℕ) (size : ℕ) : Type 0 where

@@ -11,7 +11,7 @@ use term_log::{FramesOver, LogFrame};
 /// the frames, and nothing is copied but into the datagram.
 ///
 /// Contracts see the bytes of the datagrams that are still to come.
-#[derive(Debug)]
+#[derive(Debug, Drop)]
 pub struct Datagrams<'a> {
     /// The frames that are still to be sent.
     frames: FramesOver<'a>,
@@ -61,7 +61,7 @@ fn put(out: &mut [u8], at: usize, bytes: &[u8])
 }
 
 /// Writes the frames of that term that fit at the front, and takes them. The answer is how many bytes they have.
-#[tactic(auto, using(crate::proofs::DatagramLemmas::filled_none, crate::proofs::DatagramLemmas::filled_more, crate::proofs::DatagramLemmas::filled_all, crate::proofs::DatagramLemmas::filled_length, crate::proofs::DatagramLemmas::fits_within))]
+#[tactic(auto, using(crate::proofs::DatagramLemmas::filled_none, crate::proofs::DatagramLemmas::filled_all, crate::proofs::DatagramLemmas::filled_length, crate::proofs::DatagramLemmas::fits_within))]
 fn fill(
     frames: &mut FramesOver<'_>,
     term_length: u64,
@@ -113,6 +113,13 @@ impl<'a> Datagrams<'a> {
             term_length: u64::from(term_length),
             mtu: mtu as usize,
         }
+    }
+
+    /// How many bytes a datagram has at most.
+    pub fn mtu(&self) -> usize
+        ensures { result ≡ self.now.mtu }
+    {
+        self.mtu
     }
 
     /// Writes the next datagram at the front of `out`. The answer is how many bytes it has; none where all were given.

@@ -8,9 +8,11 @@
 mod cutting;
 mod datagrams;
 mod hearing;
+mod laws;
 mod resending;
 
 pub use cutting::{DatagramKind, Pace, cut, due};
 pub use datagrams::Datagrams;
 pub use hearing::{StatusAnswer, receive_status};
+pub use laws::{held_logs_are_asked_as_wholes, resends_carry_what_is_asked};
 pub use resending::{NakAnswer, receive_nak};

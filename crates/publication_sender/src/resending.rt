@@ -1,6 +1,7 @@
 //! What receivers ask of a publication's log by NAKs.
 
-ghost use Rattle.publication_sender.specs.Resending.{IsNakAnswer, gate_after, window_of, word_of};
+ghost use Rattle.publication_sender.specs.Resending.{IsNakAnswer, asking_of, gate_after, window_at};
+ghost use Rattle.retransmit_gate.specs.ResendLaws.{answer_to};
 ghost use Rattle.std.specs.Prelude.{◌≡◌};
 
 use crate::datagrams::Datagrams;
@@ -11,7 +12,7 @@ use std::ops::Range;
 use term_log::TermLog;
 
 /// What becomes of a NAK.
-#[derive(Debug)]
+#[derive(Debug, Drop)]
 pub enum NakAnswer<'a> {
     /// The policy does not let who asked have frames again, by this decision.
     Denied(Decision),
@@ -28,9 +29,9 @@ pub enum NakAnswer<'a> {
 }
 
 /// The positions that may be sent again.
-#[tactic(auto, unfolding(crate::specs::Resending::window_of))]
+#[tactic(auto, unfolding(crate::specs::Resending::window_at))]
 fn window_of(log: &TermLog) -> Range<u64>
-    ensures { result ≡ window_of log.now }
+    ensures { result ≡ window_at log.now.kept.ident log.now.kept.tail log.now.sender.position }
 {
     let sent = log.sender_position();
     let term_length = u64::from(log.ident().term_length);
@@ -40,7 +41,6 @@ fn window_of(log: &TermLog) -> Range<u64>
 /// A NAK of the log's session and stream came at the moment `now`, in nanoseconds; `decision` is what the policy says of
 /// sending again to who asks. A NAK that is denied is not seen by the log's gate. Else the gate decides, of what is held
 /// within one term below the sender's position; where it grants, each frame that the NAK's range meets is sent again, whole.
-#[tactic(auto, using(crate::proofs::ResendingLemmas::resends_over))]
 pub fn receive_nak<'a>(
     log: &'a TermLog,
     gate: &mut Gate,
@@ -48,8 +48,8 @@ pub fn receive_nak<'a>(
     nak: &Nak,
     decision: &Decision,
 ) -> NakAnswer<'a>
-    ensures answer { IsNakAnswer decision.now (word_of gate.old now log.now nak.now) log.now nak.now result }
-    ensures gate { gate.new ≡ gate_after decision.now.verdict.allow gate.old now log.now nak.now }
+    ensures answer { IsNakAnswer decision.now (answer_to gate.old (asking_of now log.now nak.now)) log.now nak.now result }
+    ensures gate { gate.new ≡ gate_after decision.now.verdict.allow gate.old (asking_of now log.now nak.now) }
 {
     if !decision.verdict.allow {
         return NakAnswer::Denied(*decision);
