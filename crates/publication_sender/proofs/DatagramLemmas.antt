@@ -1,12 +1,11 @@
 -- How frames go into datagrams.
 use Rattle.std.proofs.Common.{◌≡◌, ◌≤◌, ℕ, zero, suc, ◌+◌, ◌-◌, ◌/◌, true, false, List, [], ◌∷◌, length, take, Option, Some, None, refl, sym, ap, subst, ◌∙◌, arith}
-use Rattle.std.specs.Prelude.{◌++◌, ◌==◌, drop, nat_le}
+use Rattle.std.specs.Prelude.{◌++◌, drop, nat_le}
 use Rattle.std.proofs.lemmas.Bool.{eq-eqb}
 use Rattle.std.proofs.lemmas.Bool.Decides.{nat_tests}
 use Rattle.std.proofs.lemmas.List.{append-nil, append_assoc, drop_at, length-append, length-drop, take_at}
 use Rattle.std.proofs.lemmas.Slice.{drop-append-drop}
-use Rattle.publication_sender.specs.Cutting.{Lays}
-use Rattle.publication_sender.specs.Datagrams.{Fills, FillsFirst, GivesFirst, ahead, datagram_with, datagrams_in, datagrams_of, first_run, fits, fitting}
+use Rattle.publication_sender.specs.Datagrams.{Fills, FillsFirst, GivesFirst, ahead, datagrams_in, datagrams_of, first_run, fits, fitting}
 use Rattle.term_log.specs.Reading.{Given, sent_bytes}
 
 -- ---- lists

@@ -1,13 +1,13 @@
 -- Datagrams have exactly the frames that go into them.
-use Rattle.std.proofs.Common.{◌≡◌, ◌<◌, ◌≤◌, ℕ, zero, suc, ◌+◌, ◌-◌, ◌/◌, true, false, Bool, List, [], ◌∷◌, length, refl, sym, ap, subst, ◌∙◌, arith, cond, length-append}
-use Rattle.std.specs.Prelude.{◌++◌, ◌&&◌, ◌==◌, All, drop, filter, map, nat_le, unsigned_abs, if◌then◌else◌}
+use Rattle.std.proofs.Common.{◌≡◌, ◌≤◌, ℕ, zero, suc, ◌+◌, ◌-◌, ◌/◌, true, false, List, [], ◌∷◌, length, refl, sym, ap, subst, ◌∙◌, arith, length-append}
+use Rattle.std.specs.Prelude.{◌++◌, All, drop, nat_le, unsigned_abs, if◌then◌else◌}
 use Rattle.std.proofs.lemmas.Bool.{eq-eqb}
 use Rattle.std.proofs.lemmas.Bool.Decides.{nat_tests}
 use Rattle.std.proofs.lemmas.List.{length-drop}
 use Rattle.std.proofs.lemmas.List.Elements.{All-cons, All-drop, All-filter, All-head, All-nil, All-tail}
 use Rattle.frame_codec.specs.declared.nak.Nak.{Nak}
 use Rattle.publication_sender.specs.Datagrams.{ahead, datagrams_in, datagrams_of, first_run, fits, fitting}
-use Rattle.publication_sender.specs.ResendLaws.{Carry, IsFull, IsSound, SameTerm, joined}
+use Rattle.publication_sender.specs.ResendLaws.{Carry, IsFull, IsSound, SameTerm}
 use Rattle.publication_sender.specs.Resending.{asked_at, asked_of, resent_of}
 use Rattle.publication_sender.proofs.DatagramLemmas.{fits_within}
 use Rattle.term_log.proofs.Sizes.{length-data_bytes, length-pad_bytes}

@@ -1,5 +1,5 @@
 -- What a log that is held sends again is what each whole log does that it stands for.
-use Rattle.std.proofs.Common.{◌≡◌, ◌<◌, ◌≤◌, ℕ, ◌+◌, ◌-◌, ◌*◌, ◌/◌, ◌%◌, ℤ, pos, Bool, true, false, cond, not, List, [], ◌∷◌, length, max, min, refl, sym, ap, ap₂, ◌∙◌, arith, unsigned_abs}
+use Rattle.std.proofs.Common.{◌≡◌, ◌<◌, ◌≤◌, ℕ, ◌+◌, ◌-◌, ◌*◌, ◌/◌, ◌%◌, pos, Bool, true, false, cond, not, List, [], ◌∷◌, length, max, min, refl, sym, ap, ap₂, ◌∙◌, arith, unsigned_abs}
 use Rattle.std.specs.Prelude.{◌&&◌, filter, int_le, nat_le, if◌then◌else◌}
 use Rattle.std.specs.List.{list_any}
 use Rattle.std.proofs.lemmas.Bool.Decides.{nat_tests}
@@ -7,7 +7,6 @@ use Rattle.std.proofs.lemmas.Nat.{div-add-mod', mul-le}
 use Rattle.frame_codec.specs.declared.nak.Nak.{Nak}
 use Rattle.publication_sender.specs.Datagrams.{datagrams_of}
 use Rattle.publication_sender.specs.Resending.{ResendsOver, asked_at, asking_at, asking_in, asking_of, resent_of, window_at}
-use Rattle.retransmit_gate.specs.declared.answer.Answer.{Answer}
 use Rattle.retransmit_gate.specs.declared.answer.Answer.TheVariants.{Resend, Lingering, Busy, OutOfWindow, Empty}
 use Rattle.retransmit_gate.specs.Gate.{Resends, answer_of, is_within, lingering, meets as shares}
 use Rattle.retransmit_gate.specs.Moment.{later_of}
@@ -16,7 +15,7 @@ use Rattle.term_log.specs.declared.ident.Ident.{Ident}
 use Rattle.term_log.specs.declared.ranges.FramesOver.{FramesOver}
 use Rattle.term_log.specs.Frames.{Frame, IsFrame, IsRun, span, total}
 use Rattle.term_log.specs.Ident.{IsIdent}
-use Rattle.term_log.specs.Log.{Log, low_of}
+use Rattle.term_log.specs.Log.{Log}
 use Rattle.term_log.specs.Ranges.{GivesOver, is_over, meets, over_left}
 use Rattle.term_log.specs.Reading.{Given, all_given, given}
 use Rattle.term_log.specs.Sender.{Sending}

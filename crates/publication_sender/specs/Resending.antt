@@ -11,7 +11,7 @@ use Rattle.publication_sender.specs.Datagrams.{Resending, datagrams_of}
 use Rattle.retransmit_gate.specs.declared.answer.Answer.{Answer}
 use Rattle.retransmit_gate.specs.declared.answer.Answer.TheVariants as words
 use Rattle.retransmit_gate.specs.Gate.{Resends, kept_of}
-use Rattle.retransmit_gate.specs.ResendLaws.{Asking, after_asking, answer_to}
+use Rattle.retransmit_gate.specs.ResendLaws.{Asking, after_asking}
 use Rattle.term_log.specs.declared.ident.Ident.{Ident}
 use Rattle.term_log.specs.Log.{Log}
 use Rattle.term_log.specs.Ranges.{meets}
