@@ -1,2 +1,5 @@
 pub mod Cutting
+pub mod Datagrams
 pub mod Hearing
+pub mod ResendLaws
+pub mod Resending

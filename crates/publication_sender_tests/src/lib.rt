@@ -2,4 +2,6 @@
 #![tactic(auto)]
 
 #[cfg(test)]
+mod resends;
+#[cfg(test)]
 mod tests;

@@ -4,14 +4,14 @@ use std::test::Fail;
 use term_log::{Ident, LogKind, Offer, TermLog};
 use term_log_tests::opened;
 
-const PACE: Pace = Pace {
+pub(crate) const PACE: Pace = Pace {
     connection_timeout: 5_000_000_000,
     setup_interval: 100_000_000,
     heartbeat_interval: 100_000_000,
 };
 
 // Session 1, stream 10: terms of 64 KiB from term 0 on.
-const STREAM: Ident = Ident {
+pub(crate) const STREAM: Ident = Ident {
     kind: LogKind::Udp,
     session: 1,
     stream: 10,
@@ -46,7 +46,7 @@ const LAST_BEAT: [u8; 32] = [
 ];
 
 /// The frame with `x`, and all of its filling.
-const FRAME: [u8; 64] = [
+pub(crate) const FRAME: [u8; 64] = [
     33, 0, 0, 0, 0, 0xC0, 1, 0, 0, 0, 0, 0, 1, 0, 0, 0, 10, 0, 0, 0, 0, 0, 0, 0, 0, 0, 0, 0, 0, 0,
     0, 0, b'x', 0, 0, 0, 0, 0, 0, 0, 0, 0, 0, 0, 0, 0, 0, 0, 0, 0, 0, 0, 0, 0, 0, 0, 0, 0, 0, 0, 0,
     0, 0, 0,
@@ -69,7 +69,7 @@ fn cuts(log: &mut TermLog, now: u64, lingers: bool, datagram: &[u8]) -> bool {
 }
 
 // A status message of term 0.
-fn status(log: &mut TermLog, flags: Flags, offset: u32, window: u32) -> StatusAnswer {
+pub(crate) fn status(log: &mut TermLog, flags: Flags, offset: u32, window: u32) -> StatusAnswer {
     let message = StatusMessage {
         flags,
         session_id: 1,

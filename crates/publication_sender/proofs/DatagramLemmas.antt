@@ -1,0 +1,167 @@
+-- How frames go into datagrams.
+use Rattle.std.proofs.Common.{◌≡◌, ◌≤◌, ℕ, zero, suc, ◌+◌, ◌-◌, ◌/◌, true, false, List, [], ◌∷◌, length, take, Option, Some, None, refl, sym, ap, subst, ◌∙◌, arith}
+use Rattle.std.specs.Prelude.{◌++◌, drop, nat_le}
+use Rattle.std.proofs.lemmas.Bool.{eq-eqb}
+use Rattle.std.proofs.lemmas.Bool.Decides.{nat_tests}
+use Rattle.std.proofs.lemmas.List.{append-nil, append_assoc, drop_at, length-append, length-drop, take_at}
+use Rattle.std.proofs.lemmas.Slice.{drop-append-drop}
+use Rattle.publication_sender.specs.Datagrams.{Fills, FillsFirst, GivesFirst, ahead, datagrams_in, datagrams_of, first_run, fits, fitting}
+use Rattle.term_log.specs.Reading.{Given, sent_bytes}
+
+-- ---- lists
+
+sent-append : (gs hs : List Given) → sent_bytes (gs ++ hs) ≡ sent_bytes gs ++ sent_bytes hs
+sent-append [] hs = refl
+sent-append (g ∷ gs) hs = ap (λ (bs : List ℕ). g.bytes ++ bs) (sent-append gs hs) ∙ sym (append_assoc g.bytes (sent_bytes gs) (sent_bytes hs))
+
+-- ---- the run of one datagram
+
+-- nothing fits where nothing is left
+pub none_left : (term number budget : ℕ) (gs : List Given) → gs ≡ [] → fitting term number budget gs ≡ []
+none_left term number budget gs is = rw (is) refl
+
+pub none_fits : (term number budget : ℕ) (gs later : List Given) (g : Given) → gs ≡ g ∷ later → fits term number budget g ≡ false
+    → fitting term number budget gs ≡ []
+none_fits term number budget gs later g is fails = rw (is, fails) refl
+
+-- so far these were taken, and stand at the front
+pub record Filled (term number mtu : ℕ) (all left : List Given) (out_old out : List ℕ) (size : ℕ) : Type 0 where
+  pub taken : List Given
+  pub is : all ≡ taken ++ left
+  pub run : fitting term number mtu all ≡ taken ++ fitting term number (mtu - size) left
+  pub sized : size ≡ length (sent_bytes taken)
+  pub within : size ≤ mtu
+  pub bytes : out ≡ sent_bytes taken ++ drop size out_old
+
+pub filled_none : (term number mtu : ℕ) (all : List Given) (out : List ℕ) → Filled term number mtu all all out out 0
+filled_none term number mtu all out =
+    let same : mtu ≡ mtu - 0 = omega arith in
+    record {
+      taken = [];
+      is = refl;
+      run = ap (λ (budget : ℕ). fitting term number budget all) same;
+      sized = refl;
+      within = omega arith;
+      bytes = refl;
+    }
+
+pub fits_within : (term number budget : ℕ) (g : Given) → fits term number budget g ≡ true → length g.bytes ≤ budget
+fits_within term number budget g is = grind (arith, nat_tests, is)
+
+-- what is written into keeps its size
+pub filled_length : (term number mtu : ℕ) (all left : List Given) (out_old out : List ℕ) (size : ℕ) → Filled term number mtu all left out_old out size
+    → mtu ≤ length out_old → length out ≡ length out_old
+filled_length term number mtu all left out_old out size f room =
+    omega (arith, ap (λ (bs : List ℕ). length bs) f.bytes, length-append (sent_bytes f.taken) (drop size out_old), length-drop size out_old, f.sized, f.within, room)
+
+pub filled_more : (term number mtu : ℕ) (all left later : List Given) (g : Given) (out_old out new : List ℕ) (size : ℕ)
+    → Filled term number mtu all left out_old out size → left ≡ g ∷ later → fits term number (mtu - size) g ≡ true
+    → new ≡ take size out ++ (g.bytes ++ drop (size + length g.bytes) out)
+    → Filled term number mtu all later out_old new (size + length g.bytes)
+filled_more term number mtu all left later g out_old out new size f is here written =
+    let within = fits_within term number (mtu - size) g here in
+    let front : List ℕ = sent_bytes f.taken in
+    let fewer : (mtu - size) - length g.bytes ≡ mtu - (size + length g.bytes) = omega (arith, within, f.within) in
+    let run : fitting term number (mtu - size) left ≡ g ∷ fitting term number (mtu - (size + length g.bytes)) later =
+    rw (is, here) (ap (λ (budget : ℕ). g ∷ fitting term number budget later) fewer) in
+    let sent : sent_bytes (f.taken ++ g ∷ []) ≡ front ++ g.bytes =
+    sent-append f.taken (g ∷ []) ∙ ap (λ (bs : List ℕ). front ++ bs) (append-nil g.bytes) in
+    let kept : take size out ≡ front = ap (take size) f.bytes ∙ take_at front (drop size out_old) size (sym f.sized) in
+    let behind : drop (size + length g.bytes) out ≡ drop (size + length g.bytes) out_old =
+    ap (drop (size + length g.bytes)) f.bytes ∙ drop-append-drop size out_old front (size + length g.bytes) (omega arith) (sym f.sized) in
+    record {
+      taken = f.taken ++ g ∷ [];
+      is = f.is ∙ ap (λ (gs : List Given). f.taken ++ gs) is ∙ sym (append_assoc f.taken (g ∷ []) later);
+      run = f.run ∙ ap (λ (gs : List Given). f.taken ++ gs) run
+          ∙ sym (append_assoc f.taken (g ∷ []) (fitting term number (mtu - (size + length g.bytes)) later));
+      sized = omega (arith, f.sized, length-append front g.bytes, ap (λ (bs : List ℕ). length bs) sent);
+      within = omega (arith, within, f.within);
+      bytes = written
+          ∙ ap (λ (bs : List ℕ). bs ++ (g.bytes ++ drop (size + length g.bytes) out)) kept
+          ∙ ap (λ (bs : List ℕ). front ++ (g.bytes ++ bs)) behind
+          ∙ sym (append_assoc front g.bytes (drop (size + length g.bytes) out_old))
+          ∙ ap (λ (bs : List ℕ). bs ++ drop (size + length g.bytes) out_old) (sym sent);
+    }
+
+pub filled_all : (term number mtu : ℕ) (all left : List Given) (out_old out : List ℕ) (size : ℕ) → Filled term number mtu all left out_old out size
+    → fitting term number (mtu - size) left ≡ [] → Fills (fitting term number mtu all) all left out_old out size
+filled_all term number mtu all left out_old out size f done =
+    let run : f.taken ≡ fitting term number mtu all = sym (append-nil f.taken) ∙ ap (λ (gs : List Given). f.taken ++ gs) (sym done) ∙ sym f.run in
+    let fills : Fills f.taken all left out_old out size = record {
+      lays = record {
+        size_is = f.sized;
+        bytes_are = f.bytes ∙ ap (λ (n : ℕ). sent_bytes f.taken ++ drop n out_old) f.sized;
+      };
+      left = sym (ap (drop (length f.taken)) f.is ∙ drop_at f.taken left (length f.taken) refl);
+    } in
+    subst (λ (gs : List Given). Fills gs all left out_old out size) run fills
+
+-- ---- the first datagram
+
+pub first_none : (term mtu : ℕ) (all : List Given) (out : List ℕ) → all ≡ [] → FillsFirst (first_run term mtu all) all all out out None
+first_none term mtu all out is = rw (is) (record { lays = (refl, refl); left = refl })
+
+pub first_long : (term mtu : ℕ) (all later : List Given) (g : Given) (out : List ℕ) → all ≡ g ∷ later → nat_le (length g.bytes) mtu ≡ false
+    → FillsFirst (first_run term mtu all) all all out out None
+first_long term mtu all later g out is long =
+    rw (is, eq-eqb (g.position / term) (g.position / term) refl, long) (record { lays = (refl, refl); left = refl })
+
+pub first_fits : (term mtu : ℕ) (all later new : List Given) (g : Given) (out_old out_new : List ℕ) (size : ℕ) → all ≡ g ∷ later
+    → nat_le (length g.bytes) mtu ≡ true → Fills (fitting term (g.position / term) mtu all) all new out_old out_new size
+    → FillsFirst (first_run term mtu all) all new out_old out_new (Some size)
+first_fits term mtu all later new g out_old out_new size is short fills =
+    let run : first_run term mtu all ≡ g ∷ fitting term (g.position / term) (mtu - length g.bytes) later =
+    rw (is, eq-eqb (g.position / term) (g.position / term) refl, short) refl in
+    let same : fitting term (g.position / term) mtu all ≡ g ∷ fitting term (g.position / term) (mtu - length g.bytes) later =
+    rw (is, eq-eqb (g.position / term) (g.position / term) refl, short) refl in
+    let here : Fills (g ∷ fitting term (g.position / term) (mtu - length g.bytes) later) all new out_old out_new size =
+    subst (λ (gs : List Given). Fills gs all new out_old out_new size) same fills in
+    subst (λ (gs : List Given). FillsFirst gs all new out_old out_new (Some size)) (sym run)
+    (record { lays = (ap (λ (n : ℕ). Some n) here.lays.size_is, here.lays.bytes_are); left = here.left })
+
+-- ---- the datagrams one after the other
+
+-- more steps than frames change nothing
+pub datagrams_enough : (n m term mtu : ℕ) (gs : List Given) → length gs ≤ n → length gs ≤ m → datagrams_in n term mtu gs ≡ datagrams_in m term mtu gs
+datagrams_enough zero zero term mtu gs less fewer = refl
+datagrams_enough zero (suc m) term mtu [] less fewer = refl
+datagrams_enough zero (suc m) term mtu (g ∷ gs) less fewer = absurd (omega (arith, less))
+datagrams_enough (suc n) zero term mtu [] less fewer = refl
+datagrams_enough (suc n) zero term mtu (g ∷ gs) less fewer = absurd (omega (arith, fewer))
+datagrams_enough (suc n) (suc m) term mtu gs less fewer =
+    elim (first_run term mtu gs) as (λ (run : List Given). ahead run (datagrams_in n term mtu (drop (length run) gs)) ≡ ahead run (datagrams_in m term mtu (drop (length run) gs))) [
+      | [] ↦ refl
+      | (h ∷ hs) ↦
+          ap (λ (others : List (List ℕ)). sent_bytes (h ∷ hs) ∷ others)
+          (datagrams_enough n m term mtu (drop (suc (length hs)) gs) (omega (arith, less, length-drop (suc (length hs)) gs)) (omega (arith, fewer, length-drop (suc (length hs)) gs)))
+    ]
+
+-- behind the first are those of the frames that are left
+pub datagrams_step : (term mtu : ℕ) (gs : List Given)
+    → datagrams_of term mtu gs ≡ ahead (first_run term mtu gs) (datagrams_of term mtu (drop (length (first_run term mtu gs)) gs))
+unfolding datagrams_of
+datagrams_step term mtu [] = refl
+datagrams_step term mtu (g ∷ gs) =
+    elim (first_run term mtu (g ∷ gs)) as (λ (run : List Given). ahead run (datagrams_in (length gs) term mtu (drop (length run) (g ∷ gs))) ≡ ahead run (datagrams_in (length (drop (length run) (g ∷ gs))) term mtu (drop (length run) (g ∷ gs)))) [
+      | [] ↦ refl
+      | (h ∷ hs) ↦
+          ap (λ (others : List (List ℕ)). sent_bytes (h ∷ hs) ∷ others)
+          (datagrams_enough (length gs) (length (drop (length hs) gs)) term mtu (drop (length hs) gs) (omega (arith, length-drop (length hs) gs)) (omega arith))
+    ]
+
+gives : (run old new : List Given) (left : List (List ℕ)) (out_old out_new : List ℕ) (size : Option ℕ) → FillsFirst run old new out_old out_new size → (run ≡ [] → left ≡ [])
+    → GivesFirst (ahead run left) left out_old out_new size
+gives [] old new left out_old out_new size fills none = (none refl, fills.lays.0, fills.lays.1)
+gives (h ∷ hs) old new left out_old out_new size fills none = (refl, fills.lays.0, fills.lays.1)
+
+pub gives_first : (term mtu : ℕ) (old new : List Given) (out_old out_new : List ℕ) (size : Option ℕ) → FillsFirst (first_run term mtu old) old new out_old out_new size
+    → GivesFirst (datagrams_of term mtu old) (datagrams_of term mtu new) out_old out_new size
+gives_first term mtu old new out_old out_new size fills =
+    let step = datagrams_step term mtu old in
+    let left : datagrams_of term mtu new ≡ datagrams_of term mtu (drop (length (first_run term mtu old)) old) = ap (datagrams_of term mtu) fills.left in
+    let none : first_run term mtu old ≡ [] → datagrams_of term mtu new ≡ [] = λ is.
+    let same : drop (length (first_run term mtu old)) old ≡ old = rw (is) refl in
+    left ∙ ap (datagrams_of term mtu) same ∙ step ∙ rw (is) refl in
+    subst (λ (ds : List (List ℕ)). GivesFirst ds (datagrams_of term mtu new) out_old out_new size)
+    (ap (λ (ds : List (List ℕ)). ahead (first_run term mtu old) ds) left ∙ sym step)
+    (gives (first_run term mtu old) old new (datagrams_of term mtu new) out_old out_new size fills none)
