@@ -3,12 +3,12 @@ use Rattle.std.proofs.Common.{◌≡◌, ℕ, ◌==◌, ◌||◌, Bool, true, fa
 use Rattle.std.specs.List.{list_any}
 use Rattle.any_log.specs.declared.any_log.AnyLog.{AnyLog}
 use Rattle.any_log.specs.declared.any_log.AnyLog.TheVariants.{Term, Image}
-use Rattle.any_log.specs.Held.{Lies, for_publication, for_stream, Place, made_held, pairs_held, place_held, position_held, reach_held, rejoined_held, terms_of}
-use Rattle.any_log.specs.Whole.{AnyWhole, whole, rebuilt, StandsFor, made_for, pairs_in, polled as any_polled, position_in, reach_of, readers_in, rejoined}
+use Rattle.any_log.specs.Held.{Lies, for_publication, for_stream, Place, is_silent_held, made_held, pairs_held, place_held, position_held, reach_held, rejoined_held, terms_of}
+use Rattle.any_log.specs.Whole.{AnyWhole, whole, rebuilt, StandsFor, is_silent_in, made_for, pairs_in, polled as any_polled, position_in, reach_of, readers_in, rejoined}
 use Rattle.image_log.specs.declared.ident.Ident.{Ident as ImageIdent}
 use Rattle.image_log.specs.Log.{Log as ImageLog}
 use Rattle.image_log.specs.Polling.{polled, polled_from}
-use Rattle.image_log.specs.Rebuilt.{Rebuilt, contiguous_of, settled, rejoined as image_rejoined}
+use Rattle.image_log.specs.Rebuilt.{Rebuilt, contiguous_of, is_silent, settled, rejoined as image_rejoined}
 use Rattle.log_pairs.specs.Pairs.{moved_one, position_of}
 use Rattle.log_pairs.specs.declared.pair.Pair.{Pair}
 use Rattle.term_log.specs.Whole.{Whole, polled as term_polled, polled_from as term_polled_from, rejoined as term_rejoined, rejoined_kept}
@@ -48,6 +48,13 @@ reach_stands (Term log) (whole w) stands = tail_stands log w stands
 reach_stands (Term log) (rebuilt r) stands = absurd stands
 reach_stands (Image log) (whole w) stands = absurd stands
 reach_stands (Image log) (rebuilt r) stands = ap contiguous_of stands
+
+pub silent_stands : (log : AnyLog) (w : AnyWhole) (now limit : ℕ) → StandsFor log w
+    → is_silent_held log now limit ≡ is_silent_in w now limit
+silent_stands (Term log) (whole w) now limit stands = refl
+silent_stands (Term log) (rebuilt r) now limit stands = absurd stands
+silent_stands (Image log) (whole w) now limit stands = absurd stands
+silent_stands (Image log) (rebuilt r) now limit stands = ap (λ (r : Rebuilt). is_silent r now limit) stands
 
 pub pairs_stand : (log : AnyLog) (w : AnyWhole) → StandsFor log w → pairs_held log ≡ pairs_in w
 pairs_stand (Term log) (whole w) stands = stands.pairs

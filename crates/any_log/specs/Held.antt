@@ -1,9 +1,9 @@
 -- What is held of a log of either kind: where it lies, how far it reaches, and who reads it.
-use Rattle.std.specs.Prelude.{◌≡◌, ℕ, List, Option}
+use Rattle.std.specs.Prelude.{◌≡◌, ℕ, Bool, false, List, Option}
 use Rattle.any_log.specs.declared.any_log.AnyLog.{AnyLog}
 use Rattle.any_log.specs.declared.any_log.AnyLog.TheVariants.{Term, Image}
 use Rattle.image_log.specs.declared.ident.Ident.{Ident as ImageIdent}
-use Rattle.image_log.specs.Rebuilt.{contiguous_of, settled, rejoined as image_rejoined}
+use Rattle.image_log.specs.Rebuilt.{contiguous_of, is_silent, settled, rejoined as image_rejoined}
 use Rattle.log_arena.specs.Homes.{Home}
 use Rattle.log_pairs.specs.Pairs.{position_of}
 use Rattle.log_pairs.specs.declared.pair.Pair.{Pair}
@@ -51,6 +51,11 @@ pub record Lies (old new : AnyLog) : Type 0 where
 abbrev pub reach_held : AnyLog → ℕ
 reach_held (Term log) = log.kept.tail
 reach_held (Image log) = contiguous_of log.rebuilt
+
+-- nothing was heard of the sender of a remote stream for longer than that
+abbrev pub is_silent_held : AnyLog → ℕ → ℕ → Bool
+is_silent_held (Term log) now limit = false
+is_silent_held (Image log) now limit = is_silent log.rebuilt now limit
 
 -- who reads it, in the order in which they joined
 abbrev pub pairs_held : AnyLog → List Pair

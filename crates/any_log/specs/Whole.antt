@@ -1,12 +1,12 @@
 -- A log of either kind as if nothing of it were lost: what calls make of it, and which log stands for it.
-use Rattle.std.specs.Prelude.{◌≡◌, ℕ, List, map, Option}
+use Rattle.std.specs.Prelude.{◌≡◌, ℕ, Bool, false, List, map, Option}
 use Rattle.any_log.specs.declared.any_log.AnyLog.{AnyLog}
 use Rattle.any_log.specs.declared.any_log.AnyLog.TheVariants.{Term, Image}
 use Rattle.any_log.specs.declared.fragment.Fragment.{Fragment}
 use Rattle.any_log.specs.Fragments.{fragment_of}
 use Rattle.any_log.specs.Held.{Made, for_publication, for_stream}
 use Rattle.image_log.specs.Polling.{polled as image_polled}
-use Rattle.image_log.specs.Rebuilt.{Rebuilt, contiguous_of, settled, rejoined as image_rejoined}
+use Rattle.image_log.specs.Rebuilt.{Rebuilt, contiguous_of, is_silent, settled, rejoined as image_rejoined}
 use Rattle.log_pairs.specs.Pairs.{position_of}
 use Rattle.log_pairs.specs.declared.pair.Pair.{Pair}
 use Rattle.term_log.specs.Whole.{Whole, Stands, tail_of, rejoined as term_rejoined, polled as term_polled}
@@ -30,6 +30,11 @@ made_for (rebuilt r) = for_stream r.ident
 abbrev pub reach_of : AnyWhole → ℕ
 reach_of (whole w) = tail_of w
 reach_of (rebuilt r) = contiguous_of r
+
+-- nothing was heard of the sender of a remote stream for longer than that
+abbrev pub is_silent_in : AnyWhole → ℕ → ℕ → Bool
+is_silent_in (whole w) now limit = false
+is_silent_in (rebuilt r) now limit = is_silent r now limit
 
 -- who reads, in the order in which they joined
 abbrev pub pairs_in : AnyWhole → List Pair

@@ -1,4 +1,4 @@
-ghost use Rattle.any_log.specs.Held.{Lies, place_held, position_held, reach_held, rejoined_held};
+ghost use Rattle.any_log.specs.Held.{Lies, is_silent_held, place_held, position_held, reach_held, rejoined_held};
 ghost use Rattle.any_log.specs.Whole.{Carries, Fetches, polled, rejoined};
 ghost use Rattle.log_arena.specs.Lease.{lease_home, lease_len, lease_place};
 ghost use Rattle.std.specs.Prelude.{◌≡◌, ◌*◌, ◌≤◌, IfOk, length};
@@ -29,6 +29,16 @@ impl AnyLog {
         match self {
             AnyLog::Term(log) => log.tail(),
             AnyLog::Image(log) => log.contiguous(),
+        }
+    }
+
+    /// Whether it is the log of a remote stream whose sender was not heard for longer than `limit` nanoseconds.
+    pub fn is_silent(&self, now: u64, limit: u64) -> bool
+        ensures { result ≡ is_silent_held self.now now limit }
+    {
+        match self {
+            AnyLog::Term(_) => false,
+            AnyLog::Image(log) => log.silent(now, limit),
         }
     }
 

@@ -1,5 +1,5 @@
 -- What a client's command tells, and what is decided on it, is the same before the client was heard of.
-use Rattle.std.proofs.Common.{◌≡◌, ℕ, ℤ, ◌+◌, max, Bool, true, false, not, ◌&&◌, nat_lt, nat_le, List, length, [], ◌∷◌, Some, Option, Result, Ok, Err, if◌then◌else◌, refl, ap, ◌∙◌}
+use Rattle.std.proofs.Common.{◌≡◌, ℕ, ℤ, max, Bool, true, false, not, ◌&&◌, nat_le, List, length, [], ◌∷◌, Result, Ok, Err, if◌then◌else◌, refl, ap}
 use Rattle.driver_core.specs.declared.refusal.Refusal.{Refusal}
 use Rattle.driver_core.specs.declared.refusal.Refusal.TheVariants.{UnknownPublication, UnknownCounter, Denied, Full}
 use Rattle.driver_core.specs.declared.replies.Reply.{Reply}
@@ -8,7 +8,7 @@ use Rattle.driver_core.specs.Commands.{at_request, body_change, heard, keeps_pai
 use Rattle.driver_core.specs.Counting.{add_counter, counted, counter_decision, has_room_for_counter, set_counter, valued, remove_counter, uncounted}
 use Rattle.driver_core.specs.Deciding.{decision_by}
 use Rattle.driver_core.specs.Draft.{Draft, refused, replied, told}
-use Rattle.driver_core.specs.Pairs.{is_within_pairs, pairs_of}
+use Rattle.driver_core.specs.Pairs.{is_within_pairs}
 use Rattle.driver_core.specs.declared.publishing.Granted.{Granted}
 use Rattle.driver_core.specs.declared.refused.Refused.{Refused}
 use Rattle.driver_core.specs.Publishing.{granting_of, has_place, has_room_for_publication, publication_decision, publishing_by, publishing_of, with_publication}

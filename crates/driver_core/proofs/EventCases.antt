@@ -3,7 +3,10 @@ use Rattle.std.proofs.Common.{◌≡◌, ℕ, ℤ, pos, ◌==◌, Bool, true, fa
 use Rattle.std.proofs.lemmas.Bool.{eqb-true, cond_both, not-true, not-false}
 use Rattle.driver_core.specs.Draft.{Draft}
 use Rattle.driver_core.specs.declared.event.Event.TheVariants.{Command}
+use Rattle.driver_core.specs.declared.event.Inputs.{Inputs}
 use Rattle.driver_core.specs.declared.outcome.Response.TheVariants as response
+use Rattle.driver_core.specs.declared.setup_fault.SetupFault.{SetupFault}
+use Rattle.driver_core.specs.declared.setup_fault.SetupFault.TheVariants.{BadSetup}
 use Rattle.driver_core.specs.declared.refusal.Refusal.{Refusal}
 use Rattle.driver_core.specs.declared.refusal.Refusal.TheVariants.{WrongClient, InvalidChannel, UnknownSubscription, UnknownPublication, UnknownCounter, Denied, Full, NoRoom}
 use Rattle.client_registry.specs.declared.client.Client.{Client}
@@ -19,11 +22,13 @@ use Rattle.driver_core.specs.Conduct.{drafted}
 use Rattle.driver_core.specs.Requests.{is_heard, Asks, PublicationRequest, AsksToPublish, wanted_by, SubscriptionRequest, AsksToSubscribe, RemovalRequest, AsksToRemove, IsAsked}
 use Rattle.driver_core.specs.Publishing.{is_publishable, add_publication, publication_decision, publish, publish_by, publish_on, publish_under, published, publishing_act, refused_by_streams, has_place, has_room_for_publication}
 use Rattle.driver_core.specs.Reloading.{reload, reloaded, has_room_for_policy}
+use Rattle.driver_core.specs.SettingUp.{image_made, set_by, set_up, set_up_by, setting_of, wanted_by as image_wanted_by}
 use Rattle.driver_core.specs.State.{State, at_moment}
 use Rattle.driver_core.specs.Subscribing.{is_subscribable, subscribe, subscribe_on, add_subscription, subscribed, decision_of, has_room_for_subscription}
 use Rattle.driver_core.specs.Terminating.{terminate, terminated, termination_decision}
 use Rattle.driver_core.specs.Unpublishing.{remove_publication, unpublished}
 use Rattle.driver_core.specs.Unsubscribing.{remove_subscription, unsubscribed}
+use Rattle.channel_uri.specs.declared.address.Address.{Address}
 use Rattle.channel_uri.specs.declared.error.UriError.{UriError}
 use Rattle.channel_uri.specs.Channel.{Shape, denotes, counter_shape, ipc_shape}
 use Rattle.command_codec.specs.declared.add_publication.AddPublication.{AddPublication}
@@ -38,6 +43,9 @@ use Rattle.command_codec.specs.declared.removal.Removal.{Removal}
 use Rattle.command_codec.specs.declared.set_counter.SetCounter.{SetCounter}
 use Rattle.command_codec.specs.declared.terminate_driver.TerminateDriver.{TerminateDriver}
 use Rattle.command_codec.specs.Command.{command_of, correlation_of}
+use Rattle.frame_codec.specs.declared.join.Join.{Join}
+use Rattle.frame_codec.specs.declared.setup.Setup.{Setup}
+use Rattle.frame_codec.specs.Join.{join_of}
 use Rattle.policy_core.specs.declared.act.Act.{Act}
 use Rattle.policy_core.specs.declared.act.Act.TheVariants.{Counter as MakeCounter, Terminate}
 use Rattle.policy_core.specs.declared.decision.Decision.{Decision}
@@ -45,6 +53,7 @@ use Rattle.policy_core.specs.RuleList.{Rules}
 use Rattle.stream_registry.specs.declared.fault.StreamFault.{StreamFault}
 use Rattle.stream_registry.specs.declared.fault.StreamFault.TheVariants as fault
 use Rattle.stream_registry.specs.declared.wanted.Adding.{Adding}
+use Rattle.stream_registry.specs.declared.wanted.ImageWanted.{ImageWanted}
 use Rattle.stream_registry.specs.declared.wanted.Wanted.{Wanted}
 use Rattle.stream_registry.specs.Adding.{adding_of}
 use Rattle.stream_registry.specs.Leaving.{has_registration, has_subscription}
@@ -417,10 +426,10 @@ read_cases P s handle bytes cases (Ok read) is =
     (λ own. found_cases P s handle bytes read cases is own (client_at s.clients.rows handle) refl)
     (λ other. cases.unheard read.correlation WrongClient tt (rw (is, other) refl))
 
-pub command_cases : (P : Draft → Type 0) (s : State) (now handle : ℕ) (bytes : List ℕ) →
-    Cases P (at_moment s now) handle bytes → P (drafted s (Command now handle bytes))
+pub command_cases : (P : Draft → Type 0) (s : State) (now handle : ℕ) (bytes : List ℕ) (inputs : Inputs) →
+    Cases P (at_moment s now) handle bytes → P (drafted s (Command now handle bytes) inputs)
 unfolding drafted command
-command_cases P s now handle bytes cases =
+command_cases P s now handle bytes inputs cases =
     read_cases P (at_moment s now) handle bytes cases (command_of bytes) refl
 
 -- ---- a policy that is put in force
@@ -439,3 +448,31 @@ unfolding attach
 attach_cases P s principal stopped done full =
     cond_both s.stopped _ _ P (λ e. stopped)
     (λ e. cond_both (has_room s.clients) _ _ P (λ e'. done) (λ e'. full))
+
+-- ---- a SETUP
+
+setting_cases : (P : Draft → Type 0) (s : State) (wanted : ImageWanted) →
+    ((fault : SetupFault) → P (answered s (response.Dropped fault))) →
+    ((place : ℕ) → setting_of s wanted ≡ Ok place → P (image_made s wanted place)) → (found : Result ℕ SetupFault) →
+    setting_of s wanted ≡ found → P (set_by s wanted found)
+setting_cases P s wanted dropped made (Err fault) is = dropped fault
+setting_cases P s wanted dropped made (Ok place) is = made place is
+
+joining_cases : (P : Draft → Type 0) (s : State) (local from : Address) (setup : Setup) →
+    ((fault : SetupFault) → P (answered s (response.Dropped fault))) →
+    ((join : Join) (place : ℕ) → join_of setup ≡ Some join →
+    setting_of s (image_wanted_by local from setup join) ≡ Ok place →
+    P (image_made s (image_wanted_by local from setup join) place)) → (found : Option Join) → join_of setup ≡ found →
+    P (set_up_by s local from setup found)
+joining_cases P s local from setup dropped made None is = dropped BadSetup
+joining_cases P s local from setup dropped made (Some join) is =
+    let wanted = image_wanted_by local from setup join in
+    setting_cases P s wanted dropped (λ place set. made join place is set) (setting_of s wanted) refl
+
+pub set_up_cases : (P : Draft → Type 0) (s : State) (local from : Address) (setup : Setup) →
+    ((fault : SetupFault) → P (answered s (response.Dropped fault))) →
+    ((join : Join) (place : ℕ) → join_of setup ≡ Some join →
+    setting_of s (image_wanted_by local from setup join) ≡ Ok place →
+    P (image_made s (image_wanted_by local from setup join) place)) → P (set_up s local from setup)
+unfolding set_up
+set_up_cases P s local from setup dropped made = joining_cases P s local from setup dropped made (join_of setup) refl

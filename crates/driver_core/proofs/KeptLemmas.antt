@@ -1,5 +1,5 @@
 -- Each change of the lists keeps what is kept beside them.
-use Rattle.std.proofs.Common.{arith, ◌≡◌, ℕ, ℤ, ◌+◌, ◌<◌, ◌≤◌, Bool, true, List, [], false, ◌==◌, ◌∷◌, cond, Option, Some, Result, Ok, All, length, filter, map, is_some, refl, sym, subst, ap, ◌∙◌}
+use Rattle.std.proofs.Common.{arith, ◌≡◌, ℕ, ℤ, ◌+◌, ◌≤◌, Bool, true, List, [], false, ◌==◌, ◌∷◌, cond, Option, Some, length, is_some, refl, sym, ap, ◌∙◌}
 use Rattle.std.proofs.lemmas.List.Elements.{All-nil}
 use Rattle.std.proofs.lemmas.Bool.{eqb-true}
 use Rattle.driver_core.specs.Commands.{heard}
@@ -9,16 +9,18 @@ use Rattle.driver_core.proofs.PairLemmas.{principal_heard}
 use Rattle.channel_uri.specs.Channel.{Shape}
 use Rattle.client_registry.specs.declared.client.Client.{Client}
 use Rattle.client_registry.specs.Clients.{ClientList, admitted, client_at, principal_at, touched, without}
-use Rattle.log_readers.specs.Numbering.{AreInOrder, IsOwned}
+use Rattle.log_readers.specs.Numbering.{IsOwned}
 use Rattle.log_readers.specs.Readers.{all_readers}
-use Rattle.log_readers.proofs.OrderLemmas.{admitted_in_order, cleared_in_order, closed_in_order, joined_in_order, later_in_order, left_in_order, made_in_order, subscribed_in_order, touched_in_order, unregistered_in_order, unsubscribed_in_order}
+use Rattle.log_readers.proofs.OrderLemmas.{admitted_in_order, cleared_in_order, closed_in_order, imaged_in_order, joined_in_order, later_in_order, left_in_order, made_in_order, subscribed_in_order, touched_in_order, unregistered_in_order, unsubscribed_in_order, without_images_in_order}
 use Rattle.log_readers.proofs.ReaderLemmas.{as_many_as_logs}
 use Rattle.log_readers.proofs.SameLemmas.{admitted_alike, touched_alike, unregistered_alike}
 use Rattle.policy_core.specs.RuleList.{Rules}
 use Rattle.stream_registry.specs.declared.wanted.Adding.{Adding}
 use Rattle.stream_registry.specs.declared.wanted.Adding.TheVariants.{Join, Make}
+use Rattle.stream_registry.specs.declared.wanted.ImageWanted.{ImageWanted}
 use Rattle.stream_registry.specs.declared.wanted.Wanted.{Wanted}
 use Rattle.stream_registry.specs.Adding.{added, subscribed}
+use Rattle.stream_registry.specs.Images.{imaged, without_images}
 use Rattle.stream_registry.specs.Leaving.{left, unregistered, unsubscribed}
 use Rattle.stream_registry.specs.Lingering.{closed}
 use Rattle.stream_registry.specs.declared.measures.Measures.{Measures}
@@ -96,6 +98,17 @@ kept_unregistered s clients policy epoch last client number now readers kept = r
   order = unregistered_in_order s clients last client number now kept.order;
 }
 
+-- ---- images
+
+pub kept_imaged : (s : Streams) (clients : List Client) (policy : Rules) (epoch last : ℕ) (wanted : ImageWanted) (place : ℕ)
+    (readers after : List (List ℕ)) → IsKept s clients policy epoch last readers →
+    after ≡ all_readers (imaged s (last + 1) wanted place) clients policy epoch →
+    IsKept (imaged s (last + 1) wanted place) clients policy epoch (last + 1) after
+kept_imaged s clients policy epoch last wanted place readers after kept is = record {
+  exact = is;
+  order = imaged_in_order s clients last (last + 1) (last + 1) wanted place kept.order (omega arith) (omega arith);
+}
+
 -- ---- what leaves and closes
 
 pub kept_left : (s : Streams) (clients : ClientList) (policy : Rules) (epoch last client now : ℕ) (readers after : List (List ℕ)) →
@@ -107,12 +120,22 @@ kept_left s clients policy epoch last client now readers after kept is = record 
   order = left_in_order s clients last client now kept.order;
 }
 
-pub kept_closed : (s : Streams) (clients : List Client) (policy : Rules) (epoch last now : ℕ) (readers after : List (List ℕ)) →
-    IsKept s clients policy epoch last readers → after ≡ all_readers (closed s now) clients policy epoch →
-    IsKept (closed s now) clients policy epoch last after
-kept_closed s clients policy epoch last now readers after kept is = record {
+pub kept_closed : (s : Streams) (clients : List Client) (policy : Rules) (epoch last now : ℕ) (silent : List ℕ)
+    (readers after : List (List ℕ)) → IsKept s clients policy epoch last readers →
+    after ≡ all_readers (closed s now silent) clients policy epoch →
+    IsKept (closed s now silent) clients policy epoch last after
+kept_closed s clients policy epoch last now silent readers after kept is = record {
   exact = is;
-  order = closed_in_order s clients last now kept.order;
+  order = closed_in_order s clients last now silent kept.order;
+}
+
+pub kept_without_images : (s : Streams) (clients : List Client) (policy : Rules) (epoch last : ℕ) (numbers : List ℕ)
+    (readers after : List (List ℕ)) → IsKept s clients policy epoch last readers →
+    after ≡ all_readers (without_images s numbers) clients policy epoch →
+    IsKept (without_images s numbers) clients policy epoch last after
+kept_without_images s clients policy epoch last numbers readers after kept is = record {
+  exact = is;
+  order = without_images_in_order s clients last numbers kept.order;
 }
 
 pub kept_cleared : (s : Streams) (clients : List Client) (policy : Rules) (epoch last : ℕ) →

@@ -1,10 +1,13 @@
 pub mod AskedLemmas
 pub mod AskingLemmas
 pub mod AttachLemmas
+pub mod BringingLemmas
 pub mod CacheLemmas
+pub mod ClosedLemmas
 pub mod ComingLemmas
 pub mod EventCases
 pub mod GoneLemmas
+pub mod ImagingLemmas
 pub mod KeptLemmas
 pub mod LeaveLemmas
 pub mod ListLemmas
@@ -14,10 +17,12 @@ pub mod PairLemmas
 pub mod PublishLemmas
 pub mod ReloadingLemmas
 pub mod SearchLemmas
+pub mod SettingLemmas
 pub mod SizeLemmas
 pub mod SoundnessLemmas
 pub mod StayLemmas
 pub mod SubscribeLemmas
 pub mod TickLemmas
+pub mod UnreadLemmas
 pub mod UnsubscribeLemmas
 pub mod VerdictLemmas

@@ -1,17 +1,18 @@
 -- Lists of logs: their numbers ascend, so that the places of some of them tell which these are.
-use Rattle.std.proofs.Common.{◌≡◌, ℕ, ◌<◌, ◌≤◌, ◌==◌, Bool, true, false, not, cond, List, [], ◌∷◌, ◌++◌, length, map, filter, get_or, refl, sym, ap, subst, ◌∙◌, arith}
+use Rattle.std.proofs.Common.{◌≡◌, ℕ, ◌<◌, ◌≤◌, ◌==◌, Bool, true, false, not, cond, List, [], ◌∷◌, ◌++◌, length, map, filter, get_or, refl, sym, ap, subst, arith}
 use Rattle.std.specs.List.{All, list_any}
 use Rattle.std.proofs.lemmas.Bool.{eq-eqb, ne_eqb}
 use Rattle.std.proofs.lemmas.List.{get_or-map, length-map}
-use Rattle.std.proofs.lemmas.List.Elements.{All-head, All-map, All-tail}
-use Rattle.driver_core.specs.Soundness.{AreSizes, Ascend, IsPublication, is_left, log_of}
+use Rattle.std.proofs.lemmas.List.Elements.{All-map}
+use Rattle.driver_core.specs.Soundness.{AreSizes, Ascend, BeginsBy, BeginsSoundly, log_of}
+use Rattle.log_readers.specs.Unread.{is_left}
 use Rattle.stream_registry.specs.declared.lingering.LogPlace.{LogPlace}
 use Rattle.stream_registry.specs.declared.row.Origin.{Origin}
 use Rattle.stream_registry.specs.declared.row.Origin.TheVariants.{Published, Remote}
 use Rattle.stream_registry.specs.declared.row.Source.{Source}
 use Rattle.stream_registry.specs.declared.row.Registration.{Registration}
 use Rattle.stream_registry.specs.Lingering.{is_used, left_alone, place_of, settled_one}
-use Rattle.stream_registry.specs.Origins.{is_published, is_published_by, left_by, unlingering}
+use Rattle.stream_registry.specs.Origins.{left_by, unlingering}
 
 -- ---- numbers ascend
 
@@ -78,32 +79,30 @@ pub same_logs_sizes : (logs others : List Source) → map log_of others ≡ map 
     All HasSizes others
 same_logs_sizes logs others same sound = sizes_as_logs others (rw same (as_logs_sizes logs sound))
 
--- ---- nor to where they come from
+-- ---- nor to where they begin
 
-log_kind : (origin : Origin) → is_published_by (unlingering origin) ≡ is_published_by origin
-log_kind (Published exclusive since) = refl
-log_kind (Remote address initial_term join) = refl
+begins_unlingering : (term_length : ℕ) (origin : Origin) → BeginsBy term_length (unlingering origin) ≡ BeginsBy term_length origin
+begins_unlingering term_length (Published exclusive since) = refl
+begins_unlingering term_length (Remote address initial_term join) = refl
 
-published_as_logs : (logs : List Source) → All IsPublication (map log_of logs) → All IsPublication logs
-published_as_logs logs sound k d within =
-    sym (log_kind (get_or logs k d).origin)
-    ∙ subst IsPublication (get_or-map log_of logs k d d within)
+begins_alike : (log : Source) → BeginsSoundly (log_of log) ≡ BeginsSoundly log
+begins_alike log = begins_unlingering log.measures.term_length log.origin
+
+begins_as_logs : (logs : List Source) → All BeginsSoundly (map log_of logs) → All BeginsSoundly logs
+begins_as_logs logs sound k d within =
+    subst (λ (T : Type 0). T) (begins_alike (get_or logs k d))
+    (subst BeginsSoundly (get_or-map log_of logs k d d within)
     (sound k d
-    (let all : length (map log_of logs) ≡ length logs = length-map logs log_of in omega (arith, all, within)))
+    (let all : length (map log_of logs) ≡ length logs = length-map logs log_of in omega (arith, all, within))))
 
-as_logs_published : (logs : List Source) → All IsPublication logs → All IsPublication (map log_of logs)
-as_logs_published logs sound =
-    All-map IsPublication log_of logs (λ k d within. log_kind (get_or logs k d).origin ∙ sound k d within)
+as_logs_begins : (logs : List Source) → All BeginsSoundly logs → All BeginsSoundly (map log_of logs)
+as_logs_begins logs sound =
+    All-map BeginsSoundly log_of logs
+    (λ k d within. subst (λ (T : Type 0). T) (sym (begins_alike (get_or logs k d))) (sound k d within))
 
-pub same_logs_published : (logs others : List Source) → map log_of others ≡ map log_of logs → All IsPublication logs →
-    All IsPublication others
-same_logs_published logs others same sound = published_as_logs others (rw same (as_logs_published logs sound))
-
--- where all are publications, these are all
-pub all_published : (logs : List Source) → All IsPublication logs → filter is_published logs ≡ logs
-all_published [] all = refl
-all_published (log ∷ logs) all =
-    rw (All-head IsPublication log logs all, all_published logs (All-tail IsPublication log logs all)) refl
+pub same_logs_begins : (logs others : List Source) → map log_of others ≡ map log_of logs → All BeginsSoundly logs →
+    All BeginsSoundly others
+same_logs_begins logs others same sound = begins_as_logs others (rw same (as_logs_begins logs sound))
 
 -- ---- a log that lingers is the same log
 

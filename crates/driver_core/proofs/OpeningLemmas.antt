@@ -33,7 +33,7 @@ use Rattle.stream_registry.specs.Pairs.{is_pair, pair_of, pairs_of as pairs_on}
 
 -- ---- each row is found by its number
 
-found_each : {A : Type 0} (key : A → ℕ) (low last : ℕ) (rows : List A) → Rises key low last rows →
+pub found_each : {A : Type 0} (key : A → ℕ) (low last : ℕ) (rows : List A) → Rises key low last rows →
     All (λ row. find (λ one. key one == key row) rows ≡ Some row) rows
 found_each key low last [] up = All-nil (λ row. find (λ one. key one == key row) [] ≡ Some row)
 found_each key low last (first ∷ rows) up =
@@ -47,7 +47,7 @@ found_each key low last (first ∷ rows) up =
 
 -- ---- what is told and decided of its pairs
 
-told_alike : {Y : Type 0} (f : Pair → List Y) (g : Subscription → List Y) (log : Source) (rows : List Subscription) →
+pub told_alike : {Y : Type 0} (f : Pair → List Y) (g : Subscription → List Y) (log : Source) (rows : List Subscription) →
     All (λ row. f (pair_of log row) ≡ g row) rows → flat_map f (map (pair_of log) rows) ≡ flat_map g rows
 told_alike f g log [] each = refl
 told_alike f g log (row ∷ rows) each =
@@ -55,14 +55,14 @@ told_alike f g log (row ∷ rows) each =
     let rest = told_alike f g log rows (All-tail (λ one. f (pair_of log one) ≡ g one) row rows each) in
     λ i. first i ++ rest i
 
-available_alike : (s : State) (ends : List End) (log : Source) (row : Subscription) →
+pub available_alike : (s : State) (ends : List End) (log : Source) (row : Subscription) →
     source_at s.streams.sources log.number ≡ Some log →
     subscription_at s.streams.subscriptions row.number ≡ Some row →
     available_for s ends (pair_of log row) ≡ available_from ends log row
 unfolding available_for
 available_alike s ends log row log_found found = λ i. available_to ends (pair_of log row) (log_found i) (found i)
 
-decisions_alike : (s after : State) (log : Source) (row : Subscription) →
+pub decisions_alike : (s after : State) (log : Source) (row : Subscription) →
     source_at after.streams.sources log.number ≡ Some log →
     subscription_at after.streams.subscriptions row.number ≡ Some row →
     after.policy ≡ s.policy → after.epoch ≡ s.epoch →
@@ -74,13 +74,13 @@ decisions_alike s after log row log_found found policy epoch principal =
 
 -- ---- a log that is made
 
-record Opens (s after : State) (inputs : Inputs) (log : Source) : Type 0 where
-  gone : lacking (pairs_of s) (pairs_of after) ≡ []
-  come : lacking (pairs_of after) (pairs_of s) ≡ map (pair_of log) (reading s log s.streams.subscriptions)
-  available :
+pub record Opens (s after : State) (inputs : Inputs) (log : Source) : Type 0 where
+  pub gone : lacking (pairs_of s) (pairs_of after) ≡ []
+  pub come : lacking (pairs_of after) (pairs_of s) ≡ map (pair_of log) (reading s log s.streams.subscriptions)
+  pub available :
       flat_map (available_for after inputs.ends) (map (pair_of log) (reading s log s.streams.subscriptions))
       ≡ flat_map (available_from inputs.ends log) (reading s log s.streams.subscriptions)
-  decided :
+  pub decided :
       flat_map (decided_on after) (map (pair_of log) (reading s log s.streams.subscriptions))
       ≡ flat_map (decided_from s) (reading s log s.streams.subscriptions)
 
@@ -119,7 +119,7 @@ opens s now handle inputs client wanted session order =
           (principal_heard s.clients.rows handle (max s.moment now) (get_or rows k d).client)));
     }
 
-by_parts : (s : State) (inputs : Inputs) (draft : Draft) (log : Source) → draft.later ≡ [] →
+pub by_parts : (s : State) (inputs : Inputs) (draft : Draft) (log : Source) → draft.later ≡ [] →
     Opens s draft.after inputs log → outcome_by s inputs draft ≡ outcome_opening s inputs (told_of draft) log
 unfolding renewed images_told images_decided
 by_parts s inputs draft log none parts =

@@ -1,5 +1,5 @@
 -- Events that change no pair.
-use Rattle.std.proofs.Common.{◌≡◌, ℕ, ◌==◌, ◌&&◌, max, Bool, true, false, cond, List, [], ◌∷◌, ◌++◌, map, filter, not, Option, Some, None, if◌then◌else◌, refl, sym, subst, ap, ◌∙◌}
+use Rattle.std.proofs.Common.{◌≡◌, ℕ, ◌==◌, ◌&&◌, max, Bool, true, false, cond, List, [], ◌∷◌, ◌++◌, map, filter, not, Option, Some, if◌then◌else◌, refl, sym, subst, ap, ◌∙◌}
 use Rattle.std.proofs.lemmas.Bool.{eq-eqb, or_left, or_right}
 use Rattle.std.proofs.lemmas.List.{append-nil, append_assoc}
 use Rattle.std.specs.List.{flat_map, list_any}
@@ -37,7 +37,7 @@ use Rattle.stream_registry.specs.declared.pairs.Pair.{Pair}
 use Rattle.stream_registry.specs.declared.row.Source.{Source}
 use Rattle.stream_registry.specs.declared.row.Subscription.{Subscription}
 use Rattle.stream_registry.specs.Leaving.{has_registration, unregistered}
-use Rattle.stream_registry.specs.Lingering.{closed, closing_of, is_not_past, is_past, place_of}
+use Rattle.stream_registry.specs.Lingering.{closed, closing_of, is_closing, place_of, stays_live}
 use Rattle.stream_registry.specs.Pairs.{fits, is_allowed, is_allowed_to, pair_of, pairs_at, pairs_of as pairs_on}
 use Rattle.stream_registry.specs.Streams.{Streams}
 
@@ -237,43 +237,48 @@ none_late : (clients : List ℕ) → map timeout_of clients ≡ [] → clients �
 none_late [] none = refl
 none_late (client ∷ clients) none = absurd cc
 
-one_stays : (now : ℕ) (past : Bool) (log : Source) (logs : List Source) → is_past now log ≡ past →
-    map place_of (filter (is_past now) (log ∷ logs)) ≡ [] →
-    (map place_of (filter (is_past now) logs) ≡ [] → filter (is_not_past now) logs ≡ logs) →
-    filter (is_not_past now) (log ∷ logs) ≡ log ∷ logs
-one_stays now true log logs is none others =
-    let some : map place_of (filter (is_past now) (log ∷ logs)) ≡ place_of log ∷ map place_of (filter (is_past now) logs) = rw is refl in
+one_stays : (now : ℕ) (silent : List ℕ) (closes : Bool) (log : Source) (logs : List Source) →
+    is_closing now silent log ≡ closes → map place_of (filter (is_closing now silent) (log ∷ logs)) ≡ [] →
+    (map place_of (filter (is_closing now silent) logs) ≡ [] → filter (stays_live now silent) logs ≡ logs) →
+    filter (stays_live now silent) (log ∷ logs) ≡ log ∷ logs
+one_stays now silent true log logs is none others =
+    let some :
+    map place_of (filter (is_closing now silent) (log ∷ logs)) ≡ place_of log ∷ map place_of (filter (is_closing now silent) logs) =
+    rw is refl in
     absurd cc
-one_stays now false log logs is none others =
-    let rest : map place_of (filter (is_past now) logs) ≡ [] = (rw is refl) ∙ none in
+one_stays now silent false log logs is none others =
+    let rest : map place_of (filter (is_closing now silent) logs) ≡ [] = (rw is refl) ∙ none in
     rw is (ap (λ (kept : List Source). log ∷ kept) (others rest))
 
-all_stay : (now : ℕ) (logs : List Source) → map place_of (filter (is_past now) logs) ≡ [] →
-    filter (is_not_past now) logs ≡ logs
-all_stay now [] none = refl
-all_stay now (log ∷ logs) none = one_stays now (is_past now log) log logs refl none (all_stay now logs)
+all_stay : (now : ℕ) (silent : List ℕ) (logs : List Source) → map place_of (filter (is_closing now silent) logs) ≡ [] →
+    filter (stays_live now silent) logs ≡ logs
+all_stay now silent [] none = refl
+all_stay now silent (log ∷ logs) none =
+    one_stays now silent (is_closing now silent log) log logs refl none (all_stay now silent logs)
 
-ticked_keeps : (s : State) (clients : List ℕ) → clients ≡ [] → (ticked (all_left s clients) clients).closes ≡ [] →
-    pairs_of (ticked (all_left s clients) clients).after ≡ pairs_of s
+ticked_keeps : (s : State) (clients silent : List ℕ) → clients ≡ [] →
+    (ticked (all_left s clients) clients silent).closes ≡ [] →
+    pairs_of (ticked (all_left s clients) clients silent).after ≡ pairs_of s
 unfolding ticked closed closing_of pairs_of pairs_on
-ticked_keeps s [] none closes =
+ticked_keeps s [] silent none closes =
     ap (λ (logs : List Source). flat_map (pairs_at s.clients.rows s.policy s.epoch s.streams.subscriptions) logs)
-    (all_stay s.moment s.streams.sources closes)
-ticked_keeps s (client ∷ clients) none closes = absurd cc
+    (all_stay s.moment silent s.streams.sources closes)
+ticked_keeps s (client ∷ clients) silent none closes = absurd cc
 
-tick_keeps : (s : State) → (tick s).later ≡ [] → (tick s).closes ≡ [] → pairs_of (tick s).after ≡ pairs_of s
+tick_keeps : (s : State) (silent : List ℕ) → (tick s silent).later ≡ [] → (tick s silent).closes ≡ [] →
+    pairs_of (tick s silent).after ≡ pairs_of s
 unfolding tick ticked
-tick_keeps s later closes = ticked_keeps s (late s) (none_late (late s) later) closes
+tick_keeps s silent later closes = ticked_keeps s (late s) silent (none_late (late s) later) closes
 
 same_moment : (s : State) (now : ℕ) → pairs_of (at_moment s now) ≡ pairs_of s
 unfolding at_moment pairs_of
 same_moment s now = refl
 
-pub tick_kept : (s : State) (now : ℕ) (inputs : Inputs) (told : Told) → told ≡ told_of (tick (at_moment s now)) →
+pub tick_kept : (s : State) (now : ℕ) (inputs : Inputs) (told : Told) → told ≡ told_of (tick (at_moment s now) inputs.silent) →
     told.later ≡ [] → told.closes ≡ [] →
-    outcome_by s inputs (tick (at_moment s now)) ≡ outcome_kept told
+    outcome_by s inputs (tick (at_moment s now) inputs.silent) ≡ outcome_kept told
 tick_kept s now inputs told is later closes =
-    let late_none : (tick (at_moment s now)).later ≡ [] = sym (ap (λ (t : Told). t.later) is) ∙ later in
-    let closes_none : (tick (at_moment s now)).closes ≡ [] = sym (ap (λ (t : Told). t.closes) is) ∙ closes in
-    kept s inputs (tick (at_moment s now)) (tick_keeps (at_moment s now) late_none closes_none ∙ same_moment s now)
+    let late_none : (tick (at_moment s now) inputs.silent).later ≡ [] = sym (ap (λ (t : Told). t.later) is) ∙ later in
+    let closes_none : (tick (at_moment s now) inputs.silent).closes ≡ [] = sym (ap (λ (t : Told). t.closes) is) ∙ closes in
+    kept s inputs (tick (at_moment s now) inputs.silent) (tick_keeps (at_moment s now) inputs.silent late_none closes_none ∙ same_moment s now)
     ∙ ap outcome_kept (sym is)

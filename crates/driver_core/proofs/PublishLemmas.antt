@@ -1,5 +1,5 @@
 -- A publication is made or refused by what is decided on it.
-use Rattle.std.proofs.Common.{◌≡◌, ℕ, Bool, true, false, not, [], Result, Ok, Err, if◌then◌else◌, refl, subst, ◌∙◌}
+use Rattle.std.proofs.Common.{◌≡◌, ℕ, Bool, true, false, [], Result, Ok, Err, refl, subst, ◌∙◌}
 use Rattle.driver_core.specs.declared.publishing.Granted.{Granted}
 use Rattle.driver_core.specs.declared.refused.Refused.{Refused}
 use Rattle.driver_core.specs.Draft.{Draft, refused}

@@ -1,6 +1,7 @@
 -- Each event keeps the logs sound, and opens and closes exactly those by which the lists change.
-use Rattle.std.proofs.Common.{◌≡◌, ℕ, ◌+◌, ◌<◌, ◌≤◌, ℤ, Bool, true, not, ◌&&◌, List, [], ◌∷◌, ◌++◌, length, map, filter, Option, Some, None, Result, Ok, Err, is_some, refl, sym, subst, ap, ◌∙◌, arith}
-use Rattle.std.specs.Prelude.{IfOk, unwrap_or}
+use Rattle.std.proofs.Common.{◌≡◌, ℕ, ◌+◌, ◌<◌, ◌≤◌, ℤ, Bool, true, not, ◌&&◌, List, [], ◌∷◌, ◌++◌, length, map, filter, Option, Some, None, Ok, is_some, refl, sym, ap, ap₂, ◌∙◌, arith}
+use Rattle.std.specs.Prelude.{unwrap_or}
+use Rattle.std.specs.List.{AllByRecursion}
 use Rattle.std.proofs.lemmas.List.{append-nil, length-append, map-append}
 use Rattle.std.proofs.lemmas.List.Elements.{All-filter, All-nil, All-push}
 use Rattle.std.proofs.lemmas.List.Filters.{length-filter_both}
@@ -8,7 +9,7 @@ use Rattle.std.proofs.lemmas.Bool.{ltb-true, and_parts}
 use Rattle.driver_core.specs.Change.{Change}
 use Rattle.driver_core.specs.Draft.{Draft}
 use Rattle.driver_core.specs.declared.event.Event.{Event}
-use Rattle.driver_core.specs.declared.event.Event.TheVariants.{Attach, Command, Reload, Tick}
+use Rattle.driver_core.specs.declared.event.Event.TheVariants.{Attach, Command, Reload, Setup, Tick}
 use Rattle.driver_core.specs.declared.event.Inputs.{Inputs}
 use Rattle.driver_core.specs.declared.outcome.Response.{Response}
 use Rattle.driver_core.specs.declared.peer.Peer.{Peer}
@@ -21,38 +22,52 @@ use Rattle.driver_core.specs.Conduct.{conduct, drafted, state_after, state_of}
 use Rattle.driver_core.specs.Counting.{counted, with_counter, valued, uncounted}
 use Rattle.driver_core.specs.Draft.{answered, told, replied, replied_opening, refused}
 use Rattle.driver_core.specs.Leaving.{left, all_left}
+use Rattle.driver_core.specs.Pairs.{pairs_of}
 use Rattle.driver_core.specs.Publishing.{has_place, opening_of, place_of_new, published, with_publication}
 use Rattle.driver_core.specs.Reloading.{in_force, reloaded}
 use Rattle.driver_core.specs.Renewal.{renewed}
 use Rattle.driver_core.specs.Requests.{RemovalRequest, SubscriptionRequest, wanted_by}
-use Rattle.driver_core.specs.Soundness.{AreSettings, AreSizes, IsPublication, IsSound, MovesLogs, Opens, is_left, log_of}
+use Rattle.driver_core.specs.SettingUp.{image_made, new_image, place_of_image, setting_of, wanted_by as image_wanted_by, with_image}
+use Rattle.driver_core.specs.Soundness.{AreSettings, AreSizes, BeginsSoundly, IsSound, MovesLogs, Opens, log_of}
 use Rattle.driver_core.specs.State.{State, at_moment, has_number, opened}
 use Rattle.driver_core.specs.Subscribing.{has_room_for_subscription, subscribed, with_subscription}
 use Rattle.driver_core.specs.Terminating.{stopped_for_good, terminated}
 use Rattle.driver_core.specs.Ticking.{late, tick, ticked}
 use Rattle.driver_core.specs.Unpublishing.{unpublished}
+use Rattle.driver_core.specs.Unread.{closed_from, dropping, is_closed, without_unread}
 use Rattle.driver_core.specs.Unsubscribing.{unsubscribed}
+use Rattle.channel_uri.specs.declared.address.Address.{Address}
 use Rattle.channel_uri.specs.Channel.{Shape}
 use Rattle.client_registry.specs.declared.client.Client.{Client}
 use Rattle.command_codec.specs.declared.add_counter.AddCounter.{AddCounter}
 use Rattle.command_codec.specs.declared.set_counter.SetCounter.{SetCounter}
+use Rattle.frame_codec.specs.declared.join.Join.{Join as JoinedAt}
+use Rattle.frame_codec.specs.declared.setup.Setup.{Setup as SetupFrame}
+use Rattle.frame_codec.specs.Join.{join_of}
+use Rattle.frame_codec.proofs.JoinLemmas.{joins_are_sound}
+use Rattle.log_readers.specs.Unread.{is_kept, is_left, without_unread as without_unread_in}
 use Rattle.policy_core.specs.declared.decision.Decision.{Decision}
 use Rattle.policy_core.specs.RuleList.{Rules}
 use Rattle.stream_registry.specs.declared.lingering.LogPlace.{LogPlace}
+use Rattle.stream_registry.specs.declared.pairs.Pair.{Pair}
 use Rattle.stream_registry.specs.declared.row.Source.{Source}
 use Rattle.stream_registry.specs.declared.wanted.Adding.{Adding}
 use Rattle.stream_registry.specs.declared.wanted.Adding.TheVariants.{Join, Make}
+use Rattle.stream_registry.specs.declared.wanted.ImageWanted.{ImageWanted}
 use Rattle.stream_registry.specs.declared.wanted.Wanted.{Wanted}
 use Rattle.stream_registry.specs.Adding.{added, has_room_for_subscription as has_room_in, log_of as made_log, subscribed as subscribed_in}
 use Rattle.stream_registry.specs.Leaving.{is_another_subscription, is_subscription_of_another, left as left_in, unregistered, unsubscribed as unsubscribed_in}
-use Rattle.stream_registry.specs.Lingering.{closed, closing_of, is_not_past, is_past, place_of, settled}
+use Rattle.stream_registry.specs.Lingering.{closed, closing_of, is_closing, place_of, settled, stays_live}
 use Rattle.stream_registry.specs.LogPages.{log_pages}
 use Rattle.stream_registry.specs.PageLaws.{IsLaidOut}
+use Rattle.stream_registry.specs.Pairs.{pairs_of as pairs_on}
 use Rattle.stream_registry.specs.Streams.{Streams}
-use Rattle.stream_registry.proofs.PageLawLemmas.{all_least, share_nothing}
-use Rattle.driver_core.proofs.EventCases.{Cases, attach_cases, command_cases, reload_cases}
-use Rattle.driver_core.proofs.LogListLemmas.{all_kept, ascend_push, ascend_up_to, closed_logs, kept_ascend, none_kept, same_logs_ascend, same_logs_published, same_logs_sizes, settled_logs}
+use Rattle.stream_registry.proofs.PageLawLemmas.{all_least, kept_laid_out, share_nothing}
+use Rattle.driver_core.proofs.EventCases.{Cases, attach_cases, command_cases, reload_cases, set_up_cases}
+use Rattle.driver_core.proofs.LogListLemmas.{all_kept, ascend_push, ascend_up_to, closed_logs, kept_ascend, none_kept, same_logs_ascend, same_logs_begins, same_logs_sizes, settled_logs}
+use Rattle.driver_core.proofs.SettingLemmas.{image_is_kept, place_is_set}
 use Rattle.driver_core.proofs.SizeLemmas.{sizes_of_made}
+use Rattle.driver_core.proofs.UnreadLemmas.{closed_left, filter_joined, fresh_left, kept_as_logs}
 
 -- what the draft leaves is sound, and its logs are those before it but for the ones that close, and the one that opens
 record Moves (s : State) (draft : Draft) : Type 0 where
@@ -60,6 +75,8 @@ record Moves (s : State) (draft : Draft) : Type 0 where
   settings : draft.after.settings ≡ s.settings
   opened : List Source
   opens : Opens s draft.opens opened
+  read : filter (is_kept (pairs_of draft.after)) opened ≡ opened
+  fresh : AllByRecursion (λ log. s.last_number < log.number) opened
   stays : filter (is_left draft.closes) opened ≡ opened
   logs :
       map log_of draft.after.streams.sources
@@ -81,7 +98,7 @@ keeps_sound s after sound keeps = record {
   sizes = same_logs_sizes s.streams.sources after.streams.sources keeps.logs sound.sizes;
   numbered = ascend_up_to 0 s.last_number after.last_number after.streams.sources keeps.numbers
       (same_logs_ascend 0 s.last_number s.streams.sources after.streams.sources keeps.logs sound.numbered);
-  published = same_logs_published s.streams.sources after.streams.sources keeps.logs sound.published;
+  begins = same_logs_begins s.streams.sources after.streams.sources keeps.logs sound.begins;
   laid_out = rw keeps.settings keeps.laid_out;
   subscriptions = keeps.subscriptions;
 }
@@ -95,6 +112,8 @@ keeps_moves s draft sound keeps opens closes =
       settings = keeps.settings;
       opened = [];
       opens = rw opens refl;
+      read = refl;
+      fresh = tt;
       stays = refl;
       logs = rw (closes, all_kept before, append-nil before) keeps.logs;
     }
@@ -289,7 +308,7 @@ added_sound s client wanted session place sound found =
           (sizes_of_made s.streams.defaults wanted.channel sound.defaults);
       numbered = ascend_push 0 s.last_number (s.last_number + 1) s.streams.sources log sound.numbered
           (omega arith) (omega arith);
-      published = All-push IsPublication s.streams.sources log sound.published refl;
+      begins = All-push BeginsSoundly s.streams.sources log sound.begins tt;
       laid_out = (share_nothing s.settings.arena_pages).made s.streams (s.last_number + 1) client place wanted session
           sound.laid_out found;
       subscriptions = sound.subscriptions;
@@ -336,52 +355,125 @@ publication_moves s client correlation wanted (Make session) sound placed =
         refl,
         refl,
         refl,
-        refl,
         all_least.vacant s.streams s.settings.arena_pages (log_pages log) place found,
         λ lower below. all_least.least s.streams s.settings.arena_pages (log_pages log) place lower found below,
       );
+      read = refl;
+      fresh = (omega arith, tt);
       stays = refl;
       logs = rw (all_kept (map log_of s.streams.sources)) (made_logs s client.number wanted session);
     }
 
+-- ---- an image that comes
+
+-- it is read, so that it stays
+image_read : (s : State) (wanted : ImageWanted) (place : ℕ) → setting_of s wanted ≡ Ok place →
+    filter (is_kept (pairs_of (with_image s wanted))) (new_image s wanted ∷ []) ≡ new_image s wanted ∷ []
+image_read s wanted place set = rw (image_is_kept s wanted place set) refl
+
+image_settings : (s : State) (wanted : ImageWanted) → (with_image s wanted).settings ≡ s.settings
+unfolding with_image
+image_settings s wanted = refl
+
+image_logs : (s : State) (wanted : ImageWanted) →
+    map log_of (with_image s wanted).streams.sources ≡ map log_of s.streams.sources ++ new_image s wanted ∷ []
+unfolding with_image
+image_logs s wanted = map-append log_of s.streams.sources (new_image s wanted ∷ [])
+
+image_sound : (s : State) (local from : Address) (setup : SetupFrame) (join : JoinedAt) → IsSound s → join_of setup ≡ Some join →
+    place_of_image s (image_wanted_by local from setup join) ≡ Some (unwrap_or (place_of_image s (image_wanted_by local from setup join)) 0) →
+    IsSound (with_image s (image_wanted_by local from setup join))
+unfolding with_image
+image_sound s local from setup join sound is found =
+    let wanted : ImageWanted = image_wanted_by local from setup join in
+    let joins = joins_are_sound setup join is in
+    record {
+      defaults = sound.defaults;
+      sizes = All-push (λ (one : Source). AreSizes one.measures) s.streams.sources (new_image s wanted) sound.sizes
+          (record {
+            term_low = joins.term_low;
+            term_high = joins.term_high;
+            term_whole = joins.term_whole;
+            mtu_low = joins.mtu_low;
+            mtu_high = joins.mtu_high;
+            mtu_aligned = joins.mtu_aligned;
+          });
+      numbered = ascend_push 0 s.last_number (s.last_number + 1) s.streams.sources (new_image s wanted) sound.numbered
+          (omega arith) (omega arith);
+      begins = All-push BeginsSoundly s.streams.sources (new_image s wanted) sound.begins (joins.aligned, joins.below);
+      laid_out = (share_nothing s.settings.arena_pages).imaged s.streams (s.last_number + 1) _ wanted sound.laid_out found;
+      subscriptions = sound.subscriptions;
+    }
+
+image_moves : (s : State) (local from : Address) (setup : SetupFrame) (join : JoinedAt) (place : ℕ) → IsSound s →
+    join_of setup ≡ Some join → setting_of s (image_wanted_by local from setup join) ≡ Ok place →
+    Moves s (image_made s (image_wanted_by local from setup join) place)
+unfolding image_made answered
+image_moves s local from setup join place sound is set =
+    let wanted : ImageWanted = image_wanted_by local from setup join in
+    let there : place_of_image s wanted ≡ Some place = place_is_set s wanted place set in
+    let found : place_of_image s wanted ≡ Some (unwrap_or (place_of_image s wanted) 0) = rw there refl in
+    let log : Source = new_image s wanted in
+    record {
+      sound = image_sound s local from setup join sound is found;
+      settings = image_settings s wanted;
+      opened = log ∷ [];
+      opens = (
+        log,
+        refl,
+        rw there refl,
+        refl,
+        all_least.vacant s.streams s.settings.arena_pages (log_pages log) _ found,
+        λ lower below. all_least.least s.streams s.settings.arena_pages (log_pages log) _ lower found below,
+      );
+      read = image_read s wanted place set;
+      fresh = (omega arith, tt);
+      stays = refl;
+      logs = rw (all_kept (map log_of s.streams.sources)) (image_logs s wanted);
+    }
+
 -- ---- time goes on
 
-closed_sound : (s : State) (now : ℕ) → IsSound s → IsSound (record s { streams = closed s.streams now })
+closed_sound : (s : State) (now : ℕ) (silent : List ℕ) → IsSound s →
+    IsSound (record s { streams = closed s.streams now silent })
 unfolding closed
-closed_sound s now sound = record {
+closed_sound s now silent sound = record {
   defaults = sound.defaults;
-  sizes = All-filter (is_not_past now) (λ (log : Source). AreSizes log.measures) s.streams.sources
+  sizes = All-filter (stays_live now silent) (λ (log : Source). AreSizes log.measures) s.streams.sources
       sound.sizes;
-  numbered = kept_ascend (is_not_past now) 0 s.last_number s.streams.sources sound.numbered;
-  published = All-filter (is_not_past now) IsPublication s.streams.sources sound.published;
-  laid_out = (share_nothing s.settings.arena_pages).closed s.streams now sound.laid_out;
+  numbered = kept_ascend (stays_live now silent) 0 s.last_number s.streams.sources sound.numbered;
+  begins = All-filter (stays_live now silent) BeginsSoundly s.streams.sources sound.begins;
+  laid_out = (share_nothing s.settings.arena_pages).closed s.streams now silent sound.laid_out;
   subscriptions = sound.subscriptions;
 }
 
-ticked_logs : (s : State) (now : ℕ) → IsSound s →
-    map log_of (closed s.streams now).sources
-    ≡ filter (is_left (closing_of s.streams now)) (map log_of s.streams.sources)
+ticked_logs : (s : State) (now : ℕ) (silent : List ℕ) → IsSound s →
+    map log_of (closed s.streams now silent).sources
+    ≡ filter (is_left (closing_of s.streams now silent)) (map log_of s.streams.sources)
 unfolding closed closing_of
-ticked_logs s now sound = closed_logs (is_past now) 0 s.last_number s.streams.sources sound.numbered
+ticked_logs s now silent sound = closed_logs (is_closing now silent) 0 s.last_number s.streams.sources sound.numbered
 
-ticked_moves : (s between : State) (clients : List ℕ) → IsSound s → Keeps s between → Moves s (ticked between clients)
+ticked_moves : (s between : State) (clients silent : List ℕ) → IsSound s → Keeps s between →
+    Moves s (ticked between clients silent)
 unfolding ticked
-ticked_moves s between clients sound keeps =
+ticked_moves s between clients silent sound keeps =
     let left_sound : IsSound between = keeps_sound s between sound keeps in
-    let closes : List LogPlace = closing_of between.streams between.moment in
+    let closes : List LogPlace = closing_of between.streams between.moment silent in
     record {
-      sound = closed_sound between between.moment left_sound;
+      sound = closed_sound between between.moment silent left_sound;
       settings = keeps.settings;
       opened = [];
       opens = refl;
+      read = refl;
+      fresh = tt;
       stays = refl;
       logs = rw (append-nil (filter (is_left closes) (map log_of s.streams.sources)), ← keeps.logs)
-          (ticked_logs between between.moment left_sound);
+          (ticked_logs between between.moment silent left_sound);
     }
 
-tick_moves : (s : State) → IsSound s → Moves s (tick s)
+tick_moves : (s : State) (silent : List ℕ) → IsSound s → Moves s (tick s silent)
 unfolding tick
-tick_moves s sound = ticked_moves s (all_left s (late s)) (late s) sound (left_keep s (late s) sound)
+tick_moves s silent sound = ticked_moves s (all_left s (late s)) (late s) silent sound (left_keep s (late s) sound)
 
 -- ---- the end of the driver
 
@@ -400,13 +492,15 @@ termination_moves s client correlation sound = record {
     defaults = sound.defaults;
     sizes = All-nil (λ (log : Source). AreSizes log.measures);
     numbered = omega arith;
-    published = All-nil IsPublication;
+    begins = All-nil BeginsSoundly;
     laid_out = (share_nothing s.settings.arena_pages).cleared s.streams sound.laid_out;
     subscriptions = omega arith;
   };
   settings = refl;
   opened = [];
   opens = refl;
+  read = refl;
+  fresh = tt;
   stays = refl;
   logs = rw (all_close s sound) refl;
 }
@@ -420,7 +514,7 @@ moment_sound s now sound = record {
   defaults = sound.defaults;
   sizes = sound.sizes;
   numbered = sound.numbered;
-  published = sound.published;
+  begins = sound.begins;
   laid_out = sound.laid_out;
   subscriptions = sound.subscriptions;
 }
@@ -431,7 +525,7 @@ request_sound s now handle sound = record {
   defaults = sound.defaults;
   sizes = sound.sizes;
   numbered = sound.numbered;
-  published = sound.published;
+  begins = sound.begins;
   laid_out = sound.laid_out;
   subscriptions = sound.subscriptions;
 }
@@ -455,6 +549,8 @@ moment_moves s now draft moves = record {
   settings = moves.settings;
   opened = moves.opened;
   opens = moment_opens s now draft.opens moves.opened moves.opens;
+  read = moves.read;
+  fresh = moves.fresh;
   stays = moves.stays;
   logs = moves.logs;
 }
@@ -466,6 +562,8 @@ request_moves s now handle draft moves = record {
   settings = moves.settings;
   opened = moves.opened;
   opens = request_opens s now handle draft.opens moves.opened moves.opens;
+  read = moves.read;
+  fresh = moves.fresh;
   stays = moves.stays;
   logs = moves.logs;
 }
@@ -501,9 +599,9 @@ command_moves s now handle bytes sound =
           by _ (termination_moves at client correlation is_sound);
     }
 
-draft_moves : (s : State) (event : Event) → IsSound s → Moves s (drafted s event)
+draft_moves : (s : State) (event : Event) (inputs : Inputs) → IsSound s → Moves s (drafted s event inputs)
 unfolding drafted
-draft_moves s (Attach now principal) sound =
+draft_moves s (Attach now principal) inputs sound =
     let before = at_moment s now in
     let is_sound : IsSound before = moment_sound s now sound in
     let by = moment_moves s now in
@@ -511,28 +609,71 @@ draft_moves s (Attach now principal) sound =
     (by _ (answer_moves before _ is_sound))
     (by _ (attached_moves before principal is_sound))
     (by _ (answer_moves before _ is_sound))
-draft_moves s (Command now handle bytes) sound =
-    command_cases (Moves s) s now handle bytes (command_moves s now handle bytes sound)
-draft_moves s (Reload now policy) sound =
+draft_moves s (Command now handle bytes) inputs sound =
+    command_cases (Moves s) s now handle bytes inputs (command_moves s now handle bytes sound)
+draft_moves s (Reload now policy) inputs sound =
     let before = at_moment s now in
     let is_sound : IsSound before = moment_sound s now sound in
     let by = moment_moves s now in
     reload_cases (Moves s) before policy
     (λ room. by _ (reloaded_moves before policy is_sound)) (λ full. by _ (answer_moves before _ is_sound))
-draft_moves s (Tick now) sound = moment_moves s now _ (tick_moves (at_moment s now) (moment_sound s now sound))
+draft_moves s (Tick now) inputs sound =
+    moment_moves s now _ (tick_moves (at_moment s now) inputs.silent (moment_sound s now sound))
+draft_moves s (Setup now local from setup) inputs sound =
+    let before = at_moment s now in
+    let is_sound : IsSound before = moment_sound s now sound in
+    let by = moment_moves s now in
+    set_up_cases (Moves s) before local from setup
+    (λ fault. by _ (answer_moves before _ is_sound))
+    (λ join place is set. by _ (image_moves before local from setup join place is_sound is set))
+
+-- ---- images that none reads
+
+unread_settings : (s : State) → (without_unread s).settings ≡ s.settings
+unfolding without_unread
+unread_settings s = refl
+
+unread_sound : (s : State) → IsSound s → IsSound (without_unread s)
+unfolding without_unread without_unread_in
+unread_sound s sound =
+    let kept : Source → Bool = is_kept (pairs_on s.streams s.clients.rows s.policy s.epoch) in
+    record {
+      defaults = sound.defaults;
+      sizes = All-filter kept (λ (log : Source). AreSizes log.measures) s.streams.sources sound.sizes;
+      numbered = kept_ascend kept 0 s.last_number s.streams.sources sound.numbered;
+      begins = All-filter kept BeginsSoundly s.streams.sources sound.begins;
+      laid_out = kept_laid_out s.settings.arena_pages s.streams _ kept refl sound.laid_out;
+      subscriptions = sound.subscriptions;
+    }
+
+dropping_moves : (s : State) (change : Change) (opened : List Source) → IsSound s → IsSound change.after →
+    filter (is_kept (pairs_of change.after)) opened ≡ opened →
+    map log_of change.after.streams.sources
+    ≡ filter (is_left change.outcome.closes) (map log_of s.streams.sources) ++ opened →
+    map log_of (without_unread change.after).streams.sources
+    ≡ filter (is_left (closed_from s change)) (map log_of s.streams.sources) ++ opened
+unfolding without_unread without_unread_in pairs_of
+dropping_moves s change opened sound after read logs =
+    let pairs : List Pair = pairs_on change.after.streams change.after.clients.rows change.after.policy change.after.epoch in
+    kept_as_logs pairs change.after.streams.sources
+    ∙ ap (filter (is_kept pairs)) logs
+    ∙ filter_joined (is_kept pairs) (filter (is_left change.outcome.closes) (map log_of s.streams.sources)) opened
+    ∙ ap₂ (λ (front back : List Source). front ++ back)
+    (sym (closed_left pairs change.outcome.closes s.last_number s.streams.sources sound.numbered)) read
 
 -- renewing the pairs moves no log
 pub moves_logs : (s : State) (event : Event) (inputs : Inputs) → IsSound s → MovesLogs s (conduct s event inputs)
-unfolding conduct renewed
+unfolding conduct renewed dropping
 moves_logs s event inputs sound =
-    let moves : Moves s (drafted s event) = draft_moves s event sound in
+    let moves : Moves s (drafted s event inputs) = draft_moves s event inputs sound in
     record {
-      sound = moves.sound;
-      settings = moves.settings;
+      sound = unread_sound (drafted s event inputs).after moves.sound;
+      settings = unread_settings (drafted s event inputs).after ∙ moves.settings;
       opened = moves.opened;
       opens = moves.opens;
-      stays = moves.stays;
-      logs = moves.logs;
+      stays = fresh_left (is_closed (renewed s inputs (drafted s event inputs))) s.last_number s.streams.sources moves.opened
+          sound.numbered moves.fresh;
+      logs = dropping_moves s (renewed s inputs (drafted s event inputs)) moves.opened sound moves.sound moves.read moves.logs;
     }
 
 -- what answers the event moves the logs, where there was memory for it
@@ -546,7 +687,7 @@ opened_sound settings policy peers sound = record {
   defaults = sound.sizes;
   sizes = All-nil (λ (log : Source). AreSizes log.measures);
   numbered = omega arith;
-  published = All-nil IsPublication;
+  begins = All-nil BeginsSoundly;
   laid_out = (share_nothing settings.arena_pages).opened _ settings.first_session;
   subscriptions = omega arith;
 }

@@ -1,10 +1,10 @@
 -- What an event leaves was there before it, or has a number above those that were drawn.
-use Rattle.std.proofs.Common.{◌≡◌, ℕ, ◌+◌, ◌<◌, ◌≤◌, Bool, true, false, cond, List, [], ◌∷◌, ◌++◌, map, ◌⊎◌, inl, inr, ⊎_elim, refl, ap, ◌∙◌, arith}
+use Rattle.std.proofs.Common.{◌≡◌, ℕ, ◌<◌, ◌≤◌, Bool, true, false, cond, List, [], ◌∷◌, ◌++◌, map, ◌⊎◌, inl, inr, ⊎_elim, refl, ap, ◌∙◌, arith}
 use Rattle.std.specs.List.{Contains}
 use Rattle.std.proofs.lemmas.List.Elements.{All-contains, All-contains_itself, All-map, All-weaker, Contains-push_cases}
 use Rattle.driver_core.specs.Draft.{Draft}
 use Rattle.driver_core.specs.declared.event.Event.{Event}
-use Rattle.driver_core.specs.declared.event.Event.TheVariants.{Attach, Command, Reload, Tick}
+use Rattle.driver_core.specs.declared.event.Event.TheVariants.{Attach, Command, Reload, Setup, Tick}
 use Rattle.driver_core.specs.declared.event.Inputs.{Inputs}
 use Rattle.driver_core.specs.declared.outcome.Response.{Response}
 use Rattle.driver_core.specs.declared.refusal.Refusal.{Refusal}
@@ -19,15 +19,18 @@ use Rattle.driver_core.specs.Publishing.{published, with_publication}
 use Rattle.driver_core.specs.Reloading.{in_force, reloaded}
 use Rattle.driver_core.specs.Renewal.{renewed}
 use Rattle.driver_core.specs.Requests.{RemovalRequest, SubscriptionRequest, wanted_by}
+use Rattle.driver_core.specs.SettingUp.{image_made, with_image}
 use Rattle.driver_core.specs.State.{State, at_moment}
 use Rattle.driver_core.specs.Subscribing.{subscribed, with_subscription}
 use Rattle.driver_core.specs.Terminating.{stopped_for_good, terminated}
 use Rattle.driver_core.specs.Ticking.{late, tick, ticked}
 use Rattle.driver_core.specs.Unpublishing.{unpublished}
+use Rattle.driver_core.specs.Unread.{dropping, without_unread}
 use Rattle.driver_core.specs.Unsubscribing.{unsubscribed}
 use Rattle.client_registry.specs.declared.client.Client.{Client}
 use Rattle.command_codec.specs.declared.add_counter.AddCounter.{AddCounter}
 use Rattle.command_codec.specs.declared.set_counter.SetCounter.{SetCounter}
+use Rattle.log_readers.specs.Unread.{is_kept, without_unread as without_unread_in}
 use Rattle.policy_core.specs.declared.decision.Decision.{Decision}
 use Rattle.policy_core.specs.RuleList.{Rules}
 use Rattle.stream_registry.specs.declared.row.Source.{Source}
@@ -35,11 +38,12 @@ use Rattle.stream_registry.specs.declared.row.Registration.{Registration}
 use Rattle.stream_registry.specs.declared.row.Subscription.{Subscription}
 use Rattle.stream_registry.specs.declared.wanted.Adding.{Adding}
 use Rattle.stream_registry.specs.declared.wanted.Adding.TheVariants.{Join, Make}
+use Rattle.stream_registry.specs.declared.wanted.ImageWanted.{ImageWanted}
 use Rattle.stream_registry.specs.declared.wanted.Wanted.{Wanted}
 use Rattle.stream_registry.specs.Adding.{subscribed as subscribed_in}
 use Rattle.stream_registry.specs.Leaving.{is_another_registration, is_another_subscription, is_registration_of_another, is_subscription_of_another, left as left_in, unregistered, unsubscribed as unsubscribed_in}
-use Rattle.stream_registry.specs.Lingering.{closed, is_not_past, is_used, left_alone, settled, settled_one}
-use Rattle.driver_core.proofs.EventCases.{Cases, attach_cases, command_cases, reload_cases}
+use Rattle.stream_registry.specs.Lingering.{closed, is_used, left_alone, settled, settled_one, stays_live}
+use Rattle.driver_core.proofs.EventCases.{Cases, attach_cases, command_cases, reload_cases, set_up_cases}
 use Rattle.driver_core.proofs.ListLemmas.{contains_none, left_was_there}
 
 -- a log of that source and that stream was there
@@ -299,20 +303,35 @@ all_left_stays s (client ∷ clients) =
 
 -- ---- time goes on, and ends
 
-ticked_stays : (s : State) (clients : List ℕ) → Stays s (ticked s clients).after
+ticked_stays : (s : State) (clients silent : List ℕ) → Stays s (ticked s clients silent).after
 unfolding ticked closed
-ticked_stays s clients = record {
+ticked_stays s clients silent = record {
   last = omega arith;
   policy = inl (refl, refl);
   registrations = λ row has. inl has;
   subscriptions = λ row has. inl has;
   logs = λ log has.
-      inl (same_log s.streams.sources log (left_was_there (is_not_past s.moment) s.streams.sources log has));
+      inl (same_log s.streams.sources log (left_was_there (stays_live s.moment silent) s.streams.sources log has));
 }
 
-tick_stays : (s : State) → Stays s (tick s).after
+tick_stays : (s : State) (silent : List ℕ) → Stays s (tick s silent).after
 unfolding tick
-tick_stays s = both_stay s (all_left s (late s)) _ (all_left_stays s (late s)) (ticked_stays (all_left s (late s)) (late s))
+tick_stays s silent =
+    both_stay s (all_left s (late s)) _ (all_left_stays s (late s)) (ticked_stays (all_left s (late s)) (late s) silent)
+
+-- ---- an image that comes
+
+image_stays : (s : State) (wanted : ImageWanted) (place : ℕ) → Stays s (image_made s wanted place).after
+unfolding image_made with_image answered
+image_stays s wanted place = record {
+  last = omega arith;
+  policy = inl (refl, refl);
+  registrations = λ row has. inl has;
+  subscriptions = λ row has. inl has;
+  logs = λ log has.
+      ⊎_elim (λ before. inl (same_log s.streams.sources log before)) (λ new. inr new)
+      (pushed (λ (one : Source). one.number) s.last_number s.streams.sources _ log (omega arith) has);
+}
 
 termination_stays : (s : State) (client : Client) (correlation : ℕ) → Stays s (terminated s client correlation).after
 unfolding terminated stopped_for_good
@@ -377,22 +396,39 @@ command_stays s now handle bytes =
           by _ (termination_stays at client correlation);
     }
 
-draft_stays : (s : State) (event : Event) → DraftStays s (drafted s event)
+draft_stays : (s : State) (event : Event) (inputs : Inputs) → DraftStays s (drafted s event inputs)
 unfolding drafted
-draft_stays s (Attach now principal) =
+draft_stays s (Attach now principal) inputs =
     let before = at_moment s now in
     let by = from_moment s now in
     attach_cases (DraftStays s) before principal
     (by _ (answer_stays before _)) (by _ (attached_stays before principal)) (by _ (answer_stays before _))
-draft_stays s (Command now handle bytes) =
-    command_cases (DraftStays s) s now handle bytes (command_stays s now handle bytes)
-draft_stays s (Reload now policy) =
+draft_stays s (Command now handle bytes) inputs =
+    command_cases (DraftStays s) s now handle bytes inputs (command_stays s now handle bytes)
+draft_stays s (Reload now policy) inputs =
     let before = at_moment s now in
     let by = from_moment s now in
     reload_cases (DraftStays s) before policy
     (λ room. by _ (reloaded_stays before policy)) (λ full. by _ (answer_stays before _))
-draft_stays s (Tick now) = from_moment s now _ (tick_stays (at_moment s now))
+draft_stays s (Tick now) inputs = from_moment s now _ (tick_stays (at_moment s now) inputs.silent)
+draft_stays s (Setup now local from setup) inputs =
+    let before = at_moment s now in
+    let by = from_moment s now in
+    set_up_cases (DraftStays s) before local from setup (λ fault. by _ (answer_stays before _))
+    (λ join place is set. by _ (image_stays before _ place))
+
+-- what is left where images go that none reads
+unread_stays : (s after : State) → Stays s after → Stays s (without_unread after)
+unfolding without_unread without_unread_in
+unread_stays s after stays = record {
+  last = stays.last;
+  policy = stays.policy;
+  registrations = stays.registrations;
+  subscriptions = stays.subscriptions;
+  logs = λ log has. stays.logs log (left_was_there (is_kept _) after.streams.sources log has);
+}
 
 pub event_stays : (s : State) (event : Event) (inputs : Inputs) → Stays s (state_after s event inputs)
-unfolding conduct renewed
-event_stays s event inputs = draft_stays s event
+unfolding conduct renewed dropping
+event_stays s event inputs =
+    unread_stays s (drafted s event inputs).after (draft_stays s event inputs)

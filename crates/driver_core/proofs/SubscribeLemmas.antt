@@ -1,5 +1,5 @@
 -- A subscription is made or refused by what is decided on it.
-use Rattle.std.proofs.Common.{◌≡◌, ℕ, ℤ, Bool, true, false, not, [], Result, Ok, Err, if◌then◌else◌, refl, ◌∙◌}
+use Rattle.std.proofs.Common.{◌≡◌, ℕ, ℤ, Bool, true, false, [], Result, Ok, Err, refl, ◌∙◌}
 use Rattle.driver_core.specs.declared.refused.Refused.{Refused}
 use Rattle.driver_core.specs.Draft.{Draft, refused}
 use Rattle.driver_core.specs.declared.refusal.Refusal.TheVariants.{Full, InvalidChannel}

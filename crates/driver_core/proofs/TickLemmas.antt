@@ -1,7 +1,7 @@
 -- Time goes on: which logs close and which pairs go is known before anybody leaves.
-use Rattle.std.proofs.Common.{◌≡◌, ℕ, ◌-◌, max, Bool, true, false, cond, List, [], ◌∷◌, ◌++◌, map, filter, Option, Some, None, unwrap_or, refl, sym, subst, ap, ◌∙◌, arith}
+use Rattle.std.proofs.Common.{◌≡◌, ℕ, ◌-◌, max, Bool, true, false, cond, List, [], ◌∷◌, ◌++◌, map, filter, Option, Some, None, unwrap_or, not, ◌&&◌, refl, sym, subst, ap, ap₂, ◌∙◌, arith}
 use Rattle.std.specs.Prelude.{◌||◌}
-use Rattle.std.specs.List.{flat_map}
+use Rattle.std.specs.List.{flat_map, list_any}
 use Rattle.std.proofs.lemmas.Bool.{le-ltb}
 use Rattle.std.proofs.lemmas.List.Elements.{filter_agree}
 use Rattle.driver_core.specs.declared.event.Inputs.{Inputs}
@@ -27,8 +27,8 @@ use Rattle.stream_registry.specs.declared.row.Origin.TheVariants.{Published, Rem
 use Rattle.stream_registry.specs.declared.row.Registration.{Registration}
 use Rattle.stream_registry.specs.declared.row.Subscription.{Subscription}
 use Rattle.stream_registry.specs.Leaving.{is_subscription_of_another, left as left_in}
-use Rattle.stream_registry.specs.Lingering.{closed, closing_of, is_past, is_past_since, is_used, left_alone, place_of, settled, settled_one}
-use Rattle.stream_registry.specs.Origins.{left_by, lingering_by}
+use Rattle.stream_registry.specs.Lingering.{closed, closing_of, is_closing, is_image_of, is_number, is_past, is_past_since, is_used, left_alone, place_of, settled, settled_one}
+use Rattle.stream_registry.specs.Origins.{is_published_by, left_by, lingering_by}
 use Rattle.stream_registry.specs.Streams.{Streams}
 
 -- ---- a log that begins to linger at a moment does not close at it
@@ -43,6 +43,10 @@ left_past : (linger now : ℕ) (origin : Origin) →
 left_past linger now (Published exclusive since) = just_begun linger now since
 left_past linger now (Remote address initial_term join) = refl
 
+kind_left : (now : ℕ) (origin : Origin) → is_published_by (left_by now origin) ≡ is_published_by origin
+kind_left now (Published exclusive since) = refl
+kind_left now (Remote address initial_term join) = refl
+
 past_alike : (registrations : List Registration) (now : ℕ) (log : Source) →
     is_past now (settled_one registrations now log) ≡ is_past now log
 past_alike registrations now log =
@@ -50,6 +54,19 @@ past_alike registrations now log =
       | true ↦ refl
       | false ↦ left_past log.measures.linger now log.origin
     ]
+
+silent_alike : (silent : List ℕ) (registrations : List Registration) (now : ℕ) (log : Source) →
+    is_image_of silent (settled_one registrations now log) ≡ is_image_of silent log
+silent_alike silent registrations now log =
+    elim (is_used registrations log.number) as (λ b. is_image_of silent (cond b log (left_alone now log)) ≡ is_image_of silent log) [
+      | true ↦ refl
+      | false ↦ ap (λ (b : Bool). not b && list_any (is_number log.number) silent) (kind_left now log.origin)
+    ]
+
+closing_alike : (silent : List ℕ) (registrations : List Registration) (now : ℕ) (log : Source) →
+    is_closing now silent (settled_one registrations now log) ≡ is_closing now silent log
+closing_alike silent registrations now log =
+    ap₂ (λ (past image : Bool). past || image) (past_alike registrations now log) (silent_alike silent registrations now log)
 
 place_alike : (registrations : List Registration) (now : ℕ) (log : Source) →
     place_of (settled_one registrations now log) ≡ place_of log
@@ -59,21 +76,26 @@ place_alike registrations now log =
       | false ↦ refl
     ]
 
-settled_closing : (registrations : List Registration) (now : ℕ) (logs : List Source) →
-    map place_of (filter (is_past now) (map (settled_one registrations now) logs)) ≡ map place_of (filter (is_past now) logs)
-settled_closing registrations now logs =
-    ap (map place_of) (filter_mapped (is_past now) (settled_one registrations now) logs)
+settled_closing : (silent : List ℕ) (registrations : List Registration) (now : ℕ) (logs : List Source) →
+    map place_of (filter (is_closing now silent) (map (settled_one registrations now) logs))
+    ≡ map place_of (filter (is_closing now silent) logs)
+settled_closing silent registrations now logs =
+    ap (map place_of) (filter_mapped (is_closing now silent) (settled_one registrations now) logs)
     ∙ ap (λ (past : List Source). map place_of (map (settled_one registrations now) past))
-    (filter_agree (λ (log : Source). is_past now (settled_one registrations now log)) (is_past now) (past_alike registrations now) logs)
-    ∙ map_through place_of (settled_one registrations now) (filter (is_past now) logs) (place_alike registrations now)
+    (filter_agree (λ (log : Source). is_closing now silent (settled_one registrations now log)) (is_closing now silent)
+    (closing_alike silent registrations now) logs)
+    ∙ map_through place_of (settled_one registrations now) (filter (is_closing now silent) logs) (place_alike registrations now)
 
-left_closing : (s : Streams) (client now : ℕ) → closing_of (left_in s client now) now ≡ closing_of s now
+left_closing : (s : Streams) (client now : ℕ) (silent : List ℕ) →
+    closing_of (left_in s client now) now silent ≡ closing_of s now silent
 unfolding left_in settled closing_of
-left_closing s client now = settled_closing _ now s.sources
+left_closing s client now silent = settled_closing silent _ now s.sources
 
-all_left_closing : (s : Streams) (clients : List ℕ) (now : ℕ) → closing_of (all_left_in s clients now) now ≡ closing_of s now
-all_left_closing s [] now = refl
-all_left_closing s (client ∷ clients) now = all_left_closing (left_in s client now) clients now ∙ left_closing s client now
+all_left_closing : (s : Streams) (clients : List ℕ) (now : ℕ) (silent : List ℕ) →
+    closing_of (all_left_in s clients now) now silent ≡ closing_of s now silent
+all_left_closing s [] now silent = refl
+all_left_closing s (client ∷ clients) now silent =
+    all_left_closing (left_in s client now) clients now silent ∙ left_closing s client now silent
 
 -- ---- the registry without these clients
 
@@ -89,13 +111,13 @@ all_left_is s [] = refl
 all_left_is s (client ∷ clients) = all_left_is (left s client) clients
 
 -- the logs that close then
-pub closing_same : (s : State) (now : ℕ) (clients : List ℕ) →
-    closing_of (all_left (at_moment s now) clients).streams (all_left (at_moment s now) clients).moment
-    ≡ closing_of s.streams (max s.moment now)
+pub closing_same : (s : State) (now : ℕ) (silent clients : List ℕ) →
+    closing_of (all_left (at_moment s now) clients).streams (all_left (at_moment s now) clients).moment silent
+    ≡ closing_of s.streams (max s.moment now) silent
 unfolding at_moment
-closing_same s now clients =
-    ap (λ (t : State). closing_of t.streams t.moment) (all_left_is (at_moment s now) clients)
-    ∙ all_left_closing s.streams clients (max s.moment now)
+closing_same s now silent clients =
+    ap (λ (t : State). closing_of t.streams t.moment silent) (all_left_is (at_moment s now) clients)
+    ∙ all_left_closing s.streams clients (max s.moment now) silent
 
 -- ---- what is there of a pair then
 
@@ -122,52 +144,53 @@ all_left_at s (client ∷ clients) now last pair up =
     (left_at s client now pair.subscription last up)
     ∙ next_at (is_of_client s client pair) s client now clients pair (subscription_at s.subscriptions pair.subscription) refl
 
-closed_at : (s : Streams) (now last source : ℕ) → Rises source_of 0 last s.sources →
-    source_at (closed s now).sources source
-    ≡ cond (stays_open (closing_of s now) source) (source_at s.sources source) None
+closed_at : (s : Streams) (now : ℕ) (silent : List ℕ) (last source : ℕ) → Rises source_of 0 last s.sources →
+    source_at (closed s now silent).sources source
+    ≡ cond (stays_open (closing_of s now silent) source) (source_at s.sources source) None
 unfolding closed
-closed_at s now last source up =
-    ap (λ (logs : List Source). source_at logs source) (closed_by_source s now 0 last up)
-    ∙ found_in_part source_of (stays_open (closing_of s now)) source s.sources
+closed_at s now silent last source up =
+    ap (λ (logs : List Source). source_at logs source) (closed_by_source s now silent 0 last up)
+    ∙ found_in_part source_of (stays_open (closing_of s now silent)) source s.sources
 
 -- ---- what goes
 
 -- the registry behind it, by the one that those leave who are late
-abbrev behind : State → State
-behind between = record between { streams = closed between.streams between.moment }
+abbrev behind : List ℕ → State → State
+behind silent between = record between { streams = closed between.streams between.moment silent }
 
 -- the pair's subscription there
-tick_at : (s : State) (last : ℕ) (pair : Pair) → AreInOrder s.streams s.clients.rows last →
-    subscription_at (tick s).after.streams.subscriptions pair.subscription
+tick_at : (s : State) (silent : List ℕ) (last : ℕ) (pair : Pair) → AreInOrder s.streams s.clients.rows last →
+    subscription_at (tick s silent).after.streams.subscriptions pair.subscription
     ≡ cond (is_of_any s.streams (late s) pair) None (subscription_at s.streams.subscriptions pair.subscription)
 unfolding tick ticked closed
-tick_at s last pair order =
+tick_at s silent last pair order =
     ap (λ (t : State). subscription_at t.streams.subscriptions pair.subscription) (all_left_is s (late s))
     ∙ all_left_at s.streams (late s) s.moment last pair order.numbers
 
 -- and its log
-tick_log : (s : State) (last : ℕ) (pair : Pair) → AreInOrder s.streams s.clients.rows last →
-    is_of_closing (tick s).closes pair ≡ true → source_at (tick s).after.streams.sources pair.source ≡ None
+tick_log : (s : State) (silent : List ℕ) (last : ℕ) (pair : Pair) → AreInOrder s.streams s.clients.rows last →
+    is_of_closing (tick s silent).closes pair ≡ true → source_at (tick s silent).after.streams.sources pair.source ≡ None
 unfolding tick ticked
-tick_log s last pair order closes =
+tick_log s silent last pair order closes =
     let between : Streams = all_left_in s.streams (late s) s.moment in
     let is = all_left_is s (late s) in
-    let closing : is_of_closing (closing_of between s.moment) pair ≡ true =
-    subst (λ (t : State). is_of_closing (closing_of t.streams t.moment) pair ≡ true) is closes in
-    ap (λ (t : State). source_at (closed t.streams t.moment).sources pair.source) is
-    ∙ closed_at between s.moment last pair.source
+    let closing : is_of_closing (closing_of between s.moment silent) pair ≡ true =
+    subst (λ (t : State). is_of_closing (closing_of t.streams t.moment silent) pair ≡ true) is closes in
+    ap (λ (t : State). source_at (closed t.streams t.moment silent).sources pair.source) is
+    ∙ closed_at between s.moment silent last pair.source
     (all_left_in_order s.policy s.epoch s.streams s.clients (late s) s.moment last order).sources
     ∙ (rw closing refl)
 
-tick_turnover : (s : State) (last : ℕ) → AreInOrder s.streams s.clients.rows last →
-    IsTurnover (pairs_of s) (pairs_of (tick s).after) (filter (is_going s.streams (late s) (tick s).closes) (pairs_of s)) []
+tick_turnover : (s : State) (silent : List ℕ) (last : ℕ) → AreInOrder s.streams s.clients.rows last →
+    IsTurnover (pairs_of s) (pairs_of (tick s silent).after)
+    (filter (is_going s.streams (late s) (tick s silent).closes) (pairs_of s)) []
 unfolding tick ticked pairs_of
-tick_turnover s last order =
+tick_turnover s silent last order =
     subst (λ (t : State).
-    IsTurnover (pairs_of s) (pairs_of (behind t))
-    (filter (is_going s.streams (late s) (closing_of t.streams t.moment)) (pairs_of s)) [])
+    IsTurnover (pairs_of s) (pairs_of (behind silent t))
+    (filter (is_going s.streams (late s) (closing_of t.streams t.moment silent)) (pairs_of s)) [])
     (sym (all_left_is s (late s)))
-    (ticked_turnover s.policy s.epoch s.streams s.clients (late s) s.moment last order)
+    (ticked_turnover s.policy s.epoch s.streams s.clients (late s) s.moment silent last order)
 
 -- ---- what is told of it
 
@@ -176,43 +199,44 @@ beside : (b : Bool) (pair : Pair) (found : Option Subscription) →
 beside true pair found = refl
 beside false pair found = refl
 
-tick_tells : (s : State) (last : ℕ) (pair : Pair) → AreInOrder s.streams s.clients.rows last →
-    unavailable_for (tick s).after pair ≡ unavailable_beside s (late s) pair
+tick_tells : (s : State) (silent : List ℕ) (last : ℕ) (pair : Pair) → AreInOrder s.streams s.clients.rows last →
+    unavailable_for (tick s silent).after pair ≡ unavailable_beside s (late s) pair
 unfolding unavailable_for
-tick_tells s last pair order =
-    ap (unavailable_to pair) (tick_at s last pair order)
+tick_tells s silent last pair order =
+    ap (unavailable_to pair) (tick_at s silent last pair order)
     ∙ beside (is_of_any s.streams (late s) pair) pair (subscription_at s.streams.subscriptions pair.subscription)
 
-either_gone : (b : Bool) (s : State) (last : ℕ) (pair : Pair) → AreInOrder s.streams s.clients.rows last →
-    is_of_any s.streams (late s) pair ≡ b → (b || is_of_closing (tick s).closes pair) ≡ true →
-    decided_on (tick s).after pair ≡ []
-either_gone true s last pair order is going =
-    not_decided (tick s).after pair
-    (tick_at s last pair order
+either_gone : (b : Bool) (s : State) (silent : List ℕ) (last : ℕ) (pair : Pair) → AreInOrder s.streams s.clients.rows last →
+    is_of_any s.streams (late s) pair ≡ b → (b || is_of_closing (tick s silent).closes pair) ≡ true →
+    decided_on (tick s silent).after pair ≡ []
+either_gone true s silent last pair order is going =
+    not_decided (tick s silent).after pair
+    (tick_at s silent last pair order
     ∙ ap (λ (b : Bool). cond b None (subscription_at s.streams.subscriptions pair.subscription)) is)
-either_gone false s last pair order is going = log_not_decided (tick s).after pair (tick_log s last pair order going)
+either_gone false s silent last pair order is going =
+    log_not_decided (tick s silent).after pair (tick_log s silent last pair order going)
 
-tick_outcome : (s : State) (before : State) (last : ℕ) (inputs : Inputs) → pairs_of before ≡ pairs_of s →
+tick_outcome : (s : State) (before : State) (silent : List ℕ) (last : ℕ) (inputs : Inputs) → pairs_of before ≡ pairs_of s →
     AreInOrder s.streams s.clients.rows last →
-    outcome_by before inputs (tick s)
-    ≡ outcome_gone (record (told_of (tick s)) {
-      replies = (tick s).replies ++ flat_map (unavailable_beside s (late s)) (filter (is_going s.streams (late s) (tick s).closes) (pairs_of s));
-    }) (filter (is_going s.streams (late s) (tick s).closes) (pairs_of s))
-tick_outcome s before last inputs same order =
-    let gone : List Pair = filter (is_going s.streams (late s) (tick s).closes) (pairs_of s) in
-    gone_outcome before inputs (tick s) gone (flat_map (unavailable_beside s (late s)) gone)
-    (subst (λ (pairs : List Pair). IsTurnover pairs (pairs_of (tick s).after) gone []) (sym same) (tick_turnover s last order))
-    (flat_alike (unavailable_for (tick s).after) (unavailable_beside s (late s)) gone (λ pair. tick_tells s last pair order))
-    (none_of_part (is_going s.streams (late s) (tick s).closes) (decided_on (tick s).after) (pairs_of s)
-    (λ pair going. either_gone (is_of_any s.streams (late s) pair) s last pair order refl going))
+    outcome_by before inputs (tick s silent)
+    ≡ outcome_gone (record (told_of (tick s silent)) {
+      replies = (tick s silent).replies ++ flat_map (unavailable_beside s (late s)) (filter (is_going s.streams (late s) (tick s silent).closes) (pairs_of s));
+    }) (filter (is_going s.streams (late s) (tick s silent).closes) (pairs_of s))
+tick_outcome s before silent last inputs same order =
+    let gone : List Pair = filter (is_going s.streams (late s) (tick s silent).closes) (pairs_of s) in
+    gone_outcome before inputs (tick s silent) gone (flat_map (unavailable_beside s (late s)) gone)
+    (subst (λ (pairs : List Pair). IsTurnover pairs (pairs_of (tick s silent).after) gone []) (sym same) (tick_turnover s silent last order))
+    (flat_alike (unavailable_for (tick s silent).after) (unavailable_beside s (late s)) gone (λ pair. tick_tells s silent last pair order))
+    (none_of_part (is_going s.streams (late s) (tick s silent).closes) (decided_on (tick s silent).after) (pairs_of s)
+    (λ pair going. either_gone (is_of_any s.streams (late s) pair) s silent last pair order refl going))
 
 pub going_outcome : (s : State) (last now : ℕ) (inputs : Inputs) (told : Told) (clients : List ℕ) →
-    AreInOrder s.streams s.clients.rows last → told ≡ told_of (tick (at_moment s now)) →
+    AreInOrder s.streams s.clients.rows last → told ≡ told_of (tick (at_moment s now) inputs.silent) →
     clients ≡ late (at_moment s now) →
-    outcome_by s inputs (tick (at_moment s now))
+    outcome_by s inputs (tick (at_moment s now) inputs.silent)
     ≡ outcome_gone (record told {
       replies = told.replies ++ flat_map (unavailable_beside s clients) (filter (is_going s.streams clients told.closes) (pairs_of s));
     }) (filter (is_going s.streams clients told.closes) (pairs_of s))
 unfolding at_moment pairs_of unavailable_for
 going_outcome s last now inputs told clients order is are =
-    rw (is, are) (tick_outcome (at_moment s now) s last inputs refl order)
+    rw (is, are) (tick_outcome (at_moment s now) s inputs.silent last inputs refl order)

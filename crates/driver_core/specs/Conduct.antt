@@ -3,26 +3,29 @@ use Rattle.std.specs.Prelude.{List, [], ◌∷◌}
 use Rattle.driver_core.specs.Change.{Change}
 use Rattle.driver_core.specs.Draft.{Draft}
 use Rattle.driver_core.specs.declared.event.Event.{Event}
-use Rattle.driver_core.specs.declared.event.Event.TheVariants.{Attach, Command, Reload, Tick}
+use Rattle.driver_core.specs.declared.event.Event.TheVariants.{Attach, Command, Reload, Setup, Tick}
 use Rattle.driver_core.specs.declared.event.Inputs.{Inputs}
 use Rattle.driver_core.specs.declared.outcome.Outcome.{Outcome}
 use Rattle.driver_core.specs.Attaching.{attach}
 use Rattle.driver_core.specs.Commands.{command}
 use Rattle.driver_core.specs.Reloading.{reload}
 use Rattle.driver_core.specs.Renewal.{renewed}
+use Rattle.driver_core.specs.SettingUp.{set_up}
 use Rattle.driver_core.specs.State.{State, at_moment}
 use Rattle.driver_core.specs.Ticking.{tick}
+use Rattle.driver_core.specs.Unread.{dropping}
 
 -- what the event's own rule makes of the registry
-unfoldable pub drafted : State → Event → Draft
-drafted s (Attach now principal) = attach (at_moment s now) principal
-drafted s (Command now client bytes) = command (at_moment s now) client bytes
-drafted s (Reload now policy) = reload (at_moment s now) policy
-drafted s (Tick now) = tick (at_moment s now)
+unfoldable pub drafted : State → Event → Inputs → Draft
+drafted s (Attach now principal) inputs = attach (at_moment s now) principal
+drafted s (Command now client bytes) inputs = command (at_moment s now) client bytes
+drafted s (Reload now policy) inputs = reload (at_moment s now) policy
+drafted s (Tick now) inputs = tick (at_moment s now) inputs.silent
+drafted s (Setup now local from setup) inputs = set_up (at_moment s now) local from setup
 
--- and then the pairs are renewed
+-- and then the pairs are renewed, and images close that none reads
 unfoldable pub conduct : State → Event → Inputs → Change
-conduct s event inputs = renewed s inputs (drafted s event)
+conduct s event inputs = dropping s (renewed s inputs (drafted s event inputs))
 
 -- what the event tells
 abbrev pub outcome_of : State → Event → Inputs → Outcome

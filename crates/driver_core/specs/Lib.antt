@@ -1,4 +1,5 @@
 pub mod Attaching
+pub mod Bringing
 pub mod Cached
 pub mod Change
 pub mod Closing
@@ -20,6 +21,7 @@ pub mod Reloading
 pub mod Renewal
 pub mod Replies
 pub mod Requests
+pub mod SettingUp
 pub mod Settings
 pub mod Soundness
 pub mod State
@@ -28,5 +30,6 @@ pub mod Terminating
 pub mod Ticking
 pub mod Told
 pub mod Unpublishing
+pub mod Unread
 pub mod Unsubscribing
 pub mod Verdicts

@@ -1,10 +1,11 @@
 -- What a client is shown of the counters. It looks, and changes nothing.
-use Rattle.std.specs.Prelude.{ℕ, ℤ, pos, min, Bool, ◌&&◌, nat_lt, List, [], ◌∷◌, map, filter, Option, Some, None, if◌then◌else◌}
+use Rattle.std.specs.Prelude.{ℕ, ℤ, pos, min, Bool, nat_lt, List, [], ◌∷◌, length, map, filter, Option, Some, None, if◌then◌else◌}
 use Rattle.driver_core.specs.declared.listing.Listed.{Listed}
 use Rattle.driver_core.specs.declared.listing.Listed.TheVariants as listed_as
 use Rattle.driver_core.specs.declared.listing.ListedCounter.{ListedCounter}
 use Rattle.driver_core.specs.declared.listing.Shown.{Shown}
 use Rattle.driver_core.specs.declared.listing.Shown.TheVariants as shown_as
+use Rattle.driver_core.specs.Pairs.{pairs_of}
 use Rattle.driver_core.specs.Renewal.{source_at}
 use Rattle.driver_core.specs.State.{State}
 use Rattle.channel_uri.specs.Canonical.{canonical_of}
@@ -12,6 +13,7 @@ use Rattle.client_registry.specs.declared.client.Client.{Client}
 use Rattle.client_registry.specs.Clients.{client_at}
 use Rattle.counters.specs.declared.counter.Counter.{Counter}
 use Rattle.counters.specs.Counters.{counter_at, question_for, visible_of}
+use Rattle.log_readers.specs.Unread.{is_of_source}
 use Rattle.policy_core.specs.declared.act.Act.TheVariants.{List as SeeCounter}
 use Rattle.policy_core.specs.declared.verdict.Verdict.{Verdict}
 use Rattle.policy_core.specs.Question.{Question}
@@ -35,31 +37,42 @@ row_of counter = record {
 abbrev pub registered_with : State → ℕ → ℤ
 registered_with s source = pos (min (registrations_of s.streams source) 9223372036854775807)
 
--- each live publication is a counter of the driver's own: its number is the source's, its value how many are registered
--- with it
-abbrev pub publication_row : State → Source → ListedCounter
-publication_row s publication = record {
-  number = publication.number;
-  type_id = pos 10001;
-  value = registered_with s publication.number;
-  label = canonical_of publication.channel;
+-- how many of the pairs are of that source, at most the greatest value of a counter
+abbrev pub read_by : State → ℕ → ℤ
+read_by s source = pos (min (length (filter (is_of_source source) (pairs_of s))) 9223372036854775807)
+
+-- which counter tells of the log
+abbrev pub type_of : Source → ℤ
+type_of source = if is_published source then pos 10001 else pos 10002
+
+-- how many are registered with the publication, or read the image
+abbrev pub uses_of : State → Source → ℤ
+uses_of s source = if is_published source then registered_with s source.number else read_by s source.number
+
+-- each live log is a counter of the driver's own: its number is the source's, the value of a publication how many are
+-- registered with it, and that of an image how many read it
+abbrev pub source_row : State → Source → ListedCounter
+source_row s source = record {
+  number = source.number;
+  type_id = type_of source;
+  value = uses_of s source;
+  label = canonical_of source.channel;
 }
 
--- what the policy is asked before that is shown: channel and stream are the publication's
-abbrev pub publication_question : ℕ → Source → Question
-publication_question principal publication = record {
+-- what the policy is asked before that is shown: channel and stream are the log's
+abbrev pub source_question : ℕ → Source → Question
+source_question principal source = record {
   principal = principal;
   act = SeeCounter;
-  channel = publication.channel;
-  stream = publication.stream;
+  channel = source.channel;
+  stream = source.stream;
 }
 
-abbrev pub publication_verdict : State → ℕ → Source → Verdict
-publication_verdict s principal publication = verdict_of s.policy s.epoch (publication_question principal publication)
+abbrev pub source_verdict : State → ℕ → Source → Verdict
+source_verdict s principal source = verdict_of s.policy s.epoch (source_question principal source)
 
--- an image is no counter
-abbrev pub shows_publication : State → ℕ → Source → Bool
-shows_publication s principal source = is_published source && (publication_verdict s principal source).allow
+abbrev pub shows_source : State → ℕ → Source → Bool
+shows_source s principal source = (source_verdict s principal source).allow
 
 -- the row stands before the first one of a greater number
 abbrev pub with_row : List ListedCounter → ListedCounter → List ListedCounter
@@ -71,15 +84,14 @@ abbrev pub with_rows : List ListedCounter → List ListedCounter → List Listed
 with_rows rows [] = rows
 with_rows rows (row ∷ more) = with_rows (with_row rows row) more
 
--- the publications that the policy in force shows to the principal
-abbrev pub listed_publications : State → ℕ → List ListedCounter
-listed_publications s principal =
-    map (publication_row s) (filter (shows_publication s principal) s.streams.sources)
+-- the live logs that the policy in force shows to the principal
+abbrev pub listed_sources : State → ℕ → List ListedCounter
+listed_sources s principal = map (source_row s) (filter (shows_source s principal) s.streams.sources)
 
 -- the counters that the policy in force shows to the principal, by their numbers
 abbrev pub listed_to : State → ℕ → List ListedCounter
 listed_to s principal =
-    with_rows (map row_of (visible_of s.counters s.policy principal)) (listed_publications s principal)
+    with_rows (map row_of (visible_of s.counters s.policy principal)) (listed_sources s principal)
 
 abbrev pub list_by : State → Option Client → Listed
 list_by s None = listed_as.WrongClient
@@ -98,17 +110,14 @@ verdict_for s principal counter = verdict_of s.policy s.epoch (question_for prin
 abbrev pub value_under : Verdict → ℤ → Shown
 value_under verdict value = if verdict.allow then shown_as.Value value else shown_as.Denied verdict
 
-abbrev pub publication_value : State → ℕ → Option Source → Shown
-publication_value s principal None = shown_as.UnknownCounter
-publication_value s principal (Some source) =
-    if is_published source
-    then value_under (publication_verdict s principal source) (registered_with s source.number)
-    else shown_as.UnknownCounter
+abbrev pub source_value : State → ℕ → Option Source → Shown
+source_value s principal None = shown_as.UnknownCounter
+source_value s principal (Some source) =
+    value_under (source_verdict s principal source) (uses_of s source)
 
--- numbers are drawn from one sequence, so that no publication has that of a counter
+-- numbers are drawn from one sequence, so that no log has that of a counter
 abbrev pub value_by : State → ℕ → ℕ → Option Counter → Shown
-value_by s principal number None =
-    publication_value s principal (source_at s.streams.sources number)
+value_by s principal number None = source_value s principal (source_at s.streams.sources number)
 value_by s principal number (Some counter) = value_under (verdict_for s principal counter) counter.value
 
 abbrev pub value_for : State → ℕ → Option Client → Shown

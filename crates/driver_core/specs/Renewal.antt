@@ -20,6 +20,7 @@ use Rattle.policy_core.specs.Rules.{verdict_of}
 use Rattle.stream_registry.specs.declared.pairs.Pair.{Pair}
 use Rattle.stream_registry.specs.declared.row.Source.{Source}
 use Rattle.stream_registry.specs.declared.row.Subscription.{Subscription}
+use Rattle.stream_registry.specs.Origins.{address_of, begins_at}
 use Rattle.stream_registry.specs.Pairs.{image_question, is_pair, pair_of}
 
 -- the rows of a pair
@@ -45,12 +46,12 @@ unfoldable pub unavailable_for : State → Pair → List Message
 unavailable_for s pair = unavailable_to pair (subscription_at s.streams.subscriptions pair.subscription)
 
 -- how far the log of that source reaches; one that no log tells of begins
-abbrev pub position_by : Option End → ℕ
-position_by None = 0
-position_by (Some end) = end.position
+abbrev pub position_by : ℕ → Option End → ℕ
+position_by begin None = begin
+position_by begin (Some end) = end.position
 
-abbrev pub position_at : List End → ℕ → ℕ
-position_at ends source = position_by (find (λ end. end.source == source) ends)
+abbrev pub position_at : List End → ℕ → ℕ → ℕ
+position_at ends begin source = position_by begin (find (λ end. end.source == source) ends)
 
 abbrev pub available_to : List End → Pair → Option Source → Option Subscription → List Message
 available_to ends pair None subscription = []
@@ -58,7 +59,8 @@ available_to ends pair (Some log) None = []
 available_to ends pair (Some log) (Some subscription) =
     record {
       client = subscription.client;
-      reply = AvailableImage pair.source pair.subscription log.session log.stream (position_at ends pair.source);
+      reply = AvailableImage pair.source pair.subscription log.session log.stream
+          (position_at ends (begins_at log) pair.source) (address_of log);
     }
     ∷ []
 

@@ -1,17 +1,19 @@
 -- What holds of the logs of every registry that was opened with sound settings: their sizes are sound, they are numbered in
 -- the order in which they came, and no two share a page. Each event opens and closes exactly the logs by which the lists
 -- change. Own rules.
-use Rattle.std.specs.Prelude.{◌≡◌, ℕ, ◌%◌, ◌<◌, ◌≤◌, Bool, true, not, ◌==◌, List, [], ◌∷◌, ◌++◌, length, map, filter, All, Option, Some, None}
-use Rattle.std.specs.List.{list_any}
+use Rattle.std.specs.Prelude.{◌≡◌, ℕ, ◌*◌, ◌%◌, ◌^◌, ◌<◌, ◌≤◌, List, [], ◌∷◌, ◌++◌, length, map, filter, All, Option, Some, None}
 use Rattle.driver_core.specs.Change.{Change}
 use Rattle.driver_core.specs.declared.settings.Settings.{Settings}
 use Rattle.driver_core.specs.State.{State}
+use Rattle.log_readers.specs.Unread.{is_left}
 use Rattle.stream_registry.specs.declared.lingering.LogPlace.{LogPlace}
 use Rattle.stream_registry.specs.declared.measures.Measures.{Measures}
+use Rattle.stream_registry.specs.declared.row.Origin.{Origin}
+use Rattle.stream_registry.specs.declared.row.Origin.TheVariants.{Published, Remote}
 use Rattle.stream_registry.specs.declared.row.Source.{Source}
 use Rattle.stream_registry.specs.Lingering.{place_of}
 use Rattle.stream_registry.specs.LogPages.{log_pages}
-use Rattle.stream_registry.specs.Origins.{is_published, lingering_since, unlingering}
+use Rattle.stream_registry.specs.Origins.{lingering_since, unlingering}
 use Rattle.stream_registry.specs.PageLaws.{IsVacant, IsLaidOut}
 
 -- sizes that a log may have: terms of whole pages, and datagrams of whole words of 32 bytes
@@ -35,15 +37,19 @@ Ascend before last [] = before ≤ last
 Ascend before last (log ∷ logs) =
     (before < log.number) × Ascend log.number last logs
 
--- a log that clients of the driver publish to: no event makes another one
-abbrev pub IsPublication : Source → Type 0
-IsPublication log = is_published log ≡ true
+-- an image begins at the start of a frame, below the greatest position
+abbrev pub BeginsBy : ℕ → Origin → Type 0
+BeginsBy term_length (Published exclusive since) = Unit {0}
+BeginsBy term_length (Remote address initial_term join) = (join % 32 ≡ 0) × (join < term_length * 2 ^ 31)
+
+abbrev pub BeginsSoundly : Source → Type 0
+BeginsSoundly log = BeginsBy log.measures.term_length log.origin
 
 pub record IsSound (s : State) : Type 0 where
   pub defaults : AreSizes s.streams.defaults
   pub sizes : All (λ log. AreSizes log.measures) s.streams.sources
   pub numbered : Ascend 0 s.last_number s.streams.sources
-  pub published : All IsPublication s.streams.sources
+  pub begins : All BeginsSoundly s.streams.sources
   pub laid_out : IsLaidOut s.settings.arena_pages s.streams
   pub subscriptions : length s.streams.subscriptions ≤ 512
 
@@ -53,10 +59,6 @@ pub record IsSound (s : State) : Type 0 where
 abbrev pub log_of : Source → Source
 log_of log = record log { origin = unlingering log.origin }
 
--- it is none of those that close
-abbrev pub is_left : List LogPlace → Source → Bool
-is_left closes log = not (list_any (λ closed. closed.source == log.number) closes)
-
 -- the log that opens, if one does, at the least place where it shares no page with those that are there
 abbrev pub Opens : State → Option LogPlace → List Source → Type 0
 Opens s None logs = logs ≡ []
@@ -64,7 +66,6 @@ Opens s (Some place) logs =
     (log : Source)
     × (logs ≡ log ∷ [])
     × (place_of log ≡ place)
-    × (is_published log ≡ true)
     × (lingering_since log ≡ None)
     × IsVacant s.streams s.settings.arena_pages (log_pages log) log.place
     × ((lower : ℕ) → lower < log.place → ¬ IsVacant s.streams s.settings.arena_pages (log_pages log) lower)

@@ -26,7 +26,8 @@ fn available(ends: &[End], pair: Pair, log: &Source, wish: &Wish<'_>) -> Message
         subscription: pair.subscription,
         session: log.session,
         stream: log.stream,
-        position: position_at(ends, pair.source),
+        position: position_at(ends, log.begins_at(), pair.source),
+        address: log.address(),
     };
     Message {
         client: wish.client,

@@ -2,6 +2,8 @@ ghost use Rattle.std.specs.Prelude.{◌≡◌, [], IfOk};
 
 use crate::received::Received;
 use byte_strings::Items;
+use channel_uri::Address;
+use frame_codec::Setup;
 use policy_core::Policy;
 use std::alloc::{AllocError, Global};
 
@@ -29,6 +31,15 @@ pub enum Event {
     Tick {
         now: u64,
     },
+    /// A remote publisher tells of its stream.
+    Setup {
+        now: u64,
+        /// To where the SETUP came.
+        local: Address,
+        /// From where it came.
+        from: Address,
+        setup: Setup,
+    },
 }
 
 impl Event {
@@ -51,6 +62,17 @@ impl Event {
                 policy: policy.copy(alloc)?,
             }),
             Event::Tick { now } => Ok(Event::Tick { now: *now }),
+            Event::Setup {
+                now,
+                local,
+                from,
+                setup,
+            } => Ok(Event::Setup {
+                now: *now,
+                local: *local,
+                from: *from,
+                setup: *setup,
+            }),
         }
     }
 }

@@ -1,4 +1,4 @@
-ghost use Rattle.driver_core.specs.Listing.{row_of, registered_with, publication_row, publication_verdict, shows_publication, with_row, with_rows, list, publication_value, value_under, value};
+ghost use Rattle.driver_core.specs.Listing.{list, read_by, registered_with, row_of, shows_source, source_row, source_value, source_verdict, type_of, uses_of, value, value_under, with_row, with_rows};
 ghost use Rattle.driver_core.specs.Renewal.{source_at};
 ghost use Rattle.std.specs.Prelude.{◌≡◌, map, filter, IfOk, OnOk};
 
@@ -12,6 +12,9 @@ use stream_registry::Source;
 
 /// The type id of the counters that tell of publications.
 const PUBLICATION_TYPE: i32 = 10001;
+
+/// The type id of the counters that tell of images.
+const IMAGE_TYPE: i32 = 10002;
 
 /// A counter as it is listed.
 #[derive(Debug, PartialEq, Eq, Drop)]
@@ -78,31 +81,60 @@ fn registrations_of(registry: &Registry, source: u64) -> i64
     i64::try_from(registry.streams.registrations_of(source)).unwrap_or(i64::MAX)
 }
 
-/// The publication as it is listed.
-fn publication_row(
+/// How many read the log of this source number, at most the greatest value of a counter.
+fn readers_of(registry: &Registry, source: u64) -> i64
+    ensures { result ≡ read_by registry.now source }
+{
+    i64::try_from(registry.reader_count(source)).unwrap_or(i64::MAX)
+}
+
+/// How many are registered with the publication, or how many read the image.
+fn uses_of(registry: &Registry, source: &Source) -> i64
+    ensures { result ≡ uses_of registry.now source.now }
+{
+    if source.is_published() {
+        registrations_of(registry, source.number)
+    } else {
+        readers_of(registry, source.number)
+    }
+}
+
+/// The type id of the counter that tells of the log.
+fn type_of(source: &Source) -> i32
+    ensures { result ≡ type_of source.now }
+{
+    if source.is_published() {
+        PUBLICATION_TYPE
+    } else {
+        IMAGE_TYPE
+    }
+}
+
+/// The log as it is listed.
+fn source_row(
     registry: &Registry,
     alloc: Global,
-    publication: &Source,
+    source: &Source,
 ) -> Result<ListedCounter, AllocError>
-    ensures { IfOk result (λ row. row ≡ publication_row registry.now publication.now) }
+    ensures { IfOk result (λ row. row ≡ source_row registry.now source.now) }
 {
     Ok(ListedCounter {
-        number: publication.number,
-        type_id: PUBLICATION_TYPE,
-        value: registrations_of(registry, publication.number),
-        label: publication.channel.canonical(alloc)?,
+        number: source.number,
+        type_id: type_of(source),
+        value: uses_of(registry, source),
+        label: source.channel.canonical(alloc)?,
     })
 }
 
-/// What the policy in force decides on showing the publication.
-fn publication_verdict(registry: &Registry, principal: u32, publication: &Source) -> Verdict
-    ensures { result ≡ publication_verdict registry.now principal publication.now }
+/// What the policy in force decides on showing the log.
+fn source_verdict(registry: &Registry, principal: u32, source: &Source) -> Verdict
+    ensures { result ≡ source_verdict registry.now principal source.now }
 {
     let request = Request {
         principal,
         act: Act::List,
-        channel: &publication.channel,
-        stream: publication.stream,
+        channel: &source.channel,
+        stream: source.stream,
     };
     registry.compiled.verdict(&request)
 }
@@ -119,26 +151,19 @@ fn put_row(rows: &mut Vec<ListedCounter>, row: ListedCounter) -> Result<(), Allo
     Ok(())
 }
 
-/// Whether the source is a publication that the policy in force shows.
-fn shows_publication(registry: &Registry, principal: u32, source: &Source) -> bool
-    ensures { result ≡ shows_publication registry.now principal source.now }
-{
-    source.is_published() && publication_verdict(registry, principal, source).allow
-}
-
-/// Puts those of the publications that the policy in force shows, as they are listed, among the rows.
-fn put_publications(
+/// Puts those of the logs that the policy in force shows, as they are listed, among the rows.
+fn put_sources(
     rows: &mut Vec<ListedCounter>,
     registry: &Registry,
     alloc: Global,
     principal: u32,
     logs: &[Source],
 ) -> Result<(), AllocError>
-    ensures { OnOk result (rows.new.items ≡ with_rows rows.old.items (map (publication_row registry.now) (filter (shows_publication registry.now principal) logs.now))) }
+    ensures { OnOk result (rows.new.items ≡ with_rows rows.old.items (map (source_row registry.now) (filter (shows_source registry.now principal) logs.now))) }
 {
-    for publication in logs {
-        if shows_publication(registry, principal, publication) {
-            put_row(rows, publication_row(registry, alloc, publication)?)?;
+    for source in logs {
+        if source_verdict(registry, principal, source).allow {
+            put_row(rows, source_row(registry, alloc, source)?)?;
         }
     }
     Ok(())
@@ -155,18 +180,17 @@ fn value_under(verdict: Verdict, value: i64) -> Shown
     }
 }
 
-/// What a client is told of the publication of this number.
-fn publication_value(registry: &Registry, principal: u32, number: u64) -> Shown
-    ensures { result ≡ publication_value registry.now principal (source_at registry.now.streams.sources number) }
+/// What a client is told of the log of this number.
+fn source_value(registry: &Registry, principal: u32, number: u64) -> Shown
+    ensures { result ≡ source_value registry.now principal (source_at registry.now.streams.sources number) }
 {
-    let Some(publication) = registry.source(number) else {
+    let Some(source) = registry.source(number) else {
         return Shown::UnknownCounter;
     };
-    if !publication.is_published() {
-        return Shown::UnknownCounter;
-    }
-    let verdict = publication_verdict(registry, principal, publication);
-    value_under(verdict, registrations_of(registry, publication.number))
+    value_under(
+        source_verdict(registry, principal, source),
+        uses_of(registry, source),
+    )
 }
 
 impl Registry {
@@ -186,7 +210,7 @@ impl Registry {
             .visible(alloc, self.compiled.policy(), client.principal)?;
         let mut rows = rows_of(alloc, shown.as_slice())?;
         let logs = self.streams.sources();
-        put_publications(&mut rows, self, alloc, client.principal, logs)?;
+        put_sources(&mut rows, self, alloc, client.principal, logs)?;
         Ok(Listed::Counters(Items::from(rows)))
     }
 
@@ -199,7 +223,7 @@ impl Registry {
             return Shown::WrongClient;
         };
         let Some(counter) = self.counters.get(number) else {
-            return publication_value(self, client.principal, number);
+            return source_value(self, client.principal, number);
         };
         let channel = Channel::counter();
         let request = Request {

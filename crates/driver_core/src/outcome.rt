@@ -1,4 +1,5 @@
 use crate::replies::Message;
+use crate::setup_fault::SetupFault;
 use byte_strings::Items;
 use policy_core::Decision;
 use stream_registry::{LogPlace, Pair};
@@ -17,6 +18,10 @@ pub enum Response {
     PolicyInForce(u64),
     /// A limit of the driver would be broken under the policy, which is not in force.
     PolicyFull,
+    /// The image has this source number.
+    Imaged(u64),
+    /// The SETUP makes no image.
+    Dropped(SetupFault),
 }
 
 /// All that an event tells and does outside the registry.

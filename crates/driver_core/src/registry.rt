@@ -58,7 +58,9 @@ impl Model for Registry {
 impl Registry {
     ghost use Rattle.log_readers.specs.Numbering.{AreInOrder};
     ghost use Rattle.driver_core.specs.State.{opened, has_number, at_moment};
+    ghost use Rattle.driver_core.specs.Bringing.{Brings};
     ghost use Rattle.driver_core.specs.Conduct.{drafted, conduct, state_after, outcome_of};
+    ghost use Rattle.driver_core.specs.Renewal.{outcome_by};
     ghost use Rattle.driver_core.specs.Soundness.{IsSound, MovesLogs};
 
     /// A registry with nobody in it, under a policy that has the number 1. The policy and the peers are taken over.
@@ -115,6 +117,13 @@ impl Registry {
         self.settings
     }
 
+    /// The greatest moment of its events so far, in nanoseconds.
+    pub fn moment(&self) -> u64
+        ensures { result ≡ self.now.moment }
+    {
+        self.moment
+    }
+
     /// Whether a number is left that was not drawn yet.
     #[tactic(auto, unfolding(crate::specs::State::has_number))]
     pub(crate) fn has_number(&self) -> bool
@@ -143,8 +152,8 @@ impl Registry {
 
     /// What the event's own rule makes of the registry.
     #[tactic(auto, unfolding(crate::specs::Conduct::drafted))]
-    pub(crate) fn take(&mut self, event: &Event)
-        ensures { self.new ≡ (drafted self.old event.now).after }
+    fn take(&mut self, event: &Event, inputs: &Inputs)
+        ensures { self.new ≡ (drafted self.old event.now inputs.now).after }
     {
         match event {
             Event::Attach { now, principal } => {
@@ -161,15 +170,24 @@ impl Registry {
             }
             Event::Tick { now } => {
                 self.go_on(*now);
-                self.do_tick();
+                self.do_tick(inputs.silent.as_slice());
+            }
+            Event::Setup {
+                now,
+                local,
+                from,
+                setup,
+            } => {
+                self.go_on(*now);
+                self.do_setup(local, from, setup);
             }
         }
     }
 
-    /// What the event tells, and does outside the registry.
-    #[tactic(auto, unfolding(crate::specs::Conduct::conduct, crate::specs::Conduct::drafted))]
-    fn outcome(&self, alloc: Global, event: &Event, inputs: &Inputs) -> Result<Outcome, AllocError>
-        ensures { IfOk result (λ outcome. outcome ≡ outcome_of self.now event.now inputs.now) }
+    /// What the event tells, and does outside the registry, but for the images that close because none reads them.
+    #[tactic(auto, unfolding(crate::specs::Conduct::drafted))]
+    fn told(&self, alloc: Global, event: &Event, inputs: &Inputs) -> Result<Outcome, AllocError>
+        ensures { IfOk result (λ outcome. outcome ≡ outcome_by self.now inputs.now (drafted self.now event.now inputs.now)) }
     {
         match event {
             Event::Attach { now, principal } => {
@@ -180,13 +198,37 @@ impl Registry {
             }
             Event::Reload { policy, .. } => self.outcome_of_reload(alloc, policy, inputs),
             Event::Tick { now } => self.outcome_of_tick(alloc, *now, inputs),
+            Event::Setup {
+                now,
+                local,
+                from,
+                setup,
+            } => self.outcome_of_setup(alloc, *now, local, from, setup, inputs),
         }
+    }
+
+    /// What the event tells, and does outside the registry.
+    fn outcome(&self, alloc: Global, event: &Event, inputs: &Inputs) -> Result<Outcome, AllocError>
+        ensures { IfOk result (λ outcome. outcome ≡ outcome_of self.now event.now inputs.now) }
+    {
+        let mut outcome = self.told(alloc, event, inputs)?;
+        outcome.closes = self.closed(alloc, &outcome)?;
+        Ok(outcome)
+    }
+
+    /// Does the event, with what the logs say at it.
+    fn conduct(&mut self, event: &Event, inputs: &Inputs)
+        ensures { self.new ≡ state_after self.old event.now inputs.now }
+    {
+        self.take(event, inputs);
+        self.drop_unread();
     }
 
     /// Decides one event, with what the logs say at it; the registry stays as it is. Only this wants memory.
     pub fn plan(&self, alloc: Global, event: &Event, inputs: &Inputs) -> Result<Entry, AllocError>
         ensures exact { IfOk result (λ entry. entry ≡ record { event = event.now; inputs = inputs.now; outcome = outcome_of self.now event.now inputs.now }) }
         ensures moves { IfOk result (λ entry. IsSound self.now → MovesLogs self.now (conduct self.now event.now inputs.now)) }
+        ensures brings { IfOk result (λ entry. IsSound self.now → Brings event.now (conduct self.now event.now inputs.now)) }
     {
         let outcome = self.outcome(alloc, event, inputs)?;
         Ok(Entry {
@@ -198,18 +240,16 @@ impl Registry {
 
     /// Does what was planned. It takes no memory, and holds of any registry and any entry: what the registry becomes is
     /// by the entry's event and inputs alone.
-    #[tactic(auto, unfolding(crate::specs::Conduct::conduct, crate::specs::Renewal::renewed))]
     pub fn apply(&mut self, entry: &Entry)
         ensures { self.new ≡ state_after self.old entry.now.event entry.now.inputs }
     {
-        self.take(&entry.event);
+        self.conduct(&entry.event, &entry.inputs);
     }
 
     /// Takes one event, with what the logs say at it: plans it, and does it.
     ///
     /// # Errors
     /// Where there is no memory for what the event tells, the registry stays as it was.
-    #[tactic(auto, unfolding(crate::specs::Conduct::conduct, crate::specs::Renewal::renewed))]
     pub fn step(
         &mut self,
         alloc: Global,
@@ -221,7 +261,7 @@ impl Registry {
         ensures err { OnErr result (self.new ≡ self.old) }
     {
         let outcome = self.outcome(alloc, event, inputs)?;
-        self.take(event);
+        self.conduct(event, inputs);
         Ok(outcome)
     }
 }

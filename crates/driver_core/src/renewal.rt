@@ -14,15 +14,15 @@ use std::alloc::{AllocError, Global};
 use stream_registry::Pair;
 
 /// How far the log of that source reaches; one of which nothing is told begins.
-pub(crate) fn position_at(ends: &[End], source: u64) -> u64
-    ensures { result ≡ position_at ends.now source }
+pub(crate) fn position_at(ends: &[End], begin: u64, source: u64) -> u64
+    ensures { result ≡ position_at ends.now begin source }
 {
     for end in ends {
         if end.source == source {
             return end.position;
         }
     }
-    0
+    begin
 }
 
 /// Tells the client of the subscription, if that is there, that the image is gone.
@@ -69,7 +69,8 @@ fn tell_available(
         subscription: pair.subscription,
         session: log.session,
         stream: log.stream,
-        position: position_at(ends, pair.source),
+        position: position_at(ends, log.begins_at(), pair.source),
+        address: log.address(),
     };
     messages.push(Message {
         client: subscription.client,

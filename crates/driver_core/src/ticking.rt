@@ -38,21 +38,31 @@ fn timeouts(alloc: Global, clients: &[u64]) -> Result<Items<Message>, AllocError
 impl Registry {
     /// The logs that close at this moment, whichever clients go at it: one that they leave alone begins to linger, and no
     /// log lingers for too long at the moment at which it begins.
-    fn closing_without(&self, alloc: Global, now: u64) -> Result<Items<LogPlace>, AllocError>
-        ensures { (clients : List ℕ) → IfOk result (λ closes. closes ≡ closing_of (all_left (at_moment self.now now) clients).streams (all_left (at_moment self.now now) clients).moment) }
+    fn closing_without(
+        &self,
+        alloc: Global,
+        now: u64,
+        silent: &[u64],
+    ) -> Result<Items<LogPlace>, AllocError>
+        ensures { (clients : List ℕ) → IfOk result (λ closes. closes ≡ closing_of (all_left (at_moment self.now now) clients).streams (all_left (at_moment self.now now) clients).moment silent.now) }
     {
-        self.streams.closing(alloc, self.moment.max(now))
+        self.streams.closing(alloc, self.moment.max(now), silent)
     }
 
     /// What it tells that time went on.
     #[tactic(auto, unfolding(crate::specs::Ticking::tick, crate::specs::Ticking::ticked, crate::specs::State::at_moment))]
-    pub(crate) fn tell_tick(&self, alloc: Global, now: u64) -> Result<Told, AllocError>
-        ensures { IfOk result (λ told. told ≡ told_of (tick (at_moment self.now now))) }
+    pub(crate) fn tell_tick(
+        &self,
+        alloc: Global,
+        now: u64,
+        silent: &[u64],
+    ) -> Result<Told, AllocError>
+        ensures { IfOk result (λ told. told ≡ told_of (tick (at_moment self.now now) silent.now)) }
     {
         let late = self.clients.expired(self.moment.max(now));
         let mut told = Told::answered(alloc, Response::Nothing);
         told.later = timeouts(alloc, late.as_slice())?;
-        told.closes = self.closing_without(alloc, now)?;
+        told.closes = self.closing_without(alloc, now, silent)?;
         Ok(told)
     }
 
@@ -95,8 +105,8 @@ impl Registry {
         inputs: &Inputs,
         told: Told,
     ) -> Result<Outcome, AllocError>
-        requires { told ≡ told_of (tick (at_moment self.now now)) }
-        ensures { IfOk result (λ outcome. outcome ≡ outcome_by self.now inputs.now (tick (at_moment self.now now))) }
+        requires { told ≡ told_of (tick (at_moment self.now now) inputs.now.silent) }
+        ensures { IfOk result (λ outcome. outcome ≡ outcome_by self.now inputs.now (tick (at_moment self.now now) inputs.now.silent)) }
     {
         let late = self.clients.expired(self.moment.max(now));
         let gone = self.pairs_of_going(alloc, late.as_slice(), told.closes.as_slice())?;
@@ -112,9 +122,9 @@ impl Registry {
         now: u64,
         inputs: &Inputs,
     ) -> Result<Outcome, AllocError>
-        ensures { IfOk result (λ outcome. outcome ≡ outcome_by self.now inputs.now (tick (at_moment self.now now))) }
+        ensures { IfOk result (λ outcome. outcome ≡ outcome_by self.now inputs.now (tick (at_moment self.now now) inputs.now.silent)) }
     {
-        let told = self.tell_tick(alloc, now)?;
+        let told = self.tell_tick(alloc, now, inputs.silent.as_slice())?;
         if told.later.is_empty() && told.closes.is_empty() {
             return renewal::keep_pairs(alloc, told);
         }
@@ -129,22 +139,22 @@ impl Registry {
         self.leave_all(late.as_slice());
     }
 
-    /// The logs close that linger for too long.
-    fn close_past(&mut self)
-        ensures { self.new ≡ record self.old { streams = closed self.old.streams self.old.moment } }
+    /// The logs close that linger for too long, and these images, which are silent.
+    fn close_past(&mut self, silent: &[u64])
+        ensures { self.new ≡ record self.old { streams = closed self.old.streams self.old.moment silent.now } }
     {
         let now = self.moment;
-        self.readers.close(&self.streams, now);
-        self.streams.close(now);
+        self.readers.close(&self.streams, now, silent);
+        self.streams.close(now, silent);
     }
 
     /// Time went on: the clients go of which nothing was heard for too long, and then the logs close that linger for too
-    /// long.
+    /// long, and these images, which are silent.
     #[tactic(auto, unfolding(crate::specs::Ticking::tick, crate::specs::Ticking::ticked))]
-    pub(crate) fn do_tick(&mut self)
-        ensures { self.new ≡ (tick self.old).after }
+    pub(crate) fn do_tick(&mut self, silent: &[u64])
+        ensures { self.new ≡ (tick self.old silent.now).after }
     {
         self.leave_late();
-        self.close_past();
+        self.close_past(silent);
     }
 }

@@ -12,7 +12,7 @@ use Rattle.driver_core.specs.State.{State, opened}
 use Rattle.driver_laws.specs.Events.{AfterAnyEvents}
 use Rattle.driver_laws.specs.GrantLaws.{IsCounterMadeBy, StoodBefore}
 use Rattle.driver_laws.specs.NumberLaws.{AreApart, AreDrawn, AreRising, ListsShareNoNumber}
-use Rattle.driver_laws.specs.PublishingLaws.{IsLogMadeBy, IsRegisteredBy, WasLive, source_of}
+use Rattle.driver_laws.specs.PublishingLaws.{IsImageMadeBy, IsLogMadeBy, IsRegisteredBy, WasLive, source_of}
 use Rattle.driver_laws.specs.SubscribingLaws.{IsMadeBy}
 use Rattle.channel_uri.specs.Channel.{denotes}
 use Rattle.command_codec.specs.declared.add_publication.AddPublication.{AddPublication}
@@ -29,8 +29,9 @@ use Rattle.stream_registry.specs.declared.wanted.Adding.TheVariants.{Make}
 use Rattle.stream_registry.specs.Adding.{adding_of}
 use Rattle.driver_core.proofs.ListLemmas.{contains_none}
 use Rattle.driver_laws.proofs.GrantOnlyLemmas.{counts_and_ends_only}
+use Rattle.driver_laws.proofs.NewNumberLemmas.{image_number}
 use Rattle.driver_laws.proofs.NumberLemmas.{are_drawn, event_rises, opened_rises}
-use Rattle.driver_laws.proofs.OwnerLemmas.{after_any}
+use Rattle.driver_laws.proofs.EveryLemmas.{after_any}
 use Rattle.driver_laws.proofs.PublishingOnlyLemmas.{published_only}
 use Rattle.driver_laws.proofs.SubscribingOnlyLemmas.{grants_only}
 
@@ -196,15 +197,49 @@ counter_from s event inputs counter drawn has =
     (λ (made : IsCounterMadeBy s event counter). inr (new_counter s event counter made))
     ((counts_and_ends_only s event inputs).counters counter has)
 
+-- a log was live, or a request makes it, or a SETUP
+abbrev IsFrom : State → Event → Source → Type 0
+IsFrom s event log =
+    Stood s (WasLive s.streams log) log.number ⊎ (IsNew s event 1 log.number ⊎ IsImageMadeBy s event log)
+
+-- a SETUP asks for no row of another list
+draws_none : (s : State) (event : Event) (log : Source) (list : ℕ) → IsImageMadeBy s event log → DrawsFor event list → ⊥
+draws_none s event log list image draws =
+    let never = sym image.event_is ∙ draws.event_is in
+    absurd (cc never)
+
+log_apart : (s : State) (event : Event) (log : Source) (other : ℕ) (WasOther : Type 0) (another : ℕ) → (1 ≡ other → ⊥) →
+    (WasLive s.streams log → WasOther → ¬ (log.number ≡ another)) → IsFrom s event log →
+    Stood s WasOther another ⊎ IsNew s event other another → ¬ (log.number ≡ another)
+log_apart s event log other WasOther another differ before one two = λ same.
+    ⊎_elim
+    (λ (stood : Stood s (WasLive s.streams log) log.number).
+    apart s event 1 other (WasLive s.streams log) WasOther log.number another differ before (inl stood) two same)
+    (λ made.
+    ⊎_elim
+    (λ (new : IsNew s event 1 log.number).
+    apart s event 1 other (WasLive s.streams log) WasOther log.number another differ before (inr new) two same)
+    (λ (image : IsImageMadeBy s event log).
+    let high = image_number s event log image in
+    ⊎_elim
+    (λ (stood : Stood s WasOther another).
+    let low = stood.drawn in
+    absurd (omega (arith, low, high, same)))
+    (λ (new : IsNew s event other another). draws_none s event log other image new.draws)
+    two)
+    made)
+    one
+
 log_from : (s : State) (event : Event) (inputs : Inputs) (log : Source) → AreDrawn s →
     Contains (state_after s event inputs).streams.sources log →
-    Stood s (WasLive s.streams log) log.number ⊎ IsNew s event 1 log.number
+    IsFrom s event log
 log_from s event inputs log drawn has =
     ⊎_elim
     (λ (stood : WasLive s.streams log).
     let same : log.number ≡ stood.before.number = ap (λ (p : Source). p.number) stood.same in
     inl (record { was = stood; drawn = rw same (drawn.sources stood.before stood.stood).below }))
-    (λ (made : IsLogMadeBy s event log). inr (new_log s event log made))
+    (λ others.
+    ⊎_elim (λ (made : IsLogMadeBy s event log). inr (inl (new_log s event log made))) (λ image. inr (inr image)) others)
     ((published_only s event inputs).logs log has)
 
 counter_number : (s : State) (counter : Counter) (stood : StoodBefore s counter) → counter.number ≡ stood.before.number
@@ -273,6 +308,8 @@ registered_with s event inputs log row drawn before is_live stands same =
     let high = (new_registration s event row registered).next in
     absurd (omega (arith, number, low, high, same)))
     ((published_only s event inputs).registrations row stands))
+    (λ others.
+    ⊎_elim
     (λ (made : IsLogMadeBy s event log).
     ⊎_elim
     (λ stood.
@@ -281,6 +318,16 @@ registered_with s event inputs log row drawn before is_live stands same =
     absurd (omega (arith, low, high, same)))
     (λ (registered : IsRegisteredBy s event row). made_together s event log row made registered)
     ((published_only s event inputs).registrations row stands))
+    (λ (image : IsImageMadeBy s event log).
+    ⊎_elim
+    (λ stood.
+    let low = (drawn.registrations row stood).below in
+    let high = image_number s event log image in
+    absurd (omega (arith, low, high, same)))
+    (λ (registered : IsRegisteredBy s event row).
+    absurd (draws_none s event log 1 image (new_registration s event row registered).draws))
+    ((published_only s event inputs).registrations row stands))
+    others)
     ((published_only s event inputs).logs log is_live)
 
 -- ---- every registry
@@ -303,12 +350,12 @@ stay_apart s event inputs drawn before = record {
       before.subscriptions_and_counters row stood.before was stood.stood (same ∙ counter_number s other stood))
       (subscription_from s event inputs row drawn has) (counter_from s event inputs other drawn stands);
   logs_and_subscriptions = λ log other has stands.
-      apart s event 1 2 _ _ log.number other.number (λ same. cc same)
+      log_apart s event log 2 _ other.number (λ same. cc same)
       (λ (was : WasLive s.streams log) stood same.
       before.logs_and_subscriptions was.before other was.stood stood (sym (log_number s log was) ∙ same))
       (log_from s event inputs log drawn has) (subscription_from s event inputs other drawn stands);
   logs_and_counters = λ log other has stands.
-      apart s event 1 3 _ _ log.number other.number (λ same. cc same)
+      log_apart s event log 3 _ other.number (λ same. cc same)
       (λ (was : WasLive s.streams log) (stood : StoodBefore s other) same.
       before.logs_and_counters was.before stood.before was.stood stood.stood
       (sym (log_number s log was) ∙ same ∙ counter_number s other stood))

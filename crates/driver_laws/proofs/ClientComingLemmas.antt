@@ -3,7 +3,7 @@ use Rattle.std.proofs.Common.{◌≡◌, ℕ, ◌<◌, ◌==◌, Bool, true, fal
 use Rattle.std.specs.List.{Contains}
 use Rattle.std.proofs.lemmas.List.Elements.{Contains-push_cases}
 use Rattle.driver_core.specs.declared.event.Event.{Event}
-use Rattle.driver_core.specs.declared.event.Event.TheVariants.{Attach, Command, Reload, Tick}
+use Rattle.driver_core.specs.declared.event.Event.TheVariants.{Attach, Command, Reload, Setup, Tick}
 use Rattle.driver_core.specs.declared.event.Inputs.{Inputs}
 use Rattle.driver_core.specs.Attaching.{attached}
 use Rattle.driver_core.specs.Closing.{close, keep_alive}
@@ -15,16 +15,18 @@ use Rattle.driver_core.specs.Leaving.{all_left, left}
 use Rattle.driver_core.specs.Publishing.{published, with_publication}
 use Rattle.driver_core.specs.Reloading.{in_force, reloaded}
 use Rattle.driver_core.specs.Renewal.{renewed}
+use Rattle.driver_core.specs.SettingUp.{image_made, with_image}
 use Rattle.driver_core.specs.State.{State, at_moment}
 use Rattle.driver_core.specs.Subscribing.{subscribed, with_subscription}
 use Rattle.driver_core.specs.Terminating.{stopped_for_good, terminated}
 use Rattle.driver_core.specs.Ticking.{late, tick, ticked}
 use Rattle.driver_core.specs.Unpublishing.{unpublished}
+use Rattle.driver_core.specs.Unread.{dropping, without_unread}
 use Rattle.driver_core.specs.Unsubscribing.{unsubscribed}
 use Rattle.driver_laws.specs.NumberLaws.{WasAttached}
 use Rattle.client_registry.specs.declared.client.Client.{Client}
 use Rattle.client_registry.specs.Clients.{admitted, heard_one, is_other, touched, without}
-use Rattle.driver_core.proofs.EventCases.{Cases, attach_cases, command_cases, reload_cases}
+use Rattle.driver_core.proofs.EventCases.{Cases, attach_cases, command_cases, reload_cases, set_up_cases}
 use Rattle.driver_core.proofs.ListLemmas.{contains_none, left_was_there}
 use Rattle.driver_laws.proofs.LeftLemmas.{IsImage, from_map}
 
@@ -96,23 +98,27 @@ command_comes s now handle bytes =
       termination = λ client correlation fields was_heard asks allows row has. absurd (contains_none row has);
     }
 
-ticked_comes : (s between : State) (clients : List ℕ) → AllCome s between.clients.rows → Comes s (ticked between clients)
+ticked_comes : (s between : State) (clients silent : List ℕ) → AllCome s between.clients.rows →
+    Comes s (ticked between clients silent)
 unfolding ticked
-ticked_comes s between clients come = come
+ticked_comes s between clients silent come = come
 
-draft_comes : (s : State) (event : Event) → Comes s (drafted s event)
-unfolding drafted at_moment answered attached reloaded in_force tick
-draft_comes s (Attach now principal) =
+draft_comes : (s : State) (event : Event) (inputs : Inputs) → Comes s (drafted s event inputs)
+unfolding drafted at_moment answered attached reloaded in_force tick image_made with_image
+draft_comes s (Attach now principal) inputs =
     attach_cases (Comes s) (at_moment s now) principal (all_stay s) (one_comes s principal (max s.moment now)) (all_stay s)
-draft_comes s (Command now handle bytes) = command_cases (Comes s) s now handle bytes (command_comes s now handle bytes)
-draft_comes s (Reload now policy) =
+draft_comes s (Command now handle bytes) inputs =
+    command_cases (Comes s) s now handle bytes inputs (command_comes s now handle bytes)
+draft_comes s (Reload now policy) inputs =
     reload_cases (Comes s) (at_moment s now) policy (λ room. all_stay s) (λ full. all_stay s)
-draft_comes s (Tick now) =
-    ticked_comes s (all_left (at_moment s now) (late (at_moment s now))) (late (at_moment s now))
+draft_comes s (Tick now) inputs =
+    ticked_comes s (all_left (at_moment s now) (late (at_moment s now))) (late (at_moment s now)) inputs.silent
     (all_left_come s (at_moment s now) (late (at_moment s now)) (all_stay s))
+draft_comes s (Setup now local from setup) inputs =
+    set_up_cases (Comes s) (at_moment s now) local from setup (λ fault. all_stay s) (λ join place is set. all_stay s)
 
 pub clients_come : (s : State) (event : Event) (inputs : Inputs) (client : Client) →
     Contains (state_after s event inputs).clients.rows client →
     WasAttached s client ⊎ (s.clients.last < client.number)
-unfolding conduct renewed
-clients_come s event inputs = draft_comes s event
+unfolding conduct renewed dropping without_unread
+clients_come s event inputs = draft_comes s event inputs

@@ -1,10 +1,11 @@
 -- What an event closes are the logs that were there and are no more.
-use Rattle.std.proofs.Common.{◌≡◌, ℕ, ◌+◌, ◌==◌, ◌||◌, not, max, Bool, true, false, cond, List, [], ◌∷◌, map, filter, refl, sym, subst, ap, ◌∙◌, ⊎_elim}
+use Rattle.std.proofs.Common.{◌≡◌, ℕ, ◌+◌, ◌≤◌, ◌==◌, ◌||◌, not, max, Bool, true, false, cond, List, [], ◌∷◌, map, filter, inl, inr, refl, sym, subst, ap, ◌∙◌, ◌⊎◌, ⊎_elim, arith}
 use Rattle.std.specs.List.{Contains, list_any}
 use Rattle.std.proofs.lemmas.Bool.{cases_Bool, eqb-true, eq-eqb}
 use Rattle.std.proofs.lemmas.List.Elements.{All-contains, Contains-append_left, Contains-append_right, Contains-push, filter_passes}
 use Rattle.driver_core.specs.declared.event.Event.{Event}
-use Rattle.driver_core.specs.declared.event.Event.TheVariants.{Attach, Command, Reload, Tick}
+use Rattle.driver_core.specs.declared.event.Inputs.{Inputs}
+use Rattle.driver_core.specs.declared.event.Event.TheVariants.{Attach, Command, Reload, Setup, Tick}
 use Rattle.driver_core.specs.Attaching.{attached}
 use Rattle.driver_core.specs.Closing.{close, keep_alive}
 use Rattle.driver_core.specs.Commands.{heard}
@@ -22,8 +23,13 @@ use Rattle.driver_core.specs.Terminating.{stopped_for_good, terminated}
 use Rattle.driver_core.specs.Ticking.{late, tick, ticked}
 use Rattle.driver_core.specs.Unpublishing.{unpublished}
 use Rattle.driver_core.specs.Unsubscribing.{unsubscribed}
-use Rattle.driver_laws.specs.ClosingLaws.{ClosedLogsWereThere}
+use Rattle.driver_core.specs.SettingUp.{image_made, with_image}
+use Rattle.driver_core.specs.Unread.{dropping, is_closed, without_unread}
+use Rattle.driver_core.specs.Pairs.{pairs_of}
+use Rattle.driver_core.specs.Soundness.{log_of}
+use Rattle.driver_laws.specs.ClosingLaws.{ClosedLogsWereThere, IsSameLog, is_no_more}
 use Rattle.driver_laws.specs.NumberLaws.{AreRising, Rises}
+use Rattle.driver_laws.specs.PublishingLaws.{IsImageMadeBy, IsLogMadeBy, WasLive}
 use Rattle.stream_registry.specs.declared.row.Source.{Source}
 use Rattle.stream_registry.specs.declared.row.Registration.{Registration}
 use Rattle.stream_registry.specs.declared.wanted.Adding.{Adding}
@@ -31,14 +37,22 @@ use Rattle.stream_registry.specs.declared.wanted.Adding.TheVariants.{Join, Make}
 use Rattle.stream_registry.specs.declared.wanted.Wanted.{Wanted}
 use Rattle.stream_registry.specs.Adding.{added, subscribed as subscribed_in}
 use Rattle.stream_registry.specs.Leaving.{left as left_in, unregistered, unsubscribed as unsubscribed_in}
-use Rattle.stream_registry.specs.Lingering.{closed, closing_of, is_not_past, is_past, is_used, left_alone, place_of, settled, settled_one}
+use Rattle.stream_registry.specs.Lingering.{closed, closing_of, is_closing, stays_live, is_used, left_alone, place_of, settled, settled_one}
 use Rattle.stream_registry.specs.Streams.{Streams}
-use Rattle.driver_core.proofs.EventCases.{Cases, attach_cases, command_cases, reload_cases}
+use Rattle.stream_registry.specs.declared.lingering.LogPlace.{LogPlace}
+use Rattle.stream_registry.specs.declared.pairs.Pair.{Pair}
+use Rattle.stream_registry.specs.declared.wanted.ImageWanted.{ImageWanted}
+use Rattle.log_readers.specs.Unread.{is_kept, is_unread, without_unread as without_unread_in}
+use Rattle.driver_core.proofs.EventCases.{Cases, attach_cases, command_cases, reload_cases, set_up_cases}
 use Rattle.driver_core.proofs.ListLemmas.{left_was_there, passes_are_left}
 use Rattle.driver_laws.proofs.ClosingLemmas.{any_of}
-use Rattle.driver_laws.proofs.LeftLemmas.{mapped}
+use Rattle.driver_laws.proofs.DroppingLemmas.{Found, found_of, passes_test}
+use Rattle.driver_laws.proofs.GoingLemmas.{unread_alike}
+use Rattle.driver_laws.proofs.NewNumberLemmas.{image_number}
+use Rattle.driver_laws.proofs.PublishingOnlyLemmas.{drafts_only}
+use Rattle.driver_laws.proofs.LeftLemmas.{IsImage, from_map, mapped}
 use Rattle.driver_laws.proofs.LoggedLemmas.{IsFound}
-use Rattle.driver_laws.proofs.NumberLemmas.{all_left_rises, moment_rises, numbers_rise, settled_number, source_number}
+use Rattle.driver_laws.proofs.NumberLemmas.{all_left_rises, are_drawn, moment_rises, numbers_rise, settled_number, source_number}
 use Rattle.driver_laws.proofs.RisingLemmas.{rises_unique}
 
 -- ---- logs by their numbers
@@ -171,38 +185,39 @@ same_pass test other (x ∷ xs) each =
     ) refl
 
 -- that a log that goes has no other of its number left
-goes : (last now : ℕ) (logs : List Source) (log : Source) → Rises source_number 0 last logs →
-    Contains logs log → is_past now log ≡ true → lacks_source (filter (is_not_past now) logs) log.number ≡ true
-goes last now logs log up has past =
+goes : (last now : ℕ) (silent : List ℕ) (logs : List Source) (log : Source) → Rises source_number 0 last logs →
+    Contains logs log → is_closing now silent log ≡ true → lacks_source (filter (stays_live now silent) logs) log.number ≡ true
+goes last now silent logs log up has closes =
     ⊎_elim
     (λ there.
-    let found = some_passes (λ (other : Source). other.number == log.number) (filter (is_not_past now) logs) there in
+    let found = some_passes (λ (other : Source). other.number == log.number) (filter (stays_live now silent) logs) there in
     let other : Source = found.0 in
     let same : other ≡ log =
     rises_unique source_number 0 last logs other log up
-    (left_was_there (is_not_past now) logs other found.1.stands) has
+    (left_was_there (stays_live now silent) logs other found.1.stands) has
     (eqb-true other.number log.number found.1.passes) in
-    let stays : is_not_past now other ≡ true =
-    All-contains (λ l. is_not_past now l ≡ true) (filter (is_not_past now) logs) other
-    (filter_passes (is_not_past now) logs) found.1.stands in
-    let stays' : not (is_past now log) ≡ true = ap (is_not_past now) (sym same) ∙ stays in
-    let not_past : false ≡ true = ap not (sym past) ∙ stays' in
-    absurd (cc not_past))
+    let stays : stays_live now silent other ≡ true =
+    All-contains (λ l. stays_live now silent l ≡ true) (filter (stays_live now silent) logs) other
+    (filter_passes (stays_live now silent) logs) found.1.stands in
+    let stays' : not (is_closing now silent log) ≡ true = ap (stays_live now silent) (sym same) ∙ stays in
+    let not_closing : false ≡ true = ap not (sym closes) ∙ stays' in
+    absurd (cc not_closing))
     (λ lacks. ap not lacks)
-    (cases_Bool (has_source (filter (is_not_past now) logs) log.number))
+    (cases_Bool (has_source (filter (stays_live now silent) logs) log.number))
 
-stays : (now : ℕ) (logs : List Source) (log : Source) → Contains logs log → is_past now log ≡ false →
-    lacks_source (filter (is_not_past now) logs) log.number ≡ false
-stays now logs log has lasts =
+stays : (now : ℕ) (silent : List ℕ) (logs : List Source) (log : Source) → Contains logs log →
+    is_closing now silent log ≡ false → lacks_source (filter (stays_live now silent) logs) log.number ≡ false
+stays now silent logs log has lasts =
     ap not
-    (has_number (filter (is_not_past now) logs) log log.number
-    (passes_are_left (is_not_past now) logs log (ap not lasts) has) refl)
+    (has_number (filter (stays_live now silent) logs) log log.number
+    (passes_are_left (stays_live now silent) logs log (ap not lasts) has) refl)
 
-past_are_lacked : (last now : ℕ) (logs : List Source) (log : Source) → Rises source_number 0 last logs →
-    Contains logs log → is_past now log ≡ lacks_source (filter (is_not_past now) logs) log.number
-past_are_lacked last now logs log up has =
-    ⊎_elim (λ past. past ∙ sym (goes last now logs log up has past)) (λ lasts. lasts ∙ sym (stays now logs log has lasts))
-    (cases_Bool (is_past now log))
+closing_are_lacked : (last now : ℕ) (silent : List ℕ) (logs : List Source) (log : Source) → Rises source_number 0 last logs →
+    Contains logs log → is_closing now silent log ≡ lacks_source (filter (stays_live now silent) logs) log.number
+closing_are_lacked last now silent logs log up has =
+    ⊎_elim (λ closes. closes ∙ sym (goes last now silent logs log up has closes))
+    (λ lasts. lasts ∙ sym (stays now silent logs log has lasts))
+    (cases_Bool (is_closing now silent log))
 
 -- ---- each event
 
@@ -235,40 +250,198 @@ command_closes s now handle bytes =
       termination = λ client correlation fields was_heard asks allows. all_go logs;
     }
 
-ticked_closes : (s between : State) (clients : List ℕ) → AreRising between →
-    SamePlaces between.streams.sources s.streams.sources → ClosesGone s (ticked between clients)
+ticked_closes : (s between : State) (clients silent : List ℕ) → AreRising between →
+    SamePlaces between.streams.sources s.streams.sources → ClosesGone s (ticked between clients silent)
 unfolding ticked closed closing_of
-ticked_closes s between clients rises same =
+ticked_closes s between clients silent rises same =
     let logs : List Source = between.streams.sources in
-    let left' : List Source = filter (is_not_past between.moment) logs in
+    let left' : List Source = filter (stays_live between.moment silent) logs in
     ap (map place_of)
-    (same_pass (is_past between.moment) (λ (log : Source). lacks_source left' log.number) logs
-    (λ log has. past_are_lacked between.last_number between.moment logs log rises.sources has))
+    (same_pass (is_closing between.moment silent) (λ (log : Source). lacks_source left' log.number) logs
+    (λ log has. closing_are_lacked between.last_number between.moment silent logs log rises.sources has))
     ∙ same (lacks_source left')
 
-tick_closes : (s : State) (now : ℕ) → AreRising s → ClosesGone (at_moment s now) (tick (at_moment s now))
+tick_closes : (s : State) (now : ℕ) (silent : List ℕ) → AreRising s → ClosesGone (at_moment s now) (tick (at_moment s now) silent)
 unfolding tick
-tick_closes s now rises =
+tick_closes s now silent rises =
     let start = at_moment s now in
-    ticked_closes start (all_left start (late start)) (late start)
+    ticked_closes start (all_left start (late start)) (late start) silent
     (all_left_rises start (late start) (moment_rises s now rises))
     (all_left_places start (late start))
 
-draft_closes : (s : State) (event : Event) → AreRising s → ClosesGone s (drafted s event)
+image_closes : (s : State) (wanted : ImageWanted) (place : ℕ) → ClosesGone s (image_made s wanted place)
+unfolding image_made with_image answered
+image_closes s wanted place =
+    nothing_goes s.streams.sources _
+    (λ log has. has_number _ log log.number (Contains-append_left s.streams.sources _ log has) refl)
+
+draft_closes : (s : State) (event : Event) (inputs : Inputs) → AreRising s → ClosesGone s (drafted s event inputs)
 unfolding drafted at_moment answered attached reloaded in_force
-draft_closes s (Attach now principal) rises =
+draft_closes s (Attach now principal) inputs rises =
     let same = nothing_goes s.streams.sources s.streams.sources (as_they_are s.streams.sources) in
     attach_cases (ClosesGone s) (at_moment s now) principal same same same
-draft_closes s (Command now handle bytes) rises =
-    command_cases (ClosesGone s) s now handle bytes (command_closes s now handle bytes)
-draft_closes s (Reload now policy) rises =
+draft_closes s (Command now handle bytes) inputs rises =
+    command_cases (ClosesGone s) s now handle bytes inputs (command_closes s now handle bytes)
+draft_closes s (Reload now policy) inputs rises =
     let same = nothing_goes s.streams.sources s.streams.sources (as_they_are s.streams.sources) in
     reload_cases (ClosesGone s) (at_moment s now) policy (λ room. same) (λ full. same)
-draft_closes s (Tick now) rises = tick_closes s now rises
+draft_closes s (Tick now) inputs rises = tick_closes s now inputs.silent rises
+draft_closes s (Setup now local from setup) inputs rises =
+    let same = nothing_goes s.streams.sources s.streams.sources (as_they_are s.streams.sources) in
+    set_up_cases (ClosesGone s) (at_moment s now) local from setup (λ fault. same)
+    (λ join place is set. image_closes (at_moment s now) _ place)
 
 -- ---- the law
 
+-- those that are told are known by their numbers
+told_are : (test : ℕ → Bool) (logs : List Source) (log : Source) → Contains logs log →
+    list_any (λ (closed : LogPlace). closed.source == log.number)
+    (map place_of (filter (λ (one : Source). test one.number) logs))
+    ≡ test log.number
+told_are test logs log has =
+    let told : List LogPlace = map place_of (filter (λ (one : Source). test one.number) logs) in
+    ⊎_elim
+    (λ passes.
+    any_of (λ (closed : LogPlace). closed.source == log.number) told (place_of log)
+    (mapped place_of (filter (λ (one : Source). test one.number) logs) log
+    (passes_are_left (λ (one : Source). test one.number) logs log passes has)) (eq-eqb log.number log.number refl)
+    ∙ sym passes)
+    (λ fails.
+    ⊎_elim
+    (λ any.
+    let found : Found (λ (closed : LogPlace). closed.source == log.number) told =
+    found_of (λ (closed : LogPlace). closed.source == log.number) told any in
+    let image : IsImage place_of (filter (λ (one : Source). test one.number) logs) found.one =
+    from_map place_of (filter (λ (one : Source). test one.number) logs) found.one found.there in
+    let passes : test image.of.number ≡ true =
+    passes_test (λ (one : Source). test one.number) logs image.of image.stood in
+    let same : image.of.number ≡ log.number =
+    sym (ap (λ (place : LogPlace). place.source) image.is) ∙ eqb-true found.one.source log.number found.passes in
+    let never : false ≡ true = sym fails ∙ sym (ap test same) ∙ passes in
+    absurd (cc never))
+    (λ none. none ∙ sym fails)
+    (cases_Bool (list_any (λ (closed : LogPlace). closed.source == log.number) told)))
+    (cases_Bool (test log.number))
+
+-- what the event's own rule leaves of that number is the same log
+same_number : (s : State) (event : Event) (inputs : Inputs) (log other : Source) → AreRising s →
+    Contains s.streams.sources log → Contains (drafted s event inputs).after.streams.sources other →
+    other.number ≡ log.number → IsSameLog other log
+same_number s event inputs log other rises has there same =
+    let low : log.number ≤ s.last_number = ((are_drawn s rises).sources log has).below in
+    ⊎_elim
+    (λ (was : WasLive s.streams other).
+    let number : was.before.number ≡ log.number = sym (ap (λ (one : Source). one.number) was.same) ∙ same in
+    let is : was.before ≡ log =
+    rises_unique source_number 0 s.last_number s.streams.sources was.before log rises.sources was.stood has number in
+    was.same ∙ ap log_of is)
+    (λ others.
+    ⊎_elim
+    (λ (made : IsLogMadeBy s event other).
+    let high : other.number ≡ s.last_number + 1 = ap (λ (one : Source). one.number) made.made_is in
+    absurd (omega (arith, low, high, same)))
+    (λ (made : IsImageMadeBy s event other).
+    let high : other.number ≡ s.last_number + 1 = image_number s event other made in
+    absurd (omega (arith, low, high, same)))
+    others)
+    ((drafts_only s event inputs).logs other there)
+
+either_way : (there unread kept : Bool) → ((not there ≡ true) ⊎ (unread ≡ true) → kept ≡ false) →
+    (there ≡ true → unread ≡ false → kept ≡ true) → (not there || unread) ≡ not kept
+either_way true true kept none one = ap not (sym (none (inr refl)))
+either_way true false kept none one = ap not (sym (one refl refl))
+either_way false unread kept none one = ap not (sym (none (inl refl)))
+
+module _ (s : State) (event : Event) (inputs : Inputs) (log : Source) (rises : AreRising s)
+    (has : Contains s.streams.sources log) where
+  abbrev after : State
+  after = (drafted s event inputs).after
+
+  abbrev pairs : List Pair
+  pairs = pairs_of (drafted s event inputs).after
+
+  -- where no log of that number is left, or this one is unread, none is kept
+  none_kept : (lacks_source (drafted s event inputs).after.streams.sources log.number ≡ true)
+      ⊎ (is_unread (pairs_of (drafted s event inputs).after) log ≡ true) →
+      has_source (filter (is_kept (pairs_of (drafted s event inputs).after)) (drafted s event inputs).after.streams.sources) log.number
+      ≡ false
+  none_kept why =
+      ⊎_elim
+      (λ any.
+      let found : Found (λ (other : Source). other.number == log.number) (filter (is_kept pairs) after.streams.sources) =
+      found_of (λ (other : Source). other.number == log.number) (filter (is_kept pairs) after.streams.sources) any in
+      let there : Contains after.streams.sources found.one =
+      left_was_there (is_kept pairs) after.streams.sources found.one found.there in
+      let number : found.one.number ≡ log.number = eqb-true found.one.number log.number found.passes in
+      ⊎_elim
+      (λ lacks.
+      let stands : has_source after.streams.sources log.number ≡ true =
+      has_number after.streams.sources found.one log.number there number in
+      let never : false ≡ true = ap not (sym stands) ∙ lacks in
+      absurd (cc never))
+      (λ unread.
+      let kept : not (is_unread pairs found.one) ≡ true =
+      passes_test (is_kept pairs) after.streams.sources found.one found.there in
+      let same : is_unread pairs found.one ≡ is_unread pairs log =
+      unread_alike pairs found.one log (same_number s event inputs log found.one rises has there number) in
+      let never : false ≡ true = sym (ap not (same ∙ unread)) ∙ kept in
+      absurd (cc never))
+      why)
+      (λ none. none)
+      (cases_Bool (has_source (filter (is_kept pairs) after.streams.sources) log.number))
+
+  -- else it is
+  one_kept : has_source (drafted s event inputs).after.streams.sources log.number ≡ true →
+      is_unread (pairs_of (drafted s event inputs).after) log ≡ false →
+      has_source (filter (is_kept (pairs_of (drafted s event inputs).after)) (drafted s event inputs).after.streams.sources) log.number
+      ≡ true
+  one_kept any read =
+      let found : Found (λ (other : Source). other.number == log.number) after.streams.sources =
+      found_of (λ (other : Source). other.number == log.number) after.streams.sources any in
+      let number : found.one.number ≡ log.number = eqb-true found.one.number log.number found.passes in
+      let same : is_unread pairs found.one ≡ is_unread pairs log =
+      unread_alike pairs found.one log (same_number s event inputs log found.one rises has found.there number) in
+      has_number (filter (is_kept pairs) after.streams.sources) found.one log.number
+      (passes_are_left (is_kept pairs) after.streams.sources found.one (ap not (same ∙ read)) found.there) number
+
+  closed_or_kept :
+      (lacks_source (drafted s event inputs).after.streams.sources log.number
+      || is_unread (pairs_of (drafted s event inputs).after) log)
+      ≡ lacks_source (filter (is_kept (pairs_of (drafted s event inputs).after))
+      (drafted s event inputs).after.streams.sources) log.number
+  closed_or_kept =
+      either_way (has_source after.streams.sources log.number) (is_unread pairs log)
+      (has_source (filter (is_kept pairs) after.streams.sources) log.number) none_kept one_kept
+
+  -- a log closes where no log of its number is live behind the event
+  closes_as_lacked :
+      is_closed (renewed s inputs (drafted s event inputs)) log
+      ≡ lacks_source (filter (is_kept (pairs_of (drafted s event inputs).after))
+      (drafted s event inputs).after.streams.sources) log.number
+  unfolding renewed
+  closes_as_lacked =
+      let told : list_any (λ (closed : LogPlace). closed.source == log.number) (drafted s event inputs).closes
+      ≡ lacks_source after.streams.sources log.number =
+      ap (list_any (λ (closed : LogPlace). closed.source == log.number)) (draft_closes s event inputs rises)
+      ∙ told_are (lacks_source after.streams.sources) s.streams.sources log has in
+      ap (λ (b : Bool). not (not b) || is_unread pairs log) told
+      ∙ twice (lacks_source after.streams.sources log.number) (is_unread pairs log)
+      ∙ closed_or_kept
+    where
+      twice : (b c : Bool) → (not (not b) || c) ≡ (b || c)
+      twice true c = refl
+      twice false c = refl
+
+closed_there : (s : State) (event : Event) (inputs : Inputs) → AreRising s →
+    (conduct s event inputs).outcome.closes
+    ≡ map place_of (filter (is_no_more (conduct s event inputs).after) s.streams.sources)
+unfolding conduct renewed dropping without_unread without_unread_in pairs_of
+closed_there s event inputs rises =
+    ap (map place_of)
+    (same_pass (is_closed (renewed s inputs (drafted s event inputs)))
+    (is_no_more (without_unread (drafted s event inputs).after)) s.streams.sources
+    (λ log has. closes_as_lacked s event inputs log rises has))
+
 pub closed_were_there : ClosedLogsWereThere
-unfolding conduct renewed
 closed_were_there settings policy peers events event inputs =
-    draft_closes _ event (numbers_rise settings policy peers events)
+    closed_there _ event inputs (numbers_rise settings policy peers events)

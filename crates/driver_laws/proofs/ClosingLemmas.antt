@@ -1,5 +1,5 @@
 -- Where a log lingered for too long, or the driver ends, it closes.
-use Rattle.std.proofs.Common.{◌≡◌, ℕ, ◌-◌, ◌<◌, ◌==◌, max, Bool, true, false, List, [], ◌∷◌, ◌++◌, map, filter, Option, Some, sym, ap, ◌∙◌, ⊎_elim}
+use Rattle.std.proofs.Common.{◌≡◌, ℕ, ◌-◌, ◌<◌, ◌==◌, max, ◌||◌, not, Bool, true, false, List, [], ◌∷◌, ◌++◌, map, filter, Option, Some, refl, sym, ap, ap₂, ◌∙◌, ⊎_elim}
 use Rattle.std.specs.List.{Contains, list_any}
 use Rattle.std.proofs.lemmas.Bool.{eq-eqb, lt-ltb, or_left, or_right}
 use Rattle.std.proofs.lemmas.List.Elements.{All-contains, Contains-append_cases, filter_passes}
@@ -11,22 +11,25 @@ use Rattle.driver_core.specs.Commands.{heard, at_request}
 use Rattle.driver_core.specs.Conduct.{conduct, drafted, state_of}
 use Rattle.driver_core.specs.Leaving.{all_left}
 use Rattle.driver_core.specs.Renewal.{renewed}
-use Rattle.driver_core.specs.Soundness.{MovesLogs, is_left, log_of}
+use Rattle.driver_core.specs.Soundness.{MovesLogs, log_of}
 use Rattle.driver_core.specs.State.{State, at_moment, opened}
 use Rattle.driver_core.specs.Terminating.{terminated}
 use Rattle.driver_core.specs.Ticking.{late, tick, ticked}
-use Rattle.driver_laws.specs.ClosingLaws.{Closes, IsClosed, IsPastBy, LogsCloseExactly}
+use Rattle.driver_core.specs.Pairs.{pairs_of}
+use Rattle.driver_core.specs.Unread.{dropping, is_closed}
+use Rattle.driver_laws.specs.ClosingLaws.{Closes, IsClosed, IsPastBy, IsSameLog, IsSilentBy, LogsCloseExactly}
 use Rattle.driver_laws.specs.LeavingLaws.{IsTerminatedBy}
 use Rattle.client_registry.specs.declared.client.Client.{Client}
 use Rattle.stream_registry.specs.declared.lingering.LogPlace.{LogPlace}
 use Rattle.stream_registry.specs.declared.row.Source.{Source}
-use Rattle.stream_registry.specs.Lingering.{closing_of, is_past, is_past_since, place_of}
+use Rattle.stream_registry.specs.Lingering.{closing_of, is_closing, is_image_of, is_past, is_past_since, place_of}
 use Rattle.stream_registry.specs.Origins.{lingering_since}
+use Rattle.log_readers.specs.Unread.{is_left, is_unread}
 use Rattle.driver_core.proofs.ListLemmas.{contains_none, only_one, passes_are_left}
 use Rattle.driver_core.proofs.SoundnessLemmas.{moves_logs, registries_sound}
-use Rattle.driver_laws.proofs.GoingLemmas.{moment_of}
+use Rattle.driver_laws.proofs.GoingLemmas.{image_alike, moment_of}
 use Rattle.driver_laws.proofs.GoneLemmas.{end_is}
-use Rattle.driver_laws.proofs.LeftLemmas.{Left, each_left, mapped, past_settles, place_settles}
+use Rattle.driver_laws.proofs.LeftLemmas.{Left, each_left, mapped, past_settles, place_settles, same_but_since}
 
 -- ---- the outcome tells it
 
@@ -34,34 +37,45 @@ past_is : (linger now since : ℕ) (lingers : Option ℕ) → lingers ≡ Some s
     is_past_since linger now lingers ≡ true
 past_is linger now since lingers is long = rw is (lt-ltb linger (now - since) long)
 
-ticked_closes : {Goes : ℕ → Type 0} (s between : State) (now : ℕ) (log : Source) →
+ticked_closes : {Goes : ℕ → Type 0} (s between : State) (now : ℕ) (silent : List ℕ) (log : Source) →
     Left (max s.moment now) (at_moment s now) between Goes → Contains s.streams.sources log →
-    is_past (max s.moment now) log ≡ true →
-    Contains (closing_of between.streams (max s.moment now)) (place_of log)
+    is_closing (max s.moment now) silent log ≡ true →
+    Contains (closing_of between.streams (max s.moment now) silent) (place_of log)
 unfolding closing_of at_moment
-ticked_closes s between now log leaves has past =
+ticked_closes s between now silent log leaves has closes =
     let moment = max s.moment now in
     let there = leaves.logs log has in
+    let goes : Source → Bool = is_closing moment silent in
+    let same : IsSameLog there.0 log = same_but_since moment log there.0 there.2 in
     rw (sym (place_settles moment log there.0 there.2))
-    (mapped place_of (filter (is_past moment) between.streams.sources) there.0
-    (passes_are_left (is_past moment) between.streams.sources there.0
-    (past_settles moment log there.0 there.2 ∙ past) there.1))
+    (mapped place_of (filter goes between.streams.sources) there.0
+    (passes_are_left goes between.streams.sources there.0
+    (ap₂ (λ (b c : Bool). b || c) (past_settles moment log there.0 there.2) (image_alike silent there.0 log same)
+    ∙ closes) there.1))
 
-tick_closes : (s : State) (now : ℕ) (log : Source) → Contains s.streams.sources log →
-    is_past (max s.moment now) log ≡ true → Contains (drafted s (Tick now)).closes (place_of log)
+tick_closes : (s : State) (now : ℕ) (inputs : Inputs) (log : Source) → Contains s.streams.sources log →
+    is_closing (max s.moment now) inputs.silent log ≡ true → Contains (drafted s (Tick now) inputs).closes (place_of log)
 unfolding drafted tick ticked
-tick_closes s now log has past =
+tick_closes s now inputs log has closes =
     let start = at_moment s now in
     let between = all_left start (late start) in
     let leaves = each_left start (max s.moment now) (late start) (moment_of s now) in
-    rw leaves.moment (ticked_closes s between now log leaves has past)
+    rw leaves.moment (ticked_closes s between now inputs.silent log leaves has closes)
 
-past_closes : (s : State) (event : Event) (log : Source) → Contains s.streams.sources log →
-    IsPastBy s event log → Contains (drafted s event).closes (place_of log)
-past_closes s event log has by =
+past_closes : (s : State) (event : Event) (inputs : Inputs) (log : Source) → Contains s.streams.sources log →
+    IsPastBy s event log → Contains (drafted s event inputs).closes (place_of log)
+past_closes s event inputs log has by =
     rw by.event_is
-    (tick_closes s by.moment log has
-    (past_is log.measures.linger (max s.moment by.moment) by.since (lingering_since log) by.lingers by.too_long))
+    (tick_closes s by.moment inputs log has
+    (or_left (is_past (max s.moment by.moment) log) (is_image_of inputs.silent log)
+    (past_is log.measures.linger (max s.moment by.moment) by.since (lingering_since log) by.lingers by.too_long)))
+
+silent_closes : (s : State) (event : Event) (inputs : Inputs) (log : Source) → Contains s.streams.sources log →
+    IsSilentBy event inputs log → Contains (drafted s event inputs).closes (place_of log)
+silent_closes s event inputs log has by =
+    rw by.event_is
+    (tick_closes s by.moment inputs log has
+    (or_right (is_past (max s.moment by.moment) log) (is_image_of inputs.silent log) by.silent))
 
 terminated_closes : (s : State) (now handle : ℕ) (client : Client) (correlation : ℕ) (log : Source) →
     Contains s.streams.sources log →
@@ -69,18 +83,10 @@ terminated_closes : (s : State) (now handle : ℕ) (client : Client) (correlatio
 unfolding terminated heard at_moment
 terminated_closes s now handle client correlation log has = mapped place_of s.streams.sources log has
 
-end_closes : (s : State) (event : Event) (log : Source) → Contains s.streams.sources log →
-    IsTerminatedBy s event → Contains (drafted s event).closes (place_of log)
-end_closes s event log has by =
-    rw (end_is s event by) (terminated_closes s by.moment by.handle by.client by.correlation log has)
-
-told_of : (s : State) (event : Event) (inputs : Inputs) (log : Source) → Contains s.streams.sources log →
-    Closes s event log → Contains (conduct s event inputs).outcome.closes (place_of log)
-unfolding conduct renewed
-told_of s event inputs log has closes =
-    ⊎_elim (λ past. past_closes s event log has past) (λ ends. end_closes s event log has ends) closes
-
--- ---- no log of its number is live
+end_closes : (s : State) (event : Event) (inputs : Inputs) (log : Source) → Contains s.streams.sources log →
+    IsTerminatedBy s event → Contains (drafted s event inputs).closes (place_of log)
+end_closes s event inputs log has by =
+    rw (end_is s event inputs by) (terminated_closes s by.moment by.handle by.client by.correlation log has)
 
 pub any_of : {X : Type 0} (test : X → Bool) (xs : List X) (x : X) → Contains xs x → test x ≡ true → list_any test xs ≡ true
 any_of test [] x has passes = absurd (contains_none x has)
@@ -89,6 +95,43 @@ any_of test (y ∷ ys) x has passes =
     (λ first. or_left (test y) _ (ap test (only_one y x first) ∙ passes))
     (λ later. or_right (test y) _ (any_of test ys x later passes))
     (Contains-append_cases (y ∷ []) ys x has)
+
+-- the event's own rule tells of the log, or none reads it any more
+closed_one : (s : State) (event : Event) (inputs : Inputs) (log : Source) → Contains s.streams.sources log →
+    (not (is_left (drafted s event inputs).closes log) || is_unread (pairs_of (drafted s event inputs).after) log) ≡ true →
+    Contains (conduct s event inputs).outcome.closes (place_of log)
+unfolding conduct renewed dropping
+closed_one s event inputs log has closes =
+    let goes : Source → Bool = is_closed (renewed s inputs (drafted s event inputs)) in
+    mapped place_of (filter goes s.streams.sources) log (passes_are_left goes s.streams.sources log closes has)
+
+told_one : (s : State) (event : Event) (inputs : Inputs) (log : Source) → Contains s.streams.sources log →
+    Contains (drafted s event inputs).closes (place_of log) → Contains (conduct s event inputs).outcome.closes (place_of log)
+told_one s event inputs log has told =
+    let closes : List LogPlace = (drafted s event inputs).closes in
+    let any : list_any (λ (closed : LogPlace). closed.source == log.number) closes ≡ true =
+    any_of (λ (closed : LogPlace). closed.source == log.number) closes (place_of log) told
+    (eq-eqb log.number log.number refl) in
+    closed_one s event inputs log has
+    (or_left (not (is_left closes log)) (is_unread (pairs_of (drafted s event inputs).after) log) (rw any refl))
+
+told_of : (s : State) (event : Event) (inputs : Inputs) (log : Source) → Contains s.streams.sources log →
+    Closes s event inputs log → Contains (conduct s event inputs).outcome.closes (place_of log)
+told_of s event inputs log has closes =
+    ⊎_elim (λ past. told_one s event inputs log has (past_closes s event inputs log has past))
+    (λ others.
+    ⊎_elim (λ silent. told_one s event inputs log has (silent_closes s event inputs log has silent))
+    (λ further.
+    ⊎_elim (λ ends. told_one s event inputs log has (end_closes s event inputs log has ends))
+    (λ unread.
+    closed_one s event inputs log has
+    (or_right (not (is_left (drafted s event inputs).closes log))
+    (is_unread (pairs_of (drafted s event inputs).after) log) unread))
+    further)
+    others)
+    closes
+
+-- ---- no log of its number is live
 
 -- a log behind the event is none of those that close
 is_left_behind : (s : State) (change : Change) (log : Source) → MovesLogs s change →
@@ -119,7 +162,7 @@ none_live s change log other moves told has same =
 -- ---- the law
 
 closed_by : (s : State) (event : Event) (inputs : Inputs) (log : Source) →
-    MovesLogs s (conduct s event inputs) → Contains s.streams.sources log → Closes s event log →
+    MovesLogs s (conduct s event inputs) → Contains s.streams.sources log → Closes s event inputs log →
     IsClosed (conduct s event inputs) log
 closed_by s event inputs log moves has closes =
     let told = told_of s event inputs log has closes in

@@ -3,7 +3,7 @@ use Rattle.std.proofs.Common.{◌≡◌, ℕ, ℤ, false, List, [], ◌∷◌, S
 use Rattle.std.proofs.lemmas.Bool.{cond_both}
 use Rattle.std.specs.List.{AllByRecursion}
 use Rattle.driver_core.specs.declared.event.Event.{Event}
-use Rattle.driver_core.specs.declared.event.Event.TheVariants.{Attach, Command, Reload, Tick}
+use Rattle.driver_core.specs.declared.event.Event.TheVariants.{Attach, Command, Reload, Setup, Tick}
 use Rattle.driver_core.specs.declared.event.Inputs.{Inputs}
 use Rattle.driver_core.specs.declared.outcome.Response.{Response}
 use Rattle.driver_core.specs.declared.refusal.Refusal.{Refusal}
@@ -26,8 +26,11 @@ use Rattle.driver_core.specs.Ticking.{tick, ticked, late}
 use Rattle.driver_core.specs.Unpublishing.{unpublished}
 use Rattle.driver_core.specs.Unsubscribing.{unsubscribed}
 use Rattle.driver_core.specs.Verdicts.{verdict_on}
+use Rattle.driver_core.specs.SettingUp.{image_made}
+use Rattle.driver_core.specs.Unread.{dropping}
 use Rattle.driver_laws.specs.DenialLaws.{IsDenialNamed, IsNamedRefusal, IsDeniedOn}
 use Rattle.channel_uri.specs.Channel.{Shape}
+use Rattle.channel_uri.specs.declared.address.Address.{Address}
 use Rattle.client_registry.specs.declared.client.Client.{Client}
 use Rattle.client_registry.specs.Clients.{client_at}
 use Rattle.command_codec.specs.declared.add_counter.AddCounter.{AddCounter}
@@ -39,7 +42,9 @@ use Rattle.policy_core.specs.Question.{Question}
 use Rattle.policy_core.specs.RuleList.{Rules}
 use Rattle.stream_registry.specs.declared.wanted.Adding.{Adding}
 use Rattle.stream_registry.specs.declared.wanted.Wanted.{Wanted}
-use Rattle.driver_core.proofs.EventCases.{Cases, IsPlain, command_cases, attach_cases, reload_cases}
+use Rattle.stream_registry.specs.declared.wanted.ImageWanted.{ImageWanted}
+use Rattle.frame_codec.specs.declared.setup.Setup.{Setup as SetupFrame}
+use Rattle.driver_core.proofs.EventCases.{Cases, IsPlain, attach_cases, command_cases, reload_cases, set_up_cases}
 use Rattle.driver_core.proofs.VerdictLemmas.{by_policy}
 use Rattle.driver_laws.proofs.DenialTextLemmas.{epoch_of, denial_words, denial_is_named}
 use Rattle.driver_laws.proofs.SubscribingLemmas.{asks_before, found_number}
@@ -259,39 +264,55 @@ command_names s now handle bytes =
           termination_names s event left client correlation;
     }
 
-attach_names : (s : State) (now principal : ℕ) → Names s (Attach now principal) (drafted s (Attach now principal))
+attach_names : (s : State) (now principal : ℕ) (inputs : Inputs) →
+    Names s (Attach now principal) (drafted s (Attach now principal) inputs)
 unfolding drafted attached
-attach_names s now principal =
+attach_names s now principal inputs =
     attach_cases (Names s (Attach now principal)) (at_moment s now) principal
     (answer_names s (Attach now principal) _ _)
     (answer_names s (Attach now principal) _ _)
     (answer_names s (Attach now principal) _ _)
 
-tick_names : (s : State) (now : ℕ) → Names s (Tick now) (drafted s (Tick now))
+tick_names : (s : State) (now : ℕ) (inputs : Inputs) → Names s (Tick now) (drafted s (Tick now) inputs)
 unfolding drafted tick ticked
-tick_names s now = record { replies = tt; later = all_timeouts _ (λ client. tt) (late (at_moment s now)) }
+tick_names s now inputs = record { replies = tt; later = all_timeouts _ (λ client. tt) (late (at_moment s now)) }
 
-reload_names : (s : State) (now : ℕ) (policy : Rules) → Names s (Reload now policy) (drafted s (Reload now policy))
+reload_names : (s : State) (now : ℕ) (policy : Rules) (inputs : Inputs) →
+    Names s (Reload now policy) (drafted s (Reload now policy) inputs)
 unfolding drafted
-reload_names s now policy =
+reload_names s now policy inputs =
     reload_cases (Names s (Reload now policy)) (at_moment s now) policy
     (λ room. reloaded_names s (Reload now policy) _ policy)
     (λ full. answer_names s (Reload now policy) _ _)
 
-draft_names : (s : State) (event : Event) → Names s event (drafted s event)
-draft_names s (Attach now principal) = attach_names s now principal
-draft_names s (Command now handle bytes) =
-    command_cases (Names s (Command now handle bytes)) s now handle bytes (command_names s now handle bytes)
-draft_names s (Reload now policy) = reload_names s now policy
-draft_names s (Tick now) = tick_names s now
+image_names : (s : State) (event : Event) (left : State) (wanted : ImageWanted) (place : ℕ) →
+    Names s event (image_made left wanted place)
+unfolding image_made answered
+image_names s event left wanted place = record { replies = tt; later = tt }
+
+set_up_names : (s : State) (now : ℕ) (local from : Address) (setup : SetupFrame) (inputs : Inputs) →
+    Names s (Setup now local from setup) (drafted s (Setup now local from setup) inputs)
+unfolding drafted
+set_up_names s now local from setup inputs =
+    let event = Setup now local from setup in
+    set_up_cases (Names s event) (at_moment s now) local from setup (λ fault. answer_names s event _ _)
+    (λ join place is set. image_names s event (at_moment s now) _ place)
+
+draft_names : (s : State) (event : Event) (inputs : Inputs) → Names s event (drafted s event inputs)
+draft_names s (Attach now principal) inputs = attach_names s now principal inputs
+draft_names s (Command now handle bytes) inputs =
+    command_cases (Names s (Command now handle bytes)) s now handle bytes inputs (command_names s now handle bytes)
+draft_names s (Reload now policy) inputs = reload_names s now policy inputs
+draft_names s (Tick now) inputs = tick_names s now inputs
+draft_names s (Setup now local from setup) inputs = set_up_names s now local from setup inputs
 
 -- what is told of images denies nothing
 pub denials_named : (s : State) (event : Event) (inputs : Inputs) →
     AllByRecursion (λ message. IsDenialNamed s event message.client message.reply) (outcome_of s event inputs).replies
-unfolding conduct
+unfolding conduct dropping
 denials_named s event inputs =
-    let names = draft_names s event in
-    all_replies (IsNamed s event) s inputs (drafted s event) names.replies
+    let names = draft_names s event inputs in
+    all_replies (IsNamed s event) s inputs (drafted s event inputs) names.replies
     (λ client source subscription stream. tt)
-    (λ client source subscription session stream position. tt)
+    (λ client source subscription session stream position address. tt)
     names.later

@@ -18,12 +18,14 @@ use Rattle.driver_core.specs.Requests.{termination_question}
 use Rattle.driver_core.specs.State.{State, at_moment}
 use Rattle.driver_core.specs.Terminating.{stopped_for_good, terminate, terminated, termination_decision}
 use Rattle.driver_core.specs.Ticking.{late, tick, ticked}
+use Rattle.driver_core.specs.Unread.{dropping, without_unread}
 use Rattle.driver_core.specs.Verdicts.{verdict_on}
 use Rattle.driver_laws.specs.LeavingLaws.{HasNothing, IsClosedBy, IsGoneBy, IsTerminatedBy, IsTimedOutBy, is_there}
 use Rattle.client_registry.specs.declared.client.Client.{Client}
 use Rattle.client_registry.specs.Clients.{is_other, without}
 use Rattle.command_codec.specs.declared.command.Body.TheVariants.{ClientClose as Closes, TerminateDriver as Terminates}
 use Rattle.counters.specs.Counters.{is_of_another, without_those_of}
+use Rattle.log_readers.specs.Unread.{without_unread as without_unread_in}
 use Rattle.stream_registry.specs.Leaving.{is_registration_of_another, is_subscription_of_another, left as left_in}
 use Rattle.stream_registry.specs.Lingering.{closed, settled}
 use Rattle.driver_core.proofs.ListLemmas.{contains_none, left_was_there, only_one}
@@ -112,10 +114,10 @@ all_gone s (first ∷ clients) client has =
 
 -- ---- by each event
 
-tick_takes : (s : State) (now client : ℕ) → IsGone (all_left (at_moment s now) (late (at_moment s now))) client →
-    IsGone (drafted s (Tick now)).after client
+tick_takes : (s : State) (now client : ℕ) (inputs : Inputs) →
+    IsGone (all_left (at_moment s now) (late (at_moment s now))) client → IsGone (drafted s (Tick now) inputs).after client
 unfolding drafted tick ticked closed
-tick_takes s now client gone = record {
+tick_takes s now client inputs gone = record {
   absent = gone.absent;
   nothing = record {
     registrations = gone.nothing.registrations;
@@ -124,20 +126,22 @@ tick_takes s now client gone = record {
   };
 }
 
-timed_out : (s : State) (event : Event) (client : ℕ) → IsTimedOutBy s event client → IsGone (drafted s event).after client
+timed_out : (s : State) (event : Event) (inputs : Inputs) (client : ℕ) → IsTimedOutBy s event client →
+    IsGone (drafted s event inputs).after client
 unfolding at_moment
-timed_out s event client by =
+timed_out s event inputs client by =
     rw by.event_is
-    (tick_takes s by.moment client (all_gone (at_moment s by.moment) (late (at_moment s by.moment)) client by.is_late))
+    (tick_takes s by.moment client inputs (all_gone (at_moment s by.moment) (late (at_moment s by.moment)) client by.is_late))
 
 close_takes : (s : State) (row : Client) (correlation client : ℕ) → row.number ≡ client →
     IsGone (close s row correlation).after client
 unfolding close replied told
 close_takes s row correlation client own = rw own (one_gone s client)
 
-closed_itself : (s : State) (event : Event) (client : ℕ) → IsClosedBy s event client → IsGone (drafted s event).after client
-closed_itself s event client by =
-    rw (by.event_is, body_is_asked s by.moment client by.correlation by.bytes by.row Closes by.asks)
+closed_itself : (s : State) (event : Event) (inputs : Inputs) (client : ℕ) → IsClosedBy s event client →
+    IsGone (drafted s event inputs).after client
+closed_itself s event inputs client by =
+    rw (by.event_is, body_is_asked s by.moment client by.correlation by.bytes inputs by.row Closes by.asks)
     (close_takes (at_request s by.moment client) by.row by.correlation client
     (found_number s.clients.rows client by.row by.asks.attached))
 
@@ -163,32 +167,44 @@ unfolding decision_by heard at_moment
 allowed_then s now handle row allows = allows
 
 -- the draft of an allowed request that the driver end
-pub end_is : (s : State) (event : Event) (by : IsTerminatedBy s event) →
-    drafted s event ≡ terminated (at_request s by.moment by.handle) by.client by.correlation
-end_is s event by =
-    rw (by.event_is, body_is_asked s by.moment by.handle by.correlation by.bytes by.client (Terminates by.fields) by.asks)
+pub end_is : (s : State) (event : Event) (inputs : Inputs) (by : IsTerminatedBy s event) →
+    drafted s event inputs ≡ terminated (at_request s by.moment by.handle) by.client by.correlation
+end_is s event inputs by =
+    rw (by.event_is, body_is_asked s by.moment by.handle by.correlation by.bytes inputs by.client (Terminates by.fields) by.asks)
     (allowed_end (at_request s by.moment by.handle) by.client by.correlation
     (allowed_then s by.moment by.handle by.client by.allowed))
 
-ended : (s : State) (event : Event) (client : ℕ) → IsTerminatedBy s event → IsGone (drafted s event).after client
-ended s event client by =
-    rw (end_is s event by) (end_takes (at_request s by.moment by.handle) by.client by.correlation client)
+ended : (s : State) (event : Event) (inputs : Inputs) (client : ℕ) → IsTerminatedBy s event →
+    IsGone (drafted s event inputs).after client
+ended s event inputs client by =
+    rw (end_is s event inputs by) (end_takes (at_request s by.moment by.handle) by.client by.correlation client)
 
-gone_by : (s : State) (event : Event) (client : ℕ) → IsGoneBy s event client → IsGone (drafted s event).after client
-gone_by s event client goes =
+gone_by : (s : State) (event : Event) (inputs : Inputs) (client : ℕ) → IsGoneBy s event client →
+    IsGone (drafted s event inputs).after client
+gone_by s event inputs client goes =
     ⊎_elim
-    (λ by. timed_out s event client by)
-    (λ others. ⊎_elim (λ by. closed_itself s event client by) (λ by. ended s event client by) others)
+    (λ by. timed_out s event inputs client by)
+    (λ others. ⊎_elim (λ by. closed_itself s event inputs client by) (λ by. ended s event inputs client by) others)
     goes
 
 -- ---- the laws
 
+-- where images go that none reads, the rows are as they were
+kept_nothing : (s : State) (client : ℕ) → HasNothing s client → HasNothing (without_unread s) client
+unfolding without_unread without_unread_in
+kept_nothing s client nothing = record {
+  registrations = nothing.registrations;
+  subscriptions = nothing.subscriptions;
+  counters = nothing.counters;
+}
+
 pub clients_gone : (s : State) (event : Event) (inputs : Inputs) (client : ℕ) → IsGoneBy s event client →
     is_there (state_after s event inputs) client ≡ false
-unfolding conduct renewed
-clients_gone s event inputs client goes = (gone_by s event client goes).absent
+unfolding conduct renewed dropping without_unread
+clients_gone s event inputs client goes = (gone_by s event inputs client goes).absent
 
 pub rows_gone : (s : State) (event : Event) (inputs : Inputs) (client : ℕ) → IsGoneBy s event client →
     HasNothing (state_after s event inputs) client
-unfolding conduct renewed
-rows_gone s event inputs client goes = (gone_by s event client goes).nothing
+unfolding conduct renewed dropping
+rows_gone s event inputs client goes =
+    kept_nothing (drafted s event inputs).after client (gone_by s event inputs client goes).nothing

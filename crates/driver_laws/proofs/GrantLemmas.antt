@@ -1,8 +1,9 @@
 -- Counters and the end of the driver are granted exactly.
-use Rattle.std.proofs.Common.{◌≡◌, ℕ, true, false, List, [], ◌∷◌, refl, ap, ◌∙◌}
+use Rattle.std.proofs.Common.{◌≡◌, ℕ, ◌==◌, map, true, false, List, [], ◌∷◌, refl, ap, ◌∙◌}
 use Rattle.std.proofs.lemmas.Bool.{eq-eqb}
 use Rattle.std.proofs.lemmas.List.{append-nil}
-use Rattle.std.specs.List.{flat_map}
+use Rattle.std.specs.List.{Contains, flat_map, list_any}
+use Rattle.driver_core.specs.Change.{Change}
 use Rattle.driver_core.specs.declared.event.Event.TheVariants.{Command}
 use Rattle.driver_core.specs.declared.event.Inputs.{Inputs}
 use Rattle.driver_core.specs.declared.refusal.Refusal.{Refusal}
@@ -17,20 +18,30 @@ use Rattle.driver_core.specs.Renewal.{renewed, images_told, images_decided, unav
 use Rattle.driver_core.specs.Requests.{Asks, counter_question, termination_question}
 use Rattle.driver_core.specs.State.{State, at_moment}
 use Rattle.driver_core.specs.Terminating.{terminate, terminated, termination_decision, stopped_for_good}
+use Rattle.driver_core.specs.Unread.{dropping, is_closed, without_unread}
 use Rattle.driver_core.specs.Verdicts.{verdict_on}
+use Rattle.driver_laws.specs.ImageLaws.{AreRead}
 use Rattle.driver_laws.specs.GrantLaws.{decided_on, IsRefusedOn, IsCounted, IsCountedExactly, IsTerminated, IsTerminatedExactly}
 use Rattle.client_registry.specs.declared.client.Client.{Client}
-use Rattle.client_registry.specs.Clients.{touched}
+use Rattle.client_registry.specs.Clients.{cleared, touched}
 use Rattle.command_codec.specs.declared.add_counter.AddCounter.{AddCounter}
 use Rattle.command_codec.specs.declared.command.Body.TheVariants.{AddCounter as AddsCounter, TerminateDriver as Terminates}
 use Rattle.command_codec.specs.declared.terminate_driver.TerminateDriver.{TerminateDriver}
+use Rattle.log_readers.specs.Unread.{without_unread as without_unread_in}
 use Rattle.policy_core.specs.declared.decision.Decision.{Decision}
 use Rattle.policy_core.specs.declared.verdict.Verdict.{Verdict}
 use Rattle.policy_core.specs.Question.{Question}
+use Rattle.stream_registry.specs.declared.lingering.LogPlace.{LogPlace}
 use Rattle.stream_registry.specs.declared.pairs.Pair.{Pair}
+use Rattle.stream_registry.specs.declared.row.Source.{Source}
+use Rattle.stream_registry.specs.Lingering.{place_of}
 use Rattle.stream_registry.specs.Pairs.{pairs_of as pairs_on}
+use Rattle.stream_registry.specs.Streams.{cleared as all_closed}
 use Rattle.driver_core.proofs.VerdictLemmas.{by_policy}
 use Rattle.driver_core.proofs.PairLemmas.{pairs_by, pairs_heard}
+use Rattle.driver_laws.proofs.DroppingLemmas.{all_pass, is_any}
+use Rattle.driver_laws.proofs.ImageLemmas.{is_mapped}
+use Rattle.driver_laws.proofs.StayingLemmas.{add_counter_drops, drops_none, refused_drops}
 use Rattle.driver_laws.proofs.SubscribingLemmas.{found_number}
 use Rattle.driver_laws.proofs.RenewalLemmas.{ToldAsItIs, unchanged}
 
@@ -54,7 +65,7 @@ refused_change s now handle correlation inputs client question decision refusal 
 counter_is_decided : (s : State) (now handle correlation : ℕ) (bytes : List ℕ) (inputs : Inputs) (client : Client)
     (fields : AddCounter) → Asks s handle bytes client correlation (AddsCounter fields) →
     conduct s (Command now handle bytes) inputs
-    ≡ renewed s inputs (add_counter (at_request s now handle) client correlation fields)
+    ≡ dropping s (renewed s inputs (add_counter (at_request s now handle) client correlation fields))
 unfolding conduct drafted command asked requested at_moment
 counter_is_decided s now handle correlation bytes inputs client fields asks =
     rw (asks.command, eq-eqb handle handle refl, asks.attached) refl
@@ -159,11 +170,15 @@ by_counter_verdict s now handle correlation inputs client fields own =
           (counter_denied s now handle correlation inputs client fields own);
     }
 
-pub counted_exactly : (s : State) (now handle correlation : ℕ) (bytes : List ℕ) (inputs : Inputs) (client : Client)
+pub counted_exactly : (s : State) → AreRead s → (now handle correlation : ℕ) (bytes : List ℕ) (inputs : Inputs) (client : Client)
     (fields : AddCounter) → Asks s handle bytes client correlation (AddsCounter fields) →
     IsCountedExactly s now handle correlation client fields (conduct s (Command now handle bytes) inputs)
-counted_exactly s now handle correlation bytes inputs client fields asks =
-    rw (counter_is_decided s now handle correlation bytes inputs client fields asks)
+counted_exactly s read now handle correlation bytes inputs client fields asks =
+    rw (
+      counter_is_decided s now handle correlation bytes inputs client fields asks,
+      drops_none s inputs (add_counter (at_request s now handle) client correlation fields)
+          (add_counter_drops s now handle client correlation fields read),
+    )
     (by_counter_verdict s now handle correlation inputs client fields
     (found_number s.clients.rows handle client asks.attached))
 
@@ -172,7 +187,7 @@ counted_exactly s now handle correlation bytes inputs client fields asks =
 termination_is_decided : (s : State) (now handle correlation : ℕ) (bytes : List ℕ) (inputs : Inputs) (client : Client)
     (fields : TerminateDriver) → Asks s handle bytes client correlation (Terminates fields) →
     conduct s (Command now handle bytes) inputs
-    ≡ renewed s inputs (terminate (at_request s now handle) client correlation)
+    ≡ dropping s (renewed s inputs (terminate (at_request s now handle) client correlation))
 unfolding conduct drafted command asked requested at_moment
 termination_is_decided s now handle correlation bytes inputs client fields asks =
     rw (asks.command, eq-eqb handle handle refl, asks.attached) refl
@@ -241,26 +256,66 @@ termination_denied s now handle correlation inputs client own =
     refused_change s now handle correlation inputs client (termination_question client)
     (termination_decision (at_request s now handle) client) (Denied (verdict_on s (termination_question client))) own refl
 
-by_termination_verdict : (s : State) (now handle correlation : ℕ) (inputs : Inputs) (client : Client) →
+-- no log is left that could be an image
+none_left : (s : State) (now : ℕ) →
+    without_unread (record (at_moment s now) {
+      clients = cleared s.clients;
+      streams = all_closed s.streams;
+      counters = [];
+      stopped = true;
+    })
+    ≡ record (at_moment s now) { clients = cleared s.clients; streams = all_closed s.streams; counters = []; stopped = true }
+unfolding without_unread without_unread_in
+none_left s now = refl
+
+each_closes : (s : State) (change : Change) (log : Source) → change.outcome.closes ≡ map place_of s.streams.sources →
+    Contains s.streams.sources log → is_closed change log ≡ true
+each_closes s change log closes has =
+    let told : list_any (λ (closed : LogPlace). closed.source == log.number) (map place_of s.streams.sources) ≡ true =
+    is_any (λ (closed : LogPlace). closed.source == log.number) (map place_of s.streams.sources) (place_of log)
+    (is_mapped place_of s.streams.sources log has) (eq-eqb log.number log.number refl) in
+    rw (closes, told) refl
+
+still_terminated : (s : State) (now handle correlation : ℕ) (client : Client) (change : Change) →
+    IsTerminated s now handle correlation client change → IsTerminated s now handle correlation client (dropping s change)
+unfolding dropping
+still_terminated s now handle correlation client change ends = record {
+  after_is = ap without_unread ends.after_is ∙ none_left s now;
+  told = ends.told;
+  decided = ends.decided;
+  closes = ap (map place_of)
+      (all_pass (is_closed change) s.streams.sources (λ log has. each_closes s change log ends.closes has));
+}
+
+by_termination_verdict : (s : State) → AreRead s → (now handle correlation : ℕ) (inputs : Inputs) (client : Client) →
     client.number ≡ handle →
     IsTerminatedExactly s now handle correlation client (
-    renewed s inputs (terminate (at_request s now handle) client correlation))
-by_termination_verdict s now handle correlation inputs client own =
+    dropping s (renewed s inputs (terminate (at_request s now handle) client correlation)))
+by_termination_verdict s read now handle correlation inputs client own =
     let word = ap (λ (v : Verdict). v.allow) (termination_verdict s now handle client) in
     record {
       by = by_policy s (termination_question client);
       granted = λ allows.
           rw (termination_grants (at_request s now handle) client correlation (word ∙ allows))
-          (terminated_change s now handle correlation inputs client own);
+          (still_terminated s now handle correlation client
+          (renewed s inputs (terminated (at_request s now handle) client correlation))
+          (terminated_change s now handle correlation inputs client own));
       denied = λ denies.
-          rw (termination_denies (at_request s now handle) client correlation (word ∙ denies))
+          rw (
+            termination_denies (at_request s now handle) client correlation (word ∙ denies),
+            drops_none s inputs
+                (refused (at_request s now handle) (termination_decision (at_request s now handle) client ∷ []) client.number
+                correlation (Denied (termination_decision (at_request s now handle) client).verdict))
+                (refused_drops s now handle (termination_decision (at_request s now handle) client ∷ []) client.number
+                correlation (Denied (termination_decision (at_request s now handle) client).verdict) read),
+          )
           (termination_denied s now handle correlation inputs client own);
     }
 
-pub terminated_exactly : (s : State) (now handle correlation : ℕ) (bytes : List ℕ) (inputs : Inputs) (client : Client)
+pub terminated_exactly : (s : State) → AreRead s → (now handle correlation : ℕ) (bytes : List ℕ) (inputs : Inputs) (client : Client)
     (fields : TerminateDriver) → Asks s handle bytes client correlation (Terminates fields) →
     IsTerminatedExactly s now handle correlation client (conduct s (Command now handle bytes) inputs)
-terminated_exactly s now handle correlation bytes inputs client fields asks =
+terminated_exactly s read now handle correlation bytes inputs client fields asks =
     rw (termination_is_decided s now handle correlation bytes inputs client fields asks)
-    (by_termination_verdict s now handle correlation inputs client
+    (by_termination_verdict s read now handle correlation inputs client
     (found_number s.clients.rows handle client asks.attached))

@@ -3,7 +3,7 @@ use Rattle.std.proofs.Common.{◌≡◌, ℕ, ℤ, ◌+◌, Bool, true, false, c
 use Rattle.std.specs.List.{Contains}
 use Rattle.std.proofs.lemmas.List.Elements.{All-map, All-weaker, All-contains, All-contains_itself, Contains-push_cases}
 use Rattle.driver_core.specs.declared.event.Event.{Event}
-use Rattle.driver_core.specs.declared.event.Event.TheVariants.{Attach, Command, Reload, Tick}
+use Rattle.driver_core.specs.declared.event.Event.TheVariants.{Attach, Command, Reload, Setup, Tick}
 use Rattle.driver_core.specs.declared.event.Inputs.{Inputs}
 use Rattle.driver_core.specs.declared.outcome.Response.{Response}
 use Rattle.driver_core.specs.declared.refusal.Refusal.{Refusal}
@@ -25,6 +25,8 @@ use Rattle.driver_core.specs.Ticking.{tick, ticked, late}
 use Rattle.driver_core.specs.Unpublishing.{unpublished}
 use Rattle.driver_core.specs.Unsubscribing.{unsubscribed}
 use Rattle.driver_core.specs.Verdicts.{verdict_on}
+use Rattle.driver_core.specs.SettingUp.{image_made, with_image}
+use Rattle.driver_core.specs.Unread.{dropping, without_unread}
 use Rattle.driver_laws.specs.GrantLaws.{StoodBefore, IsCounterMadeBy, CountsAndEndsOnly}
 use Rattle.driver_laws.specs.LeavingLaws.{IsTerminatedBy}
 use Rattle.client_registry.specs.declared.client.Client.{Client}
@@ -38,7 +40,10 @@ use Rattle.policy_core.specs.declared.decision.Decision.{Decision}
 use Rattle.policy_core.specs.declared.verdict.Verdict.{Verdict}
 use Rattle.policy_core.specs.RuleList.{Rules}
 use Rattle.stream_registry.specs.declared.wanted.Adding.{Adding}
-use Rattle.driver_core.proofs.EventCases.{Cases, command_cases, attach_cases, reload_cases}
+use Rattle.stream_registry.specs.declared.wanted.ImageWanted.{ImageWanted}
+use Rattle.channel_uri.specs.declared.address.Address.{Address}
+use Rattle.frame_codec.specs.declared.setup.Setup.{Setup as SetupFrame}
+use Rattle.driver_core.proofs.EventCases.{Cases, attach_cases, command_cases, reload_cases, set_up_cases}
 use Rattle.driver_core.proofs.ListLemmas.{left_was_there, contains_none}
 use Rattle.driver_core.proofs.VerdictLemmas.{by_policy}
 use Rattle.driver_laws.proofs.GrantLemmas.{counter_verdict, counter_room}
@@ -95,6 +100,12 @@ reloaded_only : (s : State) (event : Event) (left' : State) (policy : Rules) →
     DraftsOnly s event (reloaded left' policy)
 unfolding reloaded in_force answered
 reloaded_only s event left' policy same =
+    same_only s event _ (record { counters = same.counters; stopped = same.stopped })
+
+image_only : (s : State) (event : Event) (left' : State) (wanted : ImageWanted) (place : ℕ) → IsSame s left' →
+    DraftsOnly s event (image_made left' wanted place)
+unfolding image_made with_image answered
+image_only s event left' wanted place same =
     same_only s event _ (record { counters = same.counters; stopped = same.stopped })
 
 subscription_only : (s : State) (event : Event) (left' : State) (request : SubscriptionRequest) → IsSame s left' →
@@ -167,9 +178,9 @@ left_stopped : (s : State) (clients : List ℕ) → (all_left s clients).stopped
 left_stopped s [] = refl
 left_stopped s (client ∷ clients) = left_stopped (left s client) clients ∙ one_left_stopped s client
 
-tick_only : (s : State) (now : ℕ) → DraftsOnly s (Tick now) (drafted s (Tick now))
+tick_only : (s : State) (now : ℕ) (inputs : Inputs) → DraftsOnly s (Tick now) (drafted s (Tick now) inputs)
 unfolding drafted tick ticked at_moment
-tick_only s now = record {
+tick_only s now inputs = record {
   counters = λ counter has.
       inl (stood s counter (left_was_counted (at_moment s now) (late (at_moment s now)) counter has));
   ends = λ is. inl (sym (left_stopped (at_moment s now) (late (at_moment s now))) ∙ is);
@@ -303,31 +314,41 @@ command_only s now handle bytes =
           (allowed_before s now handle client allows);
     }
 
-attach_only : (s : State) (now principal : ℕ) → DraftsOnly s (Attach now principal) (drafted s (Attach now principal))
+attach_only : (s : State) (now principal : ℕ) (inputs : Inputs) → DraftsOnly s (Attach now principal) (drafted s (Attach now principal) inputs)
 unfolding drafted
-attach_only s now principal =
+attach_only s now principal inputs =
     attach_cases (DraftsOnly s (Attach now principal)) (at_moment s now) principal
     (answer_only s (Attach now principal) (at_moment s now) _ (moment_is_same s now))
     (attached_only s (Attach now principal) (at_moment s now) principal (moment_is_same s now))
     (answer_only s (Attach now principal) (at_moment s now) _ (moment_is_same s now))
 
-reload_only : (s : State) (now : ℕ) (policy : Rules) → DraftsOnly s (Reload now policy) (drafted s (Reload now policy))
+reload_only : (s : State) (now : ℕ) (policy : Rules) (inputs : Inputs) → DraftsOnly s (Reload now policy) (drafted s (Reload now policy) inputs)
 unfolding drafted
-reload_only s now policy =
+reload_only s now policy inputs =
     reload_cases (DraftsOnly s (Reload now policy)) (at_moment s now) policy
     (λ room. reloaded_only s (Reload now policy) (at_moment s now) policy (moment_is_same s now))
     (λ full. answer_only s (Reload now policy) (at_moment s now) _ (moment_is_same s now))
 
-drafts_only : (s : State) (event : Event) → DraftsOnly s event (drafted s event)
-drafts_only s (Attach now principal) = attach_only s now principal
-drafts_only s (Command now handle bytes) =
-    command_cases (DraftsOnly s (Command now handle bytes)) s now handle bytes (command_only s now handle bytes)
-drafts_only s (Reload now policy) = reload_only s now policy
-drafts_only s (Tick now) = tick_only s now
+set_up_only : (s : State) (now : ℕ) (local from : Address) (setup : SetupFrame) (inputs : Inputs) →
+    DraftsOnly s (Setup now local from setup) (drafted s (Setup now local from setup) inputs)
+unfolding drafted
+set_up_only s now local from setup inputs =
+    let event = Setup now local from setup in
+    set_up_cases (DraftsOnly s event) (at_moment s now) local from setup
+    (λ fault. answer_only s event (at_moment s now) _ (moment_is_same s now))
+    (λ join place is set. image_only s event (at_moment s now) _ place (moment_is_same s now))
+
+drafts_only : (s : State) (event : Event) (inputs : Inputs) → DraftsOnly s event (drafted s event inputs)
+drafts_only s (Attach now principal) inputs = attach_only s now principal inputs
+drafts_only s (Command now handle bytes) inputs =
+    command_cases (DraftsOnly s (Command now handle bytes)) s now handle bytes inputs (command_only s now handle bytes)
+drafts_only s (Reload now policy) inputs = reload_only s now policy inputs
+drafts_only s (Tick now) inputs = tick_only s now inputs
+drafts_only s (Setup now local from setup) inputs = set_up_only s now local from setup inputs
 
 pub counts_and_ends_only : (s : State) (event : Event) (inputs : Inputs) →
     CountsAndEndsOnly s event (conduct s event inputs)
-unfolding conduct renewed
+unfolding conduct renewed dropping without_unread
 counts_and_ends_only s event inputs =
-    let only = drafts_only s event in
+    let only = drafts_only s event inputs in
     record { counters = only.counters; ends = only.ends }

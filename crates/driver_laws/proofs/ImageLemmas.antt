@@ -1,13 +1,17 @@
 -- The pairs are those of logs and subscriptions that fit, where the policy allows the image.
-use Rattle.std.proofs.Common.{◌≡◌, ℕ, Bool, true, List, [], ◌∷◌, Option, Some, None, map, refl, ap, ⊎_elim}
+use Rattle.std.proofs.Common.{◌≡◌, ℕ, Bool, true, List, [], ◌∷◌, Option, Some, None, map, refl, sym, ap, ◌∙◌, ⊎_elim}
 use Rattle.std.specs.List.{All, Contains, filter, flat_map}
 use Rattle.std.proofs.lemmas.Bool.{and_parts}
 use Rattle.std.proofs.lemmas.List.Elements.{All-append, All-contains, All-contains_itself, All-head, All-map, All-nil, All-tail, All-weaker, Contains-append_cases, Contains-append_left, Contains-append_right, Contains-push, filter_passes}
-use Rattle.driver_core.specs.Conduct.{conduct}
-use Rattle.driver_core.specs.Pairs.{pairs_of}
-use Rattle.driver_core.specs.Renewal.{renewed}
+use Rattle.driver_core.specs.declared.event.Event.{Event}
+use Rattle.driver_core.specs.declared.event.Inputs.{Inputs}
+use Rattle.driver_core.specs.Conduct.{conduct, drafted, state_after}
+use Rattle.driver_core.specs.Pairs.{lacking, pairs_of}
+use Rattle.driver_core.specs.Renewal.{come_to, gone_from, renewed}
 use Rattle.driver_core.specs.State.{State}
+use Rattle.driver_core.specs.Unread.{dropping}
 use Rattle.driver_laws.specs.ImageLaws.{IsReadBy, IsOfReader, PairsExactly}
+use Rattle.driver_laws.specs.NumberLaws.{AreRising}
 use Rattle.client_registry.specs.Clients.{principal_at}
 use Rattle.policy_core.specs.RuleList.{Rules}
 use Rattle.policy_core.specs.Rules.{verdict_of}
@@ -17,6 +21,8 @@ use Rattle.stream_registry.specs.declared.row.Subscription.{Subscription}
 use Rattle.stream_registry.specs.Pairs.{fits, image_question, is_allowed, is_allowed_to, is_pair, pair_of, pairs_at, pairs_of as pairs_on}
 use Rattle.driver_core.proofs.ListLemmas.{contains_none, left_was_there, only_one, passes_are_left}
 use Rattle.driver_core.proofs.VerdictLemmas.{by_policy}
+use Rattle.driver_laws.proofs.DroppingLemmas.{pairs_stay}
+use Rattle.driver_laws.proofs.NumberLemmas.{draft_rises}
 
 -- ---- what a map and a flat map have
 
@@ -37,7 +43,7 @@ in_part parts (z ∷ zs) x y there has =
     (λ later. Contains-append_right (parts z) (flat_map parts zs) y (in_part parts zs x y later has))
     (Contains-append_cases (z ∷ []) zs x there)
 
-is_mapped : {X Y : Type 0} (change : X → Y) (xs : List X) (x : X) → Contains xs x → Contains (map change xs) (change x)
+pub is_mapped : {X Y : Type 0} (change : X → Y) (xs : List X) (x : X) → Contains xs x → Contains (map change xs) (change x)
 is_mapped change [] x there = absurd (contains_none x there)
 is_mapped change (z ∷ zs) x there =
     ⊎_elim
@@ -48,12 +54,12 @@ is_mapped change (z ∷ zs) x there =
 
 -- ---- a pair has a log, a subscription and the policy's word
 
-record Allowed (policy : Rules) (epoch : ℕ) (subscription : Subscription) (found : Option ℕ) : Type 0 where
-  principal : ℕ
-  attached : found ≡ Some principal
-  allows : (verdict_of policy epoch (image_question principal subscription)).allow ≡ true
+pub record Allowed (policy : Rules) (epoch : ℕ) (subscription : Subscription) (found : Option ℕ) : Type 0 where
+  pub principal : ℕ
+  pub attached : found ≡ Some principal
+  pub allows : (verdict_of policy epoch (image_question principal subscription)).allow ≡ true
 
-allowed_to : (policy : Rules) (epoch : ℕ) (subscription : Subscription) (found : Option ℕ) →
+pub allowed_to : (policy : Rules) (epoch : ℕ) (subscription : Subscription) (found : Option ℕ) →
     is_allowed_to policy epoch subscription found ≡ true → Allowed policy epoch subscription found
 allowed_to policy epoch subscription None allows = absurd (cc)
 allowed_to policy epoch subscription (Some principal) allows =
@@ -96,7 +102,7 @@ readers_of_log s log live =
     })
     readers (All-contains_itself readers))
 
-has_reader : (s : State) (pair : Pair) → Contains (pairs_of s) pair → IsOfReader s pair
+pub has_reader : (s : State) (pair : Pair) → Contains (pairs_of s) pair → IsOfReader s pair
 unfolding pairs_of pairs_on
 has_reader s pair has =
     All-contains (IsOfReader s) (pairs_of s) pair
@@ -114,7 +120,7 @@ is_pair_of : (s : State) (log : Source) (subscription : Subscription) → IsRead
 unfolding is_allowed
 is_pair_of s log subscription reads = rw (reads.fitting, reads.attached, reads.allowed) refl
 
-has_pair : (s : State) (log : Source) (subscription : Subscription) → IsReadBy s log subscription →
+pub has_pair : (s : State) (log : Source) (subscription : Subscription) → IsReadBy s log subscription →
     Contains (pairs_of s) (pair_of log subscription)
 unfolding pairs_of pairs_on
 has_pair s log subscription reads =
@@ -126,11 +132,29 @@ has_pair s log subscription reads =
 
 -- ---- exactly these
 
-pub pairs_exactly : (s : State) → PairsExactly s
-unfolding conduct renewed
-pairs_exactly s = record {
+-- what the event's own rule leaves has the same pairs as what the event leaves
+pairs_behind : (s : State) (event : Event) (inputs : Inputs) → AreRising s →
+    pairs_of (state_after s event inputs) ≡ pairs_of (drafted s event inputs).after
+unfolding conduct renewed dropping
+pairs_behind s event inputs rises =
+    pairs_stay (drafted s event inputs).after (draft_rises s event inputs rises).rises
+
+gone_is : (s : State) (event : Event) (inputs : Inputs) →
+    (conduct s event inputs).outcome.gone ≡ gone_from s (drafted s event inputs).after
+unfolding conduct renewed dropping
+gone_is s event inputs = refl
+
+come_is : (s : State) (event : Event) (inputs : Inputs) →
+    (conduct s event inputs).outcome.come ≡ come_to s (drafted s event inputs).after
+unfolding conduct renewed dropping
+come_is s event inputs = refl
+
+pub pairs_exactly : (s : State) → AreRising s → PairsExactly s
+pairs_exactly s rises = record {
   only = has_reader s;
   exactly = has_pair s;
-  gone = λ event inputs. refl;
-  come = λ event inputs. refl;
+  gone = λ event inputs.
+      gone_is s event inputs ∙ ap (λ (pairs : List Pair). lacking (pairs_of s) pairs) (sym (pairs_behind s event inputs rises));
+  come = λ event inputs.
+      come_is s event inputs ∙ ap (λ (pairs : List Pair). lacking pairs (pairs_of s)) (sym (pairs_behind s event inputs rises));
 }

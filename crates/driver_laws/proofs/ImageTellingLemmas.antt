@@ -7,7 +7,7 @@ use Rattle.std.proofs.lemmas.List.{append-nil}
 use Rattle.std.proofs.lemmas.List.Elements.{Contains-append_cases, Contains-append_left, Contains-append_right, Contains-push, filter-append}
 use Rattle.driver_core.specs.declared.event.End.{End}
 use Rattle.driver_core.specs.declared.event.Event.{Event}
-use Rattle.driver_core.specs.declared.event.Event.TheVariants.{Attach, Command, Reload, Tick}
+use Rattle.driver_core.specs.declared.event.Event.TheVariants.{Attach, Command, Reload, Setup, Tick}
 use Rattle.driver_core.specs.declared.event.Inputs.{Inputs}
 use Rattle.driver_core.specs.declared.outcome.Response.{Response}
 use Rattle.driver_core.specs.declared.refusal.Refusal.{Refusal}
@@ -31,6 +31,9 @@ use Rattle.driver_core.specs.Ticking.{late, tick, ticked, timeout_of}
 use Rattle.driver_core.specs.Unpublishing.{unpublished}
 use Rattle.driver_core.specs.Unsubscribing.{unsubscribed}
 use Rattle.driver_core.specs.Commands.{at_request}
+use Rattle.driver_core.specs.Change.{Change}
+use Rattle.driver_core.specs.SettingUp.{image_made}
+use Rattle.driver_core.specs.Unread.{dropping, without_unread}
 use Rattle.driver_laws.specs.ImageLaws.{IsOfReader}
 use Rattle.driver_laws.specs.ImageTellingLaws.{IsToldAvailable, IsToldUnavailable, OneForEach, Reaches, TellsImagesExactly, is_available, is_subscribed, is_unavailable, tells_available, tells_unavailable}
 use Rattle.client_registry.specs.declared.client.Client.{Client}
@@ -40,9 +43,13 @@ use Rattle.stream_registry.specs.declared.row.Source.{Source}
 use Rattle.stream_registry.specs.declared.row.Subscription.{Subscription}
 use Rattle.stream_registry.specs.declared.wanted.Adding.{Adding}
 use Rattle.stream_registry.specs.declared.wanted.Wanted.{Wanted}
-use Rattle.driver_core.proofs.EventCases.{Cases, attach_cases, command_cases, reload_cases}
-use Rattle.driver_core.proofs.ListLemmas.{contains_none, left_was_there, only_one}
-use Rattle.driver_laws.proofs.ImageLemmas.{pairs_exactly}
+use Rattle.stream_registry.specs.Origins.{begins_at}
+use Rattle.stream_registry.specs.declared.wanted.ImageWanted.{ImageWanted}
+use Rattle.log_readers.specs.Unread.{is_kept, without_unread as without_unread_in}
+use Rattle.driver_core.proofs.EventCases.{Cases, attach_cases, command_cases, reload_cases, set_up_cases}
+use Rattle.driver_core.proofs.ListLemmas.{contains_none, left_was_there, only_one, passes_are_left}
+use Rattle.driver_laws.proofs.DroppingLemmas.{first_there, kept_of_pair, later_there}
+use Rattle.driver_laws.proofs.ImageLemmas.{has_reader}
 use Rattle.driver_laws.proofs.LoggedLemmas.{found_in}
 
 -- ---- an event's own replies tell of no image
@@ -59,6 +66,11 @@ record TellsNone (draft : Draft) : Type 0 where
 answer_tells_none : (s : State) (response : Response) → TellsNone (answered s response)
 unfolding answered
 answer_tells_none s response =
+    record { available = refl; unavailable = refl; available_later = refl; unavailable_later = refl }
+
+image_tells_none : (s : State) (wanted : ImageWanted) (place : ℕ) → TellsNone (image_made s wanted place)
+unfolding image_made answered
+image_tells_none s wanted place =
     record { available = refl; unavailable = refl; available_later = refl; unavailable_later = refl }
 
 reply_tells_none : (s : State) (decisions : List Decision) (client : ℕ) (reply : Reply) → is_available reply ≡ false →
@@ -128,9 +140,9 @@ timeouts_unavailable : (clients : List ℕ) → NoneOf tells_unavailable (map ti
 timeouts_unavailable [] = refl
 timeouts_unavailable (client ∷ clients) = timeouts_unavailable clients
 
-ticked_tells_none : (s : State) (clients : List ℕ) → TellsNone (ticked s clients)
+ticked_tells_none : (s : State) (clients silent : List ℕ) → TellsNone (ticked s clients silent)
 unfolding ticked
-ticked_tells_none s clients = record {
+ticked_tells_none s clients silent = record {
   available = refl;
   unavailable = refl;
   available_later = timeouts_available clients;
@@ -161,17 +173,20 @@ command_tells_none s now handle bytes = record {
       termination_tells_none (at_request s now handle) client correlation;
 }
 
-draft_tells_none : (s : State) (event : Event) → TellsNone (drafted s event)
+draft_tells_none : (s : State) (event : Event) (inputs : Inputs) → TellsNone (drafted s event inputs)
 unfolding drafted attached reloaded tick
-draft_tells_none s (Attach now principal) =
+draft_tells_none s (Attach now principal) inputs =
     attach_cases TellsNone (at_moment s now) principal (answer_tells_none _ _) (answer_tells_none _ _)
     (answer_tells_none _ _)
-draft_tells_none s (Command now handle bytes) =
-    command_cases TellsNone s now handle bytes (command_tells_none s now handle bytes)
-draft_tells_none s (Reload now policy) =
+draft_tells_none s (Command now handle bytes) inputs =
+    command_cases TellsNone s now handle bytes inputs (command_tells_none s now handle bytes)
+draft_tells_none s (Reload now policy) inputs =
     reload_cases TellsNone (at_moment s now) policy (λ room. answer_tells_none _ _) (λ full. answer_tells_none _ _)
-draft_tells_none s (Tick now) =
-    ticked_tells_none (all_left (at_moment s now) (late (at_moment s now))) (late (at_moment s now))
+draft_tells_none s (Tick now) inputs =
+    ticked_tells_none (all_left (at_moment s now) (late (at_moment s now))) (late (at_moment s now)) inputs.silent
+draft_tells_none s (Setup now local from setup) inputs =
+    set_up_cases TellsNone (at_moment s now) local from setup (λ fault. answer_tells_none _ _)
+    (λ join place is set. image_tells_none (at_moment s now) _ place)
 
 -- ---- so all that tell of images are those of pairs
 
@@ -288,15 +303,15 @@ always_found test (y ∷ ys) x has passes is =
     (λ rest. always_found test ys x rest passes later.none)
     (Contains-append_cases (y ∷ []) ys x has)
 
-reached : (ends : List End) (source : ℕ) (found : Option End) →
-    find (λ (end : End). end.source == source) ends ≡ found → Reaches ends source (position_by found)
-reached ends source None is =
+reached : (ends : List End) (source begin : ℕ) (found : Option End) →
+    find (λ (end : End). end.source == source) ends ≡ found → Reaches ends source begin (position_by begin found)
+reached ends source begin None is =
     inr (record {
       none = λ end has same.
           always_found (λ (other : End). other.source == source) ends end has (eq-eqb end.source source same) is;
       position_is = refl;
     })
-reached ends source (Some end) is =
+reached ends source begin (Some end) is =
     let found = found_in (λ (other : End). other.source == source) ends end is in
     inl (record {
       end = end;
@@ -327,8 +342,8 @@ one_available after ends pair pairs messages (Some log) (Some subscription) foun
         is_live = live.stands;
         stands = stands.stands;
         pair_is = rw (source, number) refl;
-        position = position_at ends pair.source;
-        reaches = reached ends pair.source (find (λ (end : End). end.source == pair.source) ends) refl;
+        position = position_at ends (begins_at log) pair.source;
+        reaches = reached ends pair.source (begins_at log) (find (λ (end : End). end.source == pair.source) ends) refl;
         message_is = refl;
       },
       rest,
@@ -394,7 +409,7 @@ each_unavailable after (pair ∷ pairs) =
 
 came_read : (s after : State) (pair : Pair) → Contains (come_to s after) pair → IsOfReader after pair
 came_read s after pair has =
-    (pairs_exactly after).only pair (left_was_there (is_lacked_by (pairs_of s)) (pairs_of after) pair has)
+    has_reader after pair (left_was_there (is_lacked_by (pairs_of s)) (pairs_of after) pair has)
 
 draft_tells : (s : State) (inputs : Inputs) (draft : Draft) → TellsNone draft →
     TellsImagesExactly inputs (renewed s inputs draft)
@@ -405,7 +420,74 @@ draft_tells s inputs draft none = record {
   unavailable = rw (unavailable_told s inputs draft none) (each_unavailable draft.after (gone_from s draft.after));
 }
 
+each_still : (P Q : Pair → Message → Type 0) (pairs : List Pair) (messages : List Message) →
+    ((pair : Pair) → Contains pairs pair → (message : Message) → P pair message → Q pair message) →
+    OneForEach P pairs messages → OneForEach Q pairs messages
+each_still P Q [] [] each all = tt
+each_still P Q [] (message ∷ messages) each all = absurd all
+each_still P Q (pair ∷ pairs) [] each all = absurd all
+each_still P Q (pair ∷ pairs) (message ∷ messages) each all = (
+  each pair (first_there pair pairs) message all.0,
+  each_still P Q pairs messages (λ other has. each other (later_there pair other pairs has)) all.1,
+)
+
+-- a log of which a pair came stays
+still_available : (after : State) (ends : List End) (pair : Pair) (message : Message) → Contains (pairs_of after) pair →
+    IsToldAvailable after ends pair message → IsToldAvailable (without_unread after) ends pair message
+unfolding without_unread without_unread_in pairs_of
+still_available after ends pair message has told =
+    let kept : is_kept (pairs_of after) told.log ≡ true =
+    kept_of_pair (pairs_of after) told.log pair has
+    (eq-eqb pair.source told.log.number (ap (λ (p : Pair). p.source) told.pair_is)) in
+    record {
+      log = told.log;
+      subscription = told.subscription;
+      is_live = passes_are_left (is_kept (pairs_of after)) after.streams.sources told.log kept told.is_live;
+      stands = told.stands;
+      pair_is = told.pair_is;
+      position = told.position;
+      reaches = told.reaches;
+      message_is = told.message_is;
+    }
+
+still_unavailable : (after : State) (pair : Pair) (message : Message) → IsToldUnavailable after pair message →
+    IsToldUnavailable (without_unread after) pair message
+unfolding without_unread without_unread_in
+still_unavailable after pair message told = record {
+  subscription = told.subscription;
+  stands = told.stands;
+  number_is = told.number_is;
+  message_is = told.message_is;
+}
+
+subscribed_still : (after : State) (pairs : List Pair) →
+    filter (is_subscribed (without_unread after)) pairs ≡ filter (is_subscribed after) pairs
+unfolding without_unread without_unread_in
+subscribed_still after pairs = refl
+
+still_told : (s : State) (inputs : Inputs) (change : Change) →
+    ((pair : Pair) → Contains change.outcome.come pair → Contains (pairs_of change.after) pair) →
+    TellsImagesExactly inputs change → TellsImagesExactly inputs (dropping s change)
+unfolding dropping
+still_told s inputs change came tells = record {
+  available = each_still (IsToldAvailable change.after inputs.ends) (IsToldAvailable (without_unread change.after) inputs.ends)
+      change.outcome.come (filter tells_available change.outcome.replies)
+      (λ pair has message told. still_available change.after inputs.ends pair message (came pair has) told) tells.available;
+  unavailable = rw (subscribed_still change.after change.outcome.gone)
+      (each_still (IsToldUnavailable change.after) (IsToldUnavailable (without_unread change.after))
+      (filter (is_subscribed change.after) change.outcome.gone) (filter tells_unavailable change.outcome.replies)
+      (λ pair has message told. still_unavailable change.after pair message told) tells.unavailable);
+}
+
+came_there : (s : State) (inputs : Inputs) (draft : Draft) (pair : Pair) →
+    Contains (renewed s inputs draft).outcome.come pair → Contains (pairs_of (renewed s inputs draft).after) pair
+unfolding renewed
+came_there s inputs draft pair has = left_was_there (is_lacked_by (pairs_of s)) (pairs_of draft.after) pair has
+
 pub images_told_exactly : (s : State) (event : Event) (inputs : Inputs) →
     TellsImagesExactly inputs (conduct s event inputs)
 unfolding conduct
-images_told_exactly s event inputs = draft_tells s inputs (drafted s event) (draft_tells_none s event)
+images_told_exactly s event inputs =
+    let draft : Draft = drafted s event inputs in
+    still_told s inputs (renewed s inputs draft) (came_there s inputs draft)
+    (draft_tells s inputs draft (draft_tells_none s event inputs))

@@ -4,6 +4,8 @@ pub mod ClosedLogLemmas
 pub mod ClosingLemmas
 pub mod DenialLemmas
 pub mod DenialTextLemmas
+pub mod DroppingLemmas
+pub mod EveryLemmas
 pub mod GoingLemmas
 pub mod GoneLemmas
 pub mod GrantLemmas
@@ -29,5 +31,7 @@ pub mod RemovedExactlyLemmas
 pub mod RenewalLemmas
 pub mod RisingLemmas
 pub mod RoomLemmas
+pub mod SettingUpLemmas
+pub mod StayingLemmas
 pub mod SubscribingLemmas
 pub mod SubscribingOnlyLemmas

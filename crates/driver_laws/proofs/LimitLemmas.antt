@@ -4,7 +4,7 @@ use Rattle.std.proofs.lemmas.Bool.{and_parts, cond_both, leb-true, ltb-true}
 use Rattle.std.proofs.lemmas.List.{length-append, length-map}
 use Rattle.std.proofs.lemmas.List.Filters.{length-filter_both}
 use Rattle.driver_core.specs.declared.event.Event.{Event}
-use Rattle.driver_core.specs.declared.event.Event.TheVariants.{Attach, Command, Reload, Tick}
+use Rattle.driver_core.specs.declared.event.Event.TheVariants.{Attach, Command, Reload, Setup, Tick}
 use Rattle.driver_core.specs.declared.event.Inputs.{Inputs}
 use Rattle.driver_core.specs.declared.outcome.Response.{Response}
 use Rattle.driver_core.specs.declared.peer.Peer.{Peer}
@@ -28,6 +28,8 @@ use Rattle.driver_core.specs.Terminating.{stopped_for_good, terminated}
 use Rattle.driver_core.specs.Ticking.{late, tick, ticked}
 use Rattle.driver_core.specs.Unpublishing.{unpublished}
 use Rattle.driver_core.specs.Unsubscribing.{unsubscribed}
+use Rattle.driver_core.specs.SettingUp.{image_made, setting_of, with_image}
+use Rattle.driver_core.specs.Unread.{dropping, without_unread}
 use Rattle.driver_laws.specs.Events.{AfterAnyEvents}
 use Rattle.driver_laws.specs.LimitLaws.{LimitsAreKept}
 use Rattle.driver_laws.specs.OwnerLaws.{HaveTheirClients}
@@ -43,11 +45,16 @@ use Rattle.stream_registry.specs.declared.wanted.Wanted.{Wanted}
 use Rattle.stream_registry.specs.Adding.{adding_of}
 use Rattle.stream_registry.specs.LimitLaws.{IsWithinLimits as StreamsAreWithin}
 use Rattle.stream_registry.specs.Pairs.{pairs_of as pairs_on}
+use Rattle.stream_registry.specs.declared.wanted.ImageWanted.{ImageWanted}
+use Rattle.log_readers.specs.Unread.{is_kept, without_unread as without_unread_in}
+use Rattle.stream_registry.proofs.FewLemmas.{kept_few}
 use Rattle.stream_registry.proofs.LimitLemmas.{stays_within_limits}
-use Rattle.driver_core.proofs.EventCases.{Cases, command_cases, reload_cases}
+use Rattle.driver_core.proofs.EventCases.{Cases, command_cases, reload_cases, set_up_cases}
 use Rattle.driver_core.proofs.PairLemmas.{pairs_heard}
-use Rattle.driver_laws.proofs.OwnerLemmas.{after_any, opened_owned, stay_owned}
-use Rattle.driver_laws.proofs.PairCountLemmas.{HasNoMorePairs, pairs_attached, pairs_closed, pairs_left, pairs_unregistered, pairs_unsubscribed}
+use Rattle.driver_core.proofs.SettingLemmas.{is_set}
+use Rattle.driver_laws.proofs.EveryLemmas.{after_any}
+use Rattle.driver_laws.proofs.OwnerLemmas.{opened_owned, stay_owned}
+use Rattle.driver_laws.proofs.PairCountLemmas.{HasNoMorePairs, pairs_attached, pairs_closed, pairs_left, pairs_unread, pairs_unregistered, pairs_unsubscribed}
 
 -- ---- the lists
 
@@ -218,18 +225,43 @@ all_left_within : (s : State) (clients : List ℕ) → IsWithin s → IsWithin (
 all_left_within s [] within = within
 all_left_within s (client ∷ clients) within = all_left_within (left s client) clients (one_left_within s client within)
 
-ticked_within : (s : State) (clients : List ℕ) → IsWithin s → IsWithin (ticked s clients).after
+ticked_within : (s : State) (clients silent : List ℕ) → IsWithin s → IsWithin (ticked s clients silent).after
 unfolding ticked
-ticked_within s clients within = record {
+ticked_within s clients silent within = record {
   clients = within.clients;
-  streams = stays_within_limits.closed s.streams s.moment within.streams;
+  streams = stays_within_limits.closed s.streams s.moment silent within.streams;
   counters = within.counters;
-  pairs = no_more s _ (pairs_closed s s.moment) within.pairs;
+  pairs = no_more s _ (pairs_closed s s.moment silent) within.pairs;
 }
 
-tick_within : (s : State) → IsWithin s → IsWithin (tick s).after
+tick_within : (s : State) (silent : List ℕ) → IsWithin s → IsWithin (tick s silent).after
 unfolding tick
-tick_within s within = ticked_within (all_left s (late s)) (late s) (all_left_within s (late s) within)
+tick_within s silent within = ticked_within (all_left s (late s)) (late s) silent (all_left_within s (late s) within)
+
+image_within : (s : State) (wanted : ImageWanted) (place : ℕ) → setting_of s wanted ≡ Ok place → IsWithin s →
+    IsWithin (image_made s wanted place).after
+unfolding image_made with_image answered
+image_within s wanted place set within =
+    let parts = and_parts _ _ (is_set s wanted place set).room in
+    record {
+      clients = within.clients;
+      streams = stays_within_limits.imaged s.streams (s.last_number + 1) _ wanted within.streams parts.0;
+      counters = within.counters;
+      pairs = within_pairs (with_image s wanted) (and_parts _ _ parts.1).1;
+    }
+
+unread_within : (s : State) → IsWithin s → IsWithin (without_unread s)
+unfolding without_unread without_unread_in
+unread_within s within = record {
+  clients = within.clients;
+  streams = record {
+    logs = kept_few (is_kept _) s.streams.sources within.streams.logs;
+    registrations = within.streams.registrations;
+    subscriptions = within.streams.subscriptions;
+  };
+  counters = within.counters;
+  pairs = no_more s (without_unread s) (pairs_unread s) within.pairs;
+}
 
 termination_within : (s : State) (client : Client) (correlation : ℕ) → IsWithin s →
     IsWithin (terminated s client correlation).after
@@ -312,24 +344,31 @@ attach_within s principal owned within =
     cond_both (has_room s.clients) _ _ DraftWithin (λ room. attached_within s principal owned room within)
     (λ full. answer_within s _ within))
 
-draft_within : (s : State) (event : Event) → HaveTheirClients s → IsWithin s → IsWithin (drafted s event).after
+draft_within : (s : State) (event : Event) (inputs : Inputs) → HaveTheirClients s → IsWithin s → IsWithin (drafted s event inputs).after
 unfolding drafted
-draft_within s (Attach now principal) owned within =
+draft_within s (Attach now principal) inputs owned within =
     attach_within (at_moment s now) principal (moment_owned s now owned) (moment_within s now within)
-draft_within s (Command now handle bytes) owned within =
-    command_cases DraftWithin s now handle bytes (command_within s now handle bytes within)
-draft_within s (Reload now policy) owned within =
+draft_within s (Command now handle bytes) inputs owned within =
+    command_cases DraftWithin s now handle bytes inputs (command_within s now handle bytes within)
+draft_within s (Reload now policy) inputs owned within =
     let before = at_moment s now in
     let moved : IsWithin before = moment_within s now within in
     reload_cases DraftWithin before policy
     (λ room. reloaded_within before policy room moved)
     (λ full. answer_within before _ moved)
-draft_within s (Tick now) owned within = tick_within (at_moment s now) (moment_within s now within)
+draft_within s (Tick now) inputs owned within =
+    tick_within (at_moment s now) inputs.silent (moment_within s now within)
+draft_within s (Setup now local from setup) inputs owned within =
+    let before = at_moment s now in
+    let moved : IsWithin before = moment_within s now within in
+    set_up_cases DraftWithin before local from setup (λ fault. answer_within before _ moved)
+    (λ join place is set. image_within before _ place set moved)
 
 event_within : (s : State) (event : Event) (inputs : Inputs) → HaveTheirClients s → IsWithin s →
     IsWithin (state_after s event inputs)
-unfolding conduct renewed
-event_within s event inputs owned within = draft_within s event owned within
+unfolding conduct renewed dropping
+event_within s event inputs owned within =
+    unread_within (drafted s event inputs).after (draft_within s event inputs owned within)
 
 -- ---- every registry
 

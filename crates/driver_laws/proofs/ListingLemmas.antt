@@ -1,5 +1,5 @@
 -- A client is shown exactly the counters that the policy in force shows it.
-use Rattle.std.proofs.Common.{◌≡◌, ℕ, Bool, true, false, List, [], ◌∷◌, Some, None, refl, sym, ◌∙◌}
+use Rattle.std.proofs.Common.{◌≡◌, ℕ, Bool, List, [], ◌∷◌, Some, None, refl, sym, ◌∙◌}
 use Rattle.std.specs.List.{filter}
 use Rattle.driver_core.specs.declared.listing.Listed.TheVariants as listed_as
 use Rattle.driver_core.specs.declared.listing.Shown.TheVariants as shown_as
@@ -7,13 +7,12 @@ use Rattle.driver_core.specs.Listing.{list, value}
 use Rattle.driver_core.specs.Renewal.{source_at}
 use Rattle.driver_core.specs.State.{State}
 use Rattle.driver_core.specs.Verdicts.{verdict_on}
-use Rattle.driver_laws.specs.ListingLaws.{ListsExactly, ShowsExactly, ShowsPublicationExactly, LooksExactly, look_question, is_shown_to, publication_look}
+use Rattle.driver_laws.specs.ListingLaws.{ListsExactly, ShowsExactly, ShowsSourceExactly, LooksExactly, look_question, is_shown_to, source_look}
 use Rattle.client_registry.specs.declared.client.Client.{Client}
 use Rattle.client_registry.specs.Clients.{client_at}
 use Rattle.counters.specs.declared.counter.Counter.{Counter}
 use Rattle.counters.specs.Counters.{counter_at, is_visible, visible_of}
 use Rattle.stream_registry.specs.declared.row.Source.{Source}
-use Rattle.stream_registry.specs.Origins.{is_published}
 use Rattle.counters.proofs.VisibleLemmas.{any_number}
 use Rattle.driver_core.proofs.VerdictLemmas.{by_policy}
 use Rattle.driver_laws.proofs.DenialTextLemmas.{epoch_of, denial_words, denial_is_named}
@@ -35,7 +34,7 @@ lists_exactly s handle client found = record {
       )
       refl;
   by = λ counter. by_policy s (look_question client counter);
-  publications_by = λ publication. by_policy s (publication_look client publication);
+  sources_by = λ source. by_policy s (source_look client source);
 }
 
 shows_exactly : (s : State) (handle : ℕ) (client : Client) (number : ℕ) (counter : Counter) →
@@ -53,28 +52,20 @@ shows_exactly s handle client number counter found there =
           ∙ denial_is_named (verdict_on s question) s.epoch denies (epoch_of s question);
     }
 
-shows_publication_exactly : (s : State) (handle : ℕ) (client : Client) (number : ℕ) (publication : Source) →
+shows_source_exactly : (s : State) (handle : ℕ) (client : Client) (number : ℕ) (source : Source) →
     client_at s.clients.rows handle ≡ Some client → counter_at s.counters number ≡ None →
-    source_at s.streams.sources number ≡ Some publication → is_published publication ≡ true →
-    ShowsPublicationExactly s client publication (value s handle number)
+    source_at s.streams.sources number ≡ Some source → ShowsSourceExactly s client source (value s handle number)
 unfolding value
-shows_publication_exactly s handle client number publication found none there is =
-    let question = publication_look client publication in
+shows_source_exactly s handle client number source found none there =
+    let question = source_look client source in
     record {
       by = by_policy s question;
-      shown = λ allows. rw (found, none, there, is, allows) refl;
-      denied = λ denies. rw (found, none, there, is, denies) refl;
+      shown = λ allows. rw (found, none, there, allows) refl;
+      denied = λ denies. rw (found, none, there, denies) refl;
       text = λ denies.
           sym (denial_words (verdict_on s question))
           ∙ denial_is_named (verdict_on s question) s.epoch denies (epoch_of s question);
     }
-
-image_is_unknown : (s : State) (handle : ℕ) (client : Client) (number : ℕ) (source : Source) →
-    client_at s.clients.rows handle ≡ Some client → counter_at s.counters number ≡ None →
-    source_at s.streams.sources number ≡ Some source → is_published source ≡ false →
-    value s handle number ≡ shown_as.UnknownCounter
-unfolding value
-image_is_unknown s handle client number source found none there is = rw (found, none, there, is) refl
 
 unknown_is_told : (s : State) (handle : ℕ) (client : Client) (number : ℕ) →
     client_at s.clients.rows handle ≡ Some client → counter_at s.counters number ≡ None →
@@ -96,9 +87,7 @@ pub looks_exactly : (s : State) (handle : ℕ) → LooksExactly s handle
 looks_exactly s handle = record {
   listed = λ client found. lists_exactly s handle client found;
   valued = λ client number counter found there. shows_exactly s handle client number counter found there;
-  published = λ client number publication found none there is.
-      shows_publication_exactly s handle client number publication found none there is;
-  image = λ client number source found none there is. image_is_unknown s handle client number source found none there is;
+  sourced = λ client number source found none there. shows_source_exactly s handle client number source found none there;
   unknown = λ client number found none nothing. unknown_is_told s handle client number found none nothing;
   lists_nobody = λ gone. nobody_is_listed s handle gone;
   values_nobody = λ number gone. nobody_is_shown s handle number gone;

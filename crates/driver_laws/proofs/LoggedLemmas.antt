@@ -5,7 +5,7 @@ use Rattle.std.specs.List.{Contains}
 use Rattle.std.proofs.lemmas.Bool.{and_parts, eq-eqb}
 use Rattle.std.proofs.lemmas.List.Elements.{Contains-append_left, Contains-append_right, Contains-push, Contains-push_cases}
 use Rattle.driver_core.specs.declared.event.Event.{Event}
-use Rattle.driver_core.specs.declared.event.Event.TheVariants.{Attach, Command, Reload, Tick}
+use Rattle.driver_core.specs.declared.event.Event.TheVariants.{Attach, Command, Reload, Setup, Tick}
 use Rattle.driver_core.specs.declared.event.Inputs.{Inputs}
 use Rattle.driver_core.specs.declared.peer.Peer.{Peer}
 use Rattle.driver_core.specs.declared.settings.Settings.{Settings}
@@ -26,6 +26,8 @@ use Rattle.driver_core.specs.Terminating.{stopped_for_good, terminated}
 use Rattle.driver_core.specs.Ticking.{late, tick, ticked}
 use Rattle.driver_core.specs.Unpublishing.{unpublished}
 use Rattle.driver_core.specs.Unsubscribing.{unsubscribed}
+use Rattle.driver_core.specs.SettingUp.{image_made, with_image}
+use Rattle.driver_core.specs.Unread.{dropping, without_unread}
 use Rattle.driver_laws.specs.OwnerLaws.{HasLog, HaveTheirLogs, RegistrationsHaveTheirLogs}
 use Rattle.policy_core.specs.RuleList.{Rules}
 use Rattle.channel_uri.specs.Channel.{Shape}
@@ -39,16 +41,19 @@ use Rattle.stream_registry.specs.declared.wanted.Wanted.{Wanted}
 use Rattle.stream_registry.specs.Adding.{added, adding_by, adding_of, has_room_for_log, has_room_for_registration, joining_of, log_of, making_of, registration_of, subscribed as subscribed_in}
 use Rattle.stream_registry.specs.Joining.{contradicts, is_joinable, joined_at}
 use Rattle.stream_registry.specs.Leaving.{is_another_registration, is_registration_of_another, left as left_in, unregistered, unsubscribed as unsubscribed_in}
-use Rattle.stream_registry.specs.Lingering.{closed, is_not_past, is_used, left_alone, settled, settled_one}
+use Rattle.stream_registry.specs.Lingering.{closed, is_used, left_alone, settled, settled_one, stays_live}
 use Rattle.stream_registry.specs.Origins.{is_published, lingering_since}
 use Rattle.stream_registry.specs.Sessions.{is_stated_again}
 use Rattle.stream_registry.specs.Streams.{Streams}
+use Rattle.stream_registry.specs.declared.wanted.ImageWanted.{ImageWanted}
+use Rattle.stream_registry.specs.declared.pairs.Pair.{Pair}
 use Rattle.channel_uri.specs.Parameters.{stated_session_of}
-use Rattle.driver_core.proofs.EventCases.{Cases, attach_cases, command_cases, reload_cases}
+use Rattle.log_readers.specs.Unread.{is_kept, without_unread as without_unread_in}
+use Rattle.driver_core.proofs.EventCases.{Cases, attach_cases, command_cases, reload_cases, set_up_cases}
 use Rattle.driver_core.proofs.ListLemmas.{contains_none, left_was_there, passes_are_left}
 use Rattle.driver_laws.proofs.ClosingLemmas.{any_of}
 use Rattle.driver_laws.proofs.LeftLemmas.{mapped}
-use Rattle.driver_laws.proofs.OwnerLemmas.{after_any}
+use Rattle.driver_laws.proofs.EveryLemmas.{after_any}
 
 -- ---- logs that stay
 
@@ -90,16 +95,19 @@ left_logged streams client now logged = λ registration has.
     (logged registration
     (left_was_there (is_registration_of_another client) streams.registrations registration has))
 
-not_past : (now : ℕ) (log : Source) → lingering_since log ≡ None → is_not_past now log ≡ true
-not_past now log in_use = rw in_use refl
+not_past : (now : ℕ) (silent : List ℕ) (log : Source) → is_published log ≡ true → lingering_since log ≡ None →
+    stays_live now silent log ≡ true
+not_past now silent log published in_use = rw (in_use, published) refl
 
-closed_logged : (streams : Streams) (now : ℕ) → HaveTheirLogs streams → HaveTheirLogs (closed streams now)
+closed_logged : (streams : Streams) (now : ℕ) (silent : List ℕ) → HaveTheirLogs streams →
+    HaveTheirLogs (closed streams now silent)
 unfolding closed
-closed_logged streams now logged = λ registration has.
+closed_logged streams now silent logged = λ registration has.
     let was = logged registration has in
     record {
       log = was.log;
-      stands = passes_are_left (is_not_past now) streams.sources was.log (not_past now was.log was.in_use) was.stands;
+      stands = passes_are_left (stays_live now silent) streams.sources was.log
+          (not_past now silent was.log was.published was.in_use) was.stands;
       source_is = was.source_is;
       published = was.published;
       in_use = was.in_use;
@@ -273,25 +281,50 @@ command_logged s now handle bytes logged = record {
       absurd (contains_none registration has);
 }
 
-ticked_logged : (s : State) (clients : List ℕ) → HaveTheirLogs s.streams → Keeps s (ticked s clients)
+ticked_logged : (s : State) (clients silent : List ℕ) → HaveTheirLogs s.streams → Keeps s (ticked s clients silent)
 unfolding ticked
-ticked_logged s clients logged = closed_logged s.streams s.moment logged
+ticked_logged s clients silent logged = closed_logged s.streams s.moment silent logged
 
-draft_logged : (s : State) (event : Event) → HaveTheirLogs s.streams → Keeps s (drafted s event)
+image_logged : (s : State) (wanted : ImageWanted) (place : ℕ) → HaveTheirLogs s.streams → Keeps s (image_made s wanted place)
+unfolding image_made with_image answered
+image_logged s wanted place logged = λ registration has.
+    has_more s.streams.sources _ registration.source (logged registration has)
+
+-- a publication stays, read or not
+published_kept : (pairs : List Pair) (log : Source) → is_published log ≡ true → is_kept pairs log ≡ true
+published_kept pairs log published = rw published refl
+
+unread_logged : (s : State) → HaveTheirLogs s.streams → HaveTheirLogs (without_unread s).streams
+unfolding without_unread without_unread_in
+unread_logged s logged = λ registration has.
+    let was = logged registration has in
+    record {
+      log = was.log;
+      stands = passes_are_left (is_kept _) s.streams.sources was.log (published_kept _ was.log was.published) was.stands;
+      source_is = was.source_is;
+      published = was.published;
+      in_use = was.in_use;
+    }
+
+draft_logged : (s : State) (event : Event) (inputs : Inputs) → HaveTheirLogs s.streams → Keeps s (drafted s event inputs)
 unfolding drafted at_moment answered attached reloaded in_force tick
-draft_logged s (Attach now principal) logged = attach_cases (Keeps s) (at_moment s now) principal logged logged logged
-draft_logged s (Command now handle bytes) logged =
-    command_cases (Keeps s) s now handle bytes (command_logged s now handle bytes logged)
-draft_logged s (Reload now policy) logged =
+draft_logged s (Attach now principal) inputs logged = attach_cases (Keeps s) (at_moment s now) principal logged logged logged
+draft_logged s (Command now handle bytes) inputs logged =
+    command_cases (Keeps s) s now handle bytes inputs (command_logged s now handle bytes logged)
+draft_logged s (Reload now policy) inputs logged =
     reload_cases (Keeps s) (at_moment s now) policy (λ room. logged) (λ full. logged)
-draft_logged s (Tick now) logged =
-    ticked_logged (all_left (at_moment s now) (late (at_moment s now))) (late (at_moment s now))
+draft_logged s (Tick now) inputs logged =
+    ticked_logged (all_left (at_moment s now) (late (at_moment s now))) (late (at_moment s now)) inputs.silent
     (all_left_logged (at_moment s now) (late (at_moment s now)) logged)
+draft_logged s (Setup now local from setup) inputs logged =
+    set_up_cases (Keeps s) (at_moment s now) local from setup (λ fault. logged)
+    (λ join place is set. image_logged (at_moment s now) _ place logged)
 
 event_logged : (s : State) (event : Event) (inputs : Inputs) → HaveTheirLogs s.streams →
     HaveTheirLogs (state_after s event inputs).streams
-unfolding conduct renewed
-event_logged s event inputs logged = draft_logged s event logged
+unfolding conduct renewed dropping
+event_logged s event inputs logged =
+    unread_logged (drafted s event inputs).after (draft_logged s event inputs logged)
 
 -- ---- every registry
 

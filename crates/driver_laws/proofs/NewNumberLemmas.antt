@@ -2,14 +2,14 @@
 use Rattle.std.proofs.Common.{◌≡◌, ℕ, ◌+◌, ◌<◌, ◌≤◌, List, [], ◌∷◌, inl, inr, refl, sym, subst, ap, ◌∙◌, ◌⊎◌, ⊎_elim, arith}
 use Rattle.std.proofs.lemmas.Bool.{cond_both}
 use Rattle.driver_core.specs.declared.event.Event.{Event}
-use Rattle.driver_core.specs.declared.event.Event.TheVariants.{Attach, Command, Reload, Tick}
+use Rattle.driver_core.specs.declared.event.Event.TheVariants.{Attach, Command, Reload, Setup, Tick}
 use Rattle.driver_core.specs.declared.event.Inputs.{Inputs}
 use Rattle.driver_core.specs.Conduct.{state_after, state_of}
 use Rattle.driver_core.specs.Reloading.{has_room_for_policy}
-use Rattle.driver_core.specs.State.{State}
+use Rattle.driver_core.specs.State.{State, at_moment}
 use Rattle.driver_laws.specs.GrantLaws.{IsCounterMadeBy, StoodBefore}
 use Rattle.driver_laws.specs.NumberLaws.{AreRising, ComesAbove, NeverLowers, NumbersAreNeverDrawnAgain, WasAttached}
-use Rattle.driver_laws.specs.PublishingLaws.{IsLogMadeBy, IsRegisteredBy, WasLive}
+use Rattle.driver_laws.specs.PublishingLaws.{IsImageMadeBy, IsLogMadeBy, IsRegisteredBy, WasLive}
 use Rattle.driver_laws.specs.ReloadLaws.{Numbered, in_force_at, newest_after}
 use Rattle.driver_laws.specs.SubscribingLaws.{IsMadeBy}
 use Rattle.client_registry.specs.declared.client.Client.{Client}
@@ -36,19 +36,31 @@ newest_above s (Command now handle bytes) = inl refl
 newest_above s (Reload now policy) =
     cond_both (has_room_for_policy s policy) _ _ (IsOrAbove s) (λ room. inr (omega arith)) (λ full. inl refl)
 newest_above s (Tick now) = inl refl
+newest_above s (Setup now local from setup) = inl refl
 
 policy_above : (s : State) (event : Event) (inputs : Inputs) → IsOrAbove s (in_force_at (state_after s event inputs))
 policy_above s event inputs =
     subst (IsOrAbove s) (sym (newest_in_force s event inputs)) (newest_above s event)
+
+-- an image has the next number
+pub image_number : (s : State) (event : Event) (log : Source) → IsImageMadeBy s event log → log.number ≡ s.last_number + 1
+unfolding at_moment
+image_number s event log made = ap (λ (p : Source). p.number) made.log_is
 
 pub comes_above : (s : State) (event : Event) (inputs : Inputs) → ComesAbove s (state_after s event inputs)
 comes_above s event inputs = record {
   clients = clients_come s event inputs;
   sources = λ log has.
       ⊎_elim (λ before. inl before)
+      (λ others.
+      ⊎_elim
       (λ (made : IsLogMadeBy s event log).
       let is : log.number ≡ s.last_number + 1 = ap (λ (p : Source). p.number) made.made_is in
       inr (omega (arith, is)))
+      (λ (made : IsImageMadeBy s event log).
+      let is : log.number ≡ s.last_number + 1 = image_number s event log made in
+      inr (omega (arith, is)))
+      others)
       ((published_only s event inputs).logs log has);
   registrations = λ row has.
       ⊎_elim (λ before. inl before)

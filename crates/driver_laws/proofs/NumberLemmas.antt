@@ -1,7 +1,7 @@
 -- Each event keeps the numbers rising, and draws the next ones alone.
 use Rattle.std.proofs.Common.{◌≡◌, ℕ, ◌+◌, ◌==◌, ℤ, Bool, true, false, cond, List, [], ◌∷◌, refl, ◌∙◌, arith}
 use Rattle.driver_core.specs.declared.event.Event.{Event}
-use Rattle.driver_core.specs.declared.event.Event.TheVariants.{Attach, Command, Reload, Tick}
+use Rattle.driver_core.specs.declared.event.Event.TheVariants.{Attach, Command, Reload, Setup, Tick}
 use Rattle.driver_core.specs.declared.event.Inputs.{Inputs}
 use Rattle.driver_core.specs.declared.outcome.Response.{Response}
 use Rattle.driver_core.specs.declared.peer.Peer.{Peer}
@@ -24,6 +24,8 @@ use Rattle.driver_core.specs.Terminating.{stopped_for_good, terminated}
 use Rattle.driver_core.specs.Ticking.{late, tick, ticked}
 use Rattle.driver_core.specs.Unpublishing.{unpublished}
 use Rattle.driver_core.specs.Unsubscribing.{unsubscribed}
+use Rattle.driver_core.specs.SettingUp.{image_made, with_image}
+use Rattle.driver_core.specs.Unread.{dropping, without_unread}
 use Rattle.driver_laws.specs.NumberLaws.{AreDrawn, AreRising, NeverLowers, NumbersAreAtMostTheLast, LastNumbersNeverFall, NumbersAreUnique}
 use Rattle.client_registry.specs.declared.client.Client.{Client}
 use Rattle.client_registry.specs.Clients.{admitted, is_other, touched, without}
@@ -41,10 +43,12 @@ use Rattle.stream_registry.specs.declared.wanted.Adding.TheVariants.{Join, Make}
 use Rattle.stream_registry.specs.declared.wanted.Wanted.{Wanted}
 use Rattle.stream_registry.specs.Adding.{subscribed as subscribed_in}
 use Rattle.stream_registry.specs.Leaving.{is_another_registration, is_another_subscription, is_registration_of_another, is_subscription_of_another, left as left_in, unregistered, unsubscribed as unsubscribed_in}
-use Rattle.stream_registry.specs.Lingering.{closed, is_not_past, is_used, left_alone, settled}
-use Rattle.driver_core.proofs.EventCases.{Cases, attach_cases, command_cases, reload_cases}
+use Rattle.stream_registry.specs.Lingering.{closed, is_used, left_alone, settled, stays_live}
+use Rattle.stream_registry.specs.declared.wanted.ImageWanted.{ImageWanted}
+use Rattle.log_readers.specs.Unread.{is_kept, without_unread as without_unread_in}
+use Rattle.driver_core.proofs.EventCases.{Cases, attach_cases, command_cases, reload_cases, set_up_cases}
 use Rattle.driver_core.proofs.PairLemmas.{row_number}
-use Rattle.driver_laws.proofs.OwnerLemmas.{after_any}
+use Rattle.driver_laws.proofs.EveryLemmas.{after_any}
 use Rattle.driver_laws.proofs.RisingLemmas.{rises_drawn, rises_kept, rises_mapped, rises_push, rises_up_to}
 
 -- ---- the numbers of rows
@@ -211,6 +215,23 @@ publication_rises s client correlation wanted (Make session) rises =
       draws = record { last = omega arith; last_client = omega arith; epoch = omega arith };
     }
 
+image_rises : (s : State) (wanted : ImageWanted) (place : ℕ) → AreRising s → Rising s (image_made s wanted place).after
+unfolding image_made with_image answered
+image_rises s wanted place rises =
+    let last = s.last_number in
+    record {
+      rises = record {
+        clients = rises.clients;
+        sources = rises_push source_number 0 last (last + 1) s.streams.sources _ rises.sources (omega arith) (omega arith);
+        registrations = rises_up_to registration_number 0 last (last + 1) s.streams.registrations (omega arith)
+            rises.registrations;
+        subscriptions = rises_up_to subscription_number 0 last (last + 1) s.streams.subscriptions (omega arith)
+            rises.subscriptions;
+        counters = rises_up_to counter_number 0 last (last + 1) s.counters (omega arith) rises.counters;
+      };
+      draws = record { last = omega arith; last_client = omega arith; epoch = omega arith };
+    }
+
 -- ---- what goes, or has another value
 
 value_rises : (s : State) (client : Client) (correlation : ℕ) (fields : SetCounter) → AreRising s →
@@ -239,7 +260,7 @@ counter_removal_rises s client correlation number rises =
       counters = rises_kept counter_number (is_another client.number number) 0 s.last_number s.counters rises.counters;
     })
 
-removal_rises : (s : State) (request : RemovalRequest) → AreRising s →
+pub removal_rises : (s : State) (request : RemovalRequest) → AreRising s →
     Rising s (unsubscribed s request.client request.correlation request.fields.registration).after
 unfolding unsubscribed unsubscribed_in replied told
 removal_rises s request rises =
@@ -307,23 +328,23 @@ pub all_left_rises : (s : State) (clients : List ℕ) → AreRising s → AreRis
 all_left_rises s [] rises = rises
 all_left_rises s (client ∷ clients) rises = all_left_rises (left s client) clients (one_left_rises s client rises)
 
-ticked_rises : (s between : State) (clients : List ℕ) → SameLast s between → AreRising between →
-    Rising s (ticked between clients).after
+ticked_rises : (s between : State) (clients silent : List ℕ) → SameLast s between → AreRising between →
+    Rising s (ticked between clients silent).after
 unfolding ticked closed
-ticked_rises s between clients same rises =
+ticked_rises s between clients silent same rises =
     none_drawn s _ (record { last = same.last; last_client = same.last_client; epoch = same.epoch }) (record {
       clients = rises.clients;
-      sources = rises_kept source_number (is_not_past between.moment) 0 between.last_number
+      sources = rises_kept source_number (stays_live between.moment silent) 0 between.last_number
           between.streams.sources rises.sources;
       registrations = rises.registrations;
       subscriptions = rises.subscriptions;
       counters = rises.counters;
     })
 
-tick_rises : (s : State) → AreRising s → Rising s (tick s).after
+tick_rises : (s : State) (silent : List ℕ) → AreRising s → Rising s (tick s silent).after
 unfolding tick
-tick_rises s rises =
-    ticked_rises s (all_left s (late s)) (late s) (all_left_same s (late s)) (all_left_rises s (late s) rises)
+tick_rises s silent rises =
+    ticked_rises s (all_left s (late s)) (late s) silent (all_left_same s (late s)) (all_left_rises s (late s) rises)
 
 termination_rises : (s : State) (client : Client) (correlation : ℕ) → AreRising s →
     Rising s (terminated s client correlation).after
@@ -349,7 +370,7 @@ moment_rises s now rises = record {
   counters = rises.counters;
 }
 
-request_rises : (s : State) (now handle : ℕ) → AreRising s → AreRising (at_request s now handle)
+pub request_rises : (s : State) (now handle : ℕ) → AreRising s → AreRising (at_request s now handle)
 unfolding heard at_moment touched
 request_rises s now handle rises = record {
   clients = rises_mapped client_number _ 0 s.clients.last s.clients.rows
@@ -374,7 +395,7 @@ from_request s now handle after rising = record {
   draws = record { last = rising.draws.last; last_client = rising.draws.last_client; epoch = rising.draws.epoch };
 }
 
-abbrev DraftRises : State → Draft → Type 0
+abbrev pub DraftRises : State → Draft → Type 0
 DraftRises s draft = Rising s draft.after
 
 command_rises : (s : State) (now handle : ℕ) (bytes : List ℕ) → AreRising s →
@@ -408,28 +429,50 @@ command_rises s now handle bytes rising =
           by _ (termination_rises at client correlation rises);
     }
 
-draft_rises : (s : State) (event : Event) → AreRising s → DraftRises s (drafted s event)
+pub draft_rises : (s : State) (event : Event) (inputs : Inputs) → AreRising s → DraftRises s (drafted s event inputs)
 unfolding drafted
-draft_rises s (Attach now principal) rising =
+draft_rises s (Attach now principal) inputs rising =
     let before = at_moment s now in
     let rises : AreRising before = moment_rises s now rising in
     attach_cases (DraftRises s) before principal
     (from_moment s now _ (answer_rises before _ rises))
     (from_moment s now _ (attached_rises before principal rises))
     (from_moment s now _ (answer_rises before _ rises))
-draft_rises s (Command now handle bytes) rising =
-    command_cases (DraftRises s) s now handle bytes (command_rises s now handle bytes rising)
-draft_rises s (Reload now policy) rising =
+draft_rises s (Command now handle bytes) inputs rising =
+    command_cases (DraftRises s) s now handle bytes inputs (command_rises s now handle bytes rising)
+draft_rises s (Reload now policy) inputs rising =
     let before = at_moment s now in
     let rises : AreRising before = moment_rises s now rising in
     reload_cases (DraftRises s) before policy
     (λ room. from_moment s now _ (reloaded_rises before policy rises))
     (λ full. from_moment s now _ (answer_rises before _ rises))
-draft_rises s (Tick now) rising = from_moment s now _ (tick_rises (at_moment s now) (moment_rises s now rising))
+draft_rises s (Tick now) inputs rising =
+    from_moment s now _ (tick_rises (at_moment s now) inputs.silent (moment_rises s now rising))
+draft_rises s (Setup now local from setup) inputs rising =
+    let before = at_moment s now in
+    let rises : AreRising before = moment_rises s now rising in
+    set_up_cases (DraftRises s) before local from setup
+    (λ fault. from_moment s now _ (answer_rises before _ rises))
+    (λ join place is set. from_moment s now _ (image_rises before _ place rises))
+
+-- where images go that none reads
+unread_rises : (s after : State) → Rising s after → Rising s (without_unread after)
+unfolding without_unread without_unread_in
+unread_rises s after rising = record {
+  rises = record {
+    clients = rising.rises.clients;
+    sources = rises_kept source_number (is_kept _) 0 after.last_number after.streams.sources rising.rises.sources;
+    registrations = rising.rises.registrations;
+    subscriptions = rising.rises.subscriptions;
+    counters = rising.rises.counters;
+  };
+  draws = record { last = rising.draws.last; last_client = rising.draws.last_client; epoch = rising.draws.epoch };
+}
 
 pub event_rises : (s : State) (event : Event) (inputs : Inputs) → AreRising s → Rising s (state_after s event inputs)
-unfolding conduct renewed
-event_rises s event inputs rising = draft_rises s event rising
+unfolding conduct renewed dropping
+event_rises s event inputs rising =
+    unread_rises s (drafted s event inputs).after (draft_rises s event inputs rising)
 
 -- ---- every registry
 

@@ -5,9 +5,8 @@ use Rattle.driver_core.specs.declared.event.Event.{Event}
 use Rattle.driver_core.specs.declared.event.Inputs.{Inputs}
 use Rattle.driver_core.specs.declared.peer.Peer.{Peer}
 use Rattle.driver_core.specs.declared.settings.Settings.{Settings}
-use Rattle.driver_core.specs.Conduct.{state_after, state_of}
+use Rattle.driver_core.specs.Conduct.{state_after}
 use Rattle.driver_core.specs.State.{State, opened}
-use Rattle.driver_laws.specs.Events.{AfterAnyEvents}
 use Rattle.driver_laws.specs.GrantLaws.{IsCounterMadeBy, StoodBefore}
 use Rattle.driver_laws.specs.LeavingLaws.{IsGoneBy, is_there}
 use Rattle.driver_laws.specs.OwnerLaws.{HaveTheirClients, RowsHaveTheirClients}
@@ -20,24 +19,12 @@ use Rattle.policy_core.specs.RuleList.{Rules}
 use Rattle.stream_registry.specs.declared.row.Registration.{Registration}
 use Rattle.stream_registry.specs.declared.row.Subscription.{Subscription}
 use Rattle.driver_core.proofs.ListLemmas.{contains_none}
+use Rattle.driver_laws.proofs.EveryLemmas.{after_any}
 use Rattle.driver_laws.proofs.GoingLemmas.{clients_go_only}
 use Rattle.driver_laws.proofs.GoneLemmas.{rows_gone}
 use Rattle.driver_laws.proofs.GrantOnlyLemmas.{counts_and_ends_only}
 use Rattle.driver_laws.proofs.PublishingOnlyLemmas.{published_only}
 use Rattle.driver_laws.proofs.SubscribingOnlyLemmas.{grants_only}
-
--- ---- every registry
-
--- what holds at first, and behind each event if it held before, holds of every registry
-pub after_any : (P : State → Type 0) →
-    ((settings : Settings) (policy : Rules) (peers : List Peer) → P (opened settings policy peers)) →
-    ((s : State) (event : Event) (inputs : Inputs) → P s → P (state_after s event inputs)) → AfterAnyEvents P
-after_any P first next settings policy peers events = all (opened settings policy peers) events (first settings policy peers)
-  where
-    all : (s : State) (events' : List (Event × Inputs)) → P s → P (state_of s events')
-    all s [] holds = holds
-    all s (event ∷ events') holds =
-        all (state_after s event.0 event.1) events' (next s event.0 event.1 holds)
 
 -- ---- clients
 

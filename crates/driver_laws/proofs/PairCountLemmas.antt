@@ -8,9 +8,11 @@ use Rattle.std.proofs.lemmas.List.Elements.{All-contains, Contains-append_left, 
 use Rattle.driver_core.specs.Leaving.{all_left, left}
 use Rattle.driver_core.specs.Pairs.{pairs_of}
 use Rattle.driver_core.specs.State.{State}
+use Rattle.driver_core.specs.Unread.{without_unread}
 use Rattle.driver_laws.specs.OwnerLaws.{HaveTheirClients}
 use Rattle.client_registry.specs.declared.client.Client.{Client}
 use Rattle.client_registry.specs.Clients.{admitted, client_at, is_other, principal_at, without}
+use Rattle.log_readers.specs.Unread.{is_kept, without_unread as without_unread_in}
 use Rattle.policy_core.specs.RuleList.{Rules}
 use Rattle.stream_registry.specs.declared.pairs.Pair.{Pair}
 use Rattle.stream_registry.specs.declared.row.Origin.{Origin}
@@ -19,7 +21,7 @@ use Rattle.stream_registry.specs.declared.row.Source.{Source}
 use Rattle.stream_registry.specs.declared.row.Registration.{Registration}
 use Rattle.stream_registry.specs.declared.row.Subscription.{Subscription}
 use Rattle.stream_registry.specs.Leaving.{is_another_subscription, is_registration_of_another, is_subscription_of_another, left as left_in, unregistered, unsubscribed}
-use Rattle.stream_registry.specs.Lingering.{closed, is_not_past, is_used, left_alone, settled, settled_one}
+use Rattle.stream_registry.specs.Lingering.{closed, is_used, left_alone, settled, settled_one, stays_live}
 use Rattle.stream_registry.specs.Origins.{left_by}
 use Rattle.stream_registry.specs.Pairs.{fits, is_allowed, is_allowed_to, is_pair, pair_of, pairs_at, pairs_of as pairs_on, reaches}
 
@@ -268,7 +270,13 @@ pairs_all_left s (client ∷ clients) =
     let rest = pairs_all_left (left s client) clients in
     omega (arith, first, rest)
 
-pub pairs_closed : (s : State) (now : ℕ) → HasNoMorePairs s (record s { streams = closed s.streams now })
+pub pairs_closed : (s : State) (now : ℕ) (silent : List ℕ) →
+    HasNoMorePairs s (record s { streams = closed s.streams now silent })
 unfolding pairs_of pairs_on closed
-pairs_closed s now =
-    of_those_kept (pairs_at s.clients.rows s.policy s.epoch s.streams.subscriptions) (is_not_past now) s.streams.sources
+pairs_closed s now silent =
+    of_those_kept (pairs_at s.clients.rows s.policy s.epoch s.streams.subscriptions) (stays_live now silent) s.streams.sources
+
+pub pairs_unread : (s : State) → HasNoMorePairs s (without_unread s)
+unfolding pairs_of pairs_on without_unread without_unread_in
+pairs_unread s =
+    of_those_kept (pairs_at s.clients.rows s.policy s.epoch s.streams.subscriptions) (is_kept _) s.streams.sources

@@ -18,6 +18,7 @@ use Rattle.driver_core.specs.Requests.{PublicationRequest, AsksToPublish, public
 use Rattle.driver_core.specs.State.{State, at_moment, has_number}
 use Rattle.driver_core.specs.Verdicts.{verdict_on}
 use Rattle.driver_laws.specs.GrantLaws.{IsRefusedOn}
+use Rattle.driver_laws.specs.ImageLaws.{AreRead}
 use Rattle.driver_laws.specs.PublishingLaws.{IsAllowed, IsPublished, IsPublishedExactly}
 use Rattle.channel_uri.specs.Channel.{denotes}
 use Rattle.client_registry.specs.declared.client.Client.{Client}
@@ -35,6 +36,7 @@ use Rattle.driver_core.proofs.VerdictLemmas.{by_policy}
 use Rattle.driver_core.proofs.PairLemmas.{pairs_by, pairs_heard, principal_heard}
 use Rattle.driver_laws.proofs.SubscribingLemmas.{found_number}
 use Rattle.driver_laws.proofs.RenewalLemmas.{unchanged}
+use Rattle.driver_laws.proofs.StayingLemmas.{drops_none, publish_drops}
 
 -- ---- a well-formed request comes to the policy
 
@@ -51,12 +53,12 @@ add_is_decided : (s : State) (request : PublicationRequest) → denotes request.
 unfolding add_publication
 add_is_decided s request denoted takes = rw (denoted, takes) refl
 
-request_is_decided : (s : State) (now handle : ℕ) (bytes : List ℕ) (request : PublicationRequest) →
+request_is_decided : (s : State) (now handle : ℕ) (bytes : List ℕ) (inputs : Inputs) (request : PublicationRequest) →
     AsksToPublish s handle bytes request →
-    drafted s (Command now handle bytes)
+    drafted s (Command now handle bytes) inputs
     ≡ publish (at_request s now handle) request.client request.correlation (wanted_by request)
 unfolding drafted command asked requested at_moment
-request_is_decided s now handle bytes request asks =
+request_is_decided s now handle bytes inputs request asks =
     rw (asks.asks.command, eq-eqb handle handle refl, asks.asks.attached)
     (body_adds (at_request s now handle) request.client request.correlation request.fields request.exclusive
     ∙ add_is_decided (at_request s now handle) request asks.denotes_channel asks.takes_channel)
@@ -227,10 +229,14 @@ by_verdict s now handle inputs request own =
           (denied_change s now handle inputs request own);
     }
 
-pub published_exactly : (s : State) (now handle : ℕ) (bytes : List ℕ) (inputs : Inputs) (request : PublicationRequest) →
+pub published_exactly : (s : State) → AreRead s → (now handle : ℕ) (bytes : List ℕ) (inputs : Inputs) (request : PublicationRequest) →
     AsksToPublish s handle bytes request →
     IsPublishedExactly s now handle inputs request (conduct s (Command now handle bytes) inputs)
 unfolding conduct
-published_exactly s now handle bytes inputs request asks =
-    rw (request_is_decided s now handle bytes request asks)
+published_exactly s read now handle bytes inputs request asks =
+    rw (
+      request_is_decided s now handle bytes inputs request asks,
+      drops_none s inputs (publish (at_request s now handle) request.client request.correlation (wanted_by request))
+          (publish_drops s now handle request.client request.correlation (wanted_by request) read),
+    )
     (by_verdict s now handle inputs request (found_number s.clients.rows handle request.client asks.asks.attached))

@@ -1,9 +1,9 @@
 -- Registrations with publications, and their logs, come only by requests that the policy in force allows.
-use Rattle.std.proofs.Common.{◌≡◌, ℕ, ◌+◌, ℤ, Bool, true, false, cond, List, [], ◌∷◌, ◌++◌, map, Ok, ◌⊎◌, inl, inr, refl, sym, ap, ◌∙◌, ⊎_elim}
+use Rattle.std.proofs.Common.{◌≡◌, ℕ, ◌+◌, ℤ, Bool, true, false, cond, List, [], ◌∷◌, ◌++◌, map, Some, Ok, ◌⊎◌, inl, inr, refl, sym, ap, ◌∙◌, ⊎_elim}
 use Rattle.std.specs.List.{AllByRecursion, Contains}
 use Rattle.std.proofs.lemmas.List.Elements.{All-contains, All-contains_itself, All-map, All-weaker, Contains-push, Contains-push_cases}
 use Rattle.driver_core.specs.declared.event.Event.{Event}
-use Rattle.driver_core.specs.declared.event.Event.TheVariants.{Attach, Command, Reload, Tick}
+use Rattle.driver_core.specs.declared.event.Event.TheVariants.{Attach, Command, Reload, Setup, Tick}
 use Rattle.driver_core.specs.declared.event.Inputs.{Inputs}
 use Rattle.driver_core.specs.declared.outcome.Response.{Response}
 use Rattle.driver_core.specs.declared.refusal.Refusal.{Refusal}
@@ -23,9 +23,17 @@ use Rattle.driver_core.specs.Terminating.{stopped_for_good, terminated}
 use Rattle.driver_core.specs.Ticking.{late, tick, ticked}
 use Rattle.driver_core.specs.Unpublishing.{unpublished}
 use Rattle.driver_core.specs.Unsubscribing.{unsubscribed}
+use Rattle.driver_core.specs.Change.{Change}
+use Rattle.driver_core.specs.declared.replies.Message.{Message}
+use Rattle.driver_core.specs.declared.replies.Reply.{Reply}
+use Rattle.driver_core.specs.declared.replies.Reply.TheVariants.{AvailableImage, ClientTimeout, CounterReady, Error, ExclusivePublicationReady, OperationSuccess, PublicationReady, SubscriptionReady, UnavailableCounter, UnavailableImage}
+use Rattle.driver_core.specs.Renewal.{renewed}
+use Rattle.driver_core.specs.SettingUp.{image_made, setting_of, wanted_by as image_wanted_by, with_image}
+use Rattle.driver_core.specs.Unread.{dropping, without_unread}
 use Rattle.driver_laws.specs.ClosingLaws.{IsSameLog}
-use Rattle.driver_laws.specs.PublishingLaws.{IsAllowed, IsLogMadeBy, IsPublicationTold, IsReadyBy, IsRegisteredBy, PublishesOnly, WasLive, source_of}
+use Rattle.driver_laws.specs.PublishingLaws.{IsAllowed, IsImageMadeBy, IsLogMadeBy, IsPublicationTold, IsReadyBy, IsRegisteredBy, PublishesOnly, WasLive, source_of}
 use Rattle.channel_uri.specs.Channel.{Shape}
+use Rattle.channel_uri.specs.declared.address.Address.{Address}
 use Rattle.client_registry.specs.declared.client.Client.{Client}
 use Rattle.policy_core.specs.declared.decision.Decision.{Decision}
 use Rattle.policy_core.specs.declared.verdict.Verdict.{Verdict}
@@ -37,27 +45,32 @@ use Rattle.stream_registry.specs.declared.wanted.Adding.TheVariants.{Join, Make}
 use Rattle.stream_registry.specs.declared.wanted.Wanted.{Wanted}
 use Rattle.stream_registry.specs.Adding.{added, adding_of, log_of, registration_of, subscribed as subscribed_in}
 use Rattle.stream_registry.specs.Leaving.{is_another_registration, is_registration_of_another, left as left_in, unregistered, unsubscribed as unsubscribed_in}
-use Rattle.stream_registry.specs.Lingering.{closed, is_not_past, is_used, left_alone, settled, settled_one}
+use Rattle.stream_registry.specs.Lingering.{closed, is_used, left_alone, settled, settled_one, stays_live}
 use Rattle.stream_registry.specs.Streams.{Streams}
-use Rattle.driver_core.proofs.EventCases.{Cases, attach_cases, command_cases, reload_cases}
+use Rattle.frame_codec.specs.declared.setup.Setup.{Setup as SetupFrame}
+use Rattle.frame_codec.specs.declared.join.Join.{Join as JoinedAt}
+use Rattle.frame_codec.specs.Join.{join_of}
+use Rattle.log_readers.specs.Unread.{is_kept, without_unread as without_unread_in}
+use Rattle.driver_core.proofs.EventCases.{Cases, attach_cases, command_cases, reload_cases, set_up_cases}
 use Rattle.driver_core.proofs.ListLemmas.{contains_none, left_was_there}
 use Rattle.driver_core.proofs.VerdictLemmas.{by_policy}
 use Rattle.driver_laws.proofs.SubscribingLemmas.{found_number}
 use Rattle.driver_laws.proofs.LeavingLemmas.{all_timeouts}
 use Rattle.driver_laws.proofs.LeftLemmas.{same_but_alone}
 use Rattle.driver_laws.proofs.PublishingLemmas.{adding_is, place_is, publication_verdict, room_is}
+use Rattle.driver_laws.proofs.DroppingLemmas.{all_weaker}
 use Rattle.driver_laws.proofs.RenewalLemmas.{all_replies, renewed_after}
 
 -- what the draft leaves registered and live was so before, or is by the event, and so is what it tells
-record DraftsOnly (s : State) (event : Event) (draft : Draft) : Type 0 where
-  registrations :
+pub record DraftsOnly (s : State) (event : Event) (draft : Draft) : Type 0 where
+  pub registrations :
       (registration : Registration) → Contains draft.after.streams.registrations registration →
       Contains s.streams.registrations registration ⊎ IsRegisteredBy s event registration
-  logs :
+  pub logs :
       (log : Source) → Contains draft.after.streams.sources log →
-      WasLive s.streams log ⊎ IsLogMadeBy s event log
-  told : AllByRecursion (λ message. IsPublicationTold s event draft.after message.client message.reply) draft.replies
-  later : AllByRecursion (λ message. IsPublicationTold s event draft.after message.client message.reply) draft.later
+      WasLive s.streams log ⊎ (IsLogMadeBy s event log ⊎ IsImageMadeBy s event log)
+  pub told : AllByRecursion (λ message. IsPublicationTold s event draft.after message.client message.reply) draft.replies
+  pub later : AllByRecursion (λ message. IsPublicationTold s event draft.after message.client message.reply) draft.later
 
 -- ---- what was there
 
@@ -130,12 +143,12 @@ added_log : (s : State) (event : Event) (client : ℕ) (wanted : Wanted) (place 
     IsLogMadeBy s event (log_of s.streams (s.last_number + 1) wanted place session)) →
     (log : Source) →
     Contains (added s.streams (s.last_number + 1) client wanted place adding).sources log →
-    WasLive s.streams log ⊎ IsLogMadeBy s event log
+    WasLive s.streams log ⊎ (IsLogMadeBy s event log ⊎ IsImageMadeBy s event log)
 added_log s event client wanted place (Join source session) by log has = inl (is_live s.streams log has)
 added_log s event client wanted place (Make session) by log has =
     ⊎_elim
     (λ before. inl (is_live s.streams log before))
-    (λ is. inr (rw (← is) (by session refl)))
+    (λ is. inr (inl (rw (← is) (by session refl))))
     (Contains-push_cases s.streams.sources (log_of s.streams (s.last_number + 1) wanted place session) log has)
 
 ready_is_told : (s : State) (event : Event) (after : State) (client correlation number : ℕ) (session : ℤ) (channel : Shape)
@@ -306,52 +319,147 @@ command_only s now handle bytes =
           };
     }
 
-attach_only : (s : State) (now principal : ℕ) → DraftsOnly s (Attach now principal) (drafted s (Attach now principal))
+attach_only : (s : State) (now principal : ℕ) (inputs : Inputs) → DraftsOnly s (Attach now principal) (drafted s (Attach now principal) inputs)
 unfolding drafted attached at_moment
-attach_only s now principal =
+attach_only s now principal inputs =
     attach_cases (DraftsOnly s (Attach now principal)) (at_moment s now) principal
     (answer_only s (Attach now principal) _ _ refl)
     (answer_only s (Attach now principal) _ _ refl)
     (answer_only s (Attach now principal) _ _ refl)
 
-reload_only : (s : State) (now : ℕ) (policy : Rules) → DraftsOnly s (Reload now policy) (drafted s (Reload now policy))
+reload_only : (s : State) (now : ℕ) (policy : Rules) (inputs : Inputs) → DraftsOnly s (Reload now policy) (drafted s (Reload now policy) inputs)
 unfolding drafted reloaded in_force at_moment
-reload_only s now policy =
+reload_only s now policy inputs =
     reload_cases (DraftsOnly s (Reload now policy)) (at_moment s now) policy
     (λ room. answer_only s (Reload now policy) _ _ refl)
     (λ full. answer_only s (Reload now policy) _ _ refl)
 
-tick_only : (s : State) (now : ℕ) → DraftsOnly s (Tick now) (drafted s (Tick now))
+tick_only : (s : State) (now : ℕ) (inputs : Inputs) → DraftsOnly s (Tick now) (drafted s (Tick now) inputs)
 unfolding drafted tick ticked closed at_moment
-tick_only s now =
+tick_only s now inputs =
     let clients : List ℕ = late (at_moment s now) in
     record {
       registrations = λ registration has. inl (left_was_registered (at_moment s now) clients registration has);
       logs = λ log has.
           inl (left_was_live (at_moment s now) clients log
-          (left_was_there (is_not_past _) (all_left (at_moment s now) clients).streams.sources log has));
+          (left_was_there (stays_live _ inputs.silent) (all_left (at_moment s now) clients).streams.sources log has));
       told = tt;
       later = all_timeouts _ (λ client. tt) clients;
     }
 
-drafts_only : (s : State) (event : Event) → DraftsOnly s event (drafted s event)
-drafts_only s (Attach now principal) = attach_only s now principal
-drafts_only s (Command now handle bytes) =
-    command_cases (DraftsOnly s (Command now handle bytes)) s now handle bytes (command_only s now handle bytes)
-drafts_only s (Reload now policy) = reload_only s now policy
-drafts_only s (Tick now) = tick_only s now
+image_only : (s : State) (now : ℕ) (local from : Address) (setup : SetupFrame) (join : JoinedAt) (place : ℕ) →
+    join_of setup ≡ Some join → setting_of (at_moment s now) (image_wanted_by local from setup join) ≡ Ok place →
+    DraftsOnly s (Setup now local from setup) (image_made (at_moment s now) (image_wanted_by local from setup join) place)
+unfolding image_made with_image answered at_moment
+image_only s now local from setup join place joins set = record {
+  registrations = λ registration has. inl has;
+  logs = λ log has.
+      ⊎_elim
+      (λ before. inl (is_live s.streams log before))
+      (λ is.
+      inr (inr (record {
+        now = now;
+        local = local;
+        from = from;
+        setup = setup;
+        join = join;
+        place = place;
+        event_is = refl;
+        join_is = joins;
+        set = set;
+        log_is = sym is;
+      })))
+      (Contains-push_cases s.streams.sources _ log has);
+  told = tt;
+  later = tt;
+}
 
-pub published_only : (s : State) (event : Event) (inputs : Inputs) → PublishesOnly s event (conduct s event inputs)
-unfolding conduct
-published_only s event inputs =
-    let after : State = (drafted s event).after in
-    let only : DraftsOnly s event (drafted s event) = drafts_only s event in
-    let same = renewed_after s inputs (drafted s event) in
+set_up_only : (s : State) (now : ℕ) (local from : Address) (setup : SetupFrame) (inputs : Inputs) →
+    DraftsOnly s (Setup now local from setup) (drafted s (Setup now local from setup) inputs)
+unfolding drafted at_moment
+set_up_only s now local from setup inputs =
+    set_up_cases (DraftsOnly s (Setup now local from setup)) (at_moment s now) local from setup
+    (λ fault. answer_only s (Setup now local from setup) _ _ refl)
+    (λ join place is set. image_only s now local from setup join place is set)
+
+pub drafts_only : (s : State) (event : Event) (inputs : Inputs) → DraftsOnly s event (drafted s event inputs)
+drafts_only s (Attach now principal) inputs = attach_only s now principal inputs
+drafts_only s (Command now handle bytes) inputs =
+    command_cases (DraftsOnly s (Command now handle bytes)) s now handle bytes inputs (command_only s now handle bytes)
+drafts_only s (Reload now policy) inputs = reload_only s now policy inputs
+drafts_only s (Tick now) inputs = tick_only s now inputs
+drafts_only s (Setup now local from setup) inputs = set_up_only s now local from setup inputs
+
+renewed_only : (s : State) (event : Event) (inputs : Inputs) →
+    PublishesOnly s event (renewed s inputs (drafted s event inputs))
+renewed_only s event inputs =
+    let after : State = (drafted s event inputs).after in
+    let only : DraftsOnly s event (drafted s event inputs) = drafts_only s event inputs in
+    let same = renewed_after s inputs (drafted s event inputs) in
     rw same (record {
       registrations = only.registrations;
       logs = only.logs;
       told =
-          all_replies (λ message. IsPublicationTold s event after message.client message.reply) s inputs (drafted s event)
+          all_replies (λ message. IsPublicationTold s event after message.client message.reply) s inputs (drafted s event inputs)
           only.told (λ client source subscription stream. tt)
-          (λ client source subscription session stream position. tt) only.later;
+          (λ client source subscription session stream position address. tt) only.later;
     })
+
+-- and images that go take no registration away
+ready_as_before : (s : State) (event : Event) (after other : State) (client correlation number : ℕ) (session stream : ℤ)
+    (exclusive : Bool) → other.streams.registrations ≡ after.streams.registrations →
+    IsReadyBy s event after client correlation number session stream exclusive →
+    IsReadyBy s event other client correlation number session stream exclusive
+ready_as_before s event after other client correlation number session stream exclusive same ready = record {
+  made = ready.made;
+  registered = ready.registered;
+  stands = rw same ready.stands;
+  client_is = ready.client_is;
+  number_is = ready.number_is;
+  correlation_is = ready.correlation_is;
+  session_is = ready.session_is;
+  stream_is = ready.stream_is;
+  exclusive_is = ready.exclusive_is;
+}
+
+told_as_before : (s : State) (event : Event) (after other : State) →
+    other.streams.registrations ≡ after.streams.registrations → (client : ℕ) (reply : Reply) →
+    IsPublicationTold s event after client reply → IsPublicationTold s event other client reply
+told_as_before s event after other same client (PublicationReady correlation number session stream) told =
+    ready_as_before s event after other client correlation number session stream false same told
+told_as_before s event after other same client (ExclusivePublicationReady correlation number session stream) told =
+    ready_as_before s event after other client correlation number session stream true same told
+told_as_before s event after other same client (Error correlation refusal) told = tt
+told_as_before s event after other same client (OperationSuccess correlation) told = tt
+told_as_before s event after other same client (SubscriptionReady correlation registration) told = tt
+told_as_before s event after other same client (AvailableImage source subscription session stream position address) told = tt
+told_as_before s event after other same client (UnavailableImage source subscription stream) told = tt
+told_as_before s event after other same client (CounterReady correlation registration) told = tt
+told_as_before s event after other same client (UnavailableCounter registration) told = tt
+told_as_before s event after other same client (ClientTimeout number) told = tt
+
+registrations_stay : (s : State) → (without_unread s).streams.registrations ≡ s.streams.registrations
+unfolding without_unread without_unread_in
+registrations_stay s = refl
+
+logs_were : (s : State) (log : Source) → Contains (without_unread s).streams.sources log → Contains s.streams.sources log
+unfolding without_unread without_unread_in
+logs_were s log has = left_was_there (is_kept _) s.streams.sources log has
+
+dropping_only : (s : State) (event : Event) (change : Change) → PublishesOnly s event change →
+    PublishesOnly s event (dropping s change)
+unfolding dropping
+dropping_only s event change only = record {
+  registrations = λ registration has. only.registrations registration (rw (registrations_stay change.after) at has);
+  logs = λ log has. only.logs log (logs_were change.after log has);
+  told = all_weaker (λ (message : Message). IsPublicationTold s event change.after message.client message.reply)
+      (λ (message : Message). IsPublicationTold s event (without_unread change.after) message.client message.reply)
+      (λ message told.
+      told_as_before s event change.after (without_unread change.after) (registrations_stay change.after) message.client
+      message.reply told) change.outcome.replies only.told;
+}
+
+pub published_only : (s : State) (event : Event) (inputs : Inputs) → PublishesOnly s event (conduct s event inputs)
+unfolding conduct
+published_only s event inputs =
+    dropping_only s event (renewed s inputs (drafted s event inputs)) (renewed_only s event inputs)

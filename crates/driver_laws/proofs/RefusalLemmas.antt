@@ -1,8 +1,9 @@
 -- What grants nothing changes no more than moments.
-use Rattle.std.proofs.Common.{◌≡◌, ℕ, Bool, true, false, if◌then◌else◌, List, [], ◌∷◌, ◌++◌, map, refl, ap}
-use Rattle.std.specs.List.{AllByRecursion, filter}
+use Rattle.std.proofs.Common.{◌≡◌, ℕ, ◌==◌, ◌||◌, not, Bool, true, false, if◌then◌else◌, List, [], ◌∷◌, ◌++◌, map, refl, sym, ap, ◌∙◌, ⊎_elim}
+use Rattle.std.proofs.lemmas.Bool.{cases_Bool, eq-eqb}
+use Rattle.std.specs.List.{AllByRecursion, Contains, filter, list_any}
 use Rattle.driver_core.specs.declared.event.Event.{Event}
-use Rattle.driver_core.specs.declared.event.Event.TheVariants.{Attach, Command, Reload, Tick}
+use Rattle.driver_core.specs.declared.event.Event.TheVariants.{Attach, Command, Reload, Setup, Tick}
 use Rattle.driver_core.specs.declared.event.Inputs.{Inputs}
 use Rattle.driver_core.specs.declared.outcome.Response.{Response}
 use Rattle.driver_core.specs.declared.refusal.Refusal.{Refusal}
@@ -25,6 +26,9 @@ use Rattle.driver_core.specs.Terminating.{terminated}
 use Rattle.driver_core.specs.Ticking.{tick, ticked, late}
 use Rattle.driver_core.specs.Unpublishing.{unpublished}
 use Rattle.driver_core.specs.Unsubscribing.{unsubscribed}
+use Rattle.driver_core.specs.Pairs.{pairs_of}
+use Rattle.driver_core.specs.SettingUp.{image_made}
+use Rattle.driver_core.specs.Unread.{dropping, is_closed}
 use Rattle.driver_laws.specs.RefusalLaws.{GrantsNothing, IsNoGrant, IsRefusal, only_moments}
 use Rattle.client_registry.specs.declared.client.Client.{Client}
 use Rattle.command_codec.specs.declared.add_counter.AddCounter.{AddCounter}
@@ -33,37 +37,50 @@ use Rattle.policy_core.specs.declared.decision.Decision.{Decision}
 use Rattle.policy_core.specs.RuleList.{Rules}
 use Rattle.stream_registry.specs.declared.row.Source.{Source}
 use Rattle.stream_registry.specs.declared.wanted.Adding.{Adding}
-use Rattle.stream_registry.specs.Lingering.{closed, closing_of, is_past, is_not_past, place_of}
+use Rattle.stream_registry.specs.Lingering.{closed, closing_of, is_closing, place_of, stays_live}
 use Rattle.stream_registry.specs.Streams.{Streams}
-use Rattle.driver_core.proofs.EventCases.{Cases, command_cases, attach_cases, reload_cases}
+use Rattle.stream_registry.specs.declared.lingering.LogPlace.{LogPlace}
+use Rattle.stream_registry.specs.declared.wanted.ImageWanted.{ImageWanted}
+use Rattle.channel_uri.specs.declared.address.Address.{Address}
+use Rattle.frame_codec.specs.declared.setup.Setup.{Setup as SetupFrame}
+use Rattle.log_readers.specs.Unread.{is_left, is_unread}
+use Rattle.driver_core.proofs.ListLemmas.{passes_are_left}
+use Rattle.driver_laws.proofs.DroppingLemmas.{AreKept, all_pass, all_stay, is_any, none_told}
+use Rattle.driver_laws.proofs.ImageLemmas.{is_mapped}
+use Rattle.driver_core.proofs.EventCases.{Cases, attach_cases, command_cases, reload_cases, set_up_cases}
 
 -- ---- where no log closes, the lists stay
 
-nothing_past_in : (now : ℕ) (log : Source) (logs : List Source) (b : Bool) →
-    is_past now log ≡ b →
-    (map place_of (filter (is_past now) logs) ≡ [] → filter (is_not_past now) logs ≡ logs) →
-    map place_of (filter (is_past now) (log ∷ logs)) ≡ [] →
-    filter (is_not_past now) (log ∷ logs) ≡ log ∷ logs
-nothing_past_in now log logs true past rest closes = absurd (cc (past, closes))
-nothing_past_in now log logs false stays rest closes =
-    rw stays (ap (◌∷◌ log) (rest (rw stays at closes)))
+live_yet : (streams : Streams) (now : ℕ) (silent : List ℕ) (log : Source) → Contains streams.sources log →
+    is_left (map place_of (filter (is_closing now silent) streams.sources)) log ≡ true → stays_live now silent log ≡ true
+live_yet streams now silent log has stays =
+    ⊎_elim
+    (λ closes.
+    let goes : List Source = filter (is_closing now silent) streams.sources in
+    let told : list_any (λ (closed : LogPlace). closed.source == log.number) (map place_of goes) ≡ true =
+    is_any (λ (closed : LogPlace). closed.source == log.number) (map place_of goes) (place_of log)
+    (is_mapped place_of goes log (passes_are_left (is_closing now silent) streams.sources log closes has))
+    (eq-eqb log.number log.number refl) in
+    let never : false ≡ true = sym (ap not told) ∙ stays in
+    absurd (cc never))
+    (λ lives. ap not lives)
+    (cases_Bool (is_closing now silent log))
 
-nothing_past : (now : ℕ) (logs : List Source) → map place_of (filter (is_past now) logs) ≡ [] →
-    filter (is_not_past now) logs ≡ logs
-nothing_past now [] closes = refl
-nothing_past now (log ∷ logs) closes =
-    nothing_past_in now log logs (is_past now log) refl (nothing_past now logs) closes
-
-pub none_closed : (streams : Streams) (now : ℕ) → closing_of streams now ≡ [] → closed streams now ≡ streams
+none_closed : (streams : Streams) (now : ℕ) (silent : List ℕ) →
+    ((log : Source) → Contains streams.sources log → is_left (closing_of streams now silent) log ≡ true) →
+    closed streams now silent ≡ streams
 unfolding closing_of closed
-none_closed streams now closes = rw (nothing_past now streams.sources closes) refl
+none_closed streams now silent stays =
+    ap (λ (logs : List Source). record streams { sources = logs })
+    (all_pass (stays_live now silent) streams.sources
+    (λ log has. live_yet streams now silent log has (stays log has)))
 
 -- ---- what an event's own rule makes of it
 
--- no reply of the draft grants anything, and no log closes
-record MakesNothing (draft : Draft) : Type 0 where
+-- no reply of the draft grants anything, and none of the logs closes
+record MakesNothing (after : State) (draft : Draft) : Type 0 where
   response : IsNoGrant draft.response
-  closes : draft.closes ≡ []
+  stays : (log : Source) → Contains after.streams.sources log → is_left draft.closes log ≡ true
   replies : AllByRecursion (λ (message : Message). IsRefusal message.reply) draft.replies
   later : AllByRecursion (λ (message : Message). IsRefusal message.reply) draft.later
 
@@ -75,19 +92,29 @@ all_behind : {X : Type 0} (P : X → Type 0) (xs ys : List X) → AllByRecursion
 all_behind P [] ys all = all
 all_behind P (x ∷ xs) ys all = all_behind P xs ys all.1
 
-makes_nothing : (s : State) (inputs : Inputs) (draft : Draft) → GrantsNothing (renewed s inputs draft).outcome →
-    MakesNothing draft
-unfolding renewed
-makes_nothing s inputs draft nothing = record {
+left_of : (left unread : Bool) → (not left || unread) ≡ false → left ≡ true
+left_of true unread none = refl
+left_of false unread none = absurd (cc none)
+
+read_of : (left unread : Bool) → (not left || unread) ≡ false → unread ≡ false
+read_of true unread none = none
+read_of false unread none = absurd (cc none)
+
+makes_nothing : (s after : State) (inputs : Inputs) (draft : Draft) → after.streams.sources ≡ s.streams.sources →
+    GrantsNothing (dropping s (renewed s inputs draft)).outcome → MakesNothing after draft
+unfolding dropping renewed
+makes_nothing s after inputs draft logs nothing = record {
   response = nothing.response;
-  closes = nothing.closes;
+  stays = λ log has.
+      left_of (is_left draft.closes log) (is_unread (pairs_of draft.after) log)
+      (none_told place_of (is_closed (renewed s inputs draft)) s.streams.sources nothing.closes log (rw logs at has));
   replies = all_before _ draft.replies _ nothing.replies;
   later = all_behind _ _ draft.later (all_behind _ draft.replies _ nothing.replies);
 }
 
 -- a draft that makes nothing leaves this
 record Leaves (after : State) (draft : Draft) : Type 0 where
-  on : MakesNothing draft → draft.after ≡ after
+  on : MakesNothing after draft → draft.after ≡ after
 
 refusal_leaves : (after : State) (left : State) (decisions : List Decision) (client correlation : ℕ) (refusal : Refusal) →
     left ≡ after → Leaves after (refused left decisions client correlation refusal)
@@ -191,6 +218,10 @@ command_leaves s now handle bytes =
       termination = λ client correlation fields was_heard asks allows. termination_leaves _ left client correlation;
     }
 
+image_leaves : (after s : State) (wanted : ImageWanted) (place : ℕ) → Leaves after (image_made s wanted place)
+unfolding image_made answered
+image_leaves after s wanted place = record { on = λ nothing. absurd nothing.response }
+
 attached_leaves : (after s : State) (principal : ℕ) → Leaves after (attached s principal)
 unfolding attached answered
 attached_leaves after s principal = record { on = λ nothing. absurd nothing.response }
@@ -199,43 +230,72 @@ answer_leaves : (after left : State) (response : Response) → left ≡ after �
 unfolding answered
 answer_leaves after left response same = record { on = λ nothing. same }
 
-attach_leaves : (s : State) (now principal : ℕ) →
-    Leaves (only_moments s (Attach now principal)) (drafted s (Attach now principal))
+attach_leaves : (s : State) (now principal : ℕ) (inputs : Inputs) →
+    Leaves (only_moments s (Attach now principal)) (drafted s (Attach now principal) inputs)
 unfolding drafted at_moment
-attach_leaves s now principal =
+attach_leaves s now principal inputs =
     attach_cases (Leaves (only_moments s (Attach now principal))) (at_moment s now) principal
     (answer_leaves _ (at_moment s now) _ refl)
     (attached_leaves _ (at_moment s now) principal)
     (answer_leaves _ (at_moment s now) _ refl)
 
 -- a tick that tells nobody takes nobody away, and no log
-ticked_leaves : (s : State) (clients : List ℕ) → Leaves s (ticked (all_left s clients) clients)
+ticked_leaves : (s : State) (clients silent : List ℕ) → Leaves s (ticked (all_left s clients) clients silent)
 unfolding ticked
-ticked_leaves s [] = record { on = λ nothing. rw (none_closed s.streams s.moment nothing.closes) refl }
-ticked_leaves s (client ∷ clients) = record { on = λ nothing. absurd nothing.later.0 }
+ticked_leaves s [] silent = record { on = λ nothing. rw (none_closed s.streams s.moment silent nothing.stays) refl }
+ticked_leaves s (client ∷ clients) silent = record { on = λ nothing. absurd nothing.later.0 }
 
-tick_leaves : (s : State) (now : ℕ) → Leaves (only_moments s (Tick now)) (drafted s (Tick now))
+tick_leaves : (s : State) (now : ℕ) (inputs : Inputs) → Leaves (only_moments s (Tick now)) (drafted s (Tick now) inputs)
 unfolding drafted tick at_moment
-tick_leaves s now = ticked_leaves (at_moment s now) (late (at_moment s now))
+tick_leaves s now inputs = ticked_leaves (at_moment s now) (late (at_moment s now)) inputs.silent
 
-reload_leaves : (s : State) (now : ℕ) (policy : Rules) →
-    Leaves (only_moments s (Reload now policy)) (drafted s (Reload now policy))
+reload_leaves : (s : State) (now : ℕ) (policy : Rules) (inputs : Inputs) →
+    Leaves (only_moments s (Reload now policy)) (drafted s (Reload now policy) inputs)
 unfolding drafted at_moment
-reload_leaves s now policy =
+reload_leaves s now policy inputs =
     reload_cases (Leaves (only_moments s (Reload now policy))) (at_moment s now) policy
     (λ room. reloaded_leaves _ (at_moment s now) policy)
     (λ full. answer_leaves _ (at_moment s now) _ refl)
 
-event_leaves : (s : State) (event : Event) → Leaves (only_moments s event) (drafted s event)
-event_leaves s (Attach now principal) = attach_leaves s now principal
-event_leaves s (Command now handle bytes) =
-    command_cases (Leaves (only_moments s (Command now handle bytes))) s now handle bytes
+set_up_leaves : (s : State) (now : ℕ) (local from : Address) (setup : SetupFrame) (inputs : Inputs) →
+    Leaves (only_moments s (Setup now local from setup)) (drafted s (Setup now local from setup) inputs)
+unfolding drafted at_moment
+set_up_leaves s now local from setup inputs =
+    set_up_cases (Leaves (only_moments s (Setup now local from setup))) (at_moment s now) local from setup
+    (λ fault. answer_leaves _ (at_moment s now) _ refl)
+    (λ join place is set. image_leaves _ (at_moment s now) _ place)
+
+event_leaves : (s : State) (event : Event) (inputs : Inputs) → Leaves (only_moments s event) (drafted s event inputs)
+event_leaves s (Attach now principal) inputs = attach_leaves s now principal inputs
+event_leaves s (Command now handle bytes) inputs =
+    command_cases (Leaves (only_moments s (Command now handle bytes))) s now handle bytes inputs
     (command_leaves s now handle bytes)
-event_leaves s (Reload now policy) = reload_leaves s now policy
-event_leaves s (Tick now) = tick_leaves s now
+event_leaves s (Reload now policy) inputs = reload_leaves s now policy inputs
+event_leaves s (Tick now) inputs = tick_leaves s now inputs
+event_leaves s (Setup now local from setup) inputs = set_up_leaves s now local from setup inputs
+
+moments_logs : (s : State) (event : Event) → (only_moments s event).streams.sources ≡ s.streams.sources
+moments_logs s (Attach now principal) = refl
+moments_logs s (Command now handle bytes) = refl
+moments_logs s (Reload now policy) = refl
+moments_logs s (Tick now) = refl
+moments_logs s (Setup now local from setup) = refl
+
+-- where no log closes, each image is read behind the event
+all_kept : (s : State) (inputs : Inputs) (draft : Draft) → draft.after.streams.sources ≡ s.streams.sources →
+    GrantsNothing (dropping s (renewed s inputs draft)).outcome → AreKept (pairs_of draft.after) draft.after.streams.sources
+unfolding dropping renewed
+all_kept s inputs draft logs nothing log has =
+    ap not (read_of (is_left draft.closes log) (is_unread (pairs_of draft.after) log)
+    (none_told place_of (is_closed (renewed s inputs draft)) s.streams.sources nothing.closes log (rw logs at has)))
 
 pub refusals_leave : (s : State) (event : Event) (inputs : Inputs) → GrantsNothing (outcome_of s event inputs) →
     state_after s event inputs ≡ only_moments s event
-unfolding conduct renewed
+unfolding conduct renewed dropping
 refusals_leave s event inputs nothing =
-    (event_leaves s event).on (makes_nothing s inputs (drafted s event) nothing)
+    let draft : Draft = drafted s event inputs in
+    let same : draft.after ≡ only_moments s event =
+    (event_leaves s event inputs).on (makes_nothing s (only_moments s event) inputs draft (moments_logs s event) nothing) in
+    let logs : draft.after.streams.sources ≡ s.streams.sources =
+    ap (λ (t : State). t.streams.sources) same ∙ moments_logs s event in
+    all_stay draft.after (all_kept s inputs draft logs nothing) ∙ same

@@ -1,9 +1,9 @@
 -- A reload closes exactly, and the newest policy is in force.
-use Rattle.std.proofs.Common.{◌≡◌, ℕ, ◌+◌, true, false, List, [], refl, ◌∙◌}
+use Rattle.std.proofs.Common.{◌≡◌, ℕ, ◌+◌, true, false, List, [], map, filter, refl, sym, ap, ◌∙◌}
 use Rattle.std.proofs.lemmas.Bool.{cond_both}
 use Rattle.std.proofs.lemmas.List.{append-nil}
 use Rattle.driver_core.specs.declared.event.Event.{Event}
-use Rattle.driver_core.specs.declared.event.Event.TheVariants.{Attach, Command, Reload, Tick}
+use Rattle.driver_core.specs.declared.event.Event.TheVariants.{Attach, Command, Reload, Setup, Tick}
 use Rattle.driver_core.specs.declared.event.Inputs.{Inputs}
 use Rattle.driver_core.specs.declared.outcome.Response.{Response}
 use Rattle.driver_core.specs.declared.outcome.Response.TheVariants.{PolicyFull}
@@ -14,7 +14,7 @@ use Rattle.driver_core.specs.Commands.{heard}
 use Rattle.driver_core.specs.Conduct.{conduct, drafted, state_after}
 use Rattle.driver_core.specs.Counting.{counted, with_counter, valued, uncounted}
 use Rattle.driver_core.specs.Draft.{Draft, answered, told, replied, replied_opening, refused}
-use Rattle.driver_core.specs.Pairs.{pairs_of, is_within_pairs}
+use Rattle.driver_core.specs.Pairs.{pairs_of, is_within_pairs, lacking}
 use Rattle.driver_core.specs.Publishing.{published, with_publication}
 use Rattle.driver_core.specs.Reloading.{in_force, reloaded, has_room_for_policy, reload}
 use Rattle.driver_core.specs.Renewal.{renewed}
@@ -25,14 +25,24 @@ use Rattle.driver_core.specs.Terminating.{terminated, stopped_for_good}
 use Rattle.driver_core.specs.Ticking.{tick, ticked, late}
 use Rattle.driver_core.specs.Unpublishing.{unpublished}
 use Rattle.driver_core.specs.Unsubscribing.{unsubscribed}
-use Rattle.driver_laws.specs.ReloadLaws.{ClosesExactly, ClosesNothing, IsReloadedExactly, Numbered, in_force_at, newest_after}
+use Rattle.driver_core.specs.SettingUp.{image_made, with_image}
+use Rattle.driver_core.specs.Unread.{dropping, without_unread}
+use Rattle.driver_laws.specs.ReloadLaws.{ClosesExactly, ClosesNothing, IsReloadedExactly, Numbered, in_force_at, newest_after, reloaded_from}
+use Rattle.driver_laws.specs.ImageLaws.{AreRead}
+use Rattle.driver_laws.specs.NumberLaws.{AreRising}
 use Rattle.client_registry.specs.declared.client.Client.{Client}
 use Rattle.command_codec.specs.declared.add_counter.AddCounter.{AddCounter}
 use Rattle.command_codec.specs.declared.set_counter.SetCounter.{SetCounter}
 use Rattle.policy_core.specs.declared.decision.Decision.{Decision}
 use Rattle.policy_core.specs.RuleList.{Rules}
 use Rattle.stream_registry.specs.declared.wanted.Adding.{Adding}
-use Rattle.driver_core.proofs.EventCases.{Cases, command_cases, attach_cases}
+use Rattle.stream_registry.specs.declared.wanted.ImageWanted.{ImageWanted}
+use Rattle.stream_registry.specs.declared.pairs.Pair.{Pair}
+use Rattle.stream_registry.specs.Lingering.{place_of}
+use Rattle.log_readers.specs.Unread.{is_unread}
+use Rattle.driver_core.proofs.EventCases.{Cases, attach_cases, command_cases, set_up_cases}
+use Rattle.driver_laws.proofs.DroppingLemmas.{pairs_stay}
+use Rattle.driver_laws.proofs.StayingLemmas.{DropsNothing, as_before, drops_none}
 use Rattle.driver_laws.proofs.LeavingLemmas.{left_in_force, one_left_in_force}
 use Rattle.driver_laws.proofs.RenewalLemmas.{unchanged}
 
@@ -52,23 +62,39 @@ room_is : (s : State) (now : ℕ) (policy : Rules) →
 unfolding at_moment in_force is_within_pairs pairs_of
 room_is s now policy = refl
 
-reloaded_closes : (s : State) (now : ℕ) (policy : Rules) (inputs : Inputs) →
-    ClosesExactly s now policy inputs (renewed s inputs (reloaded (at_moment s now) policy))
-unfolding renewed reloaded answered in_force at_moment
-reloaded_closes s now policy inputs = record {
-  after_is = refl;
-  told = refl;
-  gone = refl;
-  come = refl;
-  replies = append-nil _;
-  decisions = refl;
-  opens = refl;
-  closes = refl;
+reloaded_rises : (s : State) (now : ℕ) (policy : Rules) → AreRising s → AreRising (reloaded_from s now policy)
+reloaded_rises s now policy rises = record {
+  clients = rises.clients;
+  sources = rises.sources;
+  registrations = rises.registrations;
+  subscriptions = rises.subscriptions;
+  counters = rises.counters;
 }
+
+reloaded_closes : (s : State) (now : ℕ) (policy : Rules) (inputs : Inputs) → AreRising s →
+    ClosesExactly s now policy inputs (dropping s (renewed s inputs (reloaded (at_moment s now) policy)))
+unfolding dropping renewed reloaded answered in_force at_moment
+reloaded_closes s now policy inputs rises =
+    let after : State = reloaded_from s now policy in
+    let same : pairs_of (without_unread after) ≡ pairs_of after = pairs_stay after (reloaded_rises s now policy rises) in
+    record {
+      after_is = refl;
+      told = refl;
+      gone = ap (λ (pairs : List Pair). lacking (pairs_of s) pairs) (sym same);
+      come = ap (λ (pairs : List Pair). lacking pairs (pairs_of s)) (sym same);
+      replies = append-nil _;
+      decisions = refl;
+      opens = refl;
+      closes = ap (λ (pairs : List Pair). map place_of (filter (is_unread pairs) s.streams.sources)) (sym same);
+    }
 
 moment_pairs : (s : State) (now : ℕ) → pairs_of (at_moment s now) ≡ pairs_of s
 unfolding at_moment pairs_of
 moment_pairs s now = refl
+
+moment_logs : (s : State) (now : ℕ) → (at_moment s now).streams.sources ≡ s.streams.sources
+unfolding at_moment
+moment_logs s now = refl
 
 full_closes_nothing : (s : State) (now : ℕ) (inputs : Inputs) →
     ClosesNothing s now (renewed s inputs (answered (at_moment s now) PolicyFull))
@@ -86,14 +112,22 @@ full_closes_nothing s now inputs =
       closes = refl;
     }
 
-pub reloads_close : (s : State) (now : ℕ) (policy : Rules) (inputs : Inputs) →
+full_drops : (s : State) (now : ℕ) → AreRead s → DropsNothing s (answered (at_moment s now) PolicyFull)
+unfolding answered
+full_drops s now read = as_before s _ read refl (moment_logs s now) (moment_pairs s now)
+
+pub reloads_close : (s : State) → AreRising s → AreRead s → (now : ℕ) (policy : Rules) (inputs : Inputs) →
     IsReloadedExactly s now policy inputs (conduct s (Reload now policy) inputs)
 unfolding conduct drafted
-reloads_close s now policy inputs = record {
+reloads_close s rises read now policy inputs = record {
   granted = λ room.
-      rw (reload_grants (at_moment s now) policy (room_is s now policy ∙ room)) (reloaded_closes s now policy inputs);
+      rw (reload_grants (at_moment s now) policy (room_is s now policy ∙ room)) (reloaded_closes s now policy inputs rises);
   refused = λ full.
-      rw (reload_is_full (at_moment s now) policy (room_is s now policy ∙ full)) (full_closes_nothing s now inputs);
+      rw (
+        reload_is_full (at_moment s now) policy (room_is s now policy ∙ full),
+        drops_none s inputs (answered (at_moment s now) PolicyFull) (full_drops s now read),
+      )
+      (full_closes_nothing s now inputs);
 }
 
 -- ---- the newest policy is in force
@@ -114,6 +148,11 @@ answer_keeps s left response same = record { same = same }
 attached_keeps : (s left : State) (principal : ℕ) → in_force_at left ≡ in_force_at s → Keeps s (attached left principal)
 unfolding attached answered
 attached_keeps s left principal same = record { same = same }
+
+image_keeps : (s left : State) (wanted : ImageWanted) (place : ℕ) → in_force_at left ≡ in_force_at s →
+    Keeps s (image_made left wanted place)
+unfolding image_made with_image answered
+image_keeps s left wanted place same = record { same = same }
 
 grant_keeps : (s left : State) (request : SubscriptionRequest) → in_force_at left ≡ in_force_at s →
     Keeps s (subscribed left request.client request.correlation request.channel request.fields.stream)
@@ -197,9 +236,9 @@ command_keeps s now handle bytes =
       termination = λ client correlation fields was_heard asks allows. termination_keeps s left client correlation same;
     }
 
-tick_keeps : (s : State) (now : ℕ) → Keeps s (tick (at_moment s now))
+tick_keeps : (s : State) (now : ℕ) (silent : List ℕ) → Keeps s (tick (at_moment s now) silent)
 unfolding tick ticked
-tick_keeps s now =
+tick_keeps s now silent =
     record { same = left_in_force (at_moment s now) (late (at_moment s now)) ∙ moment_keeps s now }
 
 reloaded_newest : (s : State) (now : ℕ) (policy : Rules) →
@@ -220,19 +259,23 @@ reload_newest s now policy =
     (λ full. rw (reload_is_full (at_moment s now) policy (room_is s now policy ∙ full)) (full_newest s now))
 
 -- what the event's own rule leaves is what the event leaves
-drafted_newest : (s : State) (event : Event) → in_force_at (drafted s event).after ≡ newest_after s event
+drafted_newest : (s : State) (event : Event) (inputs : Inputs) → in_force_at (drafted s event inputs).after ≡ newest_after s event
 unfolding drafted
-drafted_newest s (Attach now principal) =
+drafted_newest s (Attach now principal) inputs =
     (attach_cases (Keeps s) (at_moment s now) principal
     (answer_keeps s (at_moment s now) _ (moment_keeps s now))
     (attached_keeps s (at_moment s now) principal (moment_keeps s now))
     (answer_keeps s (at_moment s now) _ (moment_keeps s now))).same
-drafted_newest s (Command now handle bytes) =
-    (command_cases (Keeps s) s now handle bytes (command_keeps s now handle bytes)).same
-drafted_newest s (Reload now policy) = reload_newest s now policy
-drafted_newest s (Tick now) = (tick_keeps s now).same
+drafted_newest s (Command now handle bytes) inputs =
+    (command_cases (Keeps s) s now handle bytes inputs (command_keeps s now handle bytes)).same
+drafted_newest s (Reload now policy) inputs = reload_newest s now policy
+drafted_newest s (Tick now) inputs = (tick_keeps s now inputs.silent).same
+drafted_newest s (Setup now local from setup) inputs =
+    (set_up_cases (Keeps s) (at_moment s now) local from setup
+    (λ fault. answer_keeps s (at_moment s now) _ (moment_keeps s now))
+    (λ join place is set. image_keeps s (at_moment s now) _ place (moment_keeps s now))).same
 
 pub newest_in_force : (s : State) (event : Event) (inputs : Inputs) →
     in_force_at (state_after s event inputs) ≡ newest_after s event
-unfolding conduct renewed
-newest_in_force s event inputs = drafted_newest s event
+unfolding conduct renewed dropping without_unread
+newest_in_force s event inputs = drafted_newest s event inputs

@@ -1,11 +1,11 @@
 -- Which subscriptions go.
-use Rattle.std.proofs.Common.{◌≡◌, ℕ, ◌==◌, true, false, List, [], ◌∷◌, inl, inr, refl, ap, ◌∙◌, ◌⊎◌, ⊎_elim}
+use Rattle.std.proofs.Common.{◌≡◌, ℕ, ◌==◌, true, false, List, [], ◌∷◌, map, filter, inl, inr, refl, sym, ap, ◌∙◌, ◌⊎◌, ⊎_elim}
 use Rattle.std.specs.List.{Contains}
 use Rattle.std.proofs.lemmas.Bool.{eqb-true, eq-eqb, and_parts, cases_Bool, not_from_false}
 use Rattle.std.proofs.lemmas.List.{append-nil}
 use Rattle.std.proofs.lemmas.List.Elements.{Contains-append_left}
 use Rattle.driver_core.specs.declared.event.Event.{Event}
-use Rattle.driver_core.specs.declared.event.Event.TheVariants.{Attach, Command, Reload, Tick}
+use Rattle.driver_core.specs.declared.event.Event.TheVariants.{Attach, Command, Reload, Setup, Tick}
 use Rattle.driver_core.specs.declared.event.Inputs.{Inputs}
 use Rattle.driver_core.specs.declared.outcome.Response.{Response}
 use Rattle.driver_core.specs.declared.refusal.Refusal.{Refusal}
@@ -21,7 +21,7 @@ use Rattle.driver_core.specs.Deciding.{decision_by}
 use Rattle.driver_core.specs.Draft.{Draft, answered, told, replied, replied_opening, refused}
 use Rattle.driver_core.specs.Publishing.{published, with_publication}
 use Rattle.driver_core.specs.Reloading.{in_force, reloaded}
-use Rattle.driver_core.specs.Renewal.{renewed, images_told}
+use Rattle.driver_core.specs.Renewal.{renewed, images_decided, images_told}
 use Rattle.driver_core.specs.Requests.{Asks, PublicationRequest, SubscriptionRequest, RemovalRequest, AsksToRemove, termination_question, wanted_by}
 use Rattle.driver_core.specs.State.{State, at_moment}
 use Rattle.driver_core.specs.Subscribing.{subscribed, with_subscription}
@@ -30,7 +30,13 @@ use Rattle.driver_core.specs.Ticking.{tick, ticked, late}
 use Rattle.driver_core.specs.Unpublishing.{unpublished}
 use Rattle.driver_core.specs.Unsubscribing.{remove_subscription, unsubscribed}
 use Rattle.driver_core.specs.Verdicts.{verdict_on}
+use Rattle.driver_core.specs.SettingUp.{image_made, with_image}
+use Rattle.driver_core.specs.Unread.{dropping, without_unread}
+use Rattle.driver_core.specs.Change.{Change}
+use Rattle.driver_core.specs.Pairs.{pairs_of}
+use Rattle.driver_laws.specs.ImageLaws.{AreRead}
 use Rattle.driver_laws.specs.LeavingLaws.{IsClosedBy}
+use Rattle.driver_laws.specs.NumberLaws.{AreRising}
 use Rattle.driver_laws.specs.RemovalLaws.{IsRemoved, IsUnknown, IsRemovedExactly, IsRemovedBy, Goes}
 use Rattle.client_registry.specs.declared.client.Client.{Client}
 use Rattle.command_codec.specs.declared.add_counter.AddCounter.{AddCounter}
@@ -46,21 +52,30 @@ use Rattle.stream_registry.specs.declared.wanted.Adding.TheVariants.{Join, Make}
 use Rattle.stream_registry.specs.declared.wanted.Wanted.{Wanted}
 use Rattle.stream_registry.specs.Adding.{added, subscribed as subscribed_in}
 use Rattle.stream_registry.specs.Leaving.{has_subscription, is_another_subscription, is_own_subscription, unregistered, unsubscribed as unsubscribed_in}
-use Rattle.stream_registry.specs.Lingering.{closed, settled}
+use Rattle.stream_registry.specs.Lingering.{closed, place_of, settled}
 use Rattle.stream_registry.specs.Streams.{Streams}
-use Rattle.driver_core.proofs.EventCases.{Cases, command_cases, attach_cases, reload_cases}
+use Rattle.stream_registry.specs.declared.wanted.ImageWanted.{ImageWanted}
+use Rattle.stream_registry.specs.declared.pairs.Pair.{Pair}
+use Rattle.log_readers.specs.Unread.{is_unread, without_unread as without_unread_in}
+use Rattle.channel_uri.specs.declared.address.Address.{Address}
+use Rattle.frame_codec.specs.declared.setup.Setup.{Setup as SetupFrame}
+use Rattle.driver_core.proofs.EventCases.{Cases, attach_cases, command_cases, reload_cases, set_up_cases}
 use Rattle.driver_core.proofs.ListLemmas.{passes_are_left}
 use Rattle.driver_core.proofs.PairLemmas.{pairs_heard}
 use Rattle.driver_laws.proofs.SubscribingLemmas.{found_number}
 use Rattle.driver_laws.proofs.LeavingLemmas.{left_or_stays, one_left_or_stays}
+use Rattle.driver_laws.proofs.DroppingLemmas.{pairs_stay}
+use Rattle.driver_laws.proofs.NumberLemmas.{removal_rises, request_rises}
 use Rattle.driver_laws.proofs.RenewalLemmas.{unchanged}
+use Rattle.driver_laws.proofs.StayingLemmas.{drops_none, refused_drops}
 
 -- ---- removed exactly
 
 removal_is_decided : (s : State) (now handle : ℕ) (bytes : List ℕ) (inputs : Inputs) (request : RemovalRequest) →
     AsksToRemove s handle bytes request →
     conduct s (Command now handle bytes) inputs
-    ≡ renewed s inputs (remove_subscription (at_request s now handle) request.client request.correlation request.fields)
+    ≡ dropping s
+    (renewed s inputs (remove_subscription (at_request s now handle) request.client request.correlation request.fields))
 unfolding conduct drafted command asked requested at_moment
 removal_is_decided s now handle bytes inputs request asks =
     rw (asks.command, eq-eqb handle handle refl, asks.attached) refl
@@ -94,19 +109,34 @@ pub told_first : (s : State) (inputs : Inputs) (draft : Draft) (message : Messag
 unfolding renewed
 told_first s inputs draft message is none = rw (is, none) (ap (λ rest. message ∷ rest) (append-nil _))
 
-removed_change : (s : State) (now handle : ℕ) (inputs : Inputs) (request : RemovalRequest) →
+-- the client's subscription of that number is gone
+abbrev left_behind : State → ℕ → ℕ → ℕ → ℕ → State
+left_behind s now handle client number =
+    record (at_request s now handle) { streams = unsubscribed_in s.streams client number }
+
+removed_change : (s : State) → AreRising s → (now handle : ℕ) (inputs : Inputs) (request : RemovalRequest) →
     request.client.number ≡ handle →
     IsRemoved s now handle inputs request (
-    renewed s inputs (
-    unsubscribed (at_request s now handle) request.client request.correlation request.fields.registration))
-unfolding renewed unsubscribed replied told heard at_moment
-removed_change s now handle inputs request own =
+    dropping s (renewed s inputs (
+    unsubscribed (at_request s now handle) request.client request.correlation request.fields.registration)))
+unfolding dropping renewed unsubscribed replied told heard at_moment
+removed_change s rises now handle inputs request own =
     let draft = unsubscribed (at_request s now handle) request.client request.correlation request.fields.registration in
+    let change : Change = renewed s inputs draft in
+    let same : pairs_of (without_unread draft.after) ≡ pairs_of draft.after =
+    pairs_stay draft.after (removal_rises (at_request s now handle) request (request_rises s now handle rises)).rises in
+    let success : Message = record { client = handle; reply = OperationSuccess request.correlation } in
     record {
-      after_is = rw own refl;
-      told = told_first s inputs draft (record { client = handle; reply = OperationSuccess request.correlation })
-          (rw own refl) refl;
-      decided = refl;
+      after_is = ap (λ (client : ℕ). without_unread (left_behind s now handle client request.fields.registration)) own;
+      told = told_first s inputs draft success (rw own refl) refl
+          ∙ ap (λ (client : ℕ).
+          success
+          ∷ images_told (left_behind s now handle client request.fields.registration) inputs change.outcome.gone
+          change.outcome.come) own;
+      decided = ap (λ (client : ℕ).
+          images_decided (left_behind s now handle client request.fields.registration) change.outcome.gone
+          change.outcome.come) own;
+      closes = ap (λ (pairs : List Pair). map place_of (filter (is_unread pairs) s.streams.sources)) (sym same);
     }
 
 -- a refusal leaves the pairs as they are
@@ -120,29 +150,34 @@ unknown_change s now handle client correlation inputs refusal own =
     let as_it_is = unchanged s inputs draft (pairs_heard s now handle) in
     record { after_is = as_it_is.after; told = as_it_is.replies ∙ rw own refl; decided = as_it_is.decisions }
 
-by_number : (s : State) (now handle : ℕ) (inputs : Inputs) (request : RemovalRequest) →
+by_number : (s : State) → AreRising s → AreRead s → (now handle : ℕ) (inputs : Inputs) (request : RemovalRequest) →
     request.client.number ≡ handle →
     IsRemovedExactly s now handle inputs request (
-    renewed s inputs (
-    remove_subscription (at_request s now handle) request.client request.correlation request.fields))
-by_number s now handle inputs request own =
+    dropping s (renewed s inputs (
+    remove_subscription (at_request s now handle) request.client request.correlation request.fields)))
+by_number s rises read now handle inputs request own =
     let same = ap (λ (n : ℕ). has_subscription (at_request s now handle).streams n request.fields.registration) own
     ∙ known_is s now handle request.fields.registration in
     record {
       known = λ known.
           rw (removal_grants (at_request s now handle) request (same ∙ known))
-          (removed_change s now handle inputs request own);
+          (removed_change s rises now handle inputs request own);
       unknown = λ unknown.
-          rw (removal_is_unknown (at_request s now handle) request (same ∙ unknown))
+          rw (
+            removal_is_unknown (at_request s now handle) request (same ∙ unknown),
+            drops_none s inputs
+                (refused (at_request s now handle) [] request.client.number request.correlation UnknownSubscription)
+                (refused_drops s now handle [] request.client.number request.correlation UnknownSubscription read),
+          )
           (unknown_change s now handle request.client.number request.correlation inputs UnknownSubscription own);
     }
 
-pub removed_exactly : (s : State) (now handle : ℕ) (bytes : List ℕ) (inputs : Inputs) (request : RemovalRequest) →
+pub removed_exactly : (s : State) → AreRising s → AreRead s → (now handle : ℕ) (bytes : List ℕ) (inputs : Inputs) (request : RemovalRequest) →
     AsksToRemove s handle bytes request →
     IsRemovedExactly s now handle inputs request (conduct s (Command now handle bytes) inputs)
-removed_exactly s now handle bytes inputs request asks =
+removed_exactly s rises read now handle bytes inputs request asks =
     rw (removal_is_decided s now handle bytes inputs request asks)
-    (by_number s now handle inputs request (found_number s.clients.rows handle request.client asks.attached))
+    (by_number s rises read now handle inputs request (found_number s.clients.rows handle request.client asks.attached))
 
 -- ---- removed only
 
@@ -366,17 +401,17 @@ command_stays s now handle bytes =
           (allowed_before s now handle client allows);
     }
 
-attach_stays : (s : State) (now principal : ℕ) → Leaves s (Attach now principal) (drafted s (Attach now principal))
+attach_stays : (s : State) (now principal : ℕ) (inputs : Inputs) → Leaves s (Attach now principal) (drafted s (Attach now principal) inputs)
 unfolding drafted
-attach_stays s now principal =
+attach_stays s now principal inputs =
     attach_cases (Leaves s (Attach now principal)) (at_moment s now) principal
     (answer_stays s (Attach now principal) (at_moment s now) _ (moment_same s now))
     (attached_stays s (Attach now principal) (at_moment s now) principal (moment_same s now))
     (answer_stays s (Attach now principal) (at_moment s now) _ (moment_same s now))
 
-tick_stays : (s : State) (now : ℕ) → Leaves s (Tick now) (drafted s (Tick now))
+tick_stays : (s : State) (now : ℕ) (inputs : Inputs) → Leaves s (Tick now) (drafted s (Tick now) inputs)
 unfolding drafted tick ticked closed at_moment
-tick_stays s now =
+tick_stays s now inputs =
     record {
       on = λ subscription has.
           ⊎_elim
@@ -385,23 +420,38 @@ tick_stays s now =
           (left_or_stays (at_moment s now) (late (at_moment s now)) subscription has);
     }
 
-reload_stays : (s : State) (now : ℕ) (policy : Rules) → Leaves s (Reload now policy) (drafted s (Reload now policy))
+reload_stays : (s : State) (now : ℕ) (policy : Rules) (inputs : Inputs) → Leaves s (Reload now policy) (drafted s (Reload now policy) inputs)
 unfolding drafted
-reload_stays s now policy =
+reload_stays s now policy inputs =
     reload_cases (Leaves s (Reload now policy)) (at_moment s now) policy
     (λ room. reloaded_stays s (Reload now policy) (at_moment s now) policy (moment_same s now))
     (λ full. answer_stays s (Reload now policy) (at_moment s now) _ (moment_same s now))
 
-draft_stays : (s : State) (event : Event) → Leaves s event (drafted s event)
-draft_stays s (Attach now principal) = attach_stays s now principal
-draft_stays s (Command now handle bytes) =
-    command_cases (Leaves s (Command now handle bytes)) s now handle bytes (command_stays s now handle bytes)
-draft_stays s (Reload now policy) = reload_stays s now policy
-draft_stays s (Tick now) = tick_stays s now
+image_stays : (s : State) (event : Event) (left : State) (wanted : ImageWanted) (place : ℕ) →
+    left.streams.subscriptions ≡ s.streams.subscriptions → Leaves s event (image_made left wanted place)
+unfolding image_made with_image answered
+image_stays s event left wanted place same = all_stay s event _ same
+
+set_up_stays : (s : State) (now : ℕ) (local from : Address) (setup : SetupFrame) (inputs : Inputs) →
+    Leaves s (Setup now local from setup) (drafted s (Setup now local from setup) inputs)
+unfolding drafted
+set_up_stays s now local from setup inputs =
+    let event = Setup now local from setup in
+    set_up_cases (Leaves s event) (at_moment s now) local from setup
+    (λ fault. answer_stays s event (at_moment s now) _ (moment_same s now))
+    (λ join place is set. image_stays s event (at_moment s now) _ place (moment_same s now))
+
+draft_stays : (s : State) (event : Event) (inputs : Inputs) → Leaves s event (drafted s event inputs)
+draft_stays s (Attach now principal) inputs = attach_stays s now principal inputs
+draft_stays s (Command now handle bytes) inputs =
+    command_cases (Leaves s (Command now handle bytes)) s now handle bytes inputs (command_stays s now handle bytes)
+draft_stays s (Reload now policy) inputs = reload_stays s now policy inputs
+draft_stays s (Tick now) inputs = tick_stays s now inputs
+draft_stays s (Setup now local from setup) inputs = set_up_stays s now local from setup inputs
 
 -- renewing the pairs takes no subscription away
 pub removed_only : (s : State) (event : Event) (inputs : Inputs) (subscription : Subscription) →
     Contains s.streams.subscriptions subscription →
     Contains (state_after s event inputs).streams.subscriptions subscription ⊎ Goes s event subscription
-unfolding conduct renewed
-removed_only s event inputs subscription has = (draft_stays s event).on subscription has
+unfolding conduct renewed dropping without_unread without_unread_in
+removed_only s event inputs subscription has = (draft_stays s event inputs).on subscription has

@@ -16,6 +16,7 @@ use Rattle.driver_core.specs.State.{State, at_moment}
 use Rattle.driver_core.specs.Unpublishing.{remove_publication, unpublished}
 use Rattle.driver_core.proofs.PairLemmas.{pairs_by, pairs_heard}
 use Rattle.driver_laws.specs.CounterLaws.{IsSet, IsSetExactly, IsUncounted, IsUncountedExactly}
+use Rattle.driver_laws.specs.ImageLaws.{AreRead}
 use Rattle.driver_laws.specs.RemovalLaws.{IsUnregistered, IsUnregisteredExactly}
 use Rattle.client_registry.specs.declared.client.Client.{Client}
 use Rattle.command_codec.specs.declared.command.Body.{Body}
@@ -26,14 +27,15 @@ use Rattle.counters.specs.Counters.{has}
 use Rattle.stream_registry.specs.Leaving.{has_registration}
 use Rattle.driver_laws.proofs.RemovalLemmas.{told_first, unknown_change}
 use Rattle.driver_laws.proofs.RenewalLemmas.{ToldAsItIs, unchanged}
+use Rattle.driver_laws.proofs.StayingLemmas.{drops_none, remove_counter_drops, remove_publication_drops, set_counter_drops}
 use Rattle.driver_laws.proofs.SubscribingLemmas.{found_number}
 
 -- a client's request comes to the rule of its body
-pub body_is_asked : (s : State) (now handle correlation : ℕ) (bytes : List ℕ) (client : Client) (body : Body) →
+pub body_is_asked : (s : State) (now handle correlation : ℕ) (bytes : List ℕ) (inputs : Inputs) (client : Client) (body : Body) →
     Asks s handle bytes client correlation body →
-    drafted s (Command now handle bytes) ≡ body_change (at_request s now handle) client correlation body
+    drafted s (Command now handle bytes) inputs ≡ body_change (at_request s now handle) client correlation body
 unfolding drafted command asked requested at_moment
-body_is_asked s now handle correlation bytes client body asks =
+body_is_asked s now handle correlation bytes inputs client body asks =
     rw (asks.command, eq-eqb handle handle refl, asks.attached) refl
 
 -- ---- registrations
@@ -84,13 +86,17 @@ registration_by_number s now handle correlation inputs client fields own =
           (unknown_change s now handle client.number correlation inputs UnknownPublication own);
     }
 
-pub unregistered_exactly : (s : State) (now handle correlation : ℕ) (bytes : List ℕ) (inputs : Inputs) (client : Client)
+pub unregistered_exactly : (s : State) → AreRead s → (now handle correlation : ℕ) (bytes : List ℕ) (inputs : Inputs) (client : Client)
     (fields : Removal) → Asks s handle bytes client correlation (Unpublishes fields) →
     IsUnregisteredExactly s now handle correlation fields.registration inputs (
     conduct s (Command now handle bytes) inputs)
 unfolding conduct
-unregistered_exactly s now handle correlation bytes inputs client fields asks =
-    rw (body_is_asked s now handle correlation bytes client (Unpublishes fields) asks)
+unregistered_exactly s read now handle correlation bytes inputs client fields asks =
+    rw (
+      body_is_asked s now handle correlation bytes inputs client (Unpublishes fields) asks,
+      drops_none s inputs (remove_publication (at_request s now handle) client correlation fields)
+          (remove_publication_drops s now handle client correlation fields read),
+    )
     (registration_by_number s now handle correlation inputs client fields
     (found_number s.clients.rows handle client asks.attached))
 
@@ -153,12 +159,16 @@ counter_by_number s now handle correlation inputs client fields own =
           (unknown_change s now handle client.number correlation inputs UnknownCounter own);
     }
 
-pub uncounted_exactly : (s : State) (now handle correlation : ℕ) (bytes : List ℕ) (inputs : Inputs) (client : Client)
+pub uncounted_exactly : (s : State) → AreRead s → (now handle correlation : ℕ) (bytes : List ℕ) (inputs : Inputs) (client : Client)
     (fields : Removal) → Asks s handle bytes client correlation (RemovesCounter fields) →
     IsUncountedExactly s now handle correlation fields.registration (conduct s (Command now handle bytes) inputs)
 unfolding conduct
-uncounted_exactly s now handle correlation bytes inputs client fields asks =
-    rw (body_is_asked s now handle correlation bytes client (RemovesCounter fields) asks)
+uncounted_exactly s read now handle correlation bytes inputs client fields asks =
+    rw (
+      body_is_asked s now handle correlation bytes inputs client (RemovesCounter fields) asks,
+      drops_none s inputs (remove_counter (at_request s now handle) client correlation fields)
+          (remove_counter_drops s now handle client correlation fields read),
+    )
     (counter_by_number s now handle correlation inputs client fields
     (found_number s.clients.rows handle client asks.attached))
 
@@ -200,15 +210,19 @@ value_is_unknown : (s : State) (client : Client) (correlation : ℕ) (fields : S
 unfolding set_counter
 value_is_unknown s client correlation fields unknown = rw unknown refl
 
-pub set_exactly : (s : State) (now handle correlation : ℕ) (bytes : List ℕ) (inputs : Inputs) (client : Client)
+pub set_exactly : (s : State) → AreRead s → (now handle correlation : ℕ) (bytes : List ℕ) (inputs : Inputs) (client : Client)
     (fields : SetCounter) → Asks s handle bytes client correlation (Sets fields) →
     IsSetExactly s now handle correlation fields (conduct s (Command now handle bytes) inputs)
 unfolding conduct
-set_exactly s now handle correlation bytes inputs client fields asks =
+set_exactly s read now handle correlation bytes inputs client fields asks =
     let own : client.number ≡ handle = found_number s.clients.rows handle client asks.attached in
     let same = ap (λ (n : ℕ). has (at_request s now handle).counters n fields.registration) own
     ∙ counters_before s now handle fields.registration in
-    rw (body_is_asked s now handle correlation bytes client (Sets fields) asks)
+    rw (
+      body_is_asked s now handle correlation bytes inputs client (Sets fields) asks,
+      drops_none s inputs (set_counter (at_request s now handle) client correlation fields)
+          (set_counter_drops s now handle client correlation fields read),
+    )
     (record {
       known = λ known.
           rw (value_is_set (at_request s now handle) client correlation fields (same ∙ known))

@@ -13,13 +13,16 @@ use Rattle.driver_core.specs.Draft.{Draft}
 use Rattle.driver_core.specs.Pairs.{pairs_of}
 use Rattle.driver_core.specs.Renewal.{renewed, images_told, images_decided, gone_from, come_to, unavailable_for, unavailable_to, subscription_at, available_for, available_to, source_at}
 use Rattle.driver_core.specs.State.{State}
+use Rattle.driver_core.specs.Unread.{dropping}
 use Rattle.driver_core.proofs.PairLemmas.{nothing_lacks}
 use Rattle.stream_registry.specs.declared.pairs.Pair.{Pair}
 use Rattle.stream_registry.specs.declared.row.Source.{Source}
 use Rattle.stream_registry.specs.declared.row.Subscription.{Subscription}
+use Rattle.channel_uri.specs.declared.address.Address.{Address}
 
 -- an event is its draft, renewed
-pub conduct_is : (s : State) (event : Event) (inputs : Inputs) → conduct s event inputs ≡ renewed s inputs (drafted s event)
+pub conduct_is : (s : State) (event : Event) (inputs : Inputs) →
+    conduct s event inputs ≡ dropping s (renewed s inputs (drafted s event inputs))
 unfolding conduct
 conduct_is s event inputs = refl
 
@@ -64,8 +67,8 @@ pub record HoldsOfImages (P : Message → Type 0) : Type 0 where
       (client source subscription : ℕ) (stream : ℤ) →
       P (record { client = client; reply = UnavailableImage source subscription stream })
   pub available :
-      (client source subscription : ℕ) (session stream : ℤ) (position : ℕ) →
-      P (record { client = client; reply = AvailableImage source subscription session stream position })
+      (client source subscription : ℕ) (session stream : ℤ) (position : ℕ) (address : Option Address) →
+      P (record { client = client; reply = AvailableImage source subscription session stream position address })
 
 unavailable_holds : (P : Message → Type 0) → HoldsOfImages P → (pair : Pair) (subscription : Option Subscription) →
     AllByRecursion P (unavailable_to pair subscription)
@@ -78,7 +81,7 @@ available_holds : (P : Message → Type 0) → HoldsOfImages P → (ends : List 
 available_holds P holds ends pair None subscription = tt
 available_holds P holds ends pair (Some log) None = tt
 available_holds P holds ends pair (Some log) (Some subscription) =
-    (holds.available subscription.client pair.source pair.subscription log.session log.stream _, tt)
+    (holds.available subscription.client pair.source pair.subscription log.session log.stream _ _, tt)
 
 pub all_images : (P : Message → Type 0) → HoldsOfImages P → (s : State) (inputs : Inputs) (gone come : List Pair) →
     AllByRecursion P (images_told s inputs gone come)
@@ -95,8 +98,8 @@ all_images P holds s inputs gone come =
 pub all_replies : (P : Message → Type 0) (s : State) (inputs : Inputs) (draft : Draft) → AllByRecursion P draft.replies →
     ((client source subscription : ℕ) (stream : ℤ) →
     P (record { client = client; reply = UnavailableImage source subscription stream })) →
-    ((client source subscription : ℕ) (session stream : ℤ) (position : ℕ) →
-    P (record { client = client; reply = AvailableImage source subscription session stream position })) →
+    ((client source subscription : ℕ) (session stream : ℤ) (position : ℕ) (address : Option Address) →
+    P (record { client = client; reply = AvailableImage source subscription session stream position address })) →
     AllByRecursion P draft.later → AllByRecursion P (renewed s inputs draft).outcome.replies
 unfolding renewed
 all_replies P s inputs draft first unavailable available last =

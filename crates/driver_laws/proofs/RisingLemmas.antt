@@ -54,7 +54,7 @@ above_low number_of low last (row ∷ rows) up =
     omega (arith, first, rest)
 
 -- each number lies between
-between : {A : Type 0} (number_of : A → ℕ) (low last : ℕ) (rows : List A) (row : A) → Rises number_of low last rows →
+pub between : {A : Type 0} (number_of : A → ℕ) (low last : ℕ) (rows : List A) (row : A) → Rises number_of low last rows →
     Contains rows row → (low < number_of row) × (number_of row ≤ last)
 between number_of low last [] row up has = absurd (contains_none row has)
 between number_of low last (first ∷ rows) row up has =

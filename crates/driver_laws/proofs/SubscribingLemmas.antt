@@ -18,6 +18,7 @@ use Rattle.driver_core.specs.Requests.{SubscriptionRequest, AsksToSubscribe, que
 use Rattle.driver_core.specs.State.{State, has_number, at_moment}
 use Rattle.driver_core.specs.Subscribing.{subscribe, add_subscription, subscribed, decision_of, has_room_for_subscription, with_subscription}
 use Rattle.driver_core.specs.Verdicts.{verdict_on}
+use Rattle.driver_laws.specs.ImageLaws.{AreRead}
 use Rattle.driver_laws.specs.SubscribingLaws.{IsDecidedExactly, IsGranted, IsRefused, has_room_for_request}
 use Rattle.channel_uri.specs.Channel.{Shape}
 use Rattle.client_registry.specs.declared.client.Client.{Client}
@@ -27,6 +28,7 @@ use Rattle.stream_registry.specs.declared.pairs.Pair.{Pair}
 use Rattle.stream_registry.specs.Adding.{subscribed as subscribed_in, has_room_for_subscription as has_room_in}
 use Rattle.driver_core.proofs.VerdictLemmas.{by_policy}
 use Rattle.driver_core.proofs.PairLemmas.{pairs_by, pairs_heard, principal_heard}
+use Rattle.driver_laws.proofs.StayingLemmas.{drops_none, subscribe_drops}
 use Rattle.driver_laws.proofs.RenewalLemmas.{ToldAsItIs, unchanged}
 
 -- ---- a client that is found has the id that was looked for
@@ -47,12 +49,12 @@ found_number (row ∷ rows) number client found =
 
 -- ---- a well-formed request comes to the policy
 
-pub request_is_decided : (s : State) (now handle : ℕ) (bytes : List ℕ) (request : SubscriptionRequest) →
+pub request_is_decided : (s : State) (now handle : ℕ) (bytes : List ℕ) (inputs : Inputs) (request : SubscriptionRequest) →
     AsksToSubscribe s handle bytes request →
-    drafted s (Command now handle bytes)
+    drafted s (Command now handle bytes) inputs
     ≡ subscribe (heard (at_moment s now) handle) request.client request.correlation request.channel request.fields.stream
 unfolding drafted command asked requested add_subscription at_moment
-request_is_decided s now handle bytes request asks =
+request_is_decided s now handle bytes inputs request asks =
     rw (asks.command, eq-eqb handle handle refl, asks.attached, asks.denotes_channel, asks.takes_channel) refl
 
 -- the same client and channel, at the moment of the event
@@ -197,10 +199,15 @@ by_verdict s now handle inputs request own =
 
 -- ---- granted exactly
 
-pub decided_exactly : (s : State) (now handle : ℕ) (bytes : List ℕ) (inputs : Inputs) (request : SubscriptionRequest) →
+pub decided_exactly : (s : State) → AreRead s → (now handle : ℕ) (bytes : List ℕ) (inputs : Inputs) (request : SubscriptionRequest) →
     AsksToSubscribe s handle bytes request →
     IsDecidedExactly s now handle inputs request (conduct s (Command now handle bytes) inputs)
 unfolding conduct
-decided_exactly s now handle bytes inputs request asks =
-    rw (request_is_decided s now handle bytes request asks)
+decided_exactly s read now handle bytes inputs request asks =
+    rw (
+      request_is_decided s now handle bytes inputs request asks,
+      drops_none s inputs
+          (subscribe (at_request s now handle) request.client request.correlation request.channel request.fields.stream)
+          (subscribe_drops s now handle request.client request.correlation request.channel request.fields.stream read),
+    )
     (by_verdict s now handle inputs request (found_number s.clients.rows handle request.client asks.attached))

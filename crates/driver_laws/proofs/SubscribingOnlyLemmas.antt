@@ -4,12 +4,14 @@ use Rattle.std.proofs.lemmas.List.Elements.{Contains-push, Contains-push_cases}
 use Rattle.std.specs.List.{AllByRecursion, Contains}
 use Rattle.std.specs.Prelude.{◌⊎◌}
 use Rattle.driver_core.specs.declared.event.Event.{Event}
-use Rattle.driver_core.specs.declared.event.Event.TheVariants.{Attach, Command, Reload, Tick}
+use Rattle.driver_core.specs.declared.event.Event.TheVariants.{Attach, Command, Reload, Setup, Tick}
 use Rattle.driver_core.specs.declared.event.Inputs.{Inputs}
 use Rattle.driver_core.specs.declared.outcome.Response.{Response}
 use Rattle.driver_core.specs.declared.refusal.Refusal.{Refusal}
 use Rattle.driver_core.specs.declared.replies.Message.{Message}
-use Rattle.driver_core.specs.declared.replies.Reply.TheVariants.{PublicationReady, ExclusivePublicationReady}
+use Rattle.driver_core.specs.declared.replies.Reply.{Reply}
+use Rattle.driver_core.specs.declared.replies.Reply.TheVariants.{AvailableImage, ClientTimeout, CounterReady, Error, ExclusivePublicationReady, OperationSuccess, PublicationReady, SubscriptionReady, UnavailableCounter, UnavailableImage}
+use Rattle.driver_core.specs.Change.{Change}
 use Rattle.driver_core.specs.Attaching.{attached}
 use Rattle.driver_core.specs.Closing.{keep_alive, close}
 use Rattle.driver_core.specs.Commands.{heard, at_request}
@@ -27,6 +29,8 @@ use Rattle.driver_core.specs.Ticking.{tick, ticked, late}
 use Rattle.driver_core.specs.Unpublishing.{unpublished}
 use Rattle.driver_core.specs.Unsubscribing.{unsubscribed}
 use Rattle.driver_core.specs.Verdicts.{verdict_on}
+use Rattle.driver_core.specs.SettingUp.{image_made, with_image}
+use Rattle.driver_core.specs.Unread.{dropping, without_unread}
 use Rattle.driver_laws.specs.SubscribingLaws.{GrantsOnly, IsGrantTold, IsMadeBy, subscription_for, has_room_for_request}
 use Rattle.client_registry.specs.declared.client.Client.{Client}
 use Rattle.command_codec.specs.declared.add_counter.AddCounter.{AddCounter}
@@ -42,11 +46,16 @@ use Rattle.stream_registry.specs.Adding.{added, subscribed as subscribed_in}
 use Rattle.stream_registry.specs.Leaving.{unregistered, unsubscribed as unsubscribed_in, is_another_subscription}
 use Rattle.stream_registry.specs.Lingering.{closed, settled}
 use Rattle.stream_registry.specs.Streams.{Streams}
-use Rattle.driver_core.proofs.EventCases.{Cases, command_cases, attach_cases, reload_cases}
+use Rattle.stream_registry.specs.declared.wanted.ImageWanted.{ImageWanted}
+use Rattle.log_readers.specs.Unread.{without_unread as without_unread_in}
+use Rattle.channel_uri.specs.declared.address.Address.{Address}
+use Rattle.frame_codec.specs.declared.setup.Setup.{Setup as SetupFrame}
+use Rattle.driver_core.proofs.EventCases.{Cases, attach_cases, command_cases, reload_cases, set_up_cases}
 use Rattle.driver_core.proofs.ListLemmas.{left_was_there, contains_none}
 use Rattle.driver_core.proofs.VerdictLemmas.{by_policy}
 use Rattle.driver_laws.proofs.SubscribingLemmas.{asks_before, found_number, room_for, verdict_is}
 use Rattle.driver_laws.proofs.LeavingLemmas.{all_timeouts, left_was_subscribed, one_left_was_subscribed}
+use Rattle.driver_laws.proofs.DroppingLemmas.{all_weaker}
 use Rattle.driver_laws.proofs.RenewalLemmas.{all_replies}
 
 -- what a draft tells tells of a subscription only where one was granted, and what stands after it stood before or was made
@@ -64,8 +73,40 @@ unfolding renewed
 draft_grants_only s event inputs draft grants = record {
   told = all_replies (λ (message : Message). IsGrantTold s event draft.after message.client message.reply) s inputs draft
       grants.replies (λ client source subscription stream. tt)
-      (λ client source subscription session stream position. tt) grants.later;
+      (λ client source subscription session stream position address. tt) grants.later;
   stands = grants.stands;
+}
+
+-- and images that go take no subscription away
+told_as_before : (s : State) (event : Event) (after other : State) →
+    other.streams.subscriptions ≡ after.streams.subscriptions → (client : ℕ) (reply : Reply) →
+    IsGrantTold s event after client reply → IsGrantTold s event other client reply
+told_as_before s event after other same client (SubscriptionReady correlation registration) told =
+    (told.0, told.1, told.2, rw same told.3, told.4)
+told_as_before s event after other same client (Error correlation refusal) told = tt
+told_as_before s event after other same client (OperationSuccess correlation) told = tt
+told_as_before s event after other same client (PublicationReady correlation registration session stream) told = tt
+told_as_before s event after other same client (ExclusivePublicationReady correlation registration session stream) told = tt
+told_as_before s event after other same client (AvailableImage source subscription session stream position address) told = tt
+told_as_before s event after other same client (UnavailableImage source subscription stream) told = tt
+told_as_before s event after other same client (CounterReady correlation registration) told = tt
+told_as_before s event after other same client (UnavailableCounter registration) told = tt
+told_as_before s event after other same client (ClientTimeout number) told = tt
+
+subscriptions_stay : (s : State) → (without_unread s).streams.subscriptions ≡ s.streams.subscriptions
+unfolding without_unread without_unread_in
+subscriptions_stay s = refl
+
+dropping_grants_only : (s : State) (event : Event) (change : Change) → GrantsOnly s event change →
+    GrantsOnly s event (dropping s change)
+unfolding dropping
+dropping_grants_only s event change grants = record {
+  told = all_weaker (λ (message : Message). IsGrantTold s event change.after message.client message.reply)
+      (λ (message : Message). IsGrantTold s event (without_unread change.after) message.client message.reply)
+      (λ message told.
+      told_as_before s event change.after (without_unread change.after) (subscriptions_stay change.after) message.client
+      message.reply told) change.outcome.replies grants.told;
+  stands = λ subscription has. grants.stands subscription (rw (subscriptions_stay change.after) at has);
 }
 
 -- ---- what tells of none, and brings none
@@ -187,9 +228,9 @@ termination_grants_only s event before client correlation = record {
   stands = λ subscription stands. absurd (contains_none subscription stands);
 }
 
-tick_grants_only : (s : State) (now : ℕ) → DraftGrantsOnly s (Tick now) (drafted s (Tick now))
+tick_grants_only : (s : State) (now : ℕ) (inputs : Inputs) → DraftGrantsOnly s (Tick now) (drafted s (Tick now) inputs)
 unfolding drafted tick ticked closed at_moment
-tick_grants_only s now = record {
+tick_grants_only s now inputs = record {
   replies = tt;
   later = all_timeouts _ (λ client. tt) (late (at_moment s now));
   stands = λ subscription stands. inl (left_was_subscribed (at_moment s now) (late (at_moment s now)) subscription stands);
@@ -263,30 +304,51 @@ command_grants_only s now handle bytes =
           termination_grants_only s event before client correlation;
     }
 
-attach_grants_only : (s : State) (now principal : ℕ) →
-    DraftGrantsOnly s (Attach now principal) (drafted s (Attach now principal))
+attach_grants_only : (s : State) (now principal : ℕ) (inputs : Inputs) →
+    DraftGrantsOnly s (Attach now principal) (drafted s (Attach now principal) inputs)
 unfolding drafted attached at_moment
-attach_grants_only s now principal =
+attach_grants_only s now principal inputs =
     attach_cases (DraftGrantsOnly s (Attach now principal)) (at_moment s now) principal
     (answer_grants_only s (Attach now principal) _ _ refl)
     (answer_grants_only s (Attach now principal) _ _ refl)
     (answer_grants_only s (Attach now principal) _ _ refl)
 
-reload_grants_only : (s : State) (now : ℕ) (policy : Rules) →
-    DraftGrantsOnly s (Reload now policy) (drafted s (Reload now policy))
+reload_grants_only : (s : State) (now : ℕ) (policy : Rules) (inputs : Inputs) →
+    DraftGrantsOnly s (Reload now policy) (drafted s (Reload now policy) inputs)
 unfolding drafted at_moment
-reload_grants_only s now policy =
+reload_grants_only s now policy inputs =
     reload_cases (DraftGrantsOnly s (Reload now policy)) (at_moment s now) policy
     (λ room. reloaded_grants_only s (Reload now policy) _ policy refl)
     (λ full. answer_grants_only s (Reload now policy) _ _ refl)
 
-drafted_grants_only : (s : State) (event : Event) → DraftGrantsOnly s event (drafted s event)
-drafted_grants_only s (Attach now principal) = attach_grants_only s now principal
-drafted_grants_only s (Command now handle bytes) =
-    command_cases (DraftGrantsOnly s (Command now handle bytes)) s now handle bytes (command_grants_only s now handle bytes)
-drafted_grants_only s (Reload now policy) = reload_grants_only s now policy
-drafted_grants_only s (Tick now) = tick_grants_only s now
+image_grants_only : (s : State) (event : Event) (before : State) (wanted : ImageWanted) (place : ℕ) →
+    before.streams ≡ s.streams → DraftGrantsOnly s event (image_made before wanted place)
+unfolding image_made with_image answered
+image_grants_only s event before wanted place same = record {
+  replies = tt;
+  later = tt;
+  stands = λ subscription stands. inl (rw (ap (λ (t : Streams). t.subscriptions) same) at stands);
+}
+
+set_up_grants_only : (s : State) (now : ℕ) (local from : Address) (setup : SetupFrame) (inputs : Inputs) →
+    DraftGrantsOnly s (Setup now local from setup) (drafted s (Setup now local from setup) inputs)
+unfolding drafted at_moment
+set_up_grants_only s now local from setup inputs =
+    let event = Setup now local from setup in
+    set_up_cases (DraftGrantsOnly s event) (at_moment s now) local from setup
+    (λ fault. answer_grants_only s event _ _ refl)
+    (λ join place is set. image_grants_only s event _ _ place refl)
+
+drafted_grants_only : (s : State) (event : Event) (inputs : Inputs) → DraftGrantsOnly s event (drafted s event inputs)
+drafted_grants_only s (Attach now principal) inputs = attach_grants_only s now principal inputs
+drafted_grants_only s (Command now handle bytes) inputs =
+    command_cases (DraftGrantsOnly s (Command now handle bytes)) s now handle bytes inputs (command_grants_only s now handle bytes)
+drafted_grants_only s (Reload now policy) inputs = reload_grants_only s now policy inputs
+drafted_grants_only s (Tick now) inputs = tick_grants_only s now inputs
+drafted_grants_only s (Setup now local from setup) inputs = set_up_grants_only s now local from setup inputs
 
 pub grants_only : (s : State) (event : Event) (inputs : Inputs) → GrantsOnly s event (conduct s event inputs)
 unfolding conduct
-grants_only s event inputs = draft_grants_only s event inputs (drafted s event) (drafted_grants_only s event)
+grants_only s event inputs =
+    dropping_grants_only s event (renewed s inputs (drafted s event inputs))
+    (draft_grants_only s event inputs (drafted s event inputs) (drafted_grants_only s event inputs))

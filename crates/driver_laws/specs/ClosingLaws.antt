@@ -1,5 +1,5 @@
 -- Over every list of events: which logs close.
-use Rattle.std.specs.Prelude.{◌≡◌, ℕ, ◌-◌, ◌<◌, ◌==◌, max, Bool, not, List, map, filter, Contains, Some, ◌⊎◌}
+use Rattle.std.specs.Prelude.{◌≡◌, ℕ, ◌-◌, ◌<◌, ◌==◌, max, Bool, true, not, List, map, filter, Contains, Some, ◌⊎◌}
 use Rattle.std.specs.List.{list_any}
 use Rattle.driver_core.specs.Change.{Change}
 use Rattle.driver_core.specs.declared.event.Event.{Event}
@@ -7,15 +7,17 @@ use Rattle.driver_core.specs.declared.event.Event.TheVariants.{Tick}
 use Rattle.driver_core.specs.declared.event.Inputs.{Inputs}
 use Rattle.driver_core.specs.declared.peer.Peer.{Peer}
 use Rattle.driver_core.specs.declared.settings.Settings.{Settings}
-use Rattle.driver_core.specs.Conduct.{conduct, state_of}
+use Rattle.driver_core.specs.Conduct.{conduct, drafted, state_of}
+use Rattle.driver_core.specs.Pairs.{pairs_of}
 use Rattle.driver_core.specs.Soundness.{AreSettings, log_of}
 use Rattle.driver_core.specs.State.{State, opened}
 use Rattle.driver_laws.specs.Events.{AfterAnyEvents}
 use Rattle.driver_laws.specs.LeavingLaws.{IsTerminatedBy}
+use Rattle.log_readers.specs.Unread.{is_unread}
 use Rattle.policy_core.specs.RuleList.{Rules}
 use Rattle.stream_registry.specs.declared.lingering.LogPlace.{LogPlace}
 use Rattle.stream_registry.specs.declared.row.Source.{Source}
-use Rattle.stream_registry.specs.Lingering.{place_of}
+use Rattle.stream_registry.specs.Lingering.{is_image_of, place_of}
 use Rattle.stream_registry.specs.Origins.{lingering_since}
 
 -- at a tick the log has lingered for longer than it may
@@ -26,9 +28,21 @@ pub record IsPastBy (s : State) (event : Event) (log : Source) : Type 0 where
   pub lingers : lingering_since log ≡ Some since
   pub too_long : log.measures.linger < max s.moment moment - since
 
+-- at a tick it is one of the images that the event's inputs call silent
+pub record IsSilentBy (event : Event) (inputs : Inputs) (log : Source) : Type 0 where
+  pub moment : ℕ
+  pub event_is : event ≡ Tick moment
+  pub silent : is_image_of inputs.silent log ≡ true
+
+-- it is an image of which the event's own rule leaves no pair
+abbrev pub IsUnreadBehind : State → Event → Inputs → Source → Type 0
+IsUnreadBehind s event inputs log = is_unread (pairs_of (drafted s event inputs).after) log ≡ true
+
 -- or the driver is ended
-abbrev pub Closes : State → Event → Source → Type 0
-Closes s event log = IsPastBy s event log ⊎ IsTerminatedBy s event
+abbrev pub Closes : State → Event → Inputs → Source → Type 0
+Closes s event inputs log =
+    IsPastBy s event log
+    ⊎ (IsSilentBy event inputs log ⊎ (IsTerminatedBy s event ⊎ IsUnreadBehind s event inputs log))
 
 -- ---- closed exactly
 
@@ -43,7 +57,7 @@ LogsCloseExactly =
     (settings : Settings) (policy : Rules) (peers : List Peer) (events : List (Event × Inputs)) → AreSettings settings →
     (event : Event) (inputs : Inputs) (log : Source) →
     Contains (state_of (opened settings policy peers) events).streams.sources log →
-    Closes (state_of (opened settings policy peers) events) event log →
+    Closes (state_of (opened settings policy peers) events) event inputs log →
     IsClosed (conduct (state_of (opened settings policy peers) events) event inputs) log
 
 -- ---- closed only
@@ -59,21 +73,21 @@ pub record IsLive (after : State) (log : Source) : Type 0 where
   pub same : IsSameLog now log
 
 -- what the outcome tells is the place of a log that the event closes
-pub record IsToldBy (s : State) (event : Event) (place : LogPlace) : Type 0 where
+pub record IsToldBy (s : State) (event : Event) (inputs : Inputs) (place : LogPlace) : Type 0 where
   pub log : Source
   pub stood : Contains s.streams.sources log
   pub place_is : place ≡ place_of log
-  pub closes : Closes s event log
+  pub closes : Closes s event inputs log
 
-pub record ClosesOnly (s : State) (event : Event) (change : Change) : Type 0 where
+pub record ClosesOnly (s : State) (event : Event) (inputs : Inputs) (change : Change) : Type 0 where
   pub live :
       (log : Source) → Contains s.streams.sources log →
-      IsLive change.after log ⊎ Closes s event log
-  pub told : (place : LogPlace) → Contains change.outcome.closes place → IsToldBy s event place
+      IsLive change.after log ⊎ Closes s event inputs log
+  pub told : (place : LogPlace) → Contains change.outcome.closes place → IsToldBy s event inputs place
 
 abbrev pub LogsCloseOnly : Type 0
 LogsCloseOnly =
-    AfterAnyEvents (λ s. (event : Event) (inputs : Inputs) → ClosesOnly s event (conduct s event inputs))
+    AfterAnyEvents (λ s. (event : Event) (inputs : Inputs) → ClosesOnly s event inputs (conduct s event inputs))
 
 -- ---- what closes was there
 

@@ -9,6 +9,7 @@ use Rattle.driver_core.specs.State.{State}
 use Rattle.driver_core.specs.Verdicts.{IsByPolicy, verdict_on}
 use Rattle.driver_laws.specs.Events.{AfterAnyEvents}
 use Rattle.client_registry.specs.Clients.{principal_at}
+use Rattle.log_readers.specs.Unread.{is_kept}
 use Rattle.stream_registry.specs.declared.pairs.Pair.{Pair}
 use Rattle.stream_registry.specs.declared.row.Source.{Source}
 use Rattle.stream_registry.specs.declared.row.Subscription.{Subscription}
@@ -47,3 +48,12 @@ pub record PairsExactly (s : State) : Type 0 where
 
 abbrev pub ImagesAreGrantedExactly : Type 0
 ImagesAreGrantedExactly = AfterAnyEvents (λ s. PairsExactly s)
+
+-- ---- each image is read
+
+-- no live image is without a pair
+abbrev pub AreRead : State → Type 0
+AreRead s = (log : Source) → Contains s.streams.sources log → is_kept (pairs_of s) log ≡ true
+
+abbrev pub ImagesAreRead : Type 0
+ImagesAreRead = AfterAnyEvents AreRead

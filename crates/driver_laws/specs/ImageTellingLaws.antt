@@ -14,12 +14,13 @@ use Rattle.driver_laws.specs.Events.{AfterAnyEvents}
 use Rattle.stream_registry.specs.declared.pairs.Pair.{Pair}
 use Rattle.stream_registry.specs.declared.row.Source.{Source}
 use Rattle.stream_registry.specs.declared.row.Subscription.{Subscription}
+use Rattle.stream_registry.specs.Origins.{address_of, begins_at}
 use Rattle.stream_registry.specs.Pairs.{pair_of}
 
 -- ---- which replies tell of images
 
 abbrev pub is_available : Reply → Bool
-is_available (AvailableImage source subscription session stream position) = true
+is_available (AvailableImage source subscription session stream position address) = true
 is_available reply = false
 
 abbrev pub is_unavailable : Reply → Bool
@@ -34,21 +35,22 @@ tells_unavailable message = is_unavailable message.reply
 
 -- ---- what is told of a pair
 
--- so far the log of that source reaches, as the event's inputs say, or not at all where they do not tell of it
+-- so far the log of that source reaches, as the event's inputs say, or to where it begins where they do not tell of it
 pub record IsTheEnd (ends : List End) (source position : ℕ) : Type 0 where
   pub end : End
   pub stands : Contains ends end
   pub source_is : end.source ≡ source
   pub position_is : end.position ≡ position
 
-pub record HasNoEnd (ends : List End) (source position : ℕ) : Type 0 where
+pub record HasNoEnd (ends : List End) (source begin position : ℕ) : Type 0 where
   pub none : (end : End) → Contains ends end → ¬ (end.source ≡ source)
-  pub position_is : position ≡ 0
+  pub position_is : position ≡ begin
 
-abbrev pub Reaches : List End → ℕ → ℕ → Type 0
-Reaches ends source position = IsTheEnd ends source position ⊎ HasNoEnd ends source position
+abbrev pub Reaches : List End → ℕ → ℕ → ℕ → Type 0
+Reaches ends source begin position = IsTheEnd ends source position ⊎ HasNoEnd ends source begin position
 
--- the client of the pair's subscription is told the log's session and stream, and how far it reaches
+-- the client of the pair's subscription is told the log's session and stream, how far it reaches, and from where its
+-- publisher sends, where that is a remote one
 pub record IsToldAvailable (after : State) (ends : List End) (pair : Pair) (message : Message) : Type 0 where
   pub log : Source
   pub subscription : Subscription
@@ -56,12 +58,12 @@ pub record IsToldAvailable (after : State) (ends : List End) (pair : Pair) (mess
   pub stands : Contains after.streams.subscriptions subscription
   pub pair_is : pair ≡ pair_of log subscription
   pub position : ℕ
-  pub reaches : Reaches ends pair.source position
+  pub reaches : Reaches ends pair.source (begins_at log) position
   pub message_is :
       message
       ≡ record {
         client = subscription.client;
-        reply = AvailableImage pair.source pair.subscription log.session log.stream position;
+        reply = AvailableImage pair.source pair.subscription log.session log.stream position (address_of log);
       }
 
 -- the client of the pair's subscription is told that the log is no more there for it

@@ -14,5 +14,6 @@ pub mod PublishingLaws
 pub mod RefusalLaws
 pub mod ReloadLaws
 pub mod RemovalLaws
+pub mod SettingLaws
 pub mod SoundnessLaws
 pub mod SubscribingLaws

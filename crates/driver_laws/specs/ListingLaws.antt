@@ -4,7 +4,7 @@ use Rattle.driver_core.specs.declared.listing.Listed.{Listed}
 use Rattle.driver_core.specs.declared.listing.Listed.TheVariants as listed_as
 use Rattle.driver_core.specs.declared.listing.Shown.{Shown}
 use Rattle.driver_core.specs.declared.listing.Shown.TheVariants as shown_as
-use Rattle.driver_core.specs.Listing.{row_of, registered_with, publication_row, publication_question, shows_publication, with_rows, list, value}
+use Rattle.driver_core.specs.Listing.{list, row_of, shows_source, source_question, source_row, uses_of, value, with_rows}
 use Rattle.driver_core.specs.Renewal.{source_at}
 use Rattle.driver_core.specs.State.{State}
 use Rattle.driver_core.specs.Verdicts.{IsByPolicy, verdict_on}
@@ -17,7 +17,6 @@ use Rattle.counters.specs.Counters.{counter_at, question_for}
 use Rattle.policy_core.specs.Question.{Question}
 use Rattle.policy_core.specs.Verdict.{verdict_text}
 use Rattle.stream_registry.specs.declared.row.Source.{Source}
-use Rattle.stream_registry.specs.Origins.{is_published}
 
 -- what the policy is asked before the client is shown the counter
 abbrev pub look_question : Client → Counter → Question
@@ -27,22 +26,21 @@ look_question client counter = question_for client.principal counter
 abbrev pub is_shown_to : State → Client → Counter → Bool
 is_shown_to s client counter = (verdict_on s (look_question client counter)).allow
 
--- what it is asked before the client is shown the publication
-abbrev pub publication_look : Client → Source → Question
-publication_look client publication = publication_question client.principal publication
+-- what it is asked before the client is shown the log
+abbrev pub source_look : Client → Source → Question
+source_look client source = source_question client.principal source
 
--- the rows are those of the counters that the policy in force shows, and of the live publications, each by the first rule
--- that matches or the default
+-- the rows are those of the counters that the policy in force shows, and of the live logs, each by the first rule that matches
+-- or the default
 pub record ListsExactly (s : State) (client : Client) (answer : Listed) : Type 0 where
   pub answer_is :
       answer
       ≡ listed_as.Counters (with_rows (map row_of (filter (is_shown_to s client) s.counters))
-      (map (publication_row s) (filter (shows_publication s client.principal) s.streams.sources)))
+      (map (source_row s) (filter (shows_source s client.principal) s.streams.sources)))
   pub by :
       (counter : Counter) → IsByPolicy s (look_question client counter) (verdict_on s (look_question client counter))
-  pub publications_by :
-      (publication : Source) →
-      IsByPolicy s (publication_look client publication) (verdict_on s (publication_look client publication))
+  pub sources_by :
+      (source : Source) → IsByPolicy s (source_look client source) (verdict_on s (source_look client source))
 
 -- the value where the policy in force shows it, else the denial, which names the rule or the default
 pub record ShowsExactly (s : State) (client : Client) (counter : Counter) (answer : Shown) : Type 0 where
@@ -54,35 +52,30 @@ pub record ShowsExactly (s : State) (client : Client) (counter : Counter) (answe
       verdict_text (verdict_on s (look_question client counter))
       ≡ denial_text (verdict_on s (look_question client counter)).rule s.epoch
 
--- how many are registered with the publication, where the policy in force shows it, else the denial
-pub record ShowsPublicationExactly (s : State) (client : Client) (publication : Source) (answer : Shown) : Type 0 where
-  pub by : IsByPolicy s (publication_look client publication) (verdict_on s (publication_look client publication))
+-- how many are registered with the publication, or read the image, where the policy in force shows it, else the denial
+pub record ShowsSourceExactly (s : State) (client : Client) (source : Source) (answer : Shown) : Type 0 where
+  pub by : IsByPolicy s (source_look client source) (verdict_on s (source_look client source))
   pub shown :
-      (verdict_on s (publication_look client publication)).allow ≡ true →
-      answer ≡ shown_as.Value (registered_with s publication.number)
+      (verdict_on s (source_look client source)).allow ≡ true → answer ≡ shown_as.Value (uses_of s source)
   pub denied :
-      (verdict_on s (publication_look client publication)).allow ≡ false →
-      answer ≡ shown_as.Denied (verdict_on s (publication_look client publication))
+      (verdict_on s (source_look client source)).allow ≡ false →
+      answer ≡ shown_as.Denied (verdict_on s (source_look client source))
   pub text :
-      (verdict_on s (publication_look client publication)).allow ≡ false →
-      verdict_text (verdict_on s (publication_look client publication))
-      ≡ denial_text (verdict_on s (publication_look client publication)).rule s.epoch
+      (verdict_on s (source_look client source)).allow ≡ false →
+      verdict_text (verdict_on s (source_look client source))
+      ≡ denial_text (verdict_on s (source_look client source)).rule s.epoch
 
--- what a look is told, whoever looks; the log of a remote publisher is no counter, and none is there (`SourcesArePublications`)
+-- what a look is told, whoever looks
 pub record LooksExactly (s : State) (handle : ℕ) : Type 0 where
   pub listed :
       (client : Client) → client_at s.clients.rows handle ≡ Some client → ListsExactly s client (list s handle)
   pub valued :
       (client : Client) (number : ℕ) (counter : Counter) → client_at s.clients.rows handle ≡ Some client →
       counter_at s.counters number ≡ Some counter → ShowsExactly s client counter (value s handle number)
-  pub published :
-      (client : Client) (number : ℕ) (publication : Source) → client_at s.clients.rows handle ≡ Some client →
-      counter_at s.counters number ≡ None → source_at s.streams.sources number ≡ Some publication →
-      is_published publication ≡ true → ShowsPublicationExactly s client publication (value s handle number)
-  pub image :
+  pub sourced :
       (client : Client) (number : ℕ) (source : Source) → client_at s.clients.rows handle ≡ Some client →
       counter_at s.counters number ≡ None → source_at s.streams.sources number ≡ Some source →
-      is_published source ≡ false → value s handle number ≡ shown_as.UnknownCounter
+      ShowsSourceExactly s client source (value s handle number)
   pub unknown :
       (client : Client) (number : ℕ) → client_at s.clients.rows handle ≡ Some client →
       counter_at s.counters number ≡ None → source_at s.streams.sources number ≡ None →

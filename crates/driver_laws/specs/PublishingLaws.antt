@@ -1,30 +1,35 @@
 -- Over every list of events: publications are granted as the policy in force says, and not otherwise.
-use Rattle.std.specs.Prelude.{◌≡◌, ℕ, ◌+◌, ℤ, Bool, true, false, List, [], ◌∷◌, Contains, Ok, Err, unwrap_or, ◌⊎◌}
+use Rattle.std.specs.Prelude.{◌≡◌, ℕ, ◌+◌, ℤ, Bool, true, false, List, [], ◌∷◌, Contains, Some, Ok, Err, unwrap_or, ◌⊎◌}
 use Rattle.std.specs.List.{AllByRecursion}
 use Rattle.driver_core.specs.Change.{Change}
 use Rattle.driver_core.specs.declared.event.Event.{Event}
-use Rattle.driver_core.specs.declared.event.Event.TheVariants.{Command}
+use Rattle.driver_core.specs.declared.event.Event.TheVariants.{Command, Setup}
 use Rattle.driver_core.specs.declared.event.Inputs.{Inputs}
 use Rattle.driver_core.specs.declared.refusal.Refusal.TheVariants.{Denied, Full, NoRoom}
 use Rattle.driver_core.specs.declared.replies.Reply.{Reply}
 use Rattle.driver_core.specs.declared.replies.Reply.TheVariants.{PublicationReady, ExclusivePublicationReady}
 use Rattle.driver_core.specs.Commands.{heard}
-use Rattle.driver_core.specs.Conduct.{conduct}
+use Rattle.driver_core.specs.Conduct.{conduct, state_after}
 use Rattle.driver_core.specs.Publishing.{has_place, has_room_for_publication, opening_of, place_of_new, ready_for, refused_by_streams, session_of, with_publication}
 use Rattle.driver_core.specs.Renewal.{images_told, images_decided}
 use Rattle.driver_core.specs.Requests.{PublicationRequest, AsksToPublish, publication_question, wanted_by}
-use Rattle.driver_core.specs.Soundness.{IsPublication}
+use Rattle.driver_core.specs.SettingUp.{new_image, setting_of, wanted_by as image_wanted_by}
 use Rattle.driver_core.specs.State.{State, at_moment}
 use Rattle.driver_core.specs.Verdicts.{IsByPolicy, verdict_on}
 use Rattle.driver_laws.specs.ClosingLaws.{IsSameLog}
 use Rattle.driver_laws.specs.Events.{AfterAnyEvents}
 use Rattle.driver_laws.specs.GrantLaws.{IsRefusedOn, decided_on}
+use Rattle.channel_uri.specs.declared.address.Address.{Address}
+use Rattle.frame_codec.specs.declared.join.Join.{Join as JoinedAt}
+use Rattle.frame_codec.specs.declared.setup.Setup.{Setup as SetupFrame}
+use Rattle.frame_codec.specs.Join.{join_of}
 use Rattle.stream_registry.specs.declared.fault.StreamFault.{StreamFault}
 use Rattle.stream_registry.specs.declared.row.Source.{Source}
 use Rattle.stream_registry.specs.declared.row.Registration.{Registration}
 use Rattle.stream_registry.specs.declared.wanted.Adding.{Adding}
 use Rattle.stream_registry.specs.declared.wanted.Adding.TheVariants.{Join, Make}
 use Rattle.stream_registry.specs.Adding.{adding_of, log_of, registration_of}
+use Rattle.stream_registry.specs.Origins.{is_remote}
 use Rattle.stream_registry.specs.Streams.{Streams}
 
 -- the policy in force allows it
@@ -122,6 +127,20 @@ pub record IsLogMadeBy (s : State) (event : Event) (log : Source) : Type 0 where
       ≡ log_of s.streams (s.last_number + 1) (wanted_by registered.request)
       (unwrap_or (place_of_new s (wanted_by registered.request)) 0) session
 
+-- the event is a SETUP that fits some subscription which the policy in force allows to read it, while there is room and a
+-- place for its log, and makes this image
+pub record IsImageMadeBy (s : State) (event : Event) (log : Source) : Type 0 where
+  pub now : ℕ
+  pub local : Address
+  pub from : Address
+  pub setup : SetupFrame
+  pub join : JoinedAt
+  pub place : ℕ
+  pub event_is : event ≡ Setup now local from setup
+  pub join_is : join_of setup ≡ Some join
+  pub set : setting_of (at_moment s now) (image_wanted_by local from setup join) ≡ Ok place
+  pub log_is : log ≡ new_image (at_moment s now) (image_wanted_by local from setup join)
+
 -- what is told names a registration that the event made, and that stands, with its log's session and stream
 pub record IsReadyBy (s : State) (event : Event) (after : State) (client correlation number : ℕ) (session stream : ℤ) (exclusive : Bool) : Type 0 where
   pub made : Registration
@@ -141,14 +160,14 @@ IsPublicationTold s event after client (ExclusivePublicationReady correlation nu
     IsReadyBy s event after client correlation number session stream true
 IsPublicationTold s event after client reply = Unit {0}
 
--- registrations and logs come, and are told of, only by such a request
+-- registrations and logs come, and are told of, only by such a request, and images by such a SETUP
 pub record PublishesOnly (s : State) (event : Event) (change : Change) : Type 0 where
   pub registrations :
       (registration : Registration) → Contains change.after.streams.registrations registration →
       Contains s.streams.registrations registration ⊎ IsRegisteredBy s event registration
   pub logs :
       (log : Source) → Contains change.after.streams.sources log →
-      WasLive s.streams log ⊎ IsLogMadeBy s event log
+      WasLive s.streams log ⊎ (IsLogMadeBy s event log ⊎ IsImageMadeBy s event log)
   pub told :
       AllByRecursion (λ message. IsPublicationTold s event change.after message.client message.reply)
       change.outcome.replies
@@ -157,11 +176,11 @@ abbrev pub PublicationsAreGrantedOnly : Type 0
 PublicationsAreGrantedOnly =
     AfterAnyEvents (λ s. (event : Event) (inputs : Inputs) → PublishesOnly s event (conduct s event inputs))
 
--- ---- and nothing else
+-- ---- images
 
--- each is the log of a publication, and none that of a remote publisher
-abbrev pub ArePublications : List Source → Type 0
-ArePublications sources = (source : Source) → Contains sources source → IsPublication source
-
-abbrev pub SourcesArePublications : Type 0
-SourcesArePublications = AfterAnyEvents (λ s. ArePublications s.streams.sources)
+-- an image behind an event was live before it, or is made by it
+abbrev pub ImagesComeBySetups : Type 0
+ImagesComeBySetups =
+    AfterAnyEvents (λ s.
+    (event : Event) (inputs : Inputs) (log : Source) → Contains (state_after s event inputs).streams.sources log →
+    is_remote log ≡ true → WasLive s.streams log ⊎ IsImageMadeBy s event log)

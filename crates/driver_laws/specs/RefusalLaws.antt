@@ -2,7 +2,7 @@
 use Rattle.std.specs.Prelude.{◌≡◌, max, [], if◌then◌else◌}
 use Rattle.std.specs.List.{AllByRecursion}
 use Rattle.driver_core.specs.declared.event.Event.{Event}
-use Rattle.driver_core.specs.declared.event.Event.TheVariants.{Attach, Command, Reload, Tick}
+use Rattle.driver_core.specs.declared.event.Event.TheVariants.{Attach, Command, Reload, Setup, Tick}
 use Rattle.driver_core.specs.declared.event.Inputs.{Inputs}
 use Rattle.driver_core.specs.declared.outcome.Outcome.{Outcome}
 use Rattle.driver_core.specs.declared.outcome.Response.{Response}
@@ -23,6 +23,7 @@ IsRefusal reply = ⊥
 abbrev pub IsNoGrant : Response → Type 0
 IsNoGrant (response.Attached number) = ⊥
 IsNoGrant (response.PolicyInForce epoch) = ⊥
+IsNoGrant (response.Imaged number) = ⊥
 IsNoGrant answer = Unit {0}
 
 -- no reply grants anything, and no log closes
@@ -36,6 +37,7 @@ abbrev pub only_moments : State → Event → State
 only_moments s (Attach now principal) = record s { moment = max s.moment now }
 only_moments s (Reload now policy) = record s { moment = max s.moment now }
 only_moments s (Tick now) = record s { moment = max s.moment now }
+only_moments s (Setup now local from setup) = record s { moment = max s.moment now }
 only_moments s (Command now handle bytes) = record s {
   moment = max s.moment now;
   clients = if is_heard s handle bytes then touched s.clients handle (max s.moment now) else s.clients;

@@ -1,5 +1,5 @@
 -- Over every list of events: which policy is in force, and what a reload closes.
-use Rattle.std.specs.Prelude.{◌≡◌, ℕ, ◌+◌, max, true, false, [], None, if◌then◌else◌}
+use Rattle.std.specs.Prelude.{◌≡◌, ℕ, ◌+◌, max, true, false, [], map, filter, None, if◌then◌else◌}
 use Rattle.driver_core.specs.Change.{Change}
 use Rattle.driver_core.specs.declared.event.Event.{Event}
 use Rattle.driver_core.specs.declared.event.Event.TheVariants.{Reload}
@@ -10,23 +10,32 @@ use Rattle.driver_core.specs.Pairs.{pairs_of, lacking}
 use Rattle.driver_core.specs.Reloading.{has_room_for_policy}
 use Rattle.driver_core.specs.Renewal.{images_told, images_decided}
 use Rattle.driver_core.specs.State.{State}
+use Rattle.driver_core.specs.Unread.{without_unread}
 use Rattle.driver_laws.specs.Events.{AfterAnyEvents}
+use Rattle.log_readers.specs.Unread.{is_unread}
 use Rattle.policy_core.specs.RuleList.{Rules}
+use Rattle.stream_registry.specs.Lingering.{place_of}
 
 -- ---- a reload closes exactly
 
--- The policy is in force under the next number, and all lists are as they were. The pairs that go are those by the old
--- policy that those by the new one lack, and the pairs that it gains come; this is told, and nothing else. No log opens or
--- closes.
+-- the policy is in force under the next number, and all lists are as they were
+abbrev pub reloaded_from : State → ℕ → Rules → State
+reloaded_from s now policy = record s { moment = max s.moment now; policy = policy; epoch = s.epoch + 1 }
+
+-- The pairs that go are those by the old policy that those by the new one lack, and the pairs that it gains come; this is
+-- told, and nothing else. No log opens, and those close that are images of which no pair is left.
 pub record ClosesExactly (s : State) (now : ℕ) (policy : Rules) (inputs : Inputs) (change : Change) : Type 0 where
-  pub after_is : change.after ≡ record s { moment = max s.moment now; policy = policy; epoch = s.epoch + 1 }
+  pub after_is : change.after ≡ without_unread (reloaded_from s now policy)
   pub told : change.outcome.response ≡ PolicyInForce (s.epoch + 1)
   pub gone : change.outcome.gone ≡ lacking (pairs_of s) (pairs_of change.after)
   pub come : change.outcome.come ≡ lacking (pairs_of change.after) (pairs_of s)
-  pub replies : change.outcome.replies ≡ images_told change.after inputs change.outcome.gone change.outcome.come
-  pub decisions : change.outcome.decisions ≡ images_decided change.after change.outcome.gone change.outcome.come
+  pub replies :
+      change.outcome.replies ≡ images_told (reloaded_from s now policy) inputs change.outcome.gone change.outcome.come
+  pub decisions :
+      change.outcome.decisions ≡ images_decided (reloaded_from s now policy) change.outcome.gone change.outcome.come
   pub opens : change.outcome.opens ≡ None
-  pub closes : change.outcome.closes ≡ []
+  pub closes :
+      change.outcome.closes ≡ map place_of (filter (is_unread (pairs_of change.after)) s.streams.sources)
 
 -- a reload that is refused closes nothing
 pub record ClosesNothing (s : State) (now : ℕ) (change : Change) : Type 0 where

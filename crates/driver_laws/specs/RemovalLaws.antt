@@ -1,5 +1,5 @@
 -- Over every list of events: which subscriptions and registrations go.
-use Rattle.std.specs.Prelude.{◌≡◌, ℕ, max, true, false, List, [], ◌∷◌, Contains, ◌⊎◌}
+use Rattle.std.specs.Prelude.{◌≡◌, ℕ, max, true, false, List, [], ◌∷◌, map, filter, Contains, ◌⊎◌}
 use Rattle.driver_core.specs.Change.{Change}
 use Rattle.driver_core.specs.declared.event.Event.{Event}
 use Rattle.driver_core.specs.declared.event.Event.TheVariants.{Command}
@@ -9,33 +9,44 @@ use Rattle.driver_core.specs.declared.refusal.Refusal.TheVariants.{UnknownPublic
 use Rattle.driver_core.specs.declared.replies.Reply.TheVariants.{Error, OperationSuccess}
 use Rattle.driver_core.specs.Commands.{heard}
 use Rattle.driver_core.specs.Conduct.{conduct, state_after}
+use Rattle.driver_core.specs.Pairs.{pairs_of}
 use Rattle.driver_core.specs.Renewal.{images_told, images_decided}
 use Rattle.driver_core.specs.Requests.{Asks, RemovalRequest, AsksToRemove}
 use Rattle.driver_core.specs.State.{State, at_moment}
+use Rattle.driver_core.specs.Unread.{without_unread}
 use Rattle.driver_laws.specs.Events.{AfterAnyEvents}
 use Rattle.driver_laws.specs.LeavingLaws.{IsGoneBy}
 use Rattle.client_registry.specs.declared.client.Client.{Client}
 use Rattle.command_codec.specs.declared.command.Body.{Body}
 use Rattle.command_codec.specs.declared.command.Body.TheVariants.{RemovePublication as Unpublishes}
 use Rattle.command_codec.specs.declared.removal.Removal.{Removal}
+use Rattle.log_readers.specs.Unread.{is_unread}
 use Rattle.stream_registry.specs.declared.row.Registration.{Registration}
 use Rattle.stream_registry.specs.declared.row.Subscription.{Subscription}
 use Rattle.stream_registry.specs.Leaving.{has_registration, has_subscription, unregistered, unsubscribed}
+use Rattle.stream_registry.specs.Lingering.{place_of}
 
 -- ---- subscriptions are removed exactly
 
 -- the client's subscription of that number goes, and all else stays but for the moments
+abbrev pub removed_from : State → ℕ → ℕ → RemovalRequest → State
+removed_from s now handle request = record (heard (at_moment s now) handle) {
+  streams = unsubscribed s.streams handle request.fields.registration;
+}
+
+-- and then the images close of which no pair is left
 pub record IsRemoved (s : State) (now handle : ℕ) (inputs : Inputs) (request : RemovalRequest) (change : Change) : Type 0 where
   pub after_is :
-      change.after
-      ≡ record (heard (at_moment s now) handle) {
-        streams = unsubscribed s.streams handle request.fields.registration;
-      }
+      change.after ≡ without_unread (removed_from s now handle request)
   pub told :
       change.outcome.replies
       ≡ record { client = handle; reply = OperationSuccess request.correlation }
-      ∷ images_told change.after inputs change.outcome.gone change.outcome.come
-  pub decided : change.outcome.decisions ≡ images_decided change.after change.outcome.gone change.outcome.come
+      ∷ images_told (removed_from s now handle request) inputs change.outcome.gone change.outcome.come
+  pub decided :
+      change.outcome.decisions
+      ≡ images_decided (removed_from s now handle request) change.outcome.gone change.outcome.come
+  pub closes :
+      change.outcome.closes ≡ map place_of (filter (is_unread (pairs_of change.after)) s.streams.sources)
 
 -- nothing goes, and the one reply says why
 pub record IsUnknown (s : State) (now handle correlation : ℕ) (refusal : Refusal) (change : Change) : Type 0 where

@@ -7,17 +7,18 @@ ghost use Rattle.driver_laws.specs.ClosingLaws.{ClosedLogsWereThere, LogsCloseEx
 ghost use Rattle.driver_laws.specs.CounterLaws.{CountersAreRemovedExactly, CountersAreRemovedOnly, CountersAreSetExactly, CountersAreSetOnly};
 ghost use Rattle.driver_laws.specs.DenialLaws.{DenialsAreNamed};
 ghost use Rattle.driver_laws.specs.GrantLaws.{CountersAreGrantedExactly, TerminationsAreGrantedExactly, CountersAndTerminationsAreGrantedOnly};
-ghost use Rattle.driver_laws.specs.ImageLaws.{ImagesAreGrantedExactly};
+ghost use Rattle.driver_laws.specs.ImageLaws.{ImagesAreGrantedExactly, ImagesAreRead};
 ghost use Rattle.driver_laws.specs.ImageTellingLaws.{ImagesAreToldExactly};
 ghost use Rattle.driver_laws.specs.LeavingLaws.{ClientsGoExactly, ClientsGoOnly, RowsGoWithTheirClient};
 ghost use Rattle.driver_laws.specs.LimitLaws.{LimitsAreKept, RoomIsLeftBelowTheLimits};
 ghost use Rattle.driver_laws.specs.ListingLaws.{CountersAreShownExactly};
 ghost use Rattle.driver_laws.specs.NumberLaws.{LastNumbersNeverFall, ListsShareNoNumber, NewNumbersAreAboveTheLast, NumbersAreAtMostTheLast, NumbersAreNeverDrawnAgain, NumbersAreUnique};
 ghost use Rattle.driver_laws.specs.OwnerLaws.{RegistrationsHaveTheirLogs, RowsHaveTheirClients};
-ghost use Rattle.driver_laws.specs.PublishingLaws.{PublicationsAreGrantedExactly, PublicationsAreGrantedOnly, SourcesArePublications};
+ghost use Rattle.driver_laws.specs.PublishingLaws.{PublicationsAreGrantedExactly, PublicationsAreGrantedOnly, ImagesComeBySetups};
 ghost use Rattle.driver_laws.specs.RefusalLaws.{RefusalsChangeNoMoreThanMoments};
 ghost use Rattle.driver_laws.specs.ReloadLaws.{ReloadsCloseExactly, NewestPolicyIsInForce};
 ghost use Rattle.driver_laws.specs.RemovalLaws.{SubscriptionsAreRemovedExactly, SubscriptionsAreRemovedOnly, RegistrationsAreRemovedExactly, RegistrationsAreRemovedOnly};
+ghost use Rattle.driver_laws.specs.SettingLaws.{SetupsAreGrantedExactly};
 ghost use Rattle.driver_laws.specs.SoundnessLaws.{RegistriesAreSound};
 ghost use Rattle.driver_laws.specs.SubscribingLaws.{SubscriptionsAreGrantedExactly, SubscriptionsAreGrantedOnly};
 
@@ -45,15 +46,28 @@ pub fn publications_are_granted_only()
     ensures { PublicationsAreGrantedOnly }
 {}
 
-/// In every registry each log is that of a publication, whatever the settings: no event brings that of a remote publisher.
-pub fn sources_are_publications()
-    ensures { SourcesArePublications }
+/// An image comes only by a SETUP, where a subscription that it fits reads it by the policy in force, and there is room and a
+/// place for its log.
+pub fn images_come_by_setups()
+    ensures { ImagesComeBySetups }
+{}
+
+/// A SETUP makes an image, whose log opens at the place that it gets, exactly where it is well-formed and new, a subscription
+/// that it fits reads it by the policy in force, and there is room; else it is dropped by the first of these that fails, and
+/// nothing changes but the moment. Where the policy denies it to each, the verdict is that for the one of the lowest number.
+pub fn setups_are_granted_exactly()
+    ensures { SetupsAreGrantedExactly }
 {}
 
 /// A subscription reads a log exactly where the two fit and the policy in force allows the image to the subscription's
 /// client; what an event opens and closes of these is the difference that it makes.
 pub fn images_are_granted_exactly()
     ensures { ImagesAreGrantedExactly }
+{}
+
+/// In every registry each image is read by some subscription.
+pub fn images_are_read()
+    ensures { ImagesAreRead }
 {}
 
 /// Of all replies to an event one for each pair that came, and no other, tells the subscription's client of an image that is
@@ -91,8 +105,8 @@ pub fn denials_are_named()
     ensures { DenialsAreNamed }
 {}
 
-/// A client's request that a subscription go takes away the one of that number that is the client's own, and nothing
-/// else; where it has none, nothing goes, and the subscription is unknown.
+/// A client's request that a subscription go takes away the one of that number that is the client's own, and the images
+/// that none reads any more, and nothing else; where it has none, nothing goes, and the subscription is unknown.
 pub fn subscriptions_are_removed_exactly()
     ensures { SubscriptionsAreRemovedExactly }
 {}
@@ -155,7 +169,8 @@ pub fn rows_go_with_their_client()
 {}
 
 /// In a registry that was opened with sound settings a log closes, and is told of, at a tick at which it has lingered for
-/// longer than it may, and where the driver is ended by a request that the policy in force allowed.
+/// longer than it may, or which is told that the image is silent, where the driver is ended by a request that the policy in
+/// force allowed, and where the event leaves no subscription that reads the image.
 pub fn logs_close_exactly()
     ensures { LogsCloseExactly }
 {}
@@ -170,8 +185,9 @@ pub fn closed_logs_were_there()
     ensures { ClosedLogsWereThere }
 {}
 
-/// A reload puts its policy in force under the next number and leaves all lists as they are: the pairs go that the old
-/// policy allowed and the new one does not, and those come that it gains. A reload that is refused closes nothing.
+/// A reload puts its policy in force under the next number and leaves all lists as they are, but for the images that none
+/// reads any more, which close: the pairs go that the old policy allowed and the new one does not, and those come that it
+/// gains. A reload that is refused closes nothing.
 pub fn reloads_close_exactly()
     ensures { ReloadsCloseExactly }
 {}
@@ -187,8 +203,8 @@ pub fn refusals_change_no_more_than_moments()
     ensures { RefusalsChangeNoMoreThanMoments }
 {}
 
-/// In a registry that was opened with sound settings, all logs are those of publications, have sound sizes, are numbered in
-/// the order in which they came, and share no page, whatever happened.
+/// In a registry that was opened with sound settings, all logs have sound sizes, are numbered in the order in which they
+/// came, and share no page, and each image begins at a sound position, whatever happened.
 pub fn registries_are_sound()
     ensures { RegistriesAreSound }
 {}

@@ -3,7 +3,9 @@ use Rattle.std.specs.Prelude.{ℕ, ◌+◌, ◌/◌, ◌%◌, ℤ, List, [], ◌
 use Rattle.std.specs.Fmt.{decimal, signed_decimal}
 use Rattle.std.specs.List.{flat_map}
 use Rattle.driver_script.specs.declared.answers.AnswerLine.{AnswerLine}
-use Rattle.driver_script.specs.declared.answers.AnswerLine.TheVariants.{Attached, Full, Stopped, PolicyInForce, PolicyFull, PolicyRefused, Reply, Offer, Poll, Fragment, Gone, List as Lists, Counter, Value, Denied, UnknownCounter, WrongClient, NoMemory, BadLine}
+use Rattle.driver_script.specs.declared.answers.AnswerLine.TheVariants.{Attached, Full, Stopped, PolicyInForce, PolicyFull, Setup, Dropped, PolicyRefused, Reply, Offer, Poll, Fragment, Gone, List as Lists, Counter, Value, Denied, UnknownCounter, WrongClient, NoMemory, BadLine}
+use Rattle.driver_core.specs.declared.setup_fault.SetupFault.{SetupFault}
+use Rattle.driver_core.specs.declared.setup_fault.SetupFault.TheVariants as fault
 use Rattle.driver_world.specs.declared.answer.Offered.{Offered}
 use Rattle.driver_world.specs.declared.answer.Offered.TheVariants as offered
 use Rattle.frame_codec.specs.declared.flags.Flags.{Flags}
@@ -85,6 +87,22 @@ value_line value = codes "value " ++ (signed_decimal value ++ codes "\n")
 abbrev pub denial_line : Verdict → List ℕ
 denial_line verdict = verdict_text verdict ++ codes "\n"
 
+-- why a SETUP makes no image
+abbrev pub cause_text : SetupFault → List ℕ
+cause_text fault.BadSetup = codes "bad-setup"
+cause_text fault.Exists = codes "exists"
+cause_text fault.NoSubscription = codes "no-subscription"
+cause_text (fault.Denied verdict) = verdict_text verdict
+cause_text fault.Full = codes "full"
+cause_text fault.NoRoom = codes "no-room"
+
+abbrev pub dropped_line : SetupFault → List ℕ
+dropped_line fault = codes "dropped " ++ (cause_text fault ++ codes "\n")
+
+-- an image that comes, by its source number
+abbrev pub setup_line : ℕ → List ℕ
+setup_line source = numbered_line (codes "setup ") source
+
 -- a line that is none of a script
 abbrev pub bad_line : ℕ → List ℕ
 bad_line number = codes "line " ++ (decimal number ++ codes ": bad line\n")
@@ -96,6 +114,8 @@ line_text Full = codes "full\n"
 line_text Stopped = codes "stopped\n"
 line_text (PolicyInForce epoch) = policy_line epoch
 line_text PolicyFull = codes "policy refused: full\n"
+line_text (Setup source) = setup_line source
+line_text (Dropped fault) = dropped_line fault
 line_text (PolicyRefused fault) = refusal_line fault
 line_text (Reply client bytes) = reply_text client bytes.now
 line_text (Offer answer) = offer_line answer

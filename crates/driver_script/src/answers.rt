@@ -1,5 +1,6 @@
 ghost use Rattle.std.specs.Prelude.{Some};
 
+use driver_core::SetupFault;
 use driver_world::Offered;
 use frame_codec::Flags;
 use policy_core::Verdict;
@@ -127,6 +128,42 @@ impl fmt::Display for DenialLine {
     }
 }
 
+/// Why a SETUP makes no image.
+#[derive(Clone, Copy)]
+struct Cause(SetupFault);
+
+impl fmt::Display for Cause {
+    ghost use Rattle.driver_script.specs.Answers.{cause_text};
+
+    ghost output = { λ cause. Some (cause_text cause.0) };
+
+    fn fmt<W: fmt::Write>(&self, f: &mut fmt::Formatter<W>) -> fmt::Result {
+        match self.0 {
+            SetupFault::BadSetup => f.write_str("bad-setup"),
+            SetupFault::Exists => f.write_str("exists"),
+            SetupFault::NoSubscription => f.write_str("no-subscription"),
+            SetupFault::Denied(verdict) => verdict.fmt(f),
+            SetupFault::Full => f.write_str("full"),
+            SetupFault::NoRoom => f.write_str("no-room"),
+        }
+    }
+}
+
+/// The line of a SETUP that makes no image.
+#[derive(Clone, Copy)]
+struct DroppedLine(SetupFault);
+
+impl fmt::Display for DroppedLine {
+    ghost use Rattle.driver_script.specs.Answers.{dropped_line};
+
+    ghost output = { λ line. Some (dropped_line line.0) };
+
+    fn fmt<W: fmt::Write>(&self, f: &mut fmt::Formatter<W>) -> fmt::Result {
+        let cause = Cause(self.0);
+        writeln!(f, "dropped {cause}")
+    }
+}
+
 /// The line that says which line is bad.
 #[derive(Clone, Copy)]
 struct BadLine(u64);
@@ -219,6 +256,10 @@ pub enum AnswerLine<'a> {
     PolicyInForce(u64),
     /// A limit of the driver would be broken under the policy, which is not in force.
     PolicyFull,
+    /// An image comes, by its source number.
+    Setup(u64),
+    /// A SETUP makes no image.
+    Dropped(SetupFault),
     /// The text is no policy, and the one before stays in force.
     PolicyRefused(PolicyFault),
     /// This client gets a reply.
@@ -275,6 +316,8 @@ impl fmt::Display for AnswerLine<'_> {
             AnswerLine::Stopped => f.write_str("stopped\n"),
             AnswerLine::PolicyInForce(epoch) => Numbered("policy ", epoch).fmt(f),
             AnswerLine::PolicyFull => f.write_str("policy refused: full\n"),
+            AnswerLine::Setup(source) => Numbered("setup ", source).fmt(f),
+            AnswerLine::Dropped(fault) => DroppedLine(fault).fmt(f),
             AnswerLine::PolicyRefused(fault) => RefusalLine(fault).fmt(f),
             AnswerLine::Reply { client, bytes } => ReplyLine { client, bytes }.fmt(f),
             AnswerLine::Offer(offered) => OfferLine(offered).fmt(f),

@@ -1,6 +1,6 @@
 ghost use Rattle.driver_core.specs.Replies.{layout_of};
 ghost use Rattle.command_codec.specs.Reply.{reply_bytes};
-ghost use Rattle.driver_script.specs.Answers.{line_text, list_line, policy_line, poll_line};
+ghost use Rattle.driver_script.specs.Answers.{line_text, list_line, policy_line, poll_line, setup_line};
 ghost use Rattle.driver_script.specs.Ends.{OfAnswering, OfRunning};
 ghost use Rattle.driver_script.specs.Output.{AppendsFront};
 ghost use Rattle.driver_script.specs.Script.{message_text, counter_text, fragment_text, answer_text, told_text, ended_text, no_preface};
@@ -135,6 +135,16 @@ fn text_of_policy(alloc: Global, epoch: u64, replies: &[Message]) -> Result<Stri
     Ok(text)
 }
 
+/// The text of an image that comes, and of the replies to it.
+#[tactic(auto, unfolding(crate::specs::Answers::line_text))]
+fn text_of_image(alloc: Global, source: u64, replies: &[Message]) -> Result<String, AllocError>
+    ensures { IfOk result (λ text. string_bytes text ≡ setup_line source ++ flat_map message_text replies.now) }
+{
+    let mut text = text_of_line(alloc, AnswerLine::Setup(source))?;
+    push_messages(&mut text, alloc, replies)?;
+    Ok(text)
+}
+
 /// The text of a poll and its fragments.
 #[tactic(auto, unfolding(crate::specs::Answers::line_text))]
 fn text_of_poll(alloc: Global, fragments: &[Fragment]) -> Result<String, AllocError>
@@ -169,6 +179,8 @@ fn text_of(alloc: Global, answer: &Answer) -> Result<String, AllocError>
             text_of_policy(alloc, *epoch, replies.as_slice())
         }
         Answer::PolicyFull => text_of_line(alloc, AnswerLine::PolicyFull),
+        Answer::Imaged { source, replies } => text_of_image(alloc, *source, replies.as_slice()),
+        Answer::Dropped(fault) => text_of_line(alloc, AnswerLine::Dropped(*fault)),
         Answer::Replies(messages) => text_of_replies(alloc, messages.as_slice()),
         Answer::Offered(offered) => text_of_line(alloc, AnswerLine::Offer(*offered)),
         Answer::Polled(fragments) => text_of_poll(alloc, fragments.as_slice()),

@@ -3,6 +3,7 @@ use crate::play::is_shown;
 use driver_script::answers::AnswerLine;
 use driver_script::output::write_whole;
 use driver_script::{MayFail, RunFault, read_input};
+use driver_core::SetupFault;
 use driver_world::Offered;
 use frame_codec::Flags;
 use policy_core::Verdict;
@@ -188,12 +189,18 @@ fn are_shown(alloc: Global, rows: &[(AnswerLine<'_>, &str)]) -> bool {
     true
 }
 
-const ANSWERS: [(AnswerLine<'static>, &str); 28] = [
+const ANSWERS: [(AnswerLine<'static>, &str); 34] = [
     (AnswerLine::Attached(1), "attached 1\n"),
     (AnswerLine::Full, "full\n"),
     (AnswerLine::Stopped, "stopped\n"),
     (AnswerLine::PolicyInForce(2), "policy 2\n"),
     (AnswerLine::PolicyFull, "policy refused: full\n"),
+    (AnswerLine::Setup(2), "setup 2\n"),
+    (AnswerLine::Dropped(SetupFault::BadSetup), "dropped bad-setup\n"),
+    (AnswerLine::Dropped(SetupFault::Exists), "dropped exists\n"),
+    (AnswerLine::Dropped(SetupFault::NoSubscription), "dropped no-subscription\n"),
+    (AnswerLine::Dropped(SetupFault::Full), "dropped full\n"),
+    (AnswerLine::Dropped(SetupFault::NoRoom), "dropped no-room\n"),
     (
         AnswerLine::PolicyRefused(PolicyFault::BadRange { rule: 3 }),
         "policy refused: rule 3: bad range\n",

@@ -1,8 +1,7 @@
 -- Offers and polls are granted exactly where the policy in force allows them.
 use Rattle.std.proofs.Common.{◌≡◌, ℕ, ◌==◌, ◌&&◌, ◌||◌, not, nat_lt, Bool, true, false, cond, List, [], ◌∷◌, length, map, filter, Option, Some, None, refl, sym, ap, subst, ◌∙◌}
 use Rattle.std.specs.List.{All, list_any}
-use Rattle.std.proofs.lemmas.Bool.{cond_both, eq-eqb, ne_eqb}
-use Rattle.std.proofs.lemmas.List.Elements.{All-nil, All-cons}
+use Rattle.std.proofs.lemmas.Bool.{cond_both, eq-eqb, eqb-true, ne_eqb}
 use Rattle.any_log.specs.Held.{Made, for_publication, for_stream}
 use Rattle.any_log.specs.Whole.{AnyWhole, whole, rebuilt, made_for as made_any, position_in, readers_in}
 use Rattle.any_log.proofs.AnyLemmas.{reader_stands}
@@ -10,7 +9,7 @@ use Rattle.driver_core.specs.declared.log_request.LogRequest.{LogRequest}
 use Rattle.driver_core.specs.declared.settings.Settings.{Settings}
 use Rattle.driver_core.specs.LogRequests.{offering_of, offered_by, receiving_of, received_on, registration_at, has_pair, row_decision}
 use Rattle.driver_core.specs.Pairs.{pairs_of}
-use Rattle.driver_core.specs.Renewal.{subscription_at}
+use Rattle.driver_core.specs.Renewal.{source_at, subscription_at}
 use Rattle.driver_core.specs.State.{State}
 use Rattle.driver_core.proofs.VerdictLemmas.{by_policy}
 use Rattle.client_registry.specs.declared.client.Client.{Client}
@@ -21,18 +20,21 @@ use Rattle.driver_world.specs.declared.answer.Offered.TheVariants.{Closed, TooLo
 use Rattle.driver_world.specs.declared.step.Step.TheVariants.{Offer, Poll}
 use Rattle.driver_world.specs.Ends.{RunEnd, Moved, log_at, with_log, moved_on, on_log, on_offered, moved}
 use Rattle.driver_core.specs.Readers.{readers_of}
-use Rattle.driver_world.specs.Idents.{ident_of}
+use Rattle.driver_world.specs.Idents.{made_by, made_of}
 use Rattle.driver_world.specs.Laws.{made_for, made_as, LogsFollow, OfferRequest, AsksToOffer, offer_question, stays, taken_by_log, let_through, OfferIsDecided, OffersAreDecided, OffersAreGrantedExactly, PollRequest, AsksToPoll, poll_question, given_by_log, PollIsDecided, PollsAreDecided, PollsAreGrantedExactly}
 use Rattle.driver_world.specs.Moves.{WholeLog, Move, answered, taken, given, offer_let, offer_to, offer_under, offer_move, poll_under, poll_move}
 use Rattle.driver_world.proofs.FoundLemmas.{found_holds, found_source, with_same}
 use Rattle.driver_world.proofs.FollowLemmas.{logs_follow}
+use Rattle.driver_world.proofs.RegisteredLemmas.{ends_registered, registered_publication}
+use Rattle.driver_world.specs.Registered.{AreRegistered}
 use Rattle.policy_core.specs.declared.act.Act.TheVariants.{Offer as ToOffer, Receive}
 use Rattle.stream_registry.specs.declared.pairs.Pair.{Pair}
 use Rattle.stream_registry.specs.declared.row.Subscription.{Subscription}
-use Rattle.stream_registry.specs.Origins.{is_published}
 use Rattle.stream_registry.specs.Pairs.{is_of}
+use Rattle.stream_registry.specs.declared.row.Origin.{Origin}
+use Rattle.stream_registry.specs.declared.row.Origin.TheVariants.{Published, Remote}
 use Rattle.stream_registry.specs.declared.row.Source.{Source}
-use Rattle.term_log.specs.declared.ident.Ident.{Ident}
+use Rattle.stream_registry.specs.Origins.{is_published, is_published_by}
 use Rattle.term_log.specs.Log.{greatest_message}
 use Rattle.term_log.specs.Whole.{Whole, is_connected}
 
@@ -139,8 +141,11 @@ appended_for : (w : AnyWhole) → IsForPublication (made_any w) → (frames : Wh
 appended_for (whole frames) is = (frames, refl)
 appended_for (rebuilt frames) is = absurd is
 
-is_appended : (w : AnyWhole) (ident : Ident) → made_any w ≡ for_publication ident → (frames : Whole) × (w ≡ whole frames)
-is_appended w ident is = appended_for w (subst IsForPublication (sym is) tt)
+-- what a publication's log is made for
+published_made : (settings : Settings) (log : Source) (origin : Origin) → is_published_by origin ≡ true →
+    IsForPublication (made_by settings log origin)
+published_made settings log (Published exclusive since) is = tt
+published_made settings log (Remote address initial_term join) is = absurd (cc is)
 
 first_of : {X : Type 0} → X → List X → X
 first_of other [] = other
@@ -150,28 +155,71 @@ rest_of : {X : Type 0} → List X → List X
 rest_of [] = []
 rest_of (x ∷ xs) = xs
 
--- so is each that is made for a publication
-all_appended : (settings : Settings) (logs : List WholeLog) (publications : List Source) →
-    map made_for logs ≡ map (made_as settings) publications → All IsAppended logs
-unfolding first_of rest_of
-all_appended settings [] publications is = All-nil IsAppended
-all_appended settings (log ∷ logs) [] is = absurd (cc is)
-all_appended settings (log ∷ logs) (publication ∷ publications) is =
-    let first : made_for log ≡ made_as settings publication = ap (first_of (made_for log)) is in
-    let rest : map made_for logs ≡ map (made_as settings) publications = ap rest_of is in
-    All-cons IsAppended log logs (is_appended log.whole (ident_of settings publication) (ap (λ (made : ℕ × Made). made.1) first))
-    (all_appended settings logs publications rest)
+-- the log that is found is made for what the source is of which it is
+made_by_cond : (settings : Settings) (b : Bool) (first log : WholeLog) (source publication : Source) (logs : Option WholeLog) (sources : Option Source) →
+    made_any first.whole ≡ made_of settings source →
+    (logs ≡ Some log → sources ≡ Some publication → made_any log.whole ≡ made_of settings publication) →
+    cond b (Some first) logs ≡ Some log → cond b (Some source) sources ≡ Some publication →
+    made_any log.whole ≡ made_of settings publication
+made_by_cond settings true first log source publication logs sources made rest found is =
+    let same_log : first ≡ log = cc in
+    let same_source : source ≡ publication = cc in
+    ap (λ (l : WholeLog). made_any l.whole) (sym same_log) ∙ made ∙ ap (made_of settings) same_source
+made_by_cond settings false first log source publication logs sources made rest found is = rest found is
 
-offer_there : (e : RunEnd) → LogsFollow e →
+made_at : (settings : Settings) (logs : List WholeLog) (sources : List Source) (number : ℕ) (log : WholeLog) (publication : Source) →
+    map made_for logs ≡ map (made_as settings) sources → log_at logs number ≡ Some log →
+    source_at sources number ≡ Some publication → made_any log.whole ≡ made_of settings publication
+unfolding first_of rest_of
+made_at settings [] sources number log publication made found is = absurd (cc found)
+made_at settings (first ∷ logs) [] number log publication made found is = absurd (cc is)
+made_at settings (first ∷ logs) (source ∷ sources) number log publication made found is =
+    let both : made_for first ≡ made_as settings source = ap (first_of (made_for first)) made in
+    let same : first.source ≡ source.number = ap (λ (m : ℕ × Made). m.0) both in
+    let others : map made_for logs ≡ map (made_as settings) sources = ap rest_of made in
+    made_by_cond settings (first.source == number) first log source publication (log_at logs number) (source_at sources number)
+    (ap (λ (m : ℕ × Made). m.1) both) (made_at settings logs sources number log publication others) found
+    (ap (λ (n : ℕ). cond (n == number) (Some source) (source_at sources number)) same ∙ is)
+
+found_number_by : (number : ℕ) (b : Bool) (first log : Source) (found : Option Source) → (first.number == number) ≡ b →
+    (found ≡ Some log → log.number ≡ number) → cond b (Some first) found ≡ Some log → log.number ≡ number
+found_number_by number true first log found same rest is =
+    let one : first ≡ log = cc in
+    ap (λ (l : Source). l.number) (sym one) ∙ eqb-true first.number number same
+found_number_by number false first log found same rest is = rest is
+
+found_number : (number : ℕ) (logs : List Source) (log : Source) → source_at logs number ≡ Some log → log.number ≡ number
+found_number number [] log is = absurd (cc)
+found_number number (first ∷ logs) log is =
+    found_number_by number (first.number == number) first log (source_at logs number) refl (found_number number logs log) is
+
+-- the log of a registration is one of frames that were appended
+registered_appended : (e : RunEnd) → LogsFollow e → AreRegistered e.registry → (handle number : ℕ) (request : OfferRequest) (log : WholeLog) →
+    AsksToOffer e.registry handle number request → log_at e.logs request.publication.number ≡ Some log → IsAppended log
+registered_appended e follows registered handle number request log asks found =
+    let settings : Settings = e.registry.settings in
+    let publication : Source = request.publication in
+    let same : publication.number ≡ request.registration.source =
+    found_number request.registration.source e.registry.streams.sources publication asks.publication_is in
+    let is : source_at e.registry.streams.sources publication.number ≡ Some publication =
+    ap (source_at e.registry.streams.sources) same ∙ asks.publication_is in
+    let made : made_any log.whole ≡ made_of settings publication =
+    made_at settings e.logs e.registry.streams.sources publication.number log publication follows.made found is in
+    let published : is_published publication ≡ true =
+    registered_publication e.registry handle number request.registration publication registered asks.registration_is
+    asks.publication_is in
+    appended_for log.whole
+    (subst IsForPublication (sym made) (published_made settings publication publication.origin published))
+
+offer_there : (e : RunEnd) → LogsFollow e → AreRegistered e.registry →
     (now handle number : ℕ) (message : List ℕ) (request : OfferRequest) (log : WholeLog) →
     AsksToOffer e.registry handle number request → log_at e.logs request.publication.number ≡ Some log →
     (frames : Whole)
     × (log.whole ≡ whole frames)
     × OfferIsDecided e now message request log frames (moved e (Offer now handle number message))
-offer_there e follows now handle number message request log asks found =
+offer_there e follows registered now handle number message request log asks found =
     let asked : LogRequest = asked_by e.registry request in
-    let of = found_holds IsAppended request.publication.number log e.logs
-    (all_appended e.registry.settings e.logs (filter is_published e.registry.streams.sources) follows.made) found in
+    let of = registered_appended e follows registered handle number request log asks found in
     let is = offer_is e now handle number message asked log (offering_is e.registry handle number request asks) found in (
       of.0,
       of.1,
@@ -192,9 +240,9 @@ unfolding offering_of
 offering_none s handle number none =
     ap (offered_by s (client_at s.clients.rows handle)) none ∙ no_registration s (client_at s.clients.rows handle)
 
-offers_decided : (e : RunEnd) → LogsFollow e → OffersAreDecided e
-offers_decided e follows = record {
-  there = offer_there e follows;
+offers_decided : (e : RunEnd) → LogsFollow e → AreRegistered e.registry → OffersAreDecided e
+offers_decided e follows registered = record {
+  there = offer_there e follows registered;
   unregistered = λ now handle number message none.
       ap (on_offered e now handle number message) (offering_none e.registry handle number none);
 }
@@ -202,6 +250,7 @@ offers_decided e follows = record {
 pub offers_exactly : OffersAreGrantedExactly
 offers_exactly settings policy peers steps answers sound are =
     offers_decided _ (logs_follow settings policy peers steps answers sound are)
+    (ends_registered settings policy peers steps answers sound are)
 
 -- ---- a poll
 

@@ -10,7 +10,7 @@ use Rattle.driver_core.specs.Listing.{list, value}
 use Rattle.driver_core.specs.LogRequests.{offering_of}
 use Rattle.driver_core.specs.State.{State, opened}
 use Rattle.driver_world.specs.declared.answer.Answer.{Answer}
-use Rattle.driver_world.specs.declared.answer.Answer.TheVariants.{NoMemory, Attached, Full, Stopped, PolicyInForce, PolicyFull, Replies, Offered as OfferedAs, Polled, Gone as IsGone, Counters, Value as ValueIs, Denied, UnknownCounter, WrongClient}
+use Rattle.driver_world.specs.declared.answer.Answer.TheVariants.{NoMemory, Attached, Full, Stopped, PolicyInForce, PolicyFull, Imaged, Dropped, Replies, Offered as OfferedAs, Polled, Gone as IsGone, Counters, Value as ValueIs, Denied, UnknownCounter, WrongClient}
 use Rattle.driver_world.specs.declared.answer.Offered.TheVariants.{Closed}
 use Rattle.driver_world.specs.declared.step.Step.{Step}
 use Rattle.driver_world.specs.declared.step.Step.TheVariants.{Conductor, Offer, Poll, List as Lists, Value}
@@ -31,6 +31,8 @@ after_both P e step Full same moves = moves
 after_both P e step Stopped same moves = moves
 after_both P e step (PolicyInForce epoch replies) same moves = moves
 after_both P e step PolicyFull same moves = moves
+after_both P e step (Imaged number replies) same moves = moves
+after_both P e step (Dropped fault) same moves = moves
 after_both P e step (Replies replies) same moves = moves
 after_both P e step (OfferedAs offered) same moves = moves
 after_both P e step (Polled fragments) same moves = moves
@@ -91,6 +93,8 @@ step_takes e step Full = moved_takes e step
 step_takes e step Stopped = moved_takes e step
 step_takes e step (PolicyInForce epoch replies) = moved_takes e step
 step_takes e step PolicyFull = moved_takes e step
+step_takes e step (Imaged number replies) = moved_takes e step
+step_takes e step (Dropped fault) = moved_takes e step
 step_takes e step (Replies replies) = moved_takes e step
 step_takes e step (OfferedAs offered) = moved_takes e step
 step_takes e step (Polled fragments) = moved_takes e step
@@ -128,6 +132,8 @@ answered_told e step Full is = is
 answered_told e step Stopped is = is
 answered_told e step (PolicyInForce epoch replies) is = is
 answered_told e step PolicyFull is = is
+answered_told e step (Imaged number replies) is = is
+answered_told e step (Dropped fault) is = is
 answered_told e step (Replies replies) is = is
 answered_told e step (OfferedAs offered) is = is
 answered_told e step (Polled fragments) is = is
@@ -143,7 +149,7 @@ unfolding conducted
 end_takes e s is = record {
   leaves = is;
   tells = λ event answer answered.
-      subst (λ (t : State). IsTold answer (answer_of (outcome_of t event (inputs_of e.logs)))) is
+      subst (λ (t : State). IsTold answer (answer_of (outcome_of t event (inputs_of e.registry event e.logs)))) is
       (answered_told e (Conductor event) answer answered);
   lists = λ now client answer answered.
       subst (λ (t : State). IsTold answer (answer_listed (list t client))) is

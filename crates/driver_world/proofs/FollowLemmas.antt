@@ -1,4 +1,4 @@
--- At the end of every run the open logs are those of the live publications, and exactly those subscriptions read them that
+-- At the end of every run the open logs are the live ones, and exactly those subscriptions read them that
 -- the registry says.
 use Rattle.std.proofs.Common.{◌≡◌, ℕ, ◌==◌, not, nat_lt, Bool, true, false, cond, List, [], ◌∷◌, ◌++◌, length, map, filter, Option, Some, None, option_map, unwrap_or, refl, sym, ap, ap₂, subst, ◌∙◌}
 use Rattle.std.specs.List.{All}
@@ -9,6 +9,7 @@ use Rattle.any_log.specs.Held.{Made}
 use Rattle.any_log.specs.Whole.{AnyWhole, whole, rebuilt, made_for as made_any, position_in, readers_in}
 use Rattle.any_log.proofs.AnyLemmas.{polled_made, polled_readers, rejoined_made as any_made, rejoined_readers as any_readers}
 use Rattle.driver_core.specs.Change.{Change}
+use Rattle.driver_core.specs.declared.event.Inputs.{Inputs}
 use Rattle.driver_core.specs.declared.log_request.LogRequest.{LogRequest}
 use Rattle.driver_core.specs.declared.peer.Peer.{Peer}
 use Rattle.driver_core.specs.declared.settings.Settings.{Settings}
@@ -16,9 +17,8 @@ use Rattle.driver_core.specs.Conduct.{conduct}
 use Rattle.driver_core.specs.LogRequests.{offering_of, receiving_of}
 use Rattle.driver_core.specs.Pairs.{pairs_of}
 use Rattle.driver_core.specs.Renewal.{source_at}
-use Rattle.driver_core.specs.Soundness.{AreSettings, IsSound, MovesLogs, Opens, is_left, log_of}
+use Rattle.driver_core.specs.Soundness.{AreSettings, IsSound, MovesLogs, Opens, log_of}
 use Rattle.driver_core.specs.State.{State, opened}
-use Rattle.driver_core.proofs.LogListLemmas.{all_published}
 use Rattle.driver_core.proofs.SoundnessLemmas.{moves_logs, registries_sound}
 use Rattle.driver_world.specs.declared.answer.Answer.{Answer}
 use Rattle.driver_world.specs.declared.answer.Answer.TheVariants.{Offered as OfferedAs, Gone as IsGone}
@@ -32,13 +32,13 @@ use Rattle.driver_world.specs.Laws.{AtEachEnd, made_for, made_as, LogsFollow, Lo
 use Rattle.driver_world.specs.Moves.{WholeLog, Move, taken, offer_to, offer_under, offer_move, given, poll_under, poll_move}
 use Rattle.driver_world.proofs.EndLemmas.{run_keeps}
 use Rattle.driver_world.proofs.LiveLemmas.{found_log, all_with}
-use Rattle.driver_world.proofs.MatchLemmas.{kept_mapped, opened_found}
+use Rattle.driver_world.proofs.MatchLemmas.{begins_made, kept_mapped, made_as_log, opened_found}
+use Rattle.log_readers.specs.Unread.{is_left}
 use Rattle.policy_core.specs.declared.verdict.Verdict.{Verdict}
 use Rattle.policy_core.specs.RuleList.{Rules}
 use Rattle.stream_registry.specs.declared.lingering.LogPlace.{LogPlace}
 use Rattle.stream_registry.specs.declared.pairs.Pair.{Pair}
 use Rattle.stream_registry.specs.declared.row.Source.{Source}
-use Rattle.stream_registry.specs.Origins.{is_published}
 use Rattle.term_log.specs.Log.{greatest_message}
 use Rattle.term_log.specs.Whole.{Whole, is_connected, offered}
 
@@ -56,8 +56,10 @@ IsRead pairs log = readers_in log.whole ≡ readers_of pairs log.source
 begun_made : (s : State) (found : Option Source) (log : Source) → option_map log_of found ≡ Some log →
     map made_for (begun s found) ≡ made_as s.settings log ∷ []
 begun_made s None log is = absurd (cc)
-begun_made s (Some publication) log is =
-    ap (λ (o : Option Source). made_as s.settings (unwrap_or o log) ∷ []) is
+begun_made s (Some found) log is =
+    ap (λ (made : Made). (found.number, made) ∷ [])
+    (begins_made s.settings s.moment found found.origin ∙ sym (made_as_log s.settings found))
+    ∙ ap (λ (o : Option Source). made_as s.settings (unwrap_or o log) ∷ []) is
 
 opened_made : (s : State) (change : Change) (opens : Option LogPlace) → (moves : MovesLogs s change) →
     Opens s opens moves.opened →
@@ -89,7 +91,8 @@ made_as_logs : (settings : Settings) (logs : List Source) →
     map (made_as settings) (map log_of logs) ≡ map (made_as settings) logs
 made_as_logs settings [] = refl
 made_as_logs settings (log ∷ logs) =
-    ap (λ (made : List (ℕ × Made)). made_as settings log ∷ made) (made_as_logs settings logs)
+    ap₂ (λ (made : Made) (others : List (ℕ × Made)). (log.number, made) ∷ others) (made_as_log settings log)
+    (made_as_logs settings logs)
 
 made_after : (s : State) (change : Change) (logs : List WholeLog) → MovesLogs s change →
     map made_for logs ≡ map (made_as s.settings) s.streams.sources →
@@ -128,19 +131,14 @@ rejoined_read pairs (log ∷ logs) =
     All-cons (IsRead pairs) (rejoined_log pairs log) (map (rejoined_log pairs) logs)
     (any_readers (readers_of pairs log.source) log.whole) (rejoined_read pairs logs)
 
-made_for_all : (settings : Settings) (s : State) → IsSound s →
-    map (made_as settings) (filter is_published s.streams.sources) ≡ map (made_as settings) s.streams.sources
-made_for_all settings s sound = ap (map (made_as settings)) (all_published s.streams.sources sound.published)
-
-event_follows : (s : State) (change : Change) (logs : List WholeLog) → IsSound s → MovesLogs s change →
+event_follows : (s : State) (change : Change) (logs : List WholeLog) → MovesLogs s change →
     LogsFollow (record { registry = s; logs = logs }) →
     Follows (record { registry = change.after; logs = logs_after change logs })
 unfolding logs_after
-event_follows s change logs sound moves follow = record {
+event_follows s change logs moves follow = record {
   sound = moves.sound;
   logs = record {
-    made = made_after s change logs moves (follow.made ∙ made_for_all s.settings s sound)
-        ∙ sym (made_for_all change.after.settings change.after moves.sound);
+    made = made_after s change logs moves follow.made;
     apart = moves.sound.laid_out;
     read = rejoined_read (pairs_of change.after)
         (filter (stays_open change.outcome.closes) (logs ++ opened_for change.after change.outcome.opens));
@@ -264,8 +262,9 @@ poll_follows e client subscription source limit follows =
 step_follows : (e : RunEnd) (step : Step) → Follows e → Follows (moved e step).after
 unfolding conducted
 step_follows e (Conductor event) follows =
-    event_follows e.registry (conduct e.registry event (inputs_of e.logs)) e.logs follows.sound
-    (moves_logs e.registry event (inputs_of e.logs) follows.sound) follows.logs
+    let inputs : Inputs = inputs_of e.registry event e.logs in
+    event_follows e.registry (conduct e.registry event inputs) e.logs (moves_logs e.registry event inputs follows.sound)
+    follows.logs
 step_follows e (Offer now client registration message) follows =
     offer_follows e now client registration message (offering_of e.registry client registration) follows
 step_follows e (Poll now client subscription source limit) follows =

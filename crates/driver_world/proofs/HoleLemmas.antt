@@ -1,17 +1,15 @@
 -- The holes of the arena are the runs of pages that no live log has.
-use Rattle.std.proofs.Common.{◌≡◌, ℕ, ◌<◌, Bool, true, List, [], ◌∷◌, length, get_or, filter, map, refl, sym, ap, ap₂, ◌∙◌, arith}
+use Rattle.std.proofs.Common.{◌≡◌, ℕ, ◌<◌, Bool, true, List, [], ◌∷◌, length, get_or, map, refl, sym, ap, ap₂, ◌∙◌, arith}
 use Rattle.std.specs.List.{list_any, range_with_len}
 use Rattle.std.proofs.lemmas.List.{ext_get_or}
 use Rattle.std.proofs.lemmas.List.FromFn.{get_or-map-range_with_len, length-map-range_with_len}
 use Rattle.driver_core.specs.State.{State}
-use Rattle.driver_core.proofs.LogListLemmas.{all_published}
 use Rattle.driver_world.specs.Held.{HeldLogs, plots_of}
 use Rattle.driver_world.specs.Plots.{AreHoused, Plot, is_taken, taken_pages}
 use Rattle.driver_world.specs.Standing.{Match, pages_of_logs}
 use Rattle.driver_world.proofs.VacancyLemmas.{taken_held}
 use Rattle.log_arena.specs.Pages.{Region}
 use Rattle.stream_registry.specs.LogPages.{holds}
-use Rattle.stream_registry.specs.Origins.{is_published}
 
 -- a list of so many answers is the test of each number
 answers_are : (test : ℕ → Bool) (n : ℕ) (xs : List Bool) → length xs ≡ n → ((i : ℕ) → i < n → get_or xs i true ≡ test i)
@@ -35,8 +33,6 @@ same_tests f g (i ∷ numbers) same = ap₂ (λ b bs. b ∷ bs) (same i) (same_t
 pub taken_live : (s : State) (held : HeldLogs) → Match s held → taken_pages held.pages (plots_of held.logs) ≡ pages_of_logs s
 unfolding taken_pages pages_of_logs
 taken_live s held match =
-    let live : ℕ → Bool = λ page. list_any (λ publication. holds publication page) (filter is_published s.streams.sources) in
-    same_tests (is_taken (plots_of held.logs)) live (range_with_len 0 held.pages)
-    (λ page. taken_held s held page match
-    ∙ sym (ap (list_any (λ publication. holds publication page)) (all_published s.streams.sources match.sound.published)))
+    let live : ℕ → Bool = λ page. list_any (λ log. holds log page) s.streams.sources in
+    same_tests (is_taken (plots_of held.logs)) live (range_with_len 0 held.pages) (λ page. taken_held s held page match)
     ∙ ap (λ n. map live (range_with_len 0 n)) match.pages

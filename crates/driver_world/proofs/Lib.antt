@@ -1,3 +1,4 @@
+pub mod BringLemmas
 pub mod DecisionLemmas
 pub mod EndLemmas
 pub mod FollowLemmas
@@ -9,6 +10,7 @@ pub mod LiveLemmas
 pub mod MatchLemmas
 pub mod MoveLemmas
 pub mod ReaderLemmas
+pub mod RegisteredLemmas
 pub mod RunLemmas
 pub mod StandLemmas
 pub mod TakeLemmas

@@ -21,14 +21,14 @@ use Rattle.driver_core.specs.Renewal.{source_at}
 use Rattle.driver_core.specs.State.{State}
 use Rattle.driver_core.proofs.ListLemmas.{contains_none, only_one}
 use Rattle.driver_world.specs.declared.answer.Answer.{Answer}
-use Rattle.driver_world.specs.declared.answer.Answer.TheVariants.{NoMemory, Attached, Full, Stopped, PolicyInForce, PolicyFull, Replies, Offered as OfferedAs, Polled, Gone as IsGone, Counters, Value as ValueIs, Denied, UnknownCounter, WrongClient}
+use Rattle.driver_world.specs.declared.answer.Answer.TheVariants.{NoMemory, Attached, Full, Stopped, PolicyInForce, PolicyFull, Imaged, Dropped, Replies, Offered as OfferedAs, Polled, Gone as IsGone, Counters, Value as ValueIs, Denied, UnknownCounter, WrongClient}
 use Rattle.driver_world.specs.declared.answer.Offered.TheVariants.{At as PutAt, Closed}
 use Rattle.driver_world.specs.declared.step.Step.{Step}
 use Rattle.driver_world.specs.declared.step.Step.TheVariants.{Conductor, Offer as Offers, Poll as Polls, List as Lists, Value}
 use Rattle.driver_world.specs.Answers.{offered_as}
 use Rattle.driver_world.specs.Ends.{RunEnd, opening_end, inputs_of, begun, opened_for, stays_open, rejoined_log, logs_after, log_at, with_log, moved_on, on_log, on_offered, conducted, moved, after, IsAnswer, AreAnswers, end_of}
 use Rattle.driver_core.specs.Readers.{readers_of}
-use Rattle.driver_world.specs.Idents.{ident_of}
+use Rattle.driver_world.specs.Idents.{begins_by, begins_of}
 use Rattle.driver_world.specs.Laws.{frames_for, put_into, granted_by, granted_in, AreNext, AreNextWhole, AreNextIn, ComeFromLog, BytesComeFromTheLiveLog}
 use Rattle.driver_world.specs.Moves.{WholeLog, Move, answered, taken, offer_to, offer_under, offer_move, given, poll_under, poll_move}
 use Rattle.frame_codec.specs.declared.flags.Flags.{Flags}
@@ -38,6 +38,8 @@ use Rattle.policy_core.specs.declared.verdict.Verdict.{Verdict}
 use Rattle.policy_core.specs.RuleList.{Rules}
 use Rattle.stream_registry.specs.declared.lingering.LogPlace.{LogPlace}
 use Rattle.stream_registry.specs.declared.pairs.Pair.{Pair}
+use Rattle.stream_registry.specs.declared.row.Origin.{Origin}
+use Rattle.stream_registry.specs.declared.row.Origin.TheVariants.{Published, Remote}
 use Rattle.stream_registry.specs.declared.row.Source.{Source}
 use Rattle.term_log.specs.declared.ident.Ident.{Ident}
 use Rattle.term_log.specs.declared.offer.Offer.{Offer}
@@ -51,7 +53,7 @@ use Rattle.term_log.specs.PollLaws.{AreFragmentsOf}
 use Rattle.log_pairs.specs.Polling.{Fetched, Polled as Passed, behind as behind_all, fragments_of, passed}
 use Rattle.log_pairs.proofs.Pairing.{at_found, at_map, at_rejoined}
 use Rattle.term_log.specs.Polling.{polled_run}
-use Rattle.term_log.specs.Whole.{Whole, Poll, fresh, tail_of, answer_to, is_connected, offered, rejoined as term_rejoined, frames_behind, polled_from, polled, IsStart, AreStarts}
+use Rattle.term_log.specs.Whole.{Whole, Poll, tail_of, answer_to, is_connected, offered, rejoined as term_rejoined, frames_behind, polled_from, polled, IsStart, AreStarts}
 use Rattle.term_log.proofs.Held.{total_both}
 use Rattle.term_log.proofs.Polls.{Taken, behind_taken, taken as taken_from}
 use Rattle.term_log.proofs.Standing.{end_start, starts_more}
@@ -153,16 +155,21 @@ all_more granted more is logs owned = All-weaker (Owns granted) (Owns more) (own
 
 -- ---- one log
 
+-- a log begins without frames that were appended
+begins_owns : (granted : List Frame) (settings : Settings) (now : ℕ) (log : Source) (origin : Origin) →
+    OwnsAny granted (begins_by settings now log origin)
+begins_owns granted settings now log (Published exclusive since) = record {
+  read = tt;
+  owned = λ flags payload has. absurd (contains_none (fragment flags payload) has);
+}
+begins_owns granted settings now log (Remote address initial_term join) = tt
+
 begun_owns : (granted : ℕ → List Frame) (s : State) (o : Option Source) → All (Owns granted) (begun s o)
 begun_owns granted s None = All-nil (Owns granted)
-begun_owns granted s (Some publication) =
-    let frames : Whole = fresh (ident_of s.settings publication) in
-    let log : WholeLog = record { source = publication.number; whole = whole frames } in
-    let owns : OwnsFrames (granted publication.number) frames = record {
-      read = tt;
-      owned = λ flags payload has. absurd (contains_none (fragment flags payload) has);
-    } in
-    All-cons (Owns granted) log [] owns (All-nil (Owns granted))
+begun_owns granted s (Some log) =
+    let begins : WholeLog = record { source = log.number; whole = begins_of s.settings s.moment log } in
+    All-cons (Owns granted) begins [] (begins_owns (granted log.number) s.settings s.moment log log.origin)
+    (All-nil (Owns granted))
 
 opened_owns : (granted : ℕ → List Frame) (s : State) (o : Option LogPlace) → All (Owns granted) (opened_for s o)
 opened_owns granted s None = All-nil (Owns granted)
@@ -441,7 +448,7 @@ unfolding conducted on_log
 moved_owns granted e (Conductor event) owned =
     let step : Step = Conductor event in
     still_owns granted e step (moved e step).answer (moved e step).after.logs
-    (after_owns granted (conduct e.registry event (inputs_of e.logs)) e.logs owned)
+    (after_owns granted (conduct e.registry event (inputs_of e.registry event e.logs)) e.logs owned)
 moved_owns granted e (Offers now client registration message) owned =
     let step : Step = Offers now client registration message in
     let answer : Answer = (moved e step).answer in
@@ -477,6 +484,8 @@ step_owns granted e step Full is owned = told_owns granted e step _ is owned
 step_owns granted e step Stopped is owned = told_owns granted e step _ is owned
 step_owns granted e step (PolicyInForce epoch replies) is owned = told_owns granted e step _ is owned
 step_owns granted e step PolicyFull is owned = told_owns granted e step _ is owned
+step_owns granted e step (Imaged number replies) is owned = told_owns granted e step _ is owned
+step_owns granted e step (Dropped fault) is owned = told_owns granted e step _ is owned
 step_owns granted e step (Replies replies) is owned = told_owns granted e step _ is owned
 step_owns granted e step (OfferedAs offered') is owned = told_owns granted e step _ is owned
 step_owns granted e step (Polled fragments) is owned = told_owns granted e step _ is owned

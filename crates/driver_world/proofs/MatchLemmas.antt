@@ -1,31 +1,60 @@
--- The open logs are those of the live publications, after each event too.
+-- The open logs are the live ones, after each event too.
 use Rattle.std.proofs.Common.{◌≡◌, ℕ, ◌*◌, ◌<◌, ◌==◌, Bool, true, false, not, cond, List, [], ◌∷◌, ◌++◌, map, filter, Option, Some, None, refl, sym, ap, ap₂, subst, ◌∙◌, arith, append-nil, unwrap_or, option_map, All, IfSome}
 use Rattle.std.proofs.lemmas.Bool.{eq-eqb, ne_eqb}
 use Rattle.std.proofs.lemmas.List.{map-append}
 use Rattle.std.proofs.lemmas.List.Elements.{All-head, All-tail, filter-append}
 use Rattle.any_log.specs.declared.any_log.AnyLog.{AnyLog}
-use Rattle.any_log.specs.Held.{Made, for_publication, made_held, place_held}
-use Rattle.any_log.specs.Whole.{whole}
+use Rattle.any_log.specs.Held.{Made, made_held, place_held, terms_of}
+use Rattle.any_log.specs.Whole.{made_for}
 use Rattle.any_log.proofs.AnyLemmas.{made_stands, rejoined_lies}
 use Rattle.driver_core.specs.Change.{Change}
 use Rattle.driver_core.specs.Readers.{readers_of}
+use Rattle.driver_core.specs.declared.event.Event.{Event}
+use Rattle.driver_core.specs.declared.event.Event.TheVariants.{Attach, Command, Reload, Tick, Setup as SetUp}
 use Rattle.driver_core.specs.declared.settings.Settings.{Settings}
+use Rattle.frame_codec.specs.declared.join.Join.{Join}
+use Rattle.frame_codec.specs.Join.{join_of}
 use Rattle.driver_core.specs.Renewal.{source_at}
-use Rattle.driver_core.specs.Soundness.{AreSizes, Ascend, MovesLogs, Opens, is_left, log_of}
+use Rattle.driver_core.specs.Soundness.{AreSizes, Ascend, BeginsSoundly, MovesLogs, Opens, log_of}
 use Rattle.driver_core.specs.State.{State}
-use Rattle.driver_core.proofs.LogListLemmas.{all_published}
 use Rattle.driver_world.specs.Held.{HeldLog, HeldLogs, IsOpening, OpensFor, is_closed, is_kept, plot_on, plots_of, rejoined_held}
-use Rattle.driver_world.specs.Idents.{ident_of}
-use Rattle.driver_world.specs.Opening.{CanOpen, OpensNext}
+use Rattle.driver_world.specs.Idents.{begins_by, begins_of, made_by, made_of}
+use Rattle.driver_world.specs.Bringing.{Brings, BringsAt, image_terms, image_terms_by, terms_brought, terms_by}
+use Rattle.driver_world.specs.Opening.{CanOpen, IsMemoryFor, IsRoomFor, OpensNext, memory_of, room_by}
 use Rattle.driver_world.specs.Plots.{IsLeastVacant}
 use Rattle.driver_world.specs.Standing.{LogRow, Match, row_for, row_held, row_on}
-use Rattle.driver_world.proofs.VacancyLemmas.{least_held, rows_match}
+use Rattle.driver_world.proofs.VacancyLemmas.{least_held}
+use Rattle.log_readers.specs.Unread.{is_left}
 use Rattle.stream_registry.specs.declared.lingering.LogPlace.{LogPlace}
 use Rattle.stream_registry.specs.declared.pairs.Pair.{Pair}
+use Rattle.stream_registry.specs.declared.row.Origin.{Origin}
+use Rattle.stream_registry.specs.declared.row.Origin.TheVariants.{Published, Remote}
 use Rattle.stream_registry.specs.declared.row.Source.{Source}
+use Rattle.stream_registry.specs.Origins.{unlingering}
 use Rattle.stream_registry.specs.LogPages.{log_pages}
 use Rattle.stream_registry.specs.Lingering.{place_of}
-use Rattle.term_log.specs.Whole.{fresh}
+
+-- ---- what a log is made for
+
+made_unlingering : (settings : Settings) (log : Source) (origin : Origin)
+    → made_by settings (log_of log) (unlingering origin) ≡ made_by settings log origin
+made_unlingering settings log (Published exclusive since) = refl
+made_unlingering settings log (Remote address initial_term join) = refl
+
+-- whether it lingers or not
+pub made_as_log : (settings : Settings) (log : Source) → made_of settings (log_of log) ≡ made_of settings log
+made_as_log settings log = made_unlingering settings log log.origin
+
+-- a log begins made for that
+pub begins_made : (settings : Settings) (now : ℕ) (log : Source) (origin : Origin)
+    → made_for (begins_by settings now log origin) ≡ made_by settings log origin
+begins_made settings now log (Published exclusive since) = refl
+begins_made settings now log (Remote address initial_term join) = refl
+
+made_terms : (settings : Settings) (log : Source) (origin : Origin)
+    → terms_of (made_by settings log origin) ≡ log.measures.term_length
+made_terms settings log (Published exclusive since) = refl
+made_terms settings log (Remote address initial_term join) = refl
 
 -- ---- the log of a source
 
@@ -92,12 +121,15 @@ if_found P source (log ∷ logs) all =
     (if_found P source logs (All-tail P log logs all))
 
 is_opening : (held : HeldLogs) (found : Option Source) (log : Source) → option_map log_of found ≡ Some log
-    → IfSome found (λ publication. AreSizes publication.measures) → IsLeastVacant held.pages (plots_of held.logs) (log_pages log) log.place
-    → IsOpening held log.place found
-is_opening held None log is sizes least = tt
-is_opening held (Some publication) log is sizes least =
-    let same : log_of publication ≡ log = ap (λ (o : Option Source). unwrap_or o log) is in
-    (sizes, subst (λ (l : Source). IsLeastVacant held.pages (plots_of held.logs) (log_pages l) log.place) (sym same) least)
+    → IfSome found (λ there. AreSizes there.measures) → IfSome found BeginsSoundly
+    → IsLeastVacant held.pages (plots_of held.logs) (log_pages log) log.place → IsOpening held log.place found
+is_opening held None log is sizes begins least = tt
+is_opening held (Some there) log is sizes begins least =
+    let same : log_of there ≡ log = ap (λ (o : Option Source). unwrap_or o log) is in (
+      sizes,
+      begins,
+      subst (λ (l : Source). IsLeastVacant held.pages (plots_of held.logs) (log_pages l) log.place) (sym same) least,
+    )
 
 pub opening_fits : (s : State) (held : HeldLogs) (change : Change) (place : LogPlace) → Match s held → MovesLogs s change
     → change.outcome.opens ≡ Some place
@@ -108,18 +140,49 @@ opening_fits s held change place match moves opens =
     let found = opened_found s change log moves opened.1 in
     let fits : IsOpening held log.place (source_at change.after.streams.sources log.number) =
     is_opening held (source_at change.after.streams.sources log.number) log found
-    (if_found (λ publication. AreSizes publication.measures) log.number change.after.streams.sources moves.sound.sizes)
-    (least_held s held (log_pages log) log.place match opened.5 opened.6) in
+    (if_found (λ there. AreSizes there.measures) log.number change.after.streams.sources moves.sound.sizes)
+    (if_found BeginsSoundly log.number change.after.streams.sources moves.sound.begins)
+    (least_held s held (log_pages log) log.place match opened.4 opened.5) in
     subst (λ (p : LogPlace). IsOpening held p.place (source_at change.after.streams.sources p.source)) opened.2 fits
 
-can_open : (s : State) (held : HeldLogs) (change : Change) (opens : Option LogPlace) → Match s held → MovesLogs s change
-    → change.outcome.opens ≡ opens → CanOpen held change.after opens
-can_open s held change None match moves is = tt
-can_open s held change (Some place) match moves is = opening_fits s held change place match moves is
+-- of how many bytes an image is of terms of that length
+abbrev room_for : Option ℕ → Option ℕ
+room_for None = None
+room_for (Some terms) = Some (3 * terms)
 
-pub opens_fit : (s : State) (held : HeldLogs) (change : Change) → Match s held → MovesLogs s change
-    → CanOpen held change.after change.outcome.opens
-opens_fit s held change match moves = can_open s held change change.outcome.opens match moves refl
+room_of_join : (o : Option Join) → room_by o ≡ room_for (terms_by o)
+room_of_join None = refl
+room_of_join (Some join) = refl
+
+room_of_terms : (event : Event) → memory_of event ≡ room_for (terms_brought event)
+room_of_terms (Attach now principal) = refl
+room_of_terms (Command now client bytes) = refl
+room_of_terms (Reload now policy) = refl
+room_of_terms (Tick now) = refl
+room_of_terms (SetUp now local from setup) = room_of_join (join_of setup)
+
+room_fits : (room : Option ℕ) (terms : Option ℕ) (log : Source) (origin : Origin) → room ≡ room_for terms
+    → image_terms_by log.measures.term_length origin ≡ terms → IsRoomFor room log origin
+room_fits room terms log (Published exclusive since) room_is is = room_is ∙ ap room_for (sym is)
+room_fits room terms log (Remote address initial_term join) room_is is = room_is ∙ ap room_for (sym is)
+
+memory_fits : (event : Event) (found : Option Source) → IfSome found (λ log. image_terms log ≡ terms_brought event)
+    → IsMemoryFor (memory_of event) found
+memory_fits event None is = tt
+memory_fits event (Some log) is = room_fits (memory_of event) (terms_brought event) log log.origin (room_of_terms event) is
+
+can_open : (s : State) (held : HeldLogs) (event : Event) (change : Change) (opens : Option LogPlace) → Match s held
+    → MovesLogs s change → BringsAt event change.after.streams.sources opens → change.outcome.opens ≡ opens
+    → CanOpen held change.after event opens
+can_open s held event change None match moves brings is = tt
+can_open s held event change (Some place) match moves brings is = (
+  opening_fits s held change place match moves is,
+  memory_fits event (source_at change.after.streams.sources place.source) brings,
+)
+
+pub opens_fit : (s : State) (held : HeldLogs) (event : Event) (change : Change) → Match s held → MovesLogs s change
+    → Brings event change → CanOpen held change.after event change.outcome.opens
+opens_fit s held event change match moves brings = can_open s held event change change.outcome.opens match moves brings refl
 
 -- ---- the rows
 
@@ -145,7 +208,10 @@ rows_rejoined pairs (held ∷ logs) =
 
 rows_as_logs : (settings : Settings) (logs : List Source) → map (row_for settings) (map log_of logs) ≡ map (row_for settings) logs
 rows_as_logs settings [] = refl
-rows_as_logs settings (log ∷ logs) = ap (λ rows. row_for settings log ∷ rows) (rows_as_logs settings logs)
+rows_as_logs settings (log ∷ logs) =
+    ap₂ (λ (made : Made) (rows : List LogRow).
+    let row : LogRow = record { source = log.number; place = 4096 * log.place; term_length = log.measures.term_length; made = made } in row ∷ rows)
+    (made_as_log settings log) (rows_as_logs settings logs)
 
 -- ---- what opened
 
@@ -162,30 +228,35 @@ adds_none settings old new opened new_is none = record {
   rows = sym (ap (map (row_for settings)) none);
 }
 
-row_is : (settings : Settings) (place : ℕ) (publication log : Source) (l : AnyLog) → log_of publication ≡ log → place ≡ log.place
-    → made_held l ≡ for_publication (ident_of settings publication) → (place_held l).place ≡ 4096 * place
-    → (place_held l).term_length ≡ publication.measures.term_length
-    → row_held (record { source = publication.number; log = l }) ≡ row_for settings log
-row_is settings place publication log l same place_is made at terms =
+row_is : (settings : Settings) (place : ℕ) (found log : Source) (l : AnyLog) → log_of found ≡ log → place ≡ log.place
+    → made_held l ≡ made_of settings found → (place_held l).place ≡ 4096 * place
+    → (place_held l).term_length ≡ found.measures.term_length
+    → row_held (record { source = found.number; log = l }) ≡ row_for settings log
+row_is settings place found log l same place_is made at terms =
     let there : (place_held l).place ≡ 4096 * log.place = at ∙ ap (λ n. 4096 * n) place_is in
-    ap₂ (λ (p t : ℕ). let row : LogRow = record { source = publication.number; place = p; term_length = t; made = made_held l } in row) there terms
-    ∙ ap (λ (m : Made). let row : LogRow = record { source = publication.number; place = 4096 * log.place; term_length = publication.measures.term_length; made = m } in row) made
+    ap₂ (λ (p t : ℕ). let row : LogRow = record { source = found.number; place = p; term_length = t; made = made_held l } in row) there terms
+    ∙ ap (λ (m : Made). let row : LogRow = record { source = found.number; place = 4096 * log.place; term_length = found.measures.term_length; made = m } in row)
+    (made ∙ sym (made_as_log settings found))
     ∙ ap (λ (p : Source).
-    let row : LogRow = record { source = p.number; place = 4096 * log.place; term_length = p.measures.term_length; made = for_publication (ident_of settings p) } in row)
+    let row : LogRow = record { source = p.number; place = 4096 * log.place; term_length = p.measures.term_length; made = made_of settings p } in row)
     same
 
-adds_one : (settings : Settings) (old new : HeldLogs) (place : ℕ) (found : Option Source) (log : Source) (opened : List Source)
-    → option_map log_of found ≡ Some log → place ≡ log.place → opened ≡ log ∷ [] → OpensFor old new settings place found
-    → Adds settings old new opened
-adds_one settings old new place None log opened is place_is one opens = absurd (cc)
-adds_one settings old new place (Some publication) log opened is place_is one opens =
-    let same : log_of publication ≡ log = ap (λ (o : Option Source). unwrap_or o log) is in
+adds_one : (after : State) (old new : HeldLogs) (place : ℕ) (found : Option Source) (log : Source) (opened : List Source)
+    → option_map log_of found ≡ Some log → place ≡ log.place → opened ≡ log ∷ [] → OpensFor old new after place found
+    → Adds after.settings old new opened
+adds_one after old new place None log opened is place_is one opens = absurd (cc)
+adds_one after old new place (Some found) log opened is place_is one opens =
+    let settings : Settings = after.settings in
+    let same : log_of found ≡ log = ap (λ (o : Option Source). unwrap_or o log) is in
+    let made : made_for (begins_of settings after.moment found) ≡ made_of settings found =
+    begins_made settings after.moment found found.origin in
     record {
-      logs = record { source = publication.number; log = opens.log } ∷ [];
+      logs = record { source = found.number; log = opens.log } ∷ [];
       new_is = opens.new_is;
       rows = ap (λ (row : LogRow). row ∷ [])
-          (row_is settings place publication log opens.log same place_is
-          (made_stands opens.log (whole (fresh (ident_of settings publication))) opens.stands) opens.place_is opens.terms_are)
+          (row_is settings place found log opens.log same place_is
+          (made_stands opens.log (begins_of settings after.moment found) opens.stands ∙ made) opens.place_is
+          (opens.terms_are ∙ ap terms_of made ∙ made_terms settings found found.origin))
           ∙ sym (ap (map (row_for settings)) one);
     }
 
@@ -196,7 +267,7 @@ adds s held new change (Some place) moves opened is =
     let log : Source = opened.0 in
     let found = opened_found s change log moves opened.1 in
     let place_is : place_of log ≡ place = opened.2 in
-    adds_one change.after.settings held new place.place (source_at change.after.streams.sources place.source) log moves.opened
+    adds_one change.after held new place.place (source_at change.after.streams.sources place.source) log moves.opened
     (subst (λ (p : LogPlace). option_map log_of (source_at change.after.streams.sources p.source) ≡ Some log) place_is found)
     (sym (ap (λ (p : LogPlace). p.place) place_is)) opened.1 is
 
@@ -222,7 +293,7 @@ rows_after s held new change pairs match moves added =
     let closes : List LogPlace = change.outcome.closes in
     let logs : List Source = map log_of s.streams.sources in
     let rows : map row_held held.logs ≡ map (row_for settings) s.streams.sources =
-    rows_match s held match ∙ ap (λ (to : Settings). map (row_for to) s.streams.sources) (sym moves.settings) in
+    match.rows ∙ ap (λ (to : Settings). map (row_for to) s.streams.sources) (sym moves.settings) in
     let left : filter (is_left closes) (logs ++ moves.opened) ≡ map log_of change.after.streams.sources =
     filter-append (is_left closes) logs moves.opened
     ∙ ap (λ (opened : List Source). filter (is_left closes) logs ++ opened) moves.stays
@@ -242,6 +313,5 @@ matches_after s held new change pairs match moves is =
     record {
       sound = moves.sound;
       pages = ap (λ (h : HeldLogs). h.pages) added.new_is ∙ match.pages ∙ ap (λ (to : Settings). to.arena_pages) (sym moves.settings);
-      rows = rows_after s held new change pairs match moves added
-          ∙ sym (ap (map (row_for change.after.settings)) (all_published change.after.streams.sources moves.sound.published));
+      rows = rows_after s held new change pairs match moves added;
     }

@@ -11,7 +11,7 @@ use Rattle.driver_core.specs.declared.replies.Message.{Message}
 use Rattle.driver_core.specs.LogRequests.{offering_of, receiving_of}
 use Rattle.driver_core.specs.State.{State}
 use Rattle.driver_world.specs.declared.answer.Answer.{Answer}
-use Rattle.driver_world.specs.declared.answer.Answer.TheVariants.{NoMemory, Attached, Full, Stopped, PolicyInForce, PolicyFull, Replies, Offered as OfferedAs, Polled, Gone as IsGone, Counters, Value as ValueIs, Denied, UnknownCounter, WrongClient}
+use Rattle.driver_world.specs.declared.answer.Answer.TheVariants.{NoMemory, Attached, Full, Stopped, PolicyInForce, PolicyFull, Imaged, Dropped, Replies, Offered as OfferedAs, Polled, Gone as IsGone, Counters, Value as ValueIs, Denied, UnknownCounter, WrongClient}
 use Rattle.driver_world.specs.declared.answer.Offered.TheVariants.{Closed}
 use Rattle.driver_world.specs.declared.step.Step.{Step}
 use Rattle.driver_world.specs.declared.step.Step.TheVariants.{Conductor, Offer, Poll}
@@ -35,6 +35,8 @@ IsTold Full = Unit {0}
 IsTold Stopped = Unit {0}
 IsTold (PolicyInForce epoch messages) = Unit {0}
 IsTold PolicyFull = Unit {0}
+IsTold (Imaged number messages) = Unit {0}
+IsTold (Dropped fault) = Unit {0}
 IsTold (Replies messages) = Unit {0}
 IsTold (OfferedAs offered) = Unit {0}
 IsTold (Polled fragments) = Unit {0}
@@ -54,6 +56,8 @@ told e step Full is_told is = (is, refl)
 told e step Stopped is_told is = (is, refl)
 told e step (PolicyInForce epoch messages) is_told is = (is, refl)
 told e step PolicyFull is_told is = (is, refl)
+told e step (Imaged number messages) is_told is = (is, refl)
+told e step (Dropped fault) is_told is = (is, refl)
 told e step (Replies messages) is_told is = (is, refl)
 told e step (OfferedAs offered) is_told is = (is, refl)
 told e step (Polled fragments) is_told is = (is, refl)
@@ -72,6 +76,8 @@ told_has e step Full is_told = tt
 told_has e step Stopped is_told = tt
 told_has e step (PolicyInForce epoch messages) is_told = tt
 told_has e step PolicyFull is_told = tt
+told_has e step (Imaged number messages) is_told = tt
+told_has e step (Dropped fault) is_told = tt
 told_has e step (Replies messages) is_told = tt
 told_has e step (OfferedAs offered) is_told = tt
 told_has e step (Polled fragments) is_told = tt
@@ -106,6 +112,8 @@ answered_told response.Full replies = tt
 answered_told response.Stopped replies = tt
 answered_told (response.PolicyInForce epoch) replies = tt
 answered_told response.PolicyFull replies = tt
+answered_told (response.Imaged number) replies = tt
+answered_told (response.Dropped fault) replies = tt
 
 -- ---- an event, and want of memory
 

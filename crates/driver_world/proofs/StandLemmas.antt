@@ -121,7 +121,7 @@ moves_keep : (source : ℕ) (move : WholeLog → Move) (absent given : Answer) (
 moves_keep source move absent given old new moves =
     rows_found source move absent given old new (held_at old.logs source) refl moves
 
--- so they stay those of the live publications
+-- so they stay the live ones
 pub match_moved : (s : State) (source : ℕ) (move : WholeLog → Move) (absent given : Answer) (old new : HeldLogs) → Match s old →
     MovesHeld source move absent old new given (held_at old.logs source) → Match s new
 match_moved s source move absent given old new matches moves =
@@ -149,7 +149,7 @@ opening_match room settings policy peers are =
         defaults = are.sizes;
         sizes = All-nil _;
         numbered = search rules;
-        published = All-nil _;
+        begins = All-nil _;
         laid_out = record { within = All-nil _; apart = λ i j d low high. absurd (omega (arith, high)) };
         subscriptions = search rules;
       };

@@ -2,20 +2,21 @@
 use Rattle.std.proofs.Common.{◌≡◌, ℕ, Bool, true, false, not, cond, List, [], ◌∷◌, ◌++◌, map, filter, Option, Some, None, refl, sym, ap, ap₂, subst, ◌∙◌, append-nil}
 use Rattle.any_log.specs.Held.{rejoined_held as rejoined_any}
 use Rattle.any_log.specs.Whole.{StandsFor, rejoined}
-use Rattle.any_log.proofs.AnyLemmas.{reach_stands, rejoined_stands as any_rejoined}
+use Rattle.any_log.proofs.AnyLemmas.{reach_stands, rejoined_stands as any_rejoined, silent_stands as any_silent}
 use Rattle.driver_core.specs.Change.{Change}
 use Rattle.driver_core.specs.declared.entry.Entry.{Entry}
 use Rattle.driver_core.specs.declared.event.End.{End}
 use Rattle.driver_core.specs.declared.event.Event.{Event}
+use Rattle.driver_core.specs.declared.event.Event.TheVariants.{Attach, Command, Reload, Tick, Setup as SetUp}
 use Rattle.driver_core.specs.declared.event.Inputs.{Inputs}
 use Rattle.driver_core.specs.declared.outcome.Outcome.{Outcome}
 use Rattle.driver_core.specs.Conduct.{conduct, outcome_of, state_after}
 use Rattle.driver_core.specs.Pairs.{pairs_of}
 use Rattle.driver_core.specs.Renewal.{source_at}
 use Rattle.driver_core.specs.State.{State}
-use Rattle.driver_world.specs.Ends.{RunEnd, begun, conducted, end_of_log, inputs_of, logs_after, opened_for, rejoined_log, stays_open}
+use Rattle.driver_world.specs.Ends.{RunEnd, begun, conducted, end_of_log, inputs_of, is_silent_at, silent_of, logs_after, opened_for, rejoined_log, stays_open}
 use Rattle.driver_core.specs.Readers.{readers_of}
-use Rattle.driver_world.specs.Held.{HeldLog, HeldLogs, OpensFor, end_held, inputs_held, is_closed, is_kept, rejoined_held}
+use Rattle.driver_world.specs.Held.{HeldLog, HeldLogs, OpensFor, end_held, inputs_held, is_closed, is_kept, is_silent_at as is_silent_held_at, rejoined_held, silent_held}
 use Rattle.driver_world.specs.Moves.{StandsForLog, WholeLog}
 use Rattle.driver_world.specs.Opening.{Follows, OpensNext}
 use Rattle.driver_world.specs.Standing.{StandAll, StandsForEnd, Takes}
@@ -41,11 +42,41 @@ ends_stand (held ∷ others) [] stand = absurd stand
 ends_stand (held ∷ others) (log ∷ logs) stand =
     ap₂ (λ (end : End) (ends : List End). end ∷ ends) (end_stands held log stand.0) (ends_stand others logs stand.1)
 
-abbrev told_by : List End → Inputs
-told_by ends = record { silent = []; ends = ends }
+-- a log of both lists is of that number, and silent in both or in none
+silent_step : (b c : Bool) (first : HeldLog) (log : WholeLog) (held : List HeldLog) (logs : List WholeLog) → b ≡ c
+    → first.source ≡ log.source
+    → map (λ (h : HeldLog). h.source) held ≡ map (λ (l : WholeLog). l.source) logs
+    → map (λ (h : HeldLog). h.source) (cond b (first ∷ held) held) ≡ map (λ (l : WholeLog). l.source) (cond c (log ∷ logs) logs)
+silent_step true c first log held logs same source rest =
+    rw (← same) (ap₂ (λ (number : ℕ) (numbers : List ℕ). number ∷ numbers) source rest)
+silent_step false c first log held logs same source rest = rw (← same) rest
 
-pub inputs_stand : (held : List HeldLog) (logs : List WholeLog) → StandAll held logs → inputs_held held ≡ inputs_of logs
-inputs_stand held logs stand = ap told_by (ends_stand held logs stand)
+silent_at_stand : (s : State) (now : ℕ) (held : List HeldLog) (logs : List WholeLog) → StandAll held logs
+    → map (λ (h : HeldLog). h.source) (filter (is_silent_held_at s now) held)
+    ≡ map (λ (l : WholeLog). l.source) (filter (is_silent_at s now) logs)
+silent_at_stand s now [] [] stand = refl
+silent_at_stand s now [] (log ∷ logs) stand = absurd stand
+silent_at_stand s now (first ∷ held) [] stand = absurd stand
+silent_at_stand s now (first ∷ held) (log ∷ logs) stand =
+    silent_step (is_silent_held_at s now first) (is_silent_at s now log) first log
+    (filter (is_silent_held_at s now) held) (filter (is_silent_at s now) logs)
+    (any_silent first.log log.whole (max s.moment now) s.settings.image_liveness stand.0.whole) stand.0.source_is
+    (silent_at_stand s now held logs stand.1)
+
+abbrev told_by : List ℕ → List End → Inputs
+told_by silent ends = record { silent = silent; ends = ends }
+
+silent_stand : (s : State) (event : Event) (held : List HeldLog) (logs : List WholeLog) → StandAll held logs
+    → silent_held s event held ≡ silent_of s event logs
+silent_stand s (Attach now principal) held logs stand = refl
+silent_stand s (Command now client bytes) held logs stand = refl
+silent_stand s (Reload now policy) held logs stand = refl
+silent_stand s (Tick now) held logs stand = silent_at_stand s now held logs stand
+silent_stand s (SetUp now local from setup) held logs stand = refl
+
+pub inputs_stand : (s : State) (event : Event) (held : List HeldLog) (logs : List WholeLog) → StandAll held logs
+    → inputs_held s event held ≡ inputs_of s event logs
+inputs_stand s event held logs stand = ap₂ told_by (silent_stand s event held logs stand) (ends_stand held logs stand)
 
 -- ---- what becomes of the logs
 
@@ -96,11 +127,11 @@ stand_same old new logs same stand =
     subst (λ (whole : List WholeLog). StandAll new.logs whole) (sym (append-nil logs)) here
 
 begun_stands : (after : State) (old new : HeldLogs) (place : ℕ) (found : Option Source) (logs : List WholeLog)
-    → OpensFor old new after.settings place found → StandAll old.logs logs → StandAll new.logs (logs ++ begun after found)
+    → OpensFor old new after place found → StandAll old.logs logs → StandAll new.logs (logs ++ begun after found)
 begun_stands after old new place None logs is stand = stand_same old new logs is stand
-begun_stands after old new place (Some publication) logs is stand =
-    subst (λ (h : HeldLogs). StandAll h.logs (logs ++ begun after (Some publication))) (sym is.new_is)
-    (stand_append old.logs (record { source = publication.number; log = is.log } ∷ []) logs (begun after (Some publication)) stand
+begun_stands after old new place (Some log) logs is stand =
+    subst (λ (h : HeldLogs). StandAll h.logs (logs ++ begun after (Some log))) (sym is.new_is)
+    (stand_append old.logs (record { source = log.number; log = is.log } ∷ []) logs (begun after (Some log)) stand
     (record { source_is = refl; whole = is.stands }, tt))
 
 opened_stand : (after : State) (old new : HeldLogs) (opens : Option LogPlace) (logs : List WholeLog) → OpensNext old new after opens
@@ -124,19 +155,20 @@ left_stands old new change logs is stand =
 abbrev left_by : Change → List WholeLog → RunEnd
 left_by change logs = record { registry = change.after; logs = logs_after change logs }
 
-conducted_is : (e : RunEnd) (event : Event) (change : Change) → change ≡ conduct e.registry event (inputs_of e.logs)
+conducted_is : (e : RunEnd) (event : Event) (change : Change) → change ≡ conduct e.registry event (inputs_of e.registry event e.logs)
     → (conducted e event).after ≡ left_by change e.logs
 unfolding conducted
 conducted_is e event change is = ap (λ (c : Change). left_by c e.logs) (sym is)
 
-pub takes : (s : State) (old new : HeldLogs) (event : Event) (change : Change) → change ≡ conduct s event (inputs_held old.logs)
+pub takes : (s : State) (old new : HeldLogs) (event : Event) (change : Change) → change ≡ conduct s event (inputs_held s event old.logs)
     → OpensNext old new change.after change.outcome.opens
     → Takes (record { registry = s; logs = old.logs })
     (record { registry = change.after; logs = left_held change (pairs_of change.after) new.logs }) event change.outcome
 takes s old new event change is opens = record {
   on = λ e stands.
-      let same : change ≡ conduct e.registry event (inputs_of e.logs) =
-      is ∙ ap₂ (λ (r : State) (inputs : Inputs). conduct r event inputs) stands.registry (inputs_stand old.logs e.logs stands.logs) in
+      let same : change ≡ conduct e.registry event (inputs_of e.registry event e.logs) =
+      is ∙ ap (conduct s event) (inputs_stand s event old.logs e.logs stands.logs)
+      ∙ ap (λ (r : State). conduct r event (inputs_of r event e.logs)) stands.registry in
       let end : StandsForEnd (record { registry = change.after; logs = left_held change (pairs_of change.after) new.logs }) (left_by change e.logs)
       = record { registry = refl; logs = left_stands old new change e.logs opens stands.logs } in (
         ap (λ (c : Change). c.outcome) same,
@@ -148,7 +180,7 @@ takes s old new event change is opens = record {
 -- ---- by steps
 
 pub taken : (s : State) (old opened new : HeldLogs) (event : Event) (change : Change) (inputs : Inputs)
-    → change ≡ conduct s event inputs → inputs ≡ inputs_held old.logs → OpensNext old opened change.after change.outcome.opens
+    → change ≡ conduct s event inputs → inputs ≡ inputs_held s event old.logs → OpensNext old opened change.after change.outcome.opens
     → new ≡ record opened { logs = left_held change (pairs_of change.after) opened.logs }
     → Takes (record { registry = s; logs = old.logs }) (record { registry = change.after; logs = new.logs }) event change.outcome
 taken s old opened new event change inputs is inputs_is opens new_is =

@@ -6,7 +6,6 @@ use Rattle.std.proofs.lemmas.Bool.{and_from, and_parts, false_from_ne_true, leb-
 use Rattle.std.proofs.lemmas.List.Folds.{list_any_at, list_any_none}
 use Rattle.driver_core.specs.declared.settings.Settings.{Settings}
 use Rattle.driver_core.specs.State.{State}
-use Rattle.driver_core.proofs.LogListLemmas.{all_published}
 use Rattle.driver_world.specs.Held.{HeldLogs, plot_of, plots_of}
 use Rattle.driver_world.specs.Plots.{has_page, is_taken, IsVacant as IsVacantAmong, IsLeastVacant}
 use Rattle.driver_world.specs.Standing.{LogRow, row_held, row_for, Match}
@@ -38,18 +37,12 @@ any_mapped : {X Y : Type 0} (test : Y → Bool) (f : X → Y) (xs : List X) → 
 any_mapped test f [] = refl
 any_mapped test f (x ∷ xs) = ap (λ b. test (f x) || b) (any_mapped test f xs)
 
--- as long as all logs are publications, the rows are those of all
-pub rows_match : (s : State) (held : HeldLogs) → Match s held
-    → map row_held held.logs ≡ map (row_for s.settings) s.streams.sources
-rows_match s held match =
-    match.rows ∙ ap (map (row_for s.settings)) (all_published s.streams.sources match.sound.published)
-
 taken_is : (s : State) (held : HeldLogs) (page : ℕ) → Match s held
     → is_taken (plots_of held.logs) page ≡ list_any (λ log. has_row page (row_for s.settings log)) s.streams.sources
 taken_is s held page match =
     sym (any_mapped (has_page page) plot_of held.logs)
     ∙ any_mapped (has_row page) row_held held.logs
-    ∙ ap (list_any (has_row page)) (rows_match s held match)
+    ∙ ap (list_any (has_row page)) match.rows
     ∙ sym (any_mapped (has_row page) (row_for s.settings) s.streams.sources)
 
 -- ---- one page of a live log

@@ -1,9 +1,10 @@
 -- What stands at the end of a run, its logs as whole lists of frames; what each step leaves, and what it is answered.
-use Rattle.std.specs.Prelude.{◌≡◌, ℕ, Bool, List, [], ◌∷◌, ◌++◌, map, filter, find, not, ◌==◌, if◌then◌else◌, Option, Some, None}
-use Rattle.any_log.specs.Whole.{whole, reach_of, rejoined}
+use Rattle.std.specs.Prelude.{◌≡◌, ℕ, Bool, List, [], ◌∷◌, ◌++◌, map, filter, find, max, not, ◌==◌, if◌then◌else◌, Option, Some, None}
+use Rattle.any_log.specs.Whole.{is_silent_in, reach_of, rejoined}
 use Rattle.driver_core.specs.Change.{Change}
 use Rattle.driver_core.specs.declared.event.End.{End}
 use Rattle.driver_core.specs.declared.event.Event.{Event}
+use Rattle.driver_core.specs.declared.event.Event.TheVariants.{Tick}
 use Rattle.driver_core.specs.declared.event.Inputs.{Inputs}
 use Rattle.driver_core.specs.declared.log_request.LogRequest.{LogRequest}
 use Rattle.driver_core.specs.declared.peer.Peer.{Peer}
@@ -22,13 +23,12 @@ use Rattle.driver_world.specs.declared.step.Step.TheVariants.{Conductor, Offer, 
 use Rattle.driver_world.specs.Answers.{answer_of, answer_listed, answer_shown}
 use Rattle.driver_core.specs.Readers.{readers_of}
 use Rattle.driver_world.specs.Held.{is_closed}
-use Rattle.driver_world.specs.Idents.{ident_of}
+use Rattle.driver_world.specs.Idents.{begins_of}
 use Rattle.driver_world.specs.Moves.{WholeLog, Move, offer_move, poll_move}
 use Rattle.policy_core.specs.RuleList.{Rules}
 use Rattle.stream_registry.specs.declared.lingering.LogPlace.{LogPlace}
 use Rattle.stream_registry.specs.declared.pairs.Pair.{Pair}
 use Rattle.stream_registry.specs.declared.row.Source.{Source}
-use Rattle.term_log.specs.Whole.{fresh}
 
 -- the registry, and the open logs in the order in which they were opened
 pub record RunEnd : Type 0 where
@@ -50,14 +50,21 @@ pub record Moved : Type 0 where
 abbrev pub end_of_log : WholeLog → End
 end_of_log log = record { source = log.source; position = reach_of log.whole }
 
-abbrev pub inputs_of : List WholeLog → Inputs
-inputs_of logs = record { silent = []; ends = map end_of_log logs }
+-- at a tick, the images of which nothing was heard for longer than the liveness by the moment that it sets
+abbrev pub is_silent_at : State → ℕ → WholeLog → Bool
+is_silent_at s now log = is_silent_in log.whole (max s.moment now) s.settings.image_liveness
 
--- a log without frames, made for what the publication says
+abbrev pub silent_of : State → Event → List WholeLog → List ℕ
+silent_of s (Tick now) logs = map (λ log. log.source) (filter (is_silent_at s now) logs)
+silent_of s event logs = []
+
+abbrev pub inputs_of : State → Event → List WholeLog → Inputs
+inputs_of s event logs = record { silent = silent_of s event logs; ends = map end_of_log logs }
+
+-- a log without frames, made for what its row says
 abbrev pub begun : State → Option Source → List WholeLog
 begun s None = []
-begun s (Some publication) =
-    record { source = publication.number; whole = whole (fresh (ident_of s.settings publication)) } ∷ []
+begun s (Some log) = record { source = log.number; whole = begins_of s.settings s.moment log } ∷ []
 
 abbrev pub opened_for : State → Option LogPlace → List WholeLog
 opened_for s None = []
@@ -109,7 +116,7 @@ on_offered e now client registration message (Some request) =
 -- an event of the conductor
 unfoldable pub conducted : RunEnd → Event → Moved
 conducted e event =
-    let change : Change = conduct e.registry event (inputs_of e.logs) in
+    let change : Change = conduct e.registry event (inputs_of e.registry event e.logs) in
     record {
       after = record { registry = change.after; logs = logs_after change e.logs };
       answer = answer_of change.outcome;

@@ -1,21 +1,22 @@
 -- The logs that a driver holds open, and where each lies. Own rules.
-use Rattle.std.specs.Prelude.{◌≡◌, ℕ, zero, suc, ◌+◌, ◌*◌, Bool, not, ◌==◌, List, [], ◌∷◌, ◌++◌, map, find, position, take, drop, Option, Some, None, if◌then◌else◌}
+use Rattle.std.specs.Prelude.{◌≡◌, ℕ, zero, suc, ◌+◌, ◌*◌, Bool, not, ◌==◌, List, [], ◌∷◌, ◌++◌, filter, map, find, max, position, take, drop, Option, Some, None, if◌then◌else◌}
 use Rattle.std.specs.List.{list_any}
 use Rattle.any_log.specs.declared.any_log.AnyLog.{AnyLog}
-use Rattle.any_log.specs.Held.{Place, made_held, place_held, reach_held, rejoined_held as rejoined_any, terms_of}
-use Rattle.any_log.specs.Whole.{AnyWhole, whole, StandsFor, made_for}
+use Rattle.any_log.specs.Held.{Place, is_silent_held, made_held, place_held, reach_held, rejoined_held as rejoined_any, terms_of}
+use Rattle.any_log.specs.Whole.{AnyWhole, StandsFor, made_for}
 use Rattle.driver_core.specs.declared.event.End.{End}
+use Rattle.driver_core.specs.declared.event.Event.{Event}
+use Rattle.driver_core.specs.declared.event.Event.TheVariants.{Tick}
 use Rattle.driver_core.specs.declared.event.Inputs.{Inputs}
-use Rattle.driver_core.specs.declared.settings.Settings.{Settings}
 use Rattle.driver_core.specs.Readers.{readers_of}
-use Rattle.driver_core.specs.Soundness.{AreSizes}
-use Rattle.driver_world.specs.Idents.{ident_of}
+use Rattle.driver_core.specs.Soundness.{AreSizes, BeginsSoundly}
+use Rattle.driver_core.specs.State.{State}
+use Rattle.driver_world.specs.Idents.{begins_of}
 use Rattle.driver_world.specs.Plots.{Plot, IsLeastVacant}
 use Rattle.stream_registry.specs.declared.lingering.LogPlace.{LogPlace}
 use Rattle.stream_registry.specs.declared.pairs.Pair.{Pair}
 use Rattle.stream_registry.specs.declared.row.Source.{Source}
 use Rattle.stream_registry.specs.LogPages.{log_pages}
-use Rattle.term_log.specs.Whole.{fresh}
 
 -- a log, by its source number
 pub record HeldLog : Type 0 where
@@ -84,20 +85,29 @@ with_readers (suc at) subscriptions (held ∷ others) = held ∷ with_readers at
 abbrev pub end_held : HeldLog → End
 end_held held = record { source = held.source; position = reach_held held.log }
 
-abbrev pub inputs_held : List HeldLog → Inputs
-inputs_held logs = record { silent = []; ends = map end_held logs }
+-- at a tick, the images of which nothing was heard for longer than the liveness by the moment that it sets
+abbrev pub is_silent_at : State → ℕ → HeldLog → Bool
+is_silent_at s now held = is_silent_held held.log (max s.moment now) s.settings.image_liveness
 
--- the log of the publication can be opened: its sizes are sound, and that place is the least vacant one
+abbrev pub silent_held : State → Event → List HeldLog → List ℕ
+silent_held s (Tick now) logs = map (λ held. held.source) (filter (is_silent_at s now) logs)
+silent_held s event logs = []
+
+abbrev pub inputs_held : State → Event → List HeldLog → Inputs
+inputs_held s event logs = record { silent = silent_held s event logs; ends = map end_held logs }
+
+-- the log can be opened: its sizes are sound, so is the position at which an image begins, and that place is the least vacant
+-- one
 abbrev pub IsOpening : HeldLogs → ℕ → Option Source → Type 0
 IsOpening logs place None = Unit {0}
-IsOpening logs place (Some publication) =
-    AreSizes publication.measures × IsLeastVacant logs.pages (plots_of logs.logs) (log_pages publication) place
+IsOpening logs place (Some log) =
+    AreSizes log.measures × BeginsSoundly log × IsLeastVacant logs.pages (plots_of logs.logs) (log_pages log) place
 
--- the log of the publication, if there is one, is open behind the others
-abbrev pub OpensFor : HeldLogs → HeldLogs → Settings → ℕ → Option Source → Type 0
-OpensFor old new settings place None = new ≡ old
-OpensFor old new settings place (Some publication) =
-    IsOpened old new publication.number place (whole (fresh (ident_of settings publication)))
+-- the log, if there is one, is open behind the others
+abbrev pub OpensFor : HeldLogs → HeldLogs → State → ℕ → Option Source → Type 0
+OpensFor old new after place None = new ≡ old
+OpensFor old new after place (Some log) =
+    IsOpened old new log.number place (begins_of after.settings after.moment log)
 
 -- the first log of that source
 abbrev pub held_at : List HeldLog → ℕ → Option HeldLog

@@ -1,8 +1,8 @@
 -- What holds at the end of every run, of the offers and polls there, and of the bytes that a poll gives.
-use Rattle.std.specs.Prelude.{◌≡◌, ℕ, ◌+◌, ◌==◌, ◌&&◌, not, nat_lt, true, false, List, [], ◌∷◌, ◌++◌, filter, length, map, All, Contains, Option, Some, None, if◌then◌else◌}
+use Rattle.std.specs.Prelude.{◌≡◌, ℕ, ◌+◌, ◌==◌, ◌&&◌, not, nat_lt, true, false, List, [], ◌∷◌, ◌++◌, length, map, All, Contains, Option, Some, None, if◌then◌else◌}
 use Rattle.any_log.specs.declared.fragment.Fragment.{Fragment}
 use Rattle.any_log.specs.Fragments.{fragment_of}
-use Rattle.any_log.specs.Held.{Made, for_publication}
+use Rattle.any_log.specs.Held.{Made}
 use Rattle.any_log.specs.Whole.{AnyWhole, whole, rebuilt, made_for as made_any, polled, readers_in}
 use Rattle.image_log.specs.Polling.{polled as image_polled, polled_frame, whole_from}
 use Rattle.image_log.specs.Rebuilt.{Rebuilt}
@@ -27,7 +27,7 @@ use Rattle.driver_world.specs.declared.step.Step.TheVariants.{Conductor, Offer, 
 use Rattle.driver_world.specs.Answers.{answer_of, answer_listed, answer_shown, offered_as}
 use Rattle.driver_world.specs.Ends.{RunEnd, Moved, opening_end, inputs_of, log_at, with_log, moved, after, IsAnswer, AreAnswers, end_of}
 use Rattle.driver_core.specs.Readers.{readers_of}
-use Rattle.driver_world.specs.Idents.{ident_of}
+use Rattle.driver_world.specs.Idents.{made_of}
 use Rattle.driver_world.specs.Moves.{WholeLog}
 use Rattle.client_registry.specs.declared.client.Client.{Client}
 use Rattle.client_registry.specs.Clients.{client_at}
@@ -39,7 +39,6 @@ use Rattle.policy_core.specs.Rules.{verdict_of}
 use Rattle.stream_registry.specs.declared.row.Source.{Source}
 use Rattle.stream_registry.specs.declared.row.Registration.{Registration}
 use Rattle.stream_registry.specs.declared.row.Subscription.{Subscription}
-use Rattle.stream_registry.specs.Origins.{is_published}
 use Rattle.stream_registry.specs.PageLaws.{IsLaidOut}
 use Rattle.term_log.specs.Cut.{cut}
 use Rattle.term_log.specs.Frames.{Frame, fragment, total}
@@ -61,7 +60,7 @@ AtEachEnd P =
 
 -- the event of a step of the conductor, with what the logs say at it
 abbrev pub event_of : RunEnd → Step → List (Event × Inputs)
-event_of e (Conductor event) = (event, inputs_of e.logs) ∷ []
+event_of e (Conductor event) = (event, inputs_of e.registry event e.logs) ∷ []
 event_of e (Offer now client registration message) = []
 event_of e (Poll now client subscription source limit) = []
 event_of e (Lists now client) = []
@@ -94,7 +93,7 @@ pub record TakesEvents (e : RunEnd) (s : State) : Type 0 where
   pub leaves : e.registry ≡ s
   pub tells :
       (event : Event) (answer : Answer) → IsAnswer e (Conductor event) answer →
-      IsTold answer (answer_of (outcome_of s event (inputs_of e.logs)))
+      IsTold answer (answer_of (outcome_of s event (inputs_of e.registry event e.logs)))
   pub lists :
       (now client : ℕ) (answer : Answer) → IsAnswer e (Lists now client) answer →
       IsTold answer (answer_listed (list s client))
@@ -116,14 +115,14 @@ abbrev pub made_for : WholeLog → ℕ × Made
 made_for log = (log.source, made_any log.whole)
 
 abbrev pub made_as : Settings → Source → ℕ × Made
-made_as settings publication = (publication.number, for_publication (ident_of settings publication))
+made_as settings log = (log.number, made_of settings log)
 
--- each live publication has its log, in the same order; no two of them share a page; and exactly those subscriptions read
+-- each live source has its log, in the same order; no two of them share a page; and exactly those subscriptions read
 -- it that the registry says
 pub record LogsFollow (e : RunEnd) : Type 0 where
   pub made :
       map made_for e.logs
-      ≡ map (made_as e.registry.settings) (filter is_published e.registry.streams.sources)
+      ≡ map (made_as e.registry.settings) e.registry.streams.sources
   pub apart : IsLaidOut e.registry.settings.arena_pages e.registry.streams
   pub read :
       All (λ log. readers_in log.whole ≡ readers_of (pairs_of e.registry) log.source) e.logs

@@ -1,4 +1,5 @@
 pub mod Answers
+pub mod Bringing
 pub mod Ends
 pub mod Held
 pub mod Idents
@@ -7,4 +8,5 @@ pub mod Memory
 pub mod Moves
 pub mod Opening
 pub mod Plots
+pub mod Registered
 pub mod Standing

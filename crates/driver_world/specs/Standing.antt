@@ -1,8 +1,8 @@
 -- A world holds the registry and what is left of the logs. Each run ends where a world may stand; each call of a world
 -- goes on from each such end.
-use Rattle.std.specs.Prelude.{◌≡◌, ℕ, ◌*◌, Bool, List, [], ◌∷◌, ◌++◌, filter, map}
+use Rattle.std.specs.Prelude.{◌≡◌, ℕ, ◌*◌, Bool, List, [], ◌∷◌, ◌++◌, map}
 use Rattle.std.specs.List.{list_any, range_with_len}
-use Rattle.any_log.specs.Held.{Made, for_publication, made_held}
+use Rattle.any_log.specs.Held.{Made, made_held}
 use Rattle.driver_core.specs.declared.event.Event.{Event}
 use Rattle.driver_core.specs.declared.outcome.Outcome.{Outcome}
 use Rattle.driver_core.specs.declared.peer.Peer.{Peer}
@@ -14,21 +14,20 @@ use Rattle.driver_world.specs.declared.answer.Answer.{Answer}
 use Rattle.driver_world.specs.declared.step.Step.{Step}
 use Rattle.driver_world.specs.Ends.{RunEnd, opening_end, conducted, inputs_of, IsAnswer, AreAnswers, after, end_of}
 use Rattle.driver_world.specs.Held.{HeldLog, HeldLogs, plot_of}
-use Rattle.driver_world.specs.Idents.{ident_of}
+use Rattle.driver_world.specs.Idents.{made_of}
 use Rattle.driver_world.specs.Memory.{HasMemory, HaveMemory}
 use Rattle.driver_world.specs.Moves.{WholeLog, StandsForLog}
 use Rattle.driver_world.specs.Plots.{Plot}
 use Rattle.policy_core.specs.RuleList.{Rules}
 use Rattle.stream_registry.specs.declared.row.Source.{Source}
 use Rattle.stream_registry.specs.LogPages.{holds}
-use Rattle.stream_registry.specs.Origins.{is_published}
 
 -- the registry, and the open logs
 pub record Held : Type 0 where
   pub registry : State
   pub logs : List HeldLog
 
--- ---- what is held together: the open logs are those of the live publications
+-- ---- what is held together: the open logs are the live ones
 
 -- a log by its number, its first byte in the memory of all logs, how many bytes one of its terms has, and what it is made for
 pub record LogRow : Type 0 where
@@ -45,24 +44,24 @@ abbrev pub row_held : HeldLog → LogRow
 row_held held = row_on (plot_of held) (made_held held.log)
 
 abbrev pub row_for : Settings → Source → LogRow
-row_for settings publication = record {
-  source = publication.number;
-  place = 4096 * publication.place;
-  term_length = publication.measures.term_length;
-  made = for_publication (ident_of settings publication);
+row_for settings log = record {
+  source = log.number;
+  place = 4096 * log.place;
+  term_length = log.measures.term_length;
+  made = made_of settings log;
 }
 
--- Each live publication has its log, at the place that the registry gave it, and there is no other: so the pages that the
+-- Each live source has its log, at the place that the registry gave it, and there is no other: so the pages that the
 -- registry takes for free are those that are.
 pub record Match (s : State) (held : HeldLogs) : Type 0 where
   pub sound : IsSound s
   pub pages : held.pages ≡ s.settings.arena_pages
-  pub rows : map row_held held.logs ≡ map (row_for s.settings) (filter is_published s.streams.sources)
+  pub rows : map row_held held.logs ≡ map (row_for s.settings) s.streams.sources
 
--- of each page of the arena, from the first on, whether a live publication of the registry has it
+-- of each page of the arena, from the first on, whether a live log of the registry has it
 unfoldable pub pages_of_logs : State → List Bool
 pages_of_logs s =
-    map (λ page. list_any (λ publication. holds publication page) (filter is_published s.streams.sources))
+    map (λ page. list_any (λ log. holds log page) s.streams.sources)
     (range_with_len 0 s.settings.arena_pages)
 
 -- ---- which end a world stands for
@@ -82,7 +81,7 @@ pub record StandsForEnd (held : Held) (e : RunEnd) : Type 0 where
 pub record Takes (old new : Held) (event : Event) (outcome : Outcome) : Type 0 where
   pub on :
       (e : RunEnd) → StandsForEnd old e →
-      (outcome ≡ (conduct e.registry event (inputs_of e.logs)).outcome) × StandsForEnd new (conducted e event).after
+      (outcome ≡ (conduct e.registry event (inputs_of e.registry event e.logs)).outcome) × StandsForEnd new (conducted e event).after
 
 -- One step, for each end that the world stands for. Want of memory is an answer only to a step that may take some.
 pub record Serves (old new : Held) (step : Step) (answer : Answer) : Type 0 where

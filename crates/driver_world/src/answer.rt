@@ -3,7 +3,7 @@ ghost use Rattle.std.specs.Prelude.{◌≡◌};
 
 use any_log::Fragment;
 use byte_strings::Items;
-use driver_core::{Listed, ListedCounter, Message, Outcome, Response, Shown};
+use driver_core::{Listed, ListedCounter, Message, Outcome, Response, SetupFault, Shown};
 use policy_core::Verdict;
 use term_log::Offer;
 
@@ -46,6 +46,15 @@ pub enum Answer {
     },
     /// A limit of the driver would be broken under the policy, which is not in force.
     PolicyFull,
+    /// An image comes.
+    Imaged {
+        /// Its source number.
+        source: u64,
+        /// The replies that it gives, in their order.
+        replies: Items<Message>,
+    },
+    /// A SETUP makes no image.
+    Dropped(SetupFault),
     /// The replies that a command gives, in their order.
     Replies(Items<Message>),
     /// What became of the message that was offered.
@@ -83,6 +92,11 @@ impl Answer {
                 replies: outcome.replies,
             },
             Response::PolicyFull => Answer::PolicyFull,
+            Response::Imaged(source) => Answer::Imaged {
+                source,
+                replies: outcome.replies,
+            },
+            Response::Dropped(fault) => Answer::Dropped(fault),
         }
     }
 

@@ -9,8 +9,8 @@ pub fn runs_take_events()
     ensures { RunsTakeEvents }
 {}
 
-/// At the end of every run each live publication has its log and no other log is open, no two of them share a page, and
-/// exactly the subscriptions read it that the registry's lists and the policy in force say. So a reload closes exactly the
+/// At the end of every run each live publication and each image has its log and no other log is open, no two of them share
+/// a page, and exactly the subscriptions read it that the registry's lists and the policy in force say. So a reload closes exactly the
 /// images that are no longer allowed, in the logs too.
 pub fn logs_follow_the_registry()
     ensures { LogsFollowTheRegistry }

@@ -1,4 +1,4 @@
-//! A driver that is run step by step, with the logs of its publications.
+//! A driver that is run step by step, with the logs of its publications and images.
 //!
 //! `World::run` takes any list of steps of the conductor and of clients, and its answers continue the run that came
 //! before, whose logs contracts see as whole lists of frames. `offer_step` and `poll_step` are the steps of a client on one

@@ -4,6 +4,7 @@ ghost use Rattle.any_log.specs.Whole.{rebuilt, whole};
 ghost use Rattle.driver_core.specs.Pairs.{pairs_of as all_pairs};
 ghost use Rattle.driver_core.specs.Readers.{readers_of};
 ghost use Rattle.driver_world.specs.Held.{IsOpened, is_closed, is_kept, place_at, plots_of, rejoined_held, with_readers, without};
+ghost use Rattle.driver_world.specs.Idents.{heard_at};
 ghost use Rattle.driver_world.specs.declared.answer.Answer.TheVariants.{Gone, Offered as OfferedAs};
 ghost use Rattle.driver_world.specs.declared.answer.Offered.TheVariants.{Closed};
 ghost use Rattle.driver_world.specs.Memory.{GivesFirst};
@@ -124,8 +125,8 @@ impl OpenLogs {
         });
     }
 
-    /// Opens the log of a remote stream without frames behind the others, which joins at that position, as
-    /// [`OpenLogs::open`] opens that of a publication.
+    /// Opens the log of a remote stream without frames behind the others, which joins at that position, and whose sender is
+    /// heard at the moment `now`, as [`OpenLogs::open`] opens that of a publication.
     pub(crate) fn open_image(
         &mut self,
         memory: ImageRoom,
@@ -133,6 +134,7 @@ impl OpenLogs {
         place: u64,
         ident: image_log::Ident,
         join: u64,
+        now: u64,
     )
         requires memory { memory ≡ 3 * ident.term_length }
         requires terms { (65536 ≤ ident.term_length) × (ident.term_length ≤ 16777216) }
@@ -140,13 +142,14 @@ impl OpenLogs {
         requires join { (join % 32 ≡ 0) × (join < ident.term_length * 2 ^ 31) }
         requires vacant { IsLeastVacant self.old.pages (plots_of self.old.logs) (pages_of ident.term_length) place }
         requires room { length self.old.logs < self.old.room }
-        ensures { IsOpened self.old self.new source place (rebuilt (opened ident join)) }
+        ensures { IsOpened self.old self.new source place (rebuilt (heard_at now (opened ident join))) }
     {
         let Ok(lease) = self.arena.lease(3 * ident.term_length as usize) else {
             // the place is there
             unreachable!()
         };
-        let log = ImageLog::open_in(memory, lease, ident, join);
+        let mut log = ImageLog::open_in(memory, lease, ident, join);
+        log.heard(now);
         self.logs.push_reserved(OpenLog {
             source,
             log: AnyLog::Image(log),

@@ -47,10 +47,10 @@ fn plan_for(
     event: &Event,
     logs: &[OpenLog],
 ) -> Result<Entry, AllocError>
-    ensures exact { IfOk result (λ entry. entry ≡ record { event = event.now; inputs = inputs_held logs.now; outcome = outcome_of registry.now event.now (inputs_held logs.now) }) }
-    ensures moves { IfOk result (λ entry. IsSound registry.now → MovesLogs registry.now (conduct registry.now event.now (inputs_held logs.now))) }
+    ensures exact { IfOk result (λ entry. entry ≡ record { event = event.now; inputs = inputs_held registry.now event.now logs.now; outcome = outcome_of registry.now event.now (inputs_held registry.now event.now logs.now) }) }
+    ensures moves { IfOk result (λ entry. IsSound registry.now → MovesLogs registry.now (conduct registry.now event.now (inputs_held registry.now event.now logs.now))) }
 {
-    let inputs = inputs_of(alloc, logs)?;
+    let inputs = inputs_of(alloc, registry, event, logs)?;
     registry.plan(alloc, event, &inputs)
 }
 
@@ -60,15 +60,16 @@ fn follow(
     logs: &mut OpenLogs,
     room: &mut Rows<u64, 512>,
     after: &Registry,
+    event: &Event,
     opening: Option<Opening>,
     closes: &[LogPlace],
 )
-    requires opens { CanOpen logs.old after.now (place_of opening) }
-    requires room { HasRoom logs.old opening }
+    requires opens { CanOpen logs.old after.now event.now (place_of opening) }
+    requires room { HasRoom logs.old event.now opening }
     requires few { (source : ℕ) → length (readers_of (pairs_of after.now) source) ≤ 512 }
     ensures { Follows logs.old logs.new after.now (place_of opening) closes.now }
 {
-    open_next(logs, after, opening);
+    open_next(logs, after, event, opening);
     logs.close(closes);
     logs.rejoin(after, room);
 }
@@ -111,12 +112,13 @@ impl World {
         ensures err { OnErr result (self.new ≡ self.old) }
     {
         let entry = plan_for(&self.registry, alloc, event, self.logs.as_slice())?;
-        let opening = prepare(&mut self.logs, alloc, entry.outcome.opens)?;
+        let opening = prepare(&mut self.logs, alloc, event, entry.outcome.opens)?;
         self.registry.apply(&entry);
         follow(
             &mut self.logs,
             &mut self.room,
             &self.registry,
+            event,
             opening,
             entry.outcome.closes.as_slice(),
         );

@@ -12,8 +12,10 @@ use Rattle.log_readers.specs.Turnover.{is_read_by, pair_with, pairs_with}
 use Rattle.stream_registry.specs.declared.row.Source.{Source}
 use Rattle.stream_registry.specs.declared.row.Subscription.{Subscription}
 use Rattle.stream_registry.specs.declared.wanted.Adding.TheVariants.{Make}
+use Rattle.stream_registry.specs.declared.wanted.ImageWanted.{ImageWanted}
 use Rattle.stream_registry.specs.declared.wanted.Wanted.{Wanted}
 use Rattle.stream_registry.specs.Adding.{added, log_of, subscribed}
+use Rattle.stream_registry.specs.Images.{image_of, imaged}
 use Rattle.stream_registry.specs.Pairs.{is_pair, pair_of, pairs_at, pairs_of}
 use Rattle.stream_registry.specs.Streams.{Streams}
 use Rattle.channel_uri.specs.Channel.{Shape}
@@ -121,3 +123,11 @@ module _ (clients : List Client) (policy : Rules) (epoch : ℕ) where
   unfolding pairs_of
   pairs_with_log s number client wanted place session =
       log_more (pairs_at clients policy epoch s.subscriptions) (log_of s number wanted place session) s.sources
+
+  pub pairs_with_image : (s : Streams) (number : ℕ) (wanted : ImageWanted) (place : ℕ) →
+      length (pairs_of (imaged s number wanted place) clients policy epoch)
+      ≡ length (pairs_of s clients policy epoch)
+      + length (pairs_at clients policy epoch s.subscriptions (image_of s number wanted place))
+  unfolding pairs_of
+  pairs_with_image s number wanted place =
+      log_more (pairs_at clients policy epoch s.subscriptions) (image_of s number wanted place) s.sources

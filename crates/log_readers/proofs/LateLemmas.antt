@@ -132,16 +132,17 @@ module _ (policy : Rules) (epoch : ℕ) where
   neither false false = refl
 
   -- what goes are the pairs of those clients and of the logs that close
-  pub ticked_turnover : (s : Streams) (clients : ClientList) (late : List ℕ) (now last : ℕ) → AreInOrder s clients.rows last →
+  pub ticked_turnover : (s : Streams) (clients : ClientList) (late : List ℕ) (now : ℕ) (silent : List ℕ) (last : ℕ) →
+      AreInOrder s clients.rows last →
       IsTurnover (pairs_of s clients.rows policy epoch)
-      (pairs_of (closed (all_left s late now) now) (all_without clients late).rows policy epoch)
-      (filter (is_going s late (closing_of (all_left s late now) now)) (pairs_of s clients.rows policy epoch)) []
-  ticked_turnover s clients late now last order =
+      (pairs_of (closed (all_left s late now) now silent) (all_without clients late).rows policy epoch)
+      (filter (is_going s late (closing_of (all_left s late now) now silent)) (pairs_of s clients.rows policy epoch)) []
+  ticked_turnover s clients late now silent last order =
       let before : List Pair = pairs_of s clients.rows policy epoch in
-      let closes = closing_of (all_left s late now) now in
+      let closes = closing_of (all_left s late now) now silent in
       let kept = kept_turnover (λ number. not (list_any (λ client. has_subscription s client number) late)) (stays_open closes) before
-      (pairs_of (closed (all_left s late now) now) (all_without clients late).rows policy epoch)
-      (closed_part (all_without clients late).rows policy epoch (all_left s late now) now 0 last
+      (pairs_of (closed (all_left s late now) now silent) (all_without clients late).rows policy epoch)
+      (closed_part (all_without clients late).rows policy epoch (all_left s late now) now silent 0 last
       (all_left_in_order s clients late now last order).sources
       ∙ ap (filter (λ (pair : Pair). stays_open closes pair.source)) (all_left_part s clients late now last order)
       ∙ filter_both (λ (pair : Pair). stays_open closes pair.source) (λ (pair : Pair). not (is_of_any s late pair)) before) in

@@ -1,4 +1,5 @@
 pub mod BesideLemmas
+pub mod ClosedLemmas
 pub mod CountLemmas
 pub mod FindLemmas
 pub mod FittingLemmas
@@ -15,3 +16,4 @@ pub mod RisingLemmas
 pub mod SameLemmas
 pub mod TellLemmas
 pub mod TurnoverLemmas
+pub mod UnreadLemmas

@@ -3,17 +3,22 @@ use Rattle.std.proofs.Common.{◌≡◌, ℕ, ◌<◌, ◌≤◌, ℤ, ◌==◌,
 use Rattle.std.proofs.lemmas.Bool.{not-true}
 use Rattle.std.proofs.lemmas.List.Elements.{All-filter, All-nil, All-push, All-weaker, filter_passes}
 use Rattle.log_readers.specs.Numbering.{AreInOrder, IsOwned, number_of, registered_as, source_of}
+use Rattle.log_readers.specs.Unread.{is_kept, without_unread}
 use Rattle.stream_registry.specs.declared.row.Source.{Source}
 use Rattle.stream_registry.specs.declared.row.Subscription.{Subscription}
 use Rattle.stream_registry.specs.declared.wanted.Adding.TheVariants.{Join, Make}
+use Rattle.stream_registry.specs.declared.wanted.ImageWanted.{ImageWanted}
 use Rattle.stream_registry.specs.declared.wanted.Wanted.{Wanted}
 use Rattle.stream_registry.specs.Adding.{added, log_of, registration_of, subscribed}
 use Rattle.stream_registry.specs.Leaving.{is_another_registration, is_another_subscription, is_registration_of_another, is_subscription_of_another, left, unregistered, unsubscribed}
-use Rattle.stream_registry.specs.Lingering.{closed, is_not_past, is_used, left_alone, settled_one, settled}
+use Rattle.stream_registry.specs.Images.{image_of, imaged, stays_beside, without_images}
+use Rattle.stream_registry.specs.Lingering.{closed, is_used, left_alone, settled_one, settled, stays_live}
+use Rattle.stream_registry.specs.Pairs.{pairs_of}
 use Rattle.stream_registry.specs.Streams.{Streams, cleared}
 use Rattle.channel_uri.specs.Channel.{Shape}
 use Rattle.client_registry.specs.declared.client.Client.{Client}
 use Rattle.client_registry.specs.Clients.{ClientList, admitted, is_other, touched, without}
+use Rattle.policy_core.specs.RuleList.{Rules}
 use Rattle.log_readers.proofs.FoundLemmas.{found_heard, found_left, found_with, owned_alike}
 use Rattle.log_readers.proofs.RisingLemmas.{rises_kept, rises_mapped, rises_push, rises_up_to}
 
@@ -57,6 +62,17 @@ pub joined_in_order : (s : Streams) (clients : List Client) (last next number cl
 joined_in_order s clients last next number client wanted place source session h above below = record {
   sources = rises_up_to source_of 0 last next s.sources (omega (arith, above, below)) h.sources;
   registered = rises_push registered_as 0 last next s.registrations (registration_of number client wanted source) h.registered above below;
+  numbers = rises_up_to number_of 0 last next s.subscriptions (omega (arith, above, below)) h.numbers;
+  owned = h.owned;
+}
+
+-- an image comes
+pub imaged_in_order : (s : Streams) (clients : List Client) (last next number : ℕ) (wanted : ImageWanted) (place : ℕ) →
+    AreInOrder s clients last → last < number → number ≤ next →
+    AreInOrder (imaged s number wanted place) clients next
+imaged_in_order s clients last next number wanted place h above below = record {
+  sources = rises_push source_of 0 last next s.sources (image_of s number wanted place) h.sources above below;
+  registered = rises_up_to registered_as 0 last next s.registrations (omega (arith, above, below)) h.registered;
   numbers = rises_up_to number_of 0 last next s.subscriptions (omega (arith, above, below)) h.numbers;
   owned = h.owned;
 }
@@ -115,15 +131,30 @@ left_in_order s clients last client now h =
           (All-filter (is_subscription_of_another client) (IsOwned clients.rows) s.subscriptions h.owned);
     })
 
-pub closed_in_order : (s : Streams) (clients : List Client) (last now : ℕ) → AreInOrder s clients last →
-    AreInOrder (closed s now) clients last
-unfolding closed
-closed_in_order s clients last now h = record {
-  sources = rises_kept source_of (is_not_past now) 0 last s.sources h.sources;
+-- a part of the logs
+kept_in_order : (s : Streams) (stays : Source → Bool) (clients : List Client) (last : ℕ) → AreInOrder s clients last →
+    AreInOrder (record s { sources = filter stays s.sources }) clients last
+kept_in_order s stays clients last h = record {
+  sources = rises_kept source_of stays 0 last s.sources h.sources;
   registered = h.registered;
   numbers = h.numbers;
   owned = h.owned;
 }
+
+pub closed_in_order : (s : Streams) (clients : List Client) (last now : ℕ) (silent : List ℕ) → AreInOrder s clients last →
+    AreInOrder (closed s now silent) clients last
+unfolding closed
+closed_in_order s clients last now silent h = kept_in_order s (stays_live now silent) clients last h
+
+pub without_images_in_order : (s : Streams) (clients : List Client) (last : ℕ) (numbers : List ℕ) → AreInOrder s clients last →
+    AreInOrder (without_images s numbers) clients last
+unfolding without_images
+without_images_in_order s clients last numbers h = kept_in_order s (stays_beside numbers) clients last h
+
+pub unread_in_order : (s : Streams) (clients : List Client) (policy : Rules) (epoch last : ℕ) → AreInOrder s clients last →
+    AreInOrder (without_unread s clients policy epoch) clients last
+unfolding without_unread
+unread_in_order s clients policy epoch last h = kept_in_order s (is_kept (pairs_of s clients policy epoch)) clients last h
 
 -- all went, whoever is there
 pub cleared_in_order : (s : Streams) (clients : List Client) (last : ℕ) → AreInOrder (cleared s) clients last

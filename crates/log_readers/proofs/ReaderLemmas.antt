@@ -7,10 +7,12 @@ use Rattle.log_readers.specs.Numbering.{Rises, number_of}
 use Rattle.log_readers.specs.Readers.{all_readers, beside, is_of_others, is_unlike, noted, readers_at}
 use Rattle.stream_registry.specs.declared.row.Subscription.{Subscription}
 use Rattle.stream_registry.specs.declared.wanted.Adding.TheVariants.{Make}
+use Rattle.stream_registry.specs.declared.wanted.ImageWanted.{ImageWanted}
 use Rattle.stream_registry.specs.declared.wanted.Wanted.{Wanted}
 use Rattle.stream_registry.specs.Adding.{added, has_room_for_subscription, log_of, subscribed}
 use Rattle.stream_registry.specs.Leaving.{has_subscription, left, unsubscribed}
-use Rattle.stream_registry.specs.Lingering.{closed, is_not_past}
+use Rattle.stream_registry.specs.Images.{image_of, imaged, stays_beside, without_images}
+use Rattle.stream_registry.specs.Lingering.{closed, stays_live}
 use Rattle.stream_registry.specs.Pairs.{is_allowed}
 use Rattle.stream_registry.specs.Streams.{Streams}
 use Rattle.channel_uri.specs.Channel.{Shape}
@@ -70,12 +72,30 @@ module _ (clients : List Client) (policy : Rules) (epoch : ℕ) where
   made_readers s number client wanted place session =
       map-append (readers_at clients policy epoch s.subscriptions) s.sources (log_of s number wanted place session ∷ [])
 
+  -- so do those of a new image
+  pub imaged_readers : (s : Streams) (number : ℕ) (wanted : ImageWanted) (place : ℕ) →
+      all_readers (imaged s number wanted place) clients policy epoch
+      ≡ all_readers s clients policy epoch
+      ++ readers_at clients policy epoch s.subscriptions (image_of s number wanted place) ∷ []
+  unfolding all_readers
+  imaged_readers s number wanted place =
+      map-append (readers_at clients policy epoch s.subscriptions) s.sources (image_of s number wanted place ∷ [])
+
   -- the readers of a log that closes go with it
-  pub closed_readers : (s : Streams) (now : ℕ) →
-      beside (is_not_past now) s.sources (all_readers s clients policy epoch)
-      ≡ all_readers (closed s now) clients policy epoch
+  pub closed_readers : (s : Streams) (now : ℕ) (silent : List ℕ) →
+      beside (stays_live now silent) s.sources (all_readers s clients policy epoch)
+      ≡ all_readers (closed s now silent) clients policy epoch
   unfolding all_readers closed
-  closed_readers s now = beside_mapped (is_not_past now) (readers_at clients policy epoch s.subscriptions) s.sources
+  closed_readers s now silent =
+      beside_mapped (stays_live now silent) (readers_at clients policy epoch s.subscriptions) s.sources
+
+  -- and those of an image that goes
+  pub without_images_readers : (s : Streams) (numbers : List ℕ) →
+      beside (stays_beside numbers) s.sources (all_readers s clients policy epoch)
+      ≡ all_readers (without_images s numbers) clients policy epoch
+  unfolding all_readers without_images
+  without_images_readers s numbers =
+      beside_mapped (stays_beside numbers) (readers_at clients policy epoch s.subscriptions) s.sources
 
   rest_readers : (s : Streams) (client low last : ℕ) → Rises number_of low last s.subscriptions →
       all_readers (rest_of s client) clients policy epoch

@@ -11,10 +11,12 @@ use Rattle.stream_registry.specs.declared.pairs.Pair.{Pair}
 use Rattle.stream_registry.specs.declared.row.Source.{Source}
 use Rattle.stream_registry.specs.declared.row.Subscription.{Subscription}
 use Rattle.stream_registry.specs.declared.wanted.Adding.TheVariants.{Make}
+use Rattle.stream_registry.specs.declared.wanted.ImageWanted.{ImageWanted}
 use Rattle.stream_registry.specs.declared.wanted.Wanted.{Wanted}
 use Rattle.stream_registry.specs.Adding.{added, log_of, subscribed}
 use Rattle.stream_registry.specs.Leaving.{has_subscription, is_another_subscription, is_own_subscription, is_subscription_of_another, left, unsubscribed}
-use Rattle.stream_registry.specs.Lingering.{closed, closing_of, is_not_past, is_past, place_of}
+use Rattle.stream_registry.specs.Images.{image_of, imaged}
+use Rattle.stream_registry.specs.Lingering.{closed, closing_of, is_closing, place_of, stays_live}
 use Rattle.stream_registry.specs.Pairs.{pairs_at, pairs_of}
 use Rattle.stream_registry.specs.Streams.{Streams, cleared}
 use Rattle.channel_uri.specs.Channel.{Shape}
@@ -167,16 +169,16 @@ any_place : (source : ℕ) (logs : List Source) →
 any_place source [] = refl
 any_place source (log ∷ logs) = ap (λ (rest : Bool). (log.number == source) || rest) (any_place source logs)
 
-pub closed_by_source : (s : Streams) (now low last : ℕ) → Rises source_of low last s.sources →
-    filter (is_not_past now) s.sources ≡ filter (log_passes (stays_open (closing_of s now))) s.sources
+pub closed_by_source : (s : Streams) (now : ℕ) (silent : List ℕ) (low last : ℕ) → Rises source_of low last s.sources →
+    filter (stays_live now silent) s.sources ≡ filter (log_passes (stays_open (closing_of s now silent))) s.sources
 unfolding closing_of
-closed_by_source s now low last up =
-    let found = finds_itself source_of (is_past now) low last s.sources up in
-    filter_alike (is_not_past now) (log_passes (stays_open (map place_of (filter (is_past now) s.sources)))) s.sources
+closed_by_source s now silent low last up =
+    let found = finds_itself source_of (is_closing now silent) low last s.sources up in
+    filter_alike (stays_live now silent) (log_passes (stays_open (map place_of (filter (is_closing now silent) s.sources)))) s.sources
     (λ k d within.
     let log : Source = get_or s.sources k d in
-    ap not (sym (any_place log.number (filter (is_past now) s.sources)
-    ∙ any_filtered (λ (one : Source). one.number == log.number) (is_past now) s.sources
+    ap not (sym (any_place log.number (filter (is_closing now silent) s.sources)
+    ∙ any_filtered (λ (one : Source). one.number == log.number) (is_closing now silent) s.sources
     ∙ found k d within)))
 
 module _ (clients : List Client) (policy : Rules) (epoch : ℕ) where
@@ -205,6 +207,23 @@ module _ (clients : List Client) (policy : Rules) (epoch : ℕ) where
       ∙ pairs_alone clients policy epoch row s.sources)
 
   -- the pairs of a log whose source is above all others
+  log_turnover : (s : Streams) (log : Source) (low last : ℕ) → Rises source_of low last s.sources → last < log.number →
+      IsTurnover (pairs_of s clients policy epoch) (pairs_of (record s { sources = s.sources ++ log ∷ [] }) clients policy epoch) []
+      (pairs_at clients policy epoch s.subscriptions log)
+  unfolding pairs_of
+  log_turnover s log low last up above =
+      let logs : List Source = s.sources ++ log ∷ [] in
+      let before : List Pair = flat_map (pairs_at clients policy epoch s.subscriptions) s.sources in
+      let after : List Pair = flat_map (pairs_at clients policy epoch s.subscriptions) logs in
+      turned before after (filter (λ (pair : Pair). not (is_unlike log.number pair.source)) after) []
+      (pairs_at clients policy epoch s.subscriptions log)
+      (source_turnover (is_unlike log.number) after before
+      (ap (flat_map (pairs_at clients policy epoch s.subscriptions)) (sym (others_stay source_of log low last s.sources up above))
+      ∙ pairs_of_logs clients policy epoch (is_unlike log.number) s.subscriptions logs))
+      (sym (pairs_of_logs clients policy epoch (λ n. not (is_unlike log.number n)) s.subscriptions logs)
+      ∙ ap (flat_map (pairs_at clients policy epoch s.subscriptions)) (row_alone source_of log low last s.sources up above)
+      ∙ append-nil (pairs_at clients policy epoch s.subscriptions log))
+
   pub made_turnover : (s : Streams) (number client : ℕ) (wanted : Wanted) (place : ℕ) (session : ℤ) (low last : ℕ) →
       Rises source_of low last s.sources → last < number →
       IsTurnover (pairs_of s clients policy epoch)
@@ -212,18 +231,15 @@ module _ (clients : List Client) (policy : Rules) (epoch : ℕ) where
       (pairs_at clients policy epoch s.subscriptions (log_of s number wanted place session))
   unfolding pairs_of
   made_turnover s number client wanted place session low last up above =
-      let log : Source = log_of s number wanted place session in
-      let logs : List Source = s.sources ++ log ∷ [] in
-      let before : List Pair = flat_map (pairs_at clients policy epoch s.subscriptions) s.sources in
-      let after : List Pair = flat_map (pairs_at clients policy epoch s.subscriptions) logs in
-      turned before after (filter (λ (pair : Pair). not (is_unlike number pair.source)) after) []
-      (pairs_at clients policy epoch s.subscriptions log)
-      (source_turnover (is_unlike number) after before
-      (ap (flat_map (pairs_at clients policy epoch s.subscriptions)) (sym (others_stay source_of log low last s.sources up above))
-      ∙ pairs_of_logs clients policy epoch (is_unlike number) s.subscriptions logs))
-      (sym (pairs_of_logs clients policy epoch (λ n. not (is_unlike number n)) s.subscriptions logs)
-      ∙ ap (flat_map (pairs_at clients policy epoch s.subscriptions)) (row_alone source_of log low last s.sources up above)
-      ∙ append-nil (pairs_at clients policy epoch s.subscriptions log))
+      let turnover = log_turnover s (log_of s number wanted place session) low last up above in
+      record { gone = turnover.gone; come = turnover.come }
+
+  pub imaged_turnover : (s : Streams) (number : ℕ) (wanted : ImageWanted) (place low last : ℕ) →
+      Rises source_of low last s.sources → last < number →
+      IsTurnover (pairs_of s clients policy epoch) (pairs_of (imaged s number wanted place) clients policy epoch) []
+      (pairs_at clients policy epoch s.subscriptions (image_of s number wanted place))
+  imaged_turnover s number wanted place low last up above =
+      log_turnover s (image_of s number wanted place) low last up above
 
   -- ---- what goes
 
@@ -247,27 +263,27 @@ module _ (clients : List Client) (policy : Rules) (epoch : ℕ) where
       ∙ pairs_of_part clients policy epoch (is_unlike number) s.subscriptions s.sources))
 
   -- what is left of the pairs where logs close
-  pub closed_part : (s : Streams) (now low last : ℕ) → Rises source_of low last s.sources →
-      pairs_of (closed s now) clients policy epoch
-      ≡ filter (λ pair. stays_open (closing_of s now) pair.source) (pairs_of s clients policy epoch)
+  pub closed_part : (s : Streams) (now : ℕ) (silent : List ℕ) (low last : ℕ) → Rises source_of low last s.sources →
+      pairs_of (closed s now silent) clients policy epoch
+      ≡ filter (λ pair. stays_open (closing_of s now silent) pair.source) (pairs_of s clients policy epoch)
   unfolding pairs_of closed
-  closed_part s now low last up =
-      ap (flat_map (pairs_at clients policy epoch s.subscriptions)) (closed_by_source s now low last up)
-      ∙ pairs_of_logs clients policy epoch (stays_open (closing_of s now)) s.subscriptions s.sources
+  closed_part s now silent low last up =
+      ap (flat_map (pairs_at clients policy epoch s.subscriptions)) (closed_by_source s now silent low last up)
+      ∙ pairs_of_logs clients policy epoch (stays_open (closing_of s now silent)) s.subscriptions s.sources
 
   -- the pairs of the logs that close
-  pub closed_turnover : (s : Streams) (now low last : ℕ) → Rises source_of low last s.sources →
-      IsTurnover (pairs_of s clients policy epoch) (pairs_of (closed s now) clients policy epoch)
-      (filter (is_of_closing (closing_of s now)) (pairs_of s clients policy epoch)) []
-  closed_turnover s now low last up =
-      let test : ℕ → Bool = stays_open (closing_of s now) in
+  pub closed_turnover : (s : Streams) (now : ℕ) (silent : List ℕ) (low last : ℕ) → Rises source_of low last s.sources →
+      IsTurnover (pairs_of s clients policy epoch) (pairs_of (closed s now silent) clients policy epoch)
+      (filter (is_of_closing (closing_of s now silent)) (pairs_of s clients policy epoch)) []
+  closed_turnover s now silent low last up =
+      let test : ℕ → Bool = stays_open (closing_of s now silent) in
       let before : List Pair = pairs_of s clients policy epoch in
-      let after : List Pair = pairs_of (closed s now) clients policy epoch in
+      let after : List Pair = pairs_of (closed s now silent) clients policy epoch in
       renamed before after (filter (λ (pair : Pair). not (test pair.source)) before) []
-      (filter (is_of_closing (closing_of s now)) before)
-      (filter_agree (λ (pair : Pair). not (test pair.source)) (is_of_closing (closing_of s now))
-      (λ pair. not_not (is_of_closing (closing_of s now) pair)) before)
-      (source_turnover test before after (closed_part s now low last up))
+      (filter (is_of_closing (closing_of s now silent)) before)
+      (filter_agree (λ (pair : Pair). not (test pair.source)) (is_of_closing (closing_of s now silent))
+      (λ pair. not_not (is_of_closing (closing_of s now silent) pair)) before)
+      (source_turnover test before after (closed_part s now silent low last up))
 
   -- what is left of the pairs where a client's subscriptions go
   rest_part : (s : Streams) (client low last : ℕ) → Rises number_of low last s.subscriptions →

@@ -3,3 +3,4 @@ pub mod Numbering
 pub mod Readers
 pub mod Reloading
 pub mod Turnover
+pub mod Unread

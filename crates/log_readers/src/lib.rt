@@ -9,12 +9,14 @@ mod closing;
 mod coming;
 mod counting;
 mod finding;
+mod imaging;
 mod leaving;
 mod publishing;
 mod readers;
 mod reloading;
 mod subscribing;
 mod telling;
+mod unread;
 
 pub use coming::{logs_read, pairs_of_log, pairs_of_subscription, readers_of};
 pub use counting::pair_count;

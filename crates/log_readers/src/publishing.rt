@@ -30,7 +30,7 @@ fn ask_at(
 
 impl Readers {
     /// A log comes behind the others, as many as `logs`.
-    fn add_log(
+    pub(crate) fn add_log(
         &mut self,
         clients: &Clients,
         policy: &Policy,

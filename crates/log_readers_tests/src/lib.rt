@@ -9,3 +9,5 @@ mod keeping;
 mod play;
 #[cfg(test)]
 mod reloading;
+#[cfg(test)]
+mod unread;

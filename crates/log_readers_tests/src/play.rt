@@ -1,4 +1,4 @@
-//! Lists and their readers that tests play with, all by shared memory and on stream 10.
+//! Lists and their readers that tests play with, all on stream 10.
 
 use byte_strings::ShortText;
 use channel_uri::{Channel, Pattern};
@@ -8,7 +8,7 @@ use policy_core::{Act, Acts, Policy, Principals, Rule};
 use std::alloc::{AllocError, Global};
 use std::marker::Model;
 use std::test::Fail;
-use stream_registry::{LogPlace, Measures, Pair, Streams, Wanted, Wish};
+use stream_registry::{ImageWanted, LogPlace, Measures, Pair, Streams, Wanted, Wish};
 
 /// How long a log lingers.
 pub(crate) const LINGER: u64 = 5_000;
@@ -92,21 +92,53 @@ impl Play {
     }
 
     /// Whether there is room for the subscription. It is there then.
-    pub(crate) fn subscribes(&mut self, number: u64, client: u64) -> bool {
+    pub(crate) fn subscribes_to(&mut self, number: u64, client: u64, channel: &Channel) -> bool {
         if !self.streams.has_room_for_subscription() {
             return false;
         }
-        let channel = Channel::ipc();
         let wish = Wish {
             number,
             client,
-            channel: &channel,
+            channel,
             stream: 10,
         };
         self.readers
             .add_subscription(&self.streams, &self.clients, &self.policy, 1, &wish);
-        self.streams.add_subscription(number, client, &channel, 10);
+        self.streams.add_subscription(number, client, channel, 10);
         true
+    }
+
+    /// Whether there is room for the subscription, by shared memory. It is there then.
+    pub(crate) fn subscribes(&mut self, number: u64, client: u64) -> bool {
+        let channel = Channel::ipc();
+        self.subscribes_to(number, client, &channel)
+    }
+
+    /// Whether there is room for the image. It is there then, and there are as many pairs as were counted before.
+    pub(crate) fn images(&mut self, number: u64, wanted: &ImageWanted) -> bool {
+        if !self.streams.has_room_for_image() {
+            return false;
+        }
+        let counted = self.readers.pair_count_with_image(
+            &self.streams,
+            &self.clients,
+            &self.policy,
+            1,
+            number,
+            wanted,
+            0,
+        );
+        self.readers.add_image(
+            &self.streams,
+            &self.clients,
+            &self.policy,
+            1,
+            number,
+            wanted,
+            0,
+        );
+        self.streams.add_image(number, wanted, 0);
+        self.reads(counted)
     }
 
     /// Whether a log may be made. It is there then.
@@ -147,8 +179,21 @@ impl Play {
     /// The logs close that linger for too long.
     #[tactic(auto, using(log_readers::proofs::ReaderLemmas::as_many_as_logs))]
     pub(crate) fn closes(&mut self, now: u64) {
-        self.readers.close(&self.streams, now);
-        self.streams.close(now);
+        self.readers.close(&self.streams, now, &[]);
+        self.streams.close(now, &[]);
+    }
+
+    /// Whether these images are the ones that no subscription reads.
+    #[tactic(auto, using(log_readers::proofs::ReaderLemmas::as_many_as_logs))]
+    pub(crate) fn has_unread(&self, numbers: &[u64]) -> bool {
+        self.readers.unread(&self.streams).as_slice() == numbers
+    }
+
+    /// These images go.
+    #[tactic(auto, using(log_readers::proofs::ReaderLemmas::as_many_as_logs))]
+    pub(crate) fn removes_images(&mut self, numbers: &[u64]) {
+        self.readers.remove_images(&self.streams, numbers);
+        self.streams.remove_images(numbers);
     }
 
     /// Whether these are the pairs of the subscription of this number.

@@ -16,7 +16,7 @@ use Rattle.stream_registry.specs.Joining.{contradicts, joined_at}
 use Rattle.stream_registry.specs.Images.{has_room_for_image, image_of, imaged, stays_beside, without_images}
 use Rattle.stream_registry.specs.Leaving.{is_another_registration, is_another_subscription, is_registration_of_another, is_subscription_of_another, left, unregistered, unsubscribed}
 use Rattle.stream_registry.specs.LimitLaws.{IsWithinLimits, StaysWithinLimits}
-use Rattle.stream_registry.specs.Lingering.{closed, is_not_past, settled}
+use Rattle.stream_registry.specs.Lingering.{closed, settled, stays_live}
 use Rattle.stream_registry.specs.Origins.{is_published, is_remote}
 use Rattle.stream_registry.specs.Sessions.{is_stated_again}
 use Rattle.stream_registry.specs.Streams.{Streams}
@@ -170,10 +170,10 @@ left_within s client now h =
       subscriptions = fewer (is_subscription_of_another client) s.subscriptions 512 h.subscriptions;
     })
 
-closed_within : (s : Streams) (now : ℕ) → IsWithinLimits s → IsWithinLimits (closed s now)
+closed_within : (s : Streams) (now : ℕ) (silent : List ℕ) → IsWithinLimits s → IsWithinLimits (closed s now silent)
 unfolding closed
-closed_within s now h = record {
-  logs = kept_few (is_not_past now) s.sources h.logs;
+closed_within s now silent h = record {
+  logs = kept_few (stays_live now silent) s.sources h.logs;
   registrations = h.registrations;
   subscriptions = h.subscriptions;
 }

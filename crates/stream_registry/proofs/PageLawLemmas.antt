@@ -15,7 +15,7 @@ use Rattle.stream_registry.specs.declared.wanted.Wanted.{Wanted}
 use Rattle.stream_registry.specs.Adding.{added, log_of, subscribed}
 use Rattle.stream_registry.specs.Images.{image_of, image_place_for, imaged, stays_beside, without_images}
 use Rattle.stream_registry.specs.Leaving.{is_another_registration, is_registration_of_another, is_subscription_of_another, left, unregistered, unsubscribed}
-use Rattle.stream_registry.specs.Lingering.{closed, is_not_past, is_used, left_alone, settled, settled_one}
+use Rattle.stream_registry.specs.Lingering.{closed, is_used, left_alone, settled, settled_one, stays_live}
 use Rattle.stream_registry.specs.LogPages.{fits, free_place, holds_some, log_pages, place_for}
 use Rattle.stream_registry.specs.PageLaws.{IsAmong, IsVacant, HasPage, ShareNoPage, IsLaidOut, PlacesAreLeast, PlacesShareNothing}
 use Rattle.stream_registry.specs.Streams.{Streams}
@@ -114,7 +114,7 @@ imaged_laid_out arena s number place wanted h is =
       apart = all_pairs_push ShareNoPage s.sources log h.apart (λ k d within page has new. vacant.free k d within page new has);
     }
 
-kept_laid_out : (arena : ℕ) (s t : Streams) (stays : Source → Bool) → t.sources ≡ filter stays s.sources → IsLaidOut arena s →
+pub kept_laid_out : (arena : ℕ) (s t : Streams) (stays : Source → Bool) → t.sources ≡ filter stays s.sources → IsLaidOut arena s →
     IsLaidOut arena t
 kept_laid_out arena s t stays is h = record {
   within = subst (All (λ one. one.place + log_pages one ≤ arena)) (sym is)
@@ -183,9 +183,9 @@ subscribed_laid_out : (arena : ℕ) (s : Streams) (number client : ℕ) (channel
 unfolding subscribed
 subscribed_laid_out arena s number client channel stream h = record { within = h.within; apart = h.apart }
 
-closed_laid_out : (arena : ℕ) (s : Streams) (now : ℕ) → IsLaidOut arena s → IsLaidOut arena (closed s now)
+closed_laid_out : (arena : ℕ) (s : Streams) (now : ℕ) (silent : List ℕ) → IsLaidOut arena s → IsLaidOut arena (closed s now silent)
 unfolding closed
-closed_laid_out arena s now h = kept_laid_out arena s (closed s now) (is_not_past now) refl h
+closed_laid_out arena s now silent h = kept_laid_out arena s (closed s now silent) (stays_live now silent) refl h
 
 without_laid_out : (arena : ℕ) (s : Streams) (numbers : List ℕ) → IsLaidOut arena s → IsLaidOut arena (without_images s numbers)
 unfolding without_images

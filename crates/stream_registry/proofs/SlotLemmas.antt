@@ -18,7 +18,7 @@ use Rattle.stream_registry.specs.declared.wanted.Wanted.{Wanted}
 use Rattle.stream_registry.specs.Adding.{adding_of, added, has_room_for_log, log_of, subscribed}
 use Rattle.stream_registry.specs.Images.{has_room_for_image, image_of, imaged, stays_beside, without_images}
 use Rattle.stream_registry.specs.Leaving.{is_another_registration, is_registration_of_another, is_subscription_of_another, left, unregistered, unsubscribed}
-use Rattle.stream_registry.specs.Lingering.{closed, is_not_past, is_used, left_alone, settled, settled_one}
+use Rattle.stream_registry.specs.Lingering.{closed, is_used, left_alone, settled, settled_one, stays_live}
 use Rattle.stream_registry.specs.Origins.{is_of_kind, is_published, is_remote}
 use Rattle.stream_registry.specs.Slots.{free_slot, has_slot, is_slot_taken, slot_from}
 use Rattle.stream_registry.specs.SlotLaws.{HasOwnSlots, IsInReach, IsLeastSlot, ShareNoSlot, SlotsAreFree, limit_of}
@@ -307,9 +307,9 @@ subscribed_slots : (s : Streams) (number client : ℕ) (channel : Shape) (stream
 unfolding subscribed
 subscribed_slots s number client channel stream h = record { within = h.within; apart = h.apart }
 
-closed_slots : (s : Streams) (now : ℕ) → HasOwnSlots s → HasOwnSlots (closed s now)
+closed_slots : (s : Streams) (now : ℕ) (silent : List ℕ) → HasOwnSlots s → HasOwnSlots (closed s now silent)
 unfolding closed
-closed_slots s now h = kept_slots s (closed s now) (is_not_past now) refl h
+closed_slots s now silent h = kept_slots s (closed s now silent) (stays_live now silent) refl h
 
 without_slots : (s : Streams) (numbers : List ℕ) → HasOwnSlots s → HasOwnSlots (without_images s numbers)
 unfolding without_images

@@ -1,12 +1,12 @@
 -- Images: the logs of remote publishers.
-use Rattle.std.specs.Prelude.{ℕ, ℤ, Bool, false, not, ◌==◌, ◌&&◌, ◌||◌, nat_lt, List, [], ◌∷◌, ◌++◌, length, filter, find, Option}
-use Rattle.std.specs.List.{list_any}
+use Rattle.std.specs.Prelude.{ℕ, ℤ, Bool, false, not, ◌&&◌, nat_lt, List, [], ◌∷◌, ◌++◌, length, filter, find, Option}
 use Rattle.std.specs.Ordering.{int_eq}
 use Rattle.stream_registry.specs.declared.row.Origin.TheVariants.{Remote}
 use Rattle.stream_registry.specs.declared.row.Source.{Source}
 use Rattle.stream_registry.specs.declared.wanted.ImageWanted.{ImageWanted}
+use Rattle.stream_registry.specs.Lingering.{is_image_of}
 use Rattle.stream_registry.specs.LogPages.{free_place, pages_of}
-use Rattle.stream_registry.specs.Origins.{is_published, is_remote}
+use Rattle.stream_registry.specs.Origins.{is_remote}
 use Rattle.stream_registry.specs.Places.{is_same_place}
 use Rattle.stream_registry.specs.Slots.{free_slot}
 use Rattle.stream_registry.specs.Streams.{Streams}
@@ -45,12 +45,9 @@ imaged s number wanted place = record s { sources = s.sources ++ image_of s numb
 abbrev pub image_place_for : Streams → ℕ → ImageWanted → Option ℕ
 image_place_for s arena_pages wanted = free_place s arena_pages (pages_of wanted.measures.term_length)
 
-abbrev pub is_number : ℕ → ℕ → Bool
-is_number number other = other == number
-
 -- publications stay, whatever their numbers, and so do all other images
 abbrev pub stays_beside : List ℕ → Source → Bool
-stays_beside numbers log = is_published log || not (list_any (is_number log.number) numbers)
+stays_beside numbers log = not (is_image_of numbers log)
 
 -- the images of these numbers are gone
 unfoldable pub without_images : Streams → List ℕ → Streams

@@ -30,6 +30,6 @@ pub record StaysWithinLimits : Type 0 where
   pub unregistered : (s : Streams) (client number now : ℕ) → IsWithinLimits s → IsWithinLimits (unregistered s client number now)
   pub unsubscribed : (s : Streams) (client number : ℕ) → IsWithinLimits s → IsWithinLimits (unsubscribed s client number)
   pub left : (s : Streams) (client now : ℕ) → IsWithinLimits s → IsWithinLimits (left s client now)
-  pub closed : (s : Streams) (now : ℕ) → IsWithinLimits s → IsWithinLimits (closed s now)
+  pub closed : (s : Streams) (now : ℕ) (silent : List ℕ) → IsWithinLimits s → IsWithinLimits (closed s now silent)
   pub without_images : (s : Streams) (numbers : List ℕ) → IsWithinLimits s → IsWithinLimits (without_images s numbers)
   pub cleared : (s : Streams) → IsWithinLimits s → IsWithinLimits (cleared s)

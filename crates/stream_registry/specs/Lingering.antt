@@ -1,10 +1,11 @@
--- A publication with which nobody is registered lingers, and goes once that lasted too long.
-use Rattle.std.specs.Prelude.{ℕ, ◌-◌, Bool, false, not, ◌==◌, List, map, filter, length, Option, Some, None, nat_lt, if◌then◌else◌}
+-- A publication with which nobody is registered lingers, and goes once that lasted too long. An image goes of which nothing
+-- was heard for too long.
+use Rattle.std.specs.Prelude.{ℕ, ◌-◌, Bool, false, not, ◌==◌, ◌&&◌, ◌||◌, List, map, filter, length, Option, Some, None, nat_lt, if◌then◌else◌}
 use Rattle.std.specs.List.{list_any}
 use Rattle.stream_registry.specs.declared.lingering.LogPlace.{LogPlace}
 use Rattle.stream_registry.specs.declared.row.Source.{Source}
 use Rattle.stream_registry.specs.declared.row.Registration.{Registration}
-use Rattle.stream_registry.specs.Origins.{left_by, lingering_since}
+use Rattle.stream_registry.specs.Origins.{is_remote, left_by, lingering_since}
 use Rattle.stream_registry.specs.Streams.{Streams}
 
 -- it is registered with the publication of this source number
@@ -39,16 +40,27 @@ is_past_since linger now (Some since) = nat_lt linger (now - since)
 abbrev pub is_past : ℕ → Source → Bool
 is_past now log = is_past_since log.measures.linger now (lingering_since log)
 
-abbrev pub is_not_past : ℕ → Source → Bool
-is_not_past now log = not (is_past now log)
+abbrev pub is_number : ℕ → ℕ → Bool
+is_number number other = other == number
+
+-- it is one of these images
+abbrev pub is_image_of : List ℕ → Source → Bool
+is_image_of numbers log = is_remote log && list_any (is_number log.number) numbers
+
+-- it closes at this moment, where these images are silent
+abbrev pub is_closing : ℕ → List ℕ → Source → Bool
+is_closing now silent log = is_past now log || is_image_of silent log
+
+abbrev pub stays_live : ℕ → List ℕ → Source → Bool
+stays_live now silent log = not (is_closing now silent log)
 
 abbrev pub place_of : Source → LogPlace
 place_of log = record { source = log.number; place = log.place }
 
 -- the logs that close at this moment
-unfoldable pub closing_of : Streams → ℕ → List LogPlace
-closing_of s now = map place_of (filter (is_past now) s.sources)
+unfoldable pub closing_of : Streams → ℕ → List ℕ → List LogPlace
+closing_of s now silent = map place_of (filter (is_closing now silent) s.sources)
 
 -- they are gone
-unfoldable pub closed : Streams → ℕ → Streams
-closed s now = record s { sources = filter (is_not_past now) s.sources }
+unfoldable pub closed : Streams → ℕ → List ℕ → Streams
+closed s now silent = record s { sources = filter (stays_live now silent) s.sources }

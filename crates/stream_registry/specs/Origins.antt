@@ -1,5 +1,6 @@
 -- Where logs come from: clients of this driver publish there, or a remote publisher does, whose log is an image here.
 use Rattle.std.specs.Prelude.{ℕ, Bool, true, false, not, Option, Some, None, unwrap_or, if◌then◌else◌}
+use Rattle.channel_uri.specs.declared.address.Address.{Address}
 use Rattle.stream_registry.specs.declared.row.Origin.{Origin}
 use Rattle.stream_registry.specs.declared.row.Origin.TheVariants.{Published, Remote}
 use Rattle.stream_registry.specs.declared.row.Source.{Source}
@@ -45,3 +46,19 @@ left_by now (Remote address initial_term join) = Remote address initial_term joi
 abbrev pub unlingering : Origin → Origin
 unlingering (Published exclusive since) = Published exclusive None
 unlingering (Remote address initial_term join) = Remote address initial_term join
+
+abbrev pub begins_by : Origin → ℕ
+begins_by (Published exclusive since) = 0
+begins_by (Remote address initial_term join) = join
+
+-- the position at which the log begins
+abbrev pub begins_at : Source → ℕ
+begins_at log = begins_by log.origin
+
+abbrev pub address_by : Origin → Option Address
+address_by (Published exclusive since) = None
+address_by (Remote address initial_term join) = Some address
+
+-- from where its publisher sends, where that is a remote one
+abbrev pub address_of : Source → Option Address
+address_of log = address_by log.origin

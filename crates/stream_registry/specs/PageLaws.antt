@@ -61,7 +61,7 @@ pub record StaysLaidOut (arena_pages : ℕ) : Type 0 where
   pub unsubscribed : (s : Streams) (client number : ℕ) → IsLaidOut arena_pages s →
       IsLaidOut arena_pages (unsubscribed s client number)
   pub left : (s : Streams) (client now : ℕ) → IsLaidOut arena_pages s → IsLaidOut arena_pages (left s client now)
-  pub closed : (s : Streams) (now : ℕ) → IsLaidOut arena_pages s → IsLaidOut arena_pages (closed s now)
+  pub closed : (s : Streams) (now : ℕ) (silent : List ℕ) → IsLaidOut arena_pages s → IsLaidOut arena_pages (closed s now silent)
   pub without_images : (s : Streams) (numbers : List ℕ) → IsLaidOut arena_pages s →
       IsLaidOut arena_pages (without_images s numbers)
   pub cleared : (s : Streams) → IsLaidOut arena_pages s → IsLaidOut arena_pages (cleared s)

@@ -48,6 +48,6 @@ pub record SlotsAreFree : Type 0 where
   pub unregistered : (s : Streams) (client number now : ℕ) → HasOwnSlots s → HasOwnSlots (unregistered s client number now)
   pub unsubscribed : (s : Streams) (client number : ℕ) → HasOwnSlots s → HasOwnSlots (unsubscribed s client number)
   pub left : (s : Streams) (client now : ℕ) → HasOwnSlots s → HasOwnSlots (left s client now)
-  pub closed : (s : Streams) (now : ℕ) → HasOwnSlots s → HasOwnSlots (closed s now)
+  pub closed : (s : Streams) (now : ℕ) (silent : List ℕ) → HasOwnSlots s → HasOwnSlots (closed s now silent)
   pub without_images : (s : Streams) (numbers : List ℕ) → HasOwnSlots s → HasOwnSlots (without_images s numbers)
   pub cleared : (s : Streams) → HasOwnSlots s → HasOwnSlots (cleared s)

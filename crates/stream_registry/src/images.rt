@@ -1,8 +1,8 @@
-ghost use Rattle.stream_registry.specs.Images.{has_room_for_image, image_at, image_of, image_place_for, imaged, is_image_at, is_number, stays_beside, without_images};
-ghost use Rattle.std.specs.List.{list_any};
+ghost use Rattle.stream_registry.specs.Images.{has_room_for_image, image_at, image_of, image_place_for, imaged, is_image_at, stays_beside, without_images};
 ghost use Rattle.std.specs.Option.{option_copied};
 ghost use Rattle.std.specs.Prelude.{◌≡◌, find, true};
 
+use crate::lingering::is_image_of;
 use crate::log_pages::pages_of;
 use crate::places::is_same_place;
 use crate::row::{Origin, Source};
@@ -43,18 +43,6 @@ fn image_in<'a>(
     None
 }
 
-/// Whether the number is one of these.
-fn is_named(numbers: &[u64], number: u64) -> bool
-    ensures { result ≡ list_any (is_number number) numbers.now }
-{
-    for other in numbers {
-        if *other == number {
-            return true;
-        }
-    }
-    false
-}
-
 /// Keeps all logs but the images of these numbers.
 #[derive(Clone, Copy)]
 pub(crate) struct Beside<'a> {
@@ -65,7 +53,7 @@ impl Test<Source> for Beside<'_> {
     ghost keeps = { λ test log. stays_beside test.numbers.now log };
 
     fn keeps(&self, log: &Source) -> bool {
-        log.is_published() || !is_named(self.numbers, log.number)
+        !is_image_of(log, self.numbers)
     }
 }
 

@@ -32,7 +32,7 @@ pub use fault::StreamFault;
 pub use laws::{
     limits_are_kept, places_are_least, places_share_nothing, sessions_are_free, slots_are_free,
 };
-pub use lingering::{LogPlace, is_past};
+pub use lingering::{LogPlace, is_closing, is_image_of};
 pub use measures::Measures;
 pub use pairs::{Pair, fits, is_allowed, reads};
 pub use row::{Origin, Registration, Source, Subscription};

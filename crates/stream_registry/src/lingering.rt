@@ -1,4 +1,5 @@
-ghost use Rattle.stream_registry.specs.Lingering.{closed, closing_of, is_not_past, is_past, is_used, registrations_of, settled, settled_one};
+ghost use Rattle.stream_registry.specs.Lingering.{closed, closing_of, is_closing, is_image_of, is_number, is_past, is_used, registrations_of, settled, settled_one, stays_live};
+ghost use Rattle.std.specs.List.{list_any};
 ghost use Rattle.std.specs.Prelude.{◌≡◌, IfOk};
 
 use crate::row::{Registration, Source};
@@ -58,17 +59,44 @@ pub fn is_past(log: &Source, now: u64) -> bool
     }
 }
 
-/// Keeps the logs that don't linger for longer than they may at this moment.
-#[derive(Clone, Copy)]
-pub(crate) struct NotPast {
-    pub(crate) now: u64,
+/// Whether the number is one of these.
+fn is_named(numbers: &[u64], number: u64) -> bool
+    ensures { result ≡ list_any (is_number number) numbers.now }
+{
+    for other in numbers {
+        if *other == number {
+            return true;
+        }
+    }
+    false
 }
 
-impl Test<Source> for NotPast {
-    ghost keeps = { λ test log. is_not_past test.now log };
+/// Whether the log is the image of one of these numbers.
+pub fn is_image_of(log: &Source, numbers: &[u64]) -> bool
+    ensures { result ≡ is_image_of numbers.now log.now }
+{
+    !log.is_published() && is_named(numbers, log.number)
+}
+
+/// Whether the log closes at `now`, where these images are silent.
+pub fn is_closing(log: &Source, now: u64, silent: &[u64]) -> bool
+    ensures { result ≡ is_closing now silent.now log.now }
+{
+    is_past(log, now) || is_image_of(log, silent)
+}
+
+/// Keeps the logs that don't close at this moment.
+#[derive(Clone, Copy)]
+pub(crate) struct StaysLive<'a> {
+    pub(crate) now: u64,
+    pub(crate) silent: &'a [u64],
+}
+
+impl Test<Source> for StaysLive<'_> {
+    ghost keeps = { λ test log. stays_live test.now test.silent.now log };
 
     fn keeps(&self, log: &Source) -> bool {
-        !is_past(log, self.now)
+        !is_closing(log, self.now, self.silent)
     }
 }
 
@@ -92,14 +120,20 @@ impl Streams {
         self.sources.settle(self.registrations.as_slice(), now);
     }
 
-    /// The logs of the publications that linger for longer than they may at `now`, by their source numbers.
+    /// The logs that close at `now`, by their source numbers: of the publications that linger for longer than they may, and
+    /// of these images, which are silent.
     #[tactic(auto, unfolding(crate::specs::Lingering::closing_of))]
-    pub fn closing(&self, alloc: Global, now: u64) -> Result<Items<LogPlace>, AllocError>
-        ensures { IfOk result (λ logs. logs ≡ closing_of self.now now) }
+    pub fn closing(
+        &self,
+        alloc: Global,
+        now: u64,
+        silent: &[u64],
+    ) -> Result<Items<LogPlace>, AllocError>
+        ensures { IfOk result (λ logs. logs ≡ closing_of self.now now silent.now) }
     {
         let mut logs = Items::new(alloc);
         for log in self.sources.as_slice() {
-            if is_past(log, now) {
+            if is_closing(log, now, silent) {
                 logs.push(LogPlace {
                     source: log.number,
                     place: log.place,
@@ -109,12 +143,11 @@ impl Streams {
         Ok(logs)
     }
 
-    /// The publications go that linger for longer than they may at `now`: their logs are those of [`Streams::closing`]. It
-    /// takes no memory.
+    /// The logs go that close at `now`: those of [`Streams::closing`]. It takes no memory.
     #[tactic(auto, unfolding(crate::specs::Lingering::closed))]
-    pub fn close(&mut self, now: u64)
-        ensures { self.new ≡ closed self.old now }
+    pub fn close(&mut self, now: u64, silent: &[u64])
+        ensures { self.new ≡ closed self.old now silent.now }
     {
-        self.sources.close(now);
+        self.sources.close(now, silent);
     }
 }

@@ -1,7 +1,8 @@
-ghost use Rattle.stream_registry.specs.Origins.{is_exclusive, is_of_kind, is_published, left_by, lingering_since};
+ghost use Rattle.stream_registry.specs.Origins.{address_of, begins_at, is_exclusive, is_of_kind, is_published, left_by, lingering_since};
 ghost use Rattle.std.specs.Prelude.{◌≡◌};
 
 use crate::row::{Origin, Source};
+use channel_uri::Address;
 
 impl Origin {
     /// A publication lingers from `now` on, unless it did before; an image stays as it is.
@@ -71,6 +72,26 @@ impl Source {
                 ..
             } => lingering_since,
             Origin::Remote { .. } => None,
+        }
+    }
+
+    /// The position at which the log begins: 0 of a publication, of an image the one that its publisher's SETUP told.
+    pub fn begins_at(&self) -> u64
+        ensures { result ≡ begins_at self.now }
+    {
+        match self.origin {
+            Origin::Published { .. } => 0,
+            Origin::Remote { join, .. } => join,
+        }
+    }
+
+    /// From where the publisher sends, where that is a remote one.
+    pub fn address(&self) -> Option<Address>
+        ensures { result ≡ address_of self.now }
+    {
+        match self.origin {
+            Origin::Published { .. } => None,
+            Origin::Remote { address, .. } => Some(address),
         }
     }
 }

@@ -1,11 +1,11 @@
 ghost use Rattle.stream_registry.specs.Few.{AreFew};
 ghost use Rattle.stream_registry.specs.Images.{stays_beside};
-ghost use Rattle.stream_registry.specs.Lingering.{is_not_past, settled_one};
+ghost use Rattle.stream_registry.specs.Lingering.{settled_one, stays_live};
 ghost use Rattle.stream_registry.specs.Origins.{is_published, is_remote};
 ghost use Rattle.std.specs.Prelude.{◌≡◌, ◌≤◌, ◌<◌, ◌++◌, ◌∷◌, [], IfOk, length, filter, map, true};
 
 use crate::images::Beside;
-use crate::lingering::{NotPast, Settling};
+use crate::lingering::{Settling, StaysLive};
 use crate::row::{Registration, Source};
 use rows::Rows;
 use std::alloc::{AllocError, Global};
@@ -104,11 +104,11 @@ impl Sources {
         self.rows.change(&Settling { registrations, now });
     }
 
-    /// Takes the logs away that linger for longer than they may.
-    pub(crate) fn close(&mut self, now: u64)
-        ensures { self.new ≡ filter (is_not_past now) self.old }
+    /// Takes the logs away that close at this moment, where these images are silent.
+    pub(crate) fn close(&mut self, now: u64, silent: &[u64])
+        ensures { self.new ≡ filter (stays_live now silent.now) self.old }
     {
-        self.rows.retain(&NotPast { now });
+        self.rows.retain(&StaysLive { now, silent });
     }
 
     /// Takes the images of these numbers away.

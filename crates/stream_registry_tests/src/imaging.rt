@@ -2,6 +2,7 @@
 
 use crate::play::{Play, image_wanted, made};
 use std::test::Fail;
+use stream_registry::LogPlace;
 
 const HERE: &str = "aeron:udp?endpoint=127.0.0.1:40123";
 
@@ -116,5 +117,18 @@ fn images_do_not_linger(rt: HostRuntime) -> Result<(), Fail> {
     assert!(rt; two_come(&mut play));
     play.streams.client_left(1, 0);
     assert!(rt; play.lingers(1, None) && play.closes(u64::MAX, &[]) && play.has(2, 0, 0));
+    Ok(())
+}
+
+#[test]
+fn silent_images_close(rt: HostRuntime) -> Result<(), Fail> {
+    let mut play = Play::new(rt.alloc())?;
+    let first = LogPlace {
+        source: 1,
+        place: 1,
+    };
+    assert!(rt; two_come(&mut play) && play.publishes(3, 1, "aeron:ipc", made(1)));
+    assert!(rt; play.closes_silent(0, &[1, 3], &[first]));
+    assert!(rt; !is_found(&play, 10, 7) && is_found(&play, 11, 8) && play.lingers(3, None));
     Ok(())
 }

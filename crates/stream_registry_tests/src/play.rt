@@ -197,14 +197,19 @@ impl Play {
             .any(|log| log.number == number && log.slot == slot)
     }
 
-    /// Whether these logs close at this moment.
-    pub(crate) fn closes(&mut self, now: u64, logs: &[LogPlace]) -> bool {
-        let closes = match self.streams.closing(self.alloc, now) {
+    /// Whether these logs close at this moment, where these images are silent.
+    pub(crate) fn closes_silent(&mut self, now: u64, silent: &[u64], logs: &[LogPlace]) -> bool {
+        let closes = match self.streams.closing(self.alloc, now, silent) {
             Ok(closing) => closing.as_slice() == logs,
             Err(_) => false,
         };
-        self.streams.close(now);
+        self.streams.close(now, silent);
         closes
+    }
+
+    /// Whether these logs close at this moment, where no image is silent.
+    pub(crate) fn closes(&mut self, now: u64, logs: &[LogPlace]) -> bool {
+        self.closes_silent(now, &[], logs)
     }
 
     /// Whether the log of this source is there, and lingers since this moment, or not at all.

@@ -1,4 +1,3 @@
-use Rattle.std.proofs.Common.{◌≡◌, rules}
 use Rattle.driver_core.proofs.KeptLemmas.{kept_closed, kept_length}
 use Rattle.driver_core.proofs.registry.Registry.close_past.Goals as goal
 
@@ -12,4 +11,4 @@ invariant_of-self c =
     let after = c.close.ensures.kept c.self.inside.clients.rows c.self.inside.compiled.policy c.self.inside.compiled.epoch c.self.invariant.exact in
     rw c.close-2.ensures
     (kept_closed c.self.inside.streams c.self.inside.clients.rows c.self.inside.compiled.policy c.self.inside.compiled.epoch c.self.inside.last_number
-    c.self.inside.moment c.self.inside.readers c.close.new.self c.self.invariant after)
+    c.self.inside.moment c.args.silent.now c.self.inside.readers c.close.new.self c.self.invariant after)

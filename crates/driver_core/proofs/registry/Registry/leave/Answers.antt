@@ -1,7 +1,3 @@
-use Rattle.std.proofs.Common.{◌≡◌, rules}
-use Rattle.client_registry.specs.Clients.{without}
-use Rattle.log_readers.specs.Readers.{all_readers}
-use Rattle.stream_registry.specs.Leaving.{left}
 use Rattle.driver_core.proofs.KeptLemmas.{kept_left}
 use Rattle.driver_core.proofs.registry.Registry.leave.Goals as goal
 

@@ -1,4 +1,3 @@
-use Rattle.std.proofs.Common.{rules}
 use Rattle.driver_core.proofs.KeptLemmas.{kept_opened}
 use Rattle.driver_core.proofs.registry.Registry.new.Goals as goal
 

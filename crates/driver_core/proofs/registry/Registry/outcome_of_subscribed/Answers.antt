@@ -1,5 +1,4 @@
 use Rattle.std.proofs.Common.{rules}
-use Rattle.driver_core.specs.State.{State}
 use Rattle.driver_core.proofs.ComingLemmas.{coming_is}
 use Rattle.driver_core.proofs.registry.Registry.outcome_of_subscribed.Goals as goal
 

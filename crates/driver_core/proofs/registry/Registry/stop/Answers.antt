@@ -1,5 +1,4 @@
 use Rattle.driver_core.proofs.KeptLemmas.{kept_cleared}
-use Rattle.client_registry.specs.Clients.{cleared}
 use Rattle.driver_core.proofs.registry.Registry.stop.Goals as goal
 
 pub invariant_of-self : goal.invariant_of-self

@@ -2,6 +2,7 @@ use Rattle.std.specs.Vec.{vec_capacity}
 use Rattle.std.proofs.Common.{rules, ◌≡◌, ◌*◌, ◌/◌, ◌%◌, ◌<◌, ◌++◌, ◌∷◌, true, List, [], sym, ap, ap₂, subst, ◌∙◌, arith}
 use Rattle.any_log.specs.declared.any_log.AnyLog.TheVariants.{Image}
 use Rattle.driver_world.specs.Held.{HeldLog, HeldLogs, plot_of, plots_of}
+use Rattle.driver_world.specs.Idents.{heard_at}
 use Rattle.driver_world.specs.Plots.{IsLeastVacant}
 use Rattle.driver_world.proofs.HousedLemmas.{IsLeaseOf, housed_leased, least_is, some_place}
 use Rattle.image_log.specs.Log.{Log}
@@ -20,11 +21,12 @@ unreachable-requires c =
 
 pub invariant_of-self : goal.invariant_of-self
 invariant_of-self c =
-    let log : Log = c.open_in-log.result in
+    let log : Log = c.heard.new.self in
     let logs : List HeldLog = c.self.inside.logs.items in
     let more : c.push_reserved.new.self.items ≡ logs ++ record { source = c.args.source; log = Image log } ∷ [] = search rules in
     let held : HeldLog = record { source = c.args.source; log = Image log } in
-    let is : log ≡ record { held = held_of c.in-Ok.lease; rebuilt = opened c.args.ident c.args.join } = c.open_in-log.ensures in
+    let is : log ≡ record { held = held_of c.in-Ok.lease; rebuilt = heard_at c.args.now (opened c.args.ident c.args.join) } =
+    c.heard.ensures ∙ ap (λ (l : Log). let h : Log = record l { rebuilt = heard_at c.args.now l.rebuilt } in h) c.open_in-log.ensures in
     let terms : log.rebuilt.ident.term_length ≡ c.args.ident.term_length = ap (λ (l : Log). l.rebuilt.ident.term_length) is in
     let of : IsLeaseOf (plot_of held) c.in-Ok.lease = record {
       home = sym (ap (λ (l : Log). l.held.home) is);
@@ -41,21 +43,23 @@ invariant_of-self c =
 
 pub returns : goal.returns
 returns c =
-    let log : Log = c.open_in-log.result in
+    let log : Log = c.heard.new.self in
+    let is : log ≡ record { held = held_of c.in-Ok.lease; rebuilt = heard_at c.args.now (opened c.args.ident c.args.join) } =
+    c.heard.ensures ∙ ap (λ (l : Log). let h : Log = record l { rebuilt = heard_at c.args.now l.rebuilt } in h) c.open_in-log.ensures in
     let logs : List HeldLog = c.self.inside.logs.items in
     let vacant = subst (λ (h : HeldLogs). IsLeastVacant h.pages (plots_of h.logs) (pages_of c.args.ident.term_length) c.args.place) (sym c.self.view_is) c.requires.vacant in
     let some : 0 < pages_of c.args.ident.term_length = omega (arith, c.requires.terms.0) in
     let place : lease_place c.in-Ok.lease / 4096 ≡ c.args.place =
     least_is c.self.inside.arena (plots_of logs) (pages_of c.args.ident.term_length) c.args.place (lease_place c.in-Ok.lease / 4096) some
     c.self.invariant vacant c.in-Ok.ensures.least in
-    let at : log.held.place ≡ lease_place c.in-Ok.lease = ap (λ (l : Log). l.held.place) c.open_in-log.ensures in
+    let at : log.held.place ≡ lease_place c.in-Ok.lease = ap (λ (l : Log). l.held.place) is in
     let more : c.push_reserved.new.self.items ≡ logs ++ record { source = c.args.source; log = Image log } ∷ [] = search rules in
     let pages : c.lease.new.self.home.pages ≡ c.self.inside.arena.home.pages = ap (λ (r : Region). r.home.pages) c.in-Ok.ensures.taken in
     record {
       log = Image log;
-      stands = ap (λ (l : Log). l.rebuilt) c.open_in-log.ensures;
+      stands = ap (λ (l : Log). l.rebuilt) is;
       place_is = omega (arith, at, place, c.in-Ok.lease.housed.whole_place);
-      terms_are = ap (λ (l : Log). l.rebuilt.ident.term_length) c.open_in-log.ensures;
+      terms_are = ap (λ (l : Log). l.rebuilt.ident.term_length) is;
       new_is =
           ap₂ (λ p l. let h : HeldLogs = record { pages = p; logs = l; room = vec_capacity c.push_reserved.new.self } in h) pages more
           ∙ ap (λ r. let h : HeldLogs = record { pages = c.self.inside.arena.home.pages; logs = logs ++ record { source = c.args.source; log = Image log } ∷ []; room = r } in h)

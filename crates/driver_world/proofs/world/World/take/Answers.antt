@@ -5,9 +5,11 @@ use Rattle.driver_core.specs.Conduct.{conduct}
 use Rattle.driver_core.specs.Pairs.{pairs_of}
 use Rattle.driver_core.specs.Soundness.{MovesLogs}
 use Rattle.driver_core.specs.State.{State}
+use Rattle.driver_world.specs.Bringing.{Brings}
 use Rattle.driver_world.specs.Held.{HeldLog, inputs_held}
 use Rattle.driver_world.specs.Opening.{CanOpen, Follows, place_of}
 use Rattle.driver_world.specs.Standing.{Held, Match, Takes}
+use Rattle.driver_world.proofs.BringLemmas.{brings}
 use Rattle.driver_world.proofs.MatchLemmas.{matches_after, opens_fit}
 use Rattle.driver_world.proofs.ReaderLemmas.{readers_are_few}
 use Rattle.driver_world.proofs.StandLemmas.{match_roomy}
@@ -21,7 +23,7 @@ invariant_of-self c = match_roomy c.self.inside.registry c.self.inside.logs c.pr
 pub follow-requires-clause-opens : goal.follow-requires-clause-opens
 follow-requires-clause-opens c =
     let s : State = c.self.inside.registry in
-    let inputs : Inputs = inputs_held c.as_slice.result.now in
+    let inputs : Inputs = inputs_held s c.args.event.now c.as_slice.result.now in
     let after : State = c.apply.new.self in
     let change : Change = done_by after c.in_ok-entry.entry.outcome in
     let is : change ≡ conduct s c.args.event.now inputs =
@@ -29,13 +31,14 @@ follow-requires-clause-opens c =
     let moves : MovesLogs s change =
     subst (λ (x : Change). MovesLogs s x) (sym is) (c.in_ok-entry.ensures.moves c.self.invariant.sound) in
     let matches : Match s c.prepare.new.logs = match_roomy s c.self.inside.logs c.prepare.new.logs c.prepare.ensures.same c.self.invariant in
-    subst (λ (opens : Option LogPlace). CanOpen c.prepare.new.logs after opens) (sym c.in_ok-opening.ensures.place)
-    (opens_fit s c.prepare.new.logs change matches moves)
+    subst (λ (opens : Option LogPlace). CanOpen c.prepare.new.logs after c.args.event.now opens) (sym c.in_ok-opening.ensures.place)
+    (opens_fit s c.prepare.new.logs c.args.event.now change matches moves
+    (subst (λ (x : Change). Brings c.args.event.now x) (sym is) (brings s c.args.event.now inputs c.self.invariant.sound)))
 
 pub follow-requires-clause-few : goal.follow-requires-clause-few
 follow-requires-clause-few c =
     let s : State = c.self.inside.registry in
-    let inputs : Inputs = inputs_held c.as_slice.result.now in
+    let inputs : Inputs = inputs_held s c.args.event.now c.as_slice.result.now in
     let after : State = c.apply.new.self in
     let change : Change = done_by after c.in_ok-entry.entry.outcome in
     let is : change ≡ conduct s c.args.event.now inputs =
@@ -48,7 +51,7 @@ follow-requires-clause-few c =
 pub invariant_of-self-2 : goal.invariant_of-self-2
 invariant_of-self-2 c =
     let s : State = c.self.inside.registry in
-    let inputs : Inputs = inputs_held c.as_slice.result.now in
+    let inputs : Inputs = inputs_held s c.args.event.now c.as_slice.result.now in
     let after : State = c.apply.new.self in
     let change : Change = done_by after c.in_ok-entry.entry.outcome in
     let is : change ≡ conduct s c.args.event.now inputs =
@@ -66,7 +69,7 @@ invariant_of-self-2 c =
 pub returns-clause-taken : goal.returns-clause-taken
 returns-clause-taken c =
     let s : State = c.self.inside.registry in
-    let inputs : Inputs = inputs_held c.as_slice.result.now in
+    let inputs : Inputs = inputs_held s c.args.event.now c.as_slice.result.now in
     let after : State = c.apply.new.self in
     let change : Change = done_by after c.in_ok-entry.entry.outcome in
     let is : change ≡ conduct s c.args.event.now inputs =
@@ -80,7 +83,8 @@ returns-clause-taken c =
     c.in_ok-opening.ensures.place closes c.follow.ensures in
     let same : c.prepare.new.logs.logs ≡ c.self.inside.logs.logs =
     logs_as_before c.self.inside.logs c.prepare.new.logs c.prepare.ensures.same in
-    let told : inputs ≡ inputs_held c.prepare.new.logs.logs = ap inputs_held (c.as_slice.ensures ∙ sym same) in
+    let told : inputs ≡ inputs_held s c.args.event.now c.prepare.new.logs.logs =
+    ap (inputs_held s c.args.event.now) (c.as_slice.ensures ∙ sym same) in
     subst (λ (held : Held). Takes held (record { registry = after; logs = c.follow.new.logs.logs }) c.args.event.now change.outcome) c.self.view_is
     (subst (λ (logs : List HeldLog). Takes (record { registry = s; logs = logs }) (record { registry = after; logs = c.follow.new.logs.logs }) c.args.event.now change.outcome) same
     (taken s c.prepare.new.logs follows.opened c.follow.new.logs c.args.event.now change inputs is told follows.opens follows.left))

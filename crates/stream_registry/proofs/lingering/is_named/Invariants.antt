@@ -1,7 +1,7 @@
 use Rattle.std.proofs.Common.{◌≡◌, drop}
 use Rattle.std.specs.List.{list_any}
-use Rattle.stream_registry.specs.Images.{is_number}
-use Rattle.stream_registry.proofs.images.is_named.Given as goal
+use Rattle.stream_registry.specs.Lingering.{is_number}
+use Rattle.stream_registry.proofs.lingering.is_named.Given as goal
 
 -- the numbers that are left decide
 abbrev pub invariant-loop-other : goal.invariant-loop-other

@@ -1,0 +1,43 @@
+//! Images that no subscription reads go with the event that takes their last pair.
+
+ghost use Rattle.driver_core.specs.Change.{Change};
+ghost use Rattle.driver_core.specs.Renewal.{come_to, gone_from};
+ghost use Rattle.driver_core.specs.Unread.{closed_from, without_unread};
+ghost use Rattle.std.specs.Prelude.{◌≡◌, IfOk};
+
+use crate::outcome::Outcome;
+use crate::registry::Registry;
+use byte_strings::Items;
+use std::alloc::{AllocError, Global};
+use stream_registry::LogPlace;
+
+impl Registry {
+    /// The logs that close with an event, by what its own rule tells: those that it closes, and the images of which no pair is
+    /// left.
+    pub(crate) fn closed(
+        &self,
+        alloc: Global,
+        outcome: &Outcome,
+    ) -> Result<Items<LogPlace>, AllocError>
+        ensures { (change : Change) → change.outcome ≡ outcome.now → outcome.now.gone ≡ gone_from self.now change.after → outcome.now.come ≡ come_to self.now change.after → IfOk result (λ places. places ≡ closed_from self.now change) }
+    {
+        self.readers.closed(
+            alloc,
+            &self.streams,
+            outcome.closes.as_slice(),
+            outcome.gone.as_slice(),
+            outcome.come.as_slice(),
+        )
+    }
+
+    /// The images go that no subscription reads.
+    #[tactic(auto, unfolding(crate::specs::Unread::without_unread))]
+    pub(crate) fn drop_unread(&mut self)
+        ensures { self.new ≡ without_unread self.old }
+    {
+        let numbers = self.readers.unread(&self.streams);
+        self.readers
+            .remove_images(&self.streams, numbers.as_slice());
+        self.streams.remove_images(numbers.as_slice());
+    }
+}

@@ -1,0 +1,319 @@
+-- A SETUP makes an image exactly where the policy in force allows it to some subscription and there is room, and is dropped
+-- otherwise.
+use Rattle.std.proofs.Common.{◌≡◌, ℕ, ◌≤◌, ◌==◌, ◌||◌, Bool, true, false, not, cond, List, [], ◌∷◌, filter, Option, Some, None, Result, Ok, Err, is_some, refl, sym, subst, ap, ◌∙◌, ⊎_elim, arith}
+use Rattle.std.specs.Prelude.{unwrap_or}
+use Rattle.std.specs.List.{Contains, list_any}
+use Rattle.std.specs.Option.{option_map}
+use Rattle.std.proofs.lemmas.Bool.{cases_Bool, cond_both}
+use Rattle.std.proofs.lemmas.List.{append-nil}
+use Rattle.std.proofs.lemmas.List.Elements.{Contains-append_cases, Contains-append_left, Contains-push, Contains-push_cases}
+use Rattle.driver_core.specs.declared.event.Event.TheVariants.{Setup}
+use Rattle.driver_core.specs.declared.event.Inputs.{Inputs}
+use Rattle.driver_core.specs.declared.outcome.Response.TheVariants.{Dropped}
+use Rattle.driver_core.specs.declared.setup_fault.SetupFault.{SetupFault}
+use Rattle.driver_core.specs.declared.setup_fault.SetupFault.TheVariants.{BadSetup, Denied}
+use Rattle.driver_core.specs.Conduct.{conduct, drafted}
+use Rattle.driver_core.specs.Draft.{answered}
+use Rattle.driver_core.specs.Pairs.{pairs_of}
+use Rattle.driver_core.specs.Renewal.{renewed}
+use Rattle.driver_core.specs.SettingUp.{allowed_for, fitting, has_room_for_setup, image_made, new_image, place_of_image, placing, room_for, set_by, set_up, set_up_by, setting_of, verdict_for, wanted_by, with_image}
+use Rattle.driver_core.specs.State.{State, at_moment}
+use Rattle.driver_core.specs.Unread.{dropping}
+use Rattle.driver_core.specs.Verdicts.{verdict_on}
+use Rattle.driver_laws.specs.ImageLaws.{AreRead}
+use Rattle.driver_laws.specs.NumberLaws.{AreRising, Rises}
+use Rattle.driver_laws.specs.OwnerLaws.{HaveTheirClients}
+use Rattle.driver_laws.specs.SettingLaws.{IsAllowedToOne, IsDeniedToAll, IsDropped, IsImaged, IsSetExactly}
+use Rattle.channel_uri.specs.declared.address.Address.{Address}
+use Rattle.client_registry.specs.declared.client.Client.{Client}
+use Rattle.client_registry.specs.Clients.{client_at, principal_at}
+use Rattle.frame_codec.specs.declared.join.Join.{Join}
+use Rattle.frame_codec.specs.declared.setup.Setup.{Setup as SetupFrame}
+use Rattle.frame_codec.specs.Join.{join_of}
+use Rattle.log_readers.specs.Unread.{is_kept}
+use Rattle.policy_core.specs.declared.verdict.Verdict.{Verdict}
+use Rattle.stream_registry.specs.declared.pairs.Pair.{Pair}
+use Rattle.stream_registry.specs.declared.row.Source.{Source}
+use Rattle.stream_registry.specs.declared.row.Subscription.{Subscription}
+use Rattle.stream_registry.specs.declared.wanted.ImageWanted.{ImageWanted}
+use Rattle.stream_registry.specs.Images.{image_at}
+use Rattle.stream_registry.specs.Pairs.{fits, image_question, is_allowed, is_allowed_to}
+use Rattle.driver_core.proofs.ListLemmas.{left_was_there, only_one, passes_are_left}
+use Rattle.driver_core.proofs.SettingLemmas.{image_is_kept, is_set, place_is_set}
+use Rattle.driver_core.proofs.VerdictLemmas.{by_policy}
+use Rattle.driver_laws.proofs.DroppingLemmas.{AreKept, Found, first_there, found_of, is_any, passes_test, still_kept}
+use Rattle.driver_laws.proofs.ImageLemmas.{allowed_to}
+use Rattle.driver_laws.proofs.RenewalLemmas.{unchanged}
+use Rattle.driver_laws.proofs.RisingLemmas.{between, rises_kept}
+use Rattle.driver_laws.proofs.StayingLemmas.{DropsNothing, as_before, drops_none, more_pairs}
+
+-- ---- what the SETUP comes to
+
+bad_is : (s : State) (local from : Address) (setup : SetupFrame) → join_of setup ≡ None →
+    set_up s local from setup ≡ answered s (Dropped BadSetup)
+unfolding set_up
+bad_is s local from setup is = ap (set_up_by s local from setup) is
+
+set_is : (s : State) (local from : Address) (setup : SetupFrame) (join : Join) (found : Result ℕ SetupFault) →
+    join_of setup ≡ Some join → setting_of s (wanted_by local from setup join) ≡ found →
+    set_up s local from setup ≡ set_by s (wanted_by local from setup join) found
+unfolding set_up
+set_is s local from setup join found is set =
+    ap (set_up_by s local from setup) is ∙ ap (set_by s (wanted_by local from setup join)) set
+
+-- ---- it is dropped
+
+moment_pairs : (s : State) (now : ℕ) → pairs_of (at_moment s now) ≡ pairs_of s
+unfolding at_moment pairs_of
+moment_pairs s now = refl
+
+moment_logs : (s : State) (now : ℕ) → (at_moment s now).streams.sources ≡ s.streams.sources
+unfolding at_moment
+moment_logs s now = refl
+
+dropped_drops : (s : State) (now : ℕ) (fault : SetupFault) → AreRead s → DropsNothing s (answered (at_moment s now) (Dropped fault))
+unfolding answered
+dropped_drops s now fault read = as_before s _ read refl (moment_logs s now) (moment_pairs s now)
+
+dropped_change : (s : State) (now : ℕ) (inputs : Inputs) (fault : SetupFault) →
+    IsDropped s now fault (renewed s inputs (answered (at_moment s now) (Dropped fault)))
+unfolding renewed answered
+dropped_change s now inputs fault =
+    let same = unchanged s inputs (answered (at_moment s now) (Dropped fault)) (moment_pairs s now) in
+    record {
+      after_is = refl;
+      response = refl;
+      replies = same.replies;
+      decisions = same.decisions;
+      opens = refl;
+      closes = refl;
+      gone = same.gone;
+      come = same.come;
+    }
+
+nothing_changes : (s : State) (now : ℕ) (inputs : Inputs) (fault : SetupFault) → AreRead s →
+    IsDropped s now fault (dropping s (renewed s inputs (answered (at_moment s now) (Dropped fault))))
+nothing_changes s now inputs fault read =
+    rw (drops_none s inputs (answered (at_moment s now) (Dropped fault)) (dropped_drops s now fault read))
+    (dropped_change s now inputs fault)
+
+-- ---- it is denied
+
+room_never_denies : (s : State) (wanted : ImageWanted) (verdict : Verdict) → room_for s wanted ≡ Err (Denied verdict) → ⊥
+unfolding room_for
+room_never_denies s wanted verdict =
+    cond_both (not (has_room_for_setup s wanted)) _ _
+    (λ (answer : Result ℕ SetupFault). answer ≡ Err (Denied verdict) → ⊥)
+    (λ full is. absurd (cc is))
+    (λ room is. never (place_of_image s wanted) is)
+  where
+    never : (found : Option ℕ) → placing found ≡ Err (Denied verdict) → ⊥
+    never None is = absurd (cc is)
+    never (Some place) is = absurd (cc is)
+
+-- the first that it fits, and none to which it is allowed
+record IsDeniedIn (s : State) (verdict : Verdict) (rows : List Subscription) : Type 0 where
+  first : Subscription
+  others : List Subscription
+  rows_are : rows ≡ first ∷ others
+  verdict_is : verdict ≡ verdict_for s first
+  denies : list_any (is_allowed s.clients.rows s.policy s.epoch) rows ≡ false
+
+denied_in : (s : State) (wanted : ImageWanted) (verdict : Verdict) (rows : List Subscription) →
+    allowed_for s wanted rows ≡ Err (Denied verdict) → IsDeniedIn s verdict rows
+denied_in s wanted verdict [] = λ is. absurd (cc is)
+denied_in s wanted verdict (first ∷ others) =
+    cond_both (list_any (is_allowed s.clients.rows s.policy s.epoch) (first ∷ others)) _ _
+    (λ (answer : Result ℕ SetupFault). answer ≡ Err (Denied verdict) → IsDeniedIn s verdict (first ∷ others))
+    (λ allows is. absurd (room_never_denies s wanted verdict is))
+    (λ denies is.
+    record { first = first; others = others; rows_are = refl; verdict_is = cc is; denies = denies })
+
+denied_is : (s : State) (wanted : ImageWanted) (verdict : Verdict) → setting_of s wanted ≡ Err (Denied verdict) →
+    IsDeniedIn s verdict (fitting s wanted)
+unfolding setting_of
+denied_is s wanted verdict =
+    cond_both (is_some (image_at s.streams wanted.channel wanted.session wanted.stream)) _ _
+    (λ (answer : Result ℕ SetupFault). answer ≡ Err (Denied verdict) → IsDeniedIn s verdict (fitting s wanted))
+    (λ exists is. absurd (cc is))
+    (λ new is. denied_in s wanted verdict (fitting s wanted) is)
+
+-- the first of rising rows has the lowest number
+is_lowest : (last : ℕ) (first : Subscription) (others : List Subscription) (other : Subscription) →
+    Rises (λ (row : Subscription). row.number) 0 last (first ∷ others) → Contains (first ∷ others) other →
+    first.number ≤ other.number
+is_lowest last first others other up has =
+    ⊎_elim
+    (λ one.
+    let same : first.number ≡ other.number = ap (λ (row : Subscription). row.number) (only_one first other one) in
+    omega (arith, same))
+    (λ later.
+    let above = (between (λ (row : Subscription). row.number) first.number last others other up.1 later).0 in
+    omega (arith, above))
+    (Contains-append_cases (first ∷ []) others other has)
+
+-- whose subscription it is acts for somebody
+one_found : (b : Bool) (row : Client) (rest : Option Client) (later : Bool) →
+    (later ≡ true → (of : ℕ) × (option_map (λ (client : Client). client.principal) rest ≡ Some of)) → (b || later) ≡ true →
+    (of : ℕ) × (option_map (λ (client : Client). client.principal) (cond b (Some row) rest) ≡ Some of)
+one_found true row rest later more there = (row.principal, refl)
+one_found false row rest later more there = more there
+
+acts_for : (rows : List Client) (number : ℕ) → list_any (λ (row : Client). row.number == number) rows ≡ true →
+    (of : ℕ) × (principal_at rows number ≡ Some of)
+acts_for [] number there = absurd (cc there)
+acts_for (row ∷ rows) number there =
+    one_found (row.number == number) row (client_at rows number) _ (acts_for rows number) there
+
+denied_to : (s : State) (now : ℕ) (wanted : ImageWanted) (verdict : Verdict) → AreRising s → HaveTheirClients s →
+    IsDeniedIn (at_moment s now) verdict (fitting (at_moment s now) wanted) → IsDeniedToAll s now wanted verdict
+unfolding at_moment is_allowed
+denied_to s now wanted verdict rises owned denied =
+    let log : Source = new_image (at_moment s now) wanted in
+    let rows : List Subscription = fitting (at_moment s now) wanted in
+    let first : Subscription = denied.first in
+    let has : Contains rows first = rw denied.rows_are (first_there first denied.others) in
+    let stands : Contains s.streams.subscriptions first = left_was_there (fits log) s.streams.subscriptions first has in
+    let acts = acts_for s.clients.rows first.client (owned.subscriptions first stands) in
+    let is : verdict ≡ verdict_on s (image_question acts.0 first) =
+    denied.verdict_is ∙ verdict_of_first s now first acts.0 acts.1 in
+    let up : Rises (λ (row : Subscription). row.number) 0 s.last_number (first ∷ denied.others) =
+    subst (Rises (λ (row : Subscription). row.number) 0 s.last_number) denied.rows_are
+    (rises_kept (λ (row : Subscription). row.number) (fits log) 0 s.last_number s.streams.subscriptions rises.subscriptions) in
+    record {
+      first = first;
+      principal = acts.0;
+      stands = stands;
+      fitting = passes_test (fits log) s.streams.subscriptions first has;
+      lowest = λ other there fitting.
+          is_lowest s.last_number first denied.others other up
+          (subst (λ (all : List Subscription). Contains all other) denied.rows_are
+          (passes_are_left (fits log) s.streams.subscriptions other fitting there));
+      attached = acts.1;
+      by = rw is (by_policy s (image_question acts.0 first));
+      verdict_is = is;
+      denies = λ other of there fitting attached.
+          sym (ap (is_allowed_to s.policy s.epoch other) attached)
+          ∙ each_denied (is_allowed s.clients.rows s.policy s.epoch) rows other
+          (passes_are_left (fits log) s.streams.subscriptions other fitting there) denied.denies;
+    }
+  where
+    verdict_of_first : (t : State) (moment : ℕ) (row : Subscription) (of : ℕ) →
+        principal_at t.clients.rows row.client ≡ Some of →
+        verdict_for (at_moment t moment) row ≡ verdict_on t (image_question of row)
+    verdict_of_first t moment row of acting = rw acting refl
+
+    each_denied : (test : Subscription → Bool) (all : List Subscription) (row : Subscription) → Contains all row →
+        list_any test all ≡ false → test row ≡ false
+    each_denied test all row there none =
+        ⊎_elim
+        (λ passes.
+        let never : false ≡ true = sym none ∙ is_any test all row there passes in
+        absurd (cc never))
+        (λ fails. fails)
+        (cases_Bool (test row))
+
+-- ---- an image is made
+
+found_one : (s : State) (now : ℕ) (wanted : ImageWanted) →
+    list_any (is_allowed (at_moment s now).clients.rows (at_moment s now).policy (at_moment s now).epoch)
+    (fitting (at_moment s now) wanted)
+    ≡ true →
+    IsAllowedToOne s now wanted
+unfolding at_moment is_allowed
+found_one s now wanted any =
+    let log : Source = new_image (at_moment s now) wanted in
+    let found : Found (is_allowed s.clients.rows s.policy s.epoch) (filter (fits log) s.streams.subscriptions) =
+    found_of (is_allowed s.clients.rows s.policy s.epoch) (filter (fits log) s.streams.subscriptions) any in
+    let allowed = allowed_to s.policy s.epoch found.one (principal_at s.clients.rows found.one.client) found.passes in
+    record {
+      subscription = found.one;
+      principal = allowed.principal;
+      stands = left_was_there (fits log) s.streams.subscriptions found.one found.there;
+      fitting = passes_test (fits log) s.streams.subscriptions found.one found.there;
+      attached = allowed.attached;
+      by = by_policy s (image_question allowed.principal found.one);
+      allowed = allowed.allows;
+    }
+
+allowed_one : (s : State) (now : ℕ) (wanted : ImageWanted) (place : ℕ) → setting_of (at_moment s now) wanted ≡ Ok place →
+    IsAllowedToOne s now wanted
+allowed_one s now wanted place set = found_one s now wanted (is_set (at_moment s now) wanted place set).allowed
+
+image_place : (s : State) (wanted : ImageWanted) (place : ℕ) → setting_of s wanted ≡ Ok place →
+    (new_image s wanted).place ≡ place
+image_place s wanted place set = ap (λ (found : Option ℕ). unwrap_or found 0) (place_is_set s wanted place set)
+
+image_pairs : (s : State) (wanted : ImageWanted) (pair : Pair) → Contains (pairs_of s) pair →
+    Contains (pairs_of (with_image s wanted)) pair
+unfolding with_image
+image_pairs s wanted =
+    more_pairs s _ refl refl refl (λ log has. Contains-append_left s.streams.sources _ log has) (λ row has. has)
+
+imaged_kept : (pairs : List Pair) (s : State) (wanted : ImageWanted) → AreKept pairs s.streams.sources →
+    is_kept pairs (new_image s wanted) ≡ true → AreKept pairs (with_image s wanted).streams.sources
+unfolding with_image
+imaged_kept pairs s wanted kept new log has =
+    ⊎_elim (λ before. kept log before) (λ is. rw (← is) new)
+    (Contains-push_cases s.streams.sources (new_image s wanted) log has)
+
+-- no image goes where one comes
+image_drops : (s : State) (now : ℕ) (wanted : ImageWanted) (place : ℕ) → AreRead s →
+    setting_of (at_moment s now) wanted ≡ Ok place → DropsNothing s (image_made (at_moment s now) wanted place)
+unfolding image_made answered at_moment
+image_drops s now wanted place read set =
+    let at : State = at_moment s now in
+    let after : State = with_image at wanted in
+    let kept : AreKept (pairs_of after) s.streams.sources = λ log has.
+    still_kept (pairs_of s) (pairs_of after) (λ pair there. image_pairs at wanted pair (rw (moment_pairs s now) there)) log
+    (read log has) in
+    record {
+      closes = refl;
+      were = kept;
+      kept = imaged_kept (pairs_of after) at wanted kept (image_is_kept at wanted place set);
+    }
+
+image_is_last : (s : State) (wanted : ImageWanted) → Contains (with_image s wanted).streams.sources (new_image s wanted)
+unfolding with_image
+image_is_last s wanted = Contains-push s.streams.sources (new_image s wanted)
+
+imaged : (s : State) (now : ℕ) (inputs : Inputs) (wanted : ImageWanted) (place : ℕ) →
+    (new_image (at_moment s now) wanted).place ≡ place → IsAllowedToOne s now wanted →
+    IsImaged s now inputs wanted place (renewed s inputs (image_made (at_moment s now) wanted place))
+unfolding renewed image_made answered at_moment
+imaged s now inputs wanted place placed allowed = record {
+  after_is = refl;
+  response = refl;
+  opens = refl;
+  placed = placed;
+  live = image_is_last (at_moment s now) wanted;
+  allowed = allowed;
+  replies = append-nil _;
+  decisions = refl;
+  closes = refl;
+}
+
+image_change : (s : State) (now : ℕ) (inputs : Inputs) (wanted : ImageWanted) (place : ℕ) → AreRead s →
+    setting_of (at_moment s now) wanted ≡ Ok place →
+    IsImaged s now inputs wanted place (dropping s (renewed s inputs (image_made (at_moment s now) wanted place)))
+image_change s now inputs wanted place read set =
+    rw (drops_none s inputs (image_made (at_moment s now) wanted place) (image_drops s now wanted place read set))
+    (imaged s now inputs wanted place (image_place (at_moment s now) wanted place set) (allowed_one s now wanted place set))
+
+-- ---- exactly so
+
+pub set_exactly : (s : State) → AreRising s → AreRead s → HaveTheirClients s → (now : ℕ) (local from : Address)
+    (setup : SetupFrame) (inputs : Inputs) →
+    IsSetExactly s now local from setup inputs (conduct s (Setup now local from setup) inputs)
+unfolding conduct drafted
+set_exactly s rises read owned now local from setup inputs = record {
+  bad = λ is. rw (bad_is (at_moment s now) local from setup is) (nothing_changes s now inputs BadSetup read);
+  made = λ join place is set.
+      rw (set_is (at_moment s now) local from setup join (Ok place) is set)
+      (image_change s now inputs (wanted_by local from setup join) place read set);
+  dropped = λ join fault is set.
+      rw (set_is (at_moment s now) local from setup join (Err fault) is set) (nothing_changes s now inputs fault read);
+  denied = λ join verdict is set.
+      denied_to s now (wanted_by local from setup join) verdict rises owned
+      (denied_is (at_moment s now) (wanted_by local from setup join) verdict set);
+}

@@ -1,0 +1,102 @@
+-- At the end of every run registrations are with publications.
+use Rattle.std.proofs.Common.{◌≡◌, ℕ, ◌==◌, ◌&&◌, Bool, true, false, cond, List, [], ◌∷◌, Option, Some, subst}
+use Rattle.std.specs.List.{All}
+use Rattle.std.specs.Prelude.{IfSome}
+use Rattle.std.proofs.lemmas.List.Elements.{All-head, All-nil, All-tail}
+use Rattle.driver_core.specs.declared.event.Event.{Event}
+use Rattle.driver_core.specs.declared.event.Inputs.{Inputs}
+use Rattle.driver_core.specs.declared.peer.Peer.{Peer}
+use Rattle.driver_core.specs.declared.settings.Settings.{Settings}
+use Rattle.driver_core.specs.Conduct.{state_after}
+use Rattle.driver_core.specs.LogRequests.{offering_of, registration_at}
+use Rattle.driver_core.specs.Renewal.{source_at}
+use Rattle.driver_core.specs.Soundness.{AreSettings, IsSound}
+use Rattle.driver_core.specs.State.{State, opened}
+use Rattle.driver_core.proofs.SoundnessLemmas.{moves_logs, registries_sound}
+use Rattle.driver_world.specs.declared.step.Step.{Step}
+use Rattle.driver_world.specs.declared.step.Step.TheVariants.{Conductor, Offer, Poll, List as Lists, Value}
+use Rattle.driver_world.specs.Ends.{RunEnd, conducted, inputs_of, moved, opening_end}
+use Rattle.driver_world.specs.Laws.{AtEachEnd}
+use Rattle.driver_world.specs.Registered.{AreRegistered, IsWithPublication}
+use Rattle.driver_world.proofs.EndLemmas.{offer_keeps_registry, poll_keeps_registry, run_keeps}
+use Rattle.policy_core.specs.RuleList.{Rules}
+use Rattle.stream_registry.specs.declared.row.Registration.{Registration}
+use Rattle.stream_registry.specs.declared.row.Source.{Source}
+use Rattle.stream_registry.specs.Origins.{is_published}
+
+-- each event keeps that
+pub registered_after : (s : State) (event : Event) (inputs : Inputs) → IsSound s → AreRegistered s →
+    AreRegistered (state_after s event inputs)
+registered_after s event inputs sound registered = ?
+
+-- ---- runs
+
+-- the registry is sound, and its registrations are with publications
+record Keeps (s : State) : Type 0 where
+  sound : IsSound s
+  registered : AreRegistered s
+
+step_keeps : (e : RunEnd) (step : Step) → Keeps e.registry → Keeps (moved e step).after.registry
+unfolding conducted
+step_keeps e (Conductor event) keeps =
+    let inputs : Inputs = inputs_of e.registry event e.logs in
+    record {
+      sound = (moves_logs e.registry event inputs keeps.sound).sound;
+      registered = registered_after e.registry event inputs keeps.sound keeps.registered;
+    }
+step_keeps e (Offer now client registration message) keeps =
+    rw (offer_keeps_registry e now client registration message (offering_of e.registry client registration)) keeps
+step_keeps e (Poll now client subscription source limit) keeps =
+    rw (poll_keeps_registry e client subscription source limit) keeps
+step_keeps e (Lists now client) keeps = keeps
+step_keeps e (Value now client number) keeps = keeps
+
+opening_keeps : (settings : Settings) (policy : Rules) (peers : List Peer) → AreSettings settings →
+    Keeps (opening_end settings policy peers).registry
+unfolding opening_end opened
+opening_keeps settings policy peers sound = record {
+  sound = registries_sound settings policy peers [] sound;
+  registered = record { drawn = All-nil _; published = All-nil _ };
+}
+
+abbrev EndKeeps : RunEnd → Type 0
+EndKeeps e = Keeps e.registry
+
+ends_keep : AtEachEnd EndKeeps
+ends_keep settings policy peers steps answers sound are =
+    run_keeps EndKeeps step_keeps (opening_end settings policy peers) steps answers (opening_keeps settings policy peers sound)
+
+-- at the end of every run registrations are with publications
+abbrev pub EndRegistered : RunEnd → Type 0
+EndRegistered e = AreRegistered e.registry
+
+pub ends_registered : AtEachEnd EndRegistered
+ends_registered settings policy peers steps answers sound are =
+    (ends_keep settings policy peers steps answers sound are).registered
+
+-- ---- the publication of a registration
+
+found_by : (P : Registration → Type 0) (b : Bool) (first registration : Registration) (found : Option Registration) → P first →
+    (found ≡ Some registration → P registration) → cond b (Some first) found ≡ Some registration → P registration
+found_by P true first registration found holds rest is =
+    let same : first ≡ registration = cc in
+    subst P same holds
+found_by P false first registration found holds rest is = rest is
+
+-- what holds of all registrations holds of the one that is found
+registration_holds : (P : Registration → Type 0) (registrations : List Registration) (client number : ℕ) (registration : Registration) →
+    All P registrations → registration_at registrations client number ≡ Some registration → P registration
+registration_holds P [] client number registration all is = absurd (cc)
+registration_holds P (first ∷ registrations) client number registration all is =
+    found_by P (first.number == number && first.client == client) first registration
+    (registration_at registrations client number) (All-head P first registrations all)
+    (registration_holds P registrations client number registration (All-tail P first registrations all)) is
+
+-- the log that a registration is with is a publication
+pub registered_publication : (s : State) (client number : ℕ) (registration : Registration) (log : Source) → AreRegistered s →
+    registration_at s.streams.registrations client number ≡ Some registration →
+    source_at s.streams.sources registration.source ≡ Some log → is_published log ≡ true
+registered_publication s client number registration log registered is found =
+    let with : IsWithPublication s registration =
+    registration_holds (IsWithPublication s) s.streams.registrations client number registration registered.published is in
+    subst (λ (o : Option Source). IfSome o (λ log. is_published log ≡ true)) found with
