@@ -1,7 +1,6 @@
 pub mod AskedLemmas
 pub mod AskingLemmas
 pub mod AttachLemmas
-pub mod BringingLemmas
 pub mod CacheLemmas
 pub mod ClosedLemmas
 pub mod ComingLemmas

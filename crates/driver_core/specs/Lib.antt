@@ -1,5 +1,4 @@
 pub mod Attaching
-pub mod Bringing
 pub mod Cached
 pub mod Change
 pub mod Closing
@@ -8,6 +7,7 @@ pub mod Conduct
 pub mod Counting
 pub mod Deciding
 pub mod Draft
+pub mod ImageRequests
 pub mod Kept
 pub mod Leaving
 pub mod Listing

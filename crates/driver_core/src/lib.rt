@@ -4,7 +4,8 @@
 //! on. `Registry::plan` decides it and tells what goes out, as an `Entry`; the registry stays as it is. `Registry::apply`
 //! does an entry, in place and without memory. `Registry::step` is both. What is told is `outcome_of`, and what is left is
 //! `state_after`, two total functions on the registry as plain data. `Registry::list` and `Registry::value` show a client counters, and `Registry::offering`
-//! and `Registry::receiving` say what it asks of a log; none of them changes anything.
+//! and `Registry::receiving` say what it asks of a log, `Registry::image_for` which image a datagram is for; none of them
+//! changes anything.
 #![tactic(auto)]
 
 mod asking;
@@ -18,6 +19,7 @@ mod deciding;
 mod entry;
 mod event;
 mod finding;
+mod image_request;
 mod leaving;
 mod listing;
 mod log_request;
@@ -49,6 +51,7 @@ pub use cached::cached_verdicts_stay_right;
 pub use channel_uri::Address;
 pub use entry::Entry;
 pub use event::{End, Event, Inputs};
+pub use image_request::Astray;
 pub use listing::{Listed, ListedCounter, Shown};
 pub use log_request::LogRequest;
 pub use outcome::{Outcome, Response};

@@ -58,7 +58,6 @@ impl Model for Registry {
 impl Registry {
     ghost use Rattle.log_readers.specs.Numbering.{AreInOrder};
     ghost use Rattle.driver_core.specs.State.{opened, has_number, at_moment};
-    ghost use Rattle.driver_core.specs.Bringing.{Brings};
     ghost use Rattle.driver_core.specs.Conduct.{drafted, conduct, state_after, outcome_of};
     ghost use Rattle.driver_core.specs.Renewal.{outcome_by};
     ghost use Rattle.driver_core.specs.Soundness.{IsSound, MovesLogs};
@@ -228,7 +227,6 @@ impl Registry {
     pub fn plan(&self, alloc: Global, event: &Event, inputs: &Inputs) -> Result<Entry, AllocError>
         ensures exact { IfOk result (λ entry. entry ≡ record { event = event.now; inputs = inputs.now; outcome = outcome_of self.now event.now inputs.now }) }
         ensures moves { IfOk result (λ entry. IsSound self.now → MovesLogs self.now (conduct self.now event.now inputs.now)) }
-        ensures brings { IfOk result (λ entry. IsSound self.now → Brings event.now (conduct self.now event.now inputs.now)) }
     {
         let outcome = self.outcome(alloc, event, inputs)?;
         Ok(Entry {

@@ -11,6 +11,7 @@ pub mod MatchLemmas
 pub mod MoveLemmas
 pub mod ReaderLemmas
 pub mod RegisteredLemmas
+mod RegisteringLemmas
 pub mod RunLemmas
 pub mod StandLemmas
 pub mod TakeLemmas

@@ -1,7 +1,7 @@
 -- At the end of every run registrations are with publications.
-use Rattle.std.proofs.Common.{◌≡◌, ℕ, ◌==◌, ◌&&◌, Bool, true, false, cond, List, [], ◌∷◌, Option, Some, subst}
+use Rattle.std.proofs.Common.{◌≡◌, ℕ, ◌==◌, ◌&&◌, Bool, true, false, cond, List, [], ◌∷◌, Option, Some, refl, subst}
 use Rattle.std.specs.List.{All}
-use Rattle.std.specs.Prelude.{IfSome}
+use Rattle.std.proofs.lemmas.Bool.{eqb-true}
 use Rattle.std.proofs.lemmas.List.Elements.{All-head, All-nil, All-tail}
 use Rattle.driver_core.specs.declared.event.Event.{Event}
 use Rattle.driver_core.specs.declared.event.Inputs.{Inputs}
@@ -17,17 +17,13 @@ use Rattle.driver_world.specs.declared.step.Step.{Step}
 use Rattle.driver_world.specs.declared.step.Step.TheVariants.{Conductor, Offer, Poll, List as Lists, Value}
 use Rattle.driver_world.specs.Ends.{RunEnd, conducted, inputs_of, moved, opening_end}
 use Rattle.driver_world.specs.Laws.{AtEachEnd}
-use Rattle.driver_world.specs.Registered.{AreRegistered, IsWithPublication}
+use Rattle.driver_world.specs.Registered.{AreRegistered, IsPublishedBy, IsWith}
 use Rattle.driver_world.proofs.EndLemmas.{offer_keeps_registry, poll_keeps_registry, run_keeps}
+use Rattle.driver_world.proofs.RegisteringLemmas.{registered_after}
 use Rattle.policy_core.specs.RuleList.{Rules}
 use Rattle.stream_registry.specs.declared.row.Registration.{Registration}
 use Rattle.stream_registry.specs.declared.row.Source.{Source}
 use Rattle.stream_registry.specs.Origins.{is_published}
-
--- each event keeps that
-pub registered_after : (s : State) (event : Event) (inputs : Inputs) → IsSound s → AreRegistered s →
-    AreRegistered (state_after s event inputs)
-registered_after s event inputs sound registered = ?
 
 -- ---- runs
 
@@ -56,7 +52,7 @@ opening_keeps : (settings : Settings) (policy : Rules) (peers : List Peer) → A
 unfolding opening_end opened
 opening_keeps settings policy peers sound = record {
   sound = registries_sound settings policy peers [] sound;
-  registered = record { drawn = All-nil _; published = All-nil _ };
+  registered = All-nil _;
 }
 
 abbrev EndKeeps : RunEnd → Type 0
@@ -92,11 +88,27 @@ registration_holds P (first ∷ registrations) client number registration all is
     (registration_at registrations client number) (All-head P first registrations all)
     (registration_holds P registrations client number registration (All-tail P first registrations all)) is
 
+found_published : (number : ℕ) (logs : List Source) (log : Source) (b : Bool) (first : Source) → (first.number == number) ≡ b →
+    IsPublishedBy number first → (source_at logs number ≡ Some log → is_published log ≡ true) →
+    cond b (Some first) (source_at logs number) ≡ Some log → is_published log ≡ true
+found_published number logs log true first same holds rest is =
+    let this : first ≡ log = cc is in
+    subst (λ one. is_published one ≡ true) this (holds (eqb-true first.number number same))
+found_published number logs log false first same holds rest is = rest is
+
+published_at : (number : ℕ) (logs : List Source) (log : Source) → All (IsPublishedBy number) logs →
+    source_at logs number ≡ Some log → is_published log ≡ true
+published_at number [] log all is = absurd (cc is)
+published_at number (first ∷ logs) log all is =
+    found_published number logs log (first.number == number) first refl (All-head (IsPublishedBy number) first logs all)
+    (published_at number logs log (All-tail (IsPublishedBy number) first logs all)) is
+
 -- the log that a registration is with is a publication
 pub registered_publication : (s : State) (client number : ℕ) (registration : Registration) (log : Source) → AreRegistered s →
     registration_at s.streams.registrations client number ≡ Some registration →
     source_at s.streams.sources registration.source ≡ Some log → is_published log ≡ true
 registered_publication s client number registration log registered is found =
-    let with : IsWithPublication s registration =
-    registration_holds (IsWithPublication s) s.streams.registrations client number registration registered.published is in
-    subst (λ (o : Option Source). IfSome o (λ log. is_published log ≡ true)) found with
+    let with : IsWith s.last_number s.streams.sources registration =
+    registration_holds (IsWith s.last_number s.streams.sources) s.streams.registrations client number registration
+    registered is in
+    published_at registration.source s.streams.sources log with.published found

@@ -1,0 +1,44 @@
+ghost use Rattle.driver_core.specs.ImageRequests.{image_for};
+ghost use Rattle.std.specs.Prelude.{◌≡◌};
+
+use crate::registry::Registry;
+use channel_uri::{Address, Channel};
+
+/// Why a datagram of a remote publisher's stream is for no image.
+#[derive(Clone, Copy, Debug, PartialEq, Eq)]
+pub enum Astray {
+    /// There is no image of that address, session and stream.
+    NoStream,
+    /// It is from another address than the SETUP that made the image.
+    Stranger,
+}
+
+impl Registry {
+    /// The source number of the image that a datagram is for which came to `local` from `from`, of that session and stream.
+    /// It takes no memory.
+    ///
+    /// # Errors
+    /// [`Astray::NoStream`] where there is no such image, then [`Astray::Stranger`] where its publisher is not at `from`.
+    #[tactic(auto, unfolding(crate::specs::ImageRequests::image_for))]
+    pub fn image_for(
+        &self,
+        local: &Address,
+        from: &Address,
+        session: i32,
+        stream: i32,
+    ) -> Result<u64, Astray>
+        ensures { result ≡ image_for self.now local.now from.now session stream }
+    {
+        let channel = Channel::at_endpoint(local);
+        let Some(image) = self.streams.image_at(&channel, session, stream) else {
+            return Err(Astray::NoStream);
+        };
+        let Some(publisher) = image.address() else {
+            return Err(Astray::Stranger);
+        };
+        if publisher != *from {
+            return Err(Astray::Stranger);
+        }
+        Ok(image.number)
+    }
+}
