@@ -9,6 +9,7 @@ pub mod HousedLemmas
 pub mod LiveLemmas
 pub mod MatchLemmas
 pub mod MoveLemmas
+pub mod PacketLemmas
 pub mod ReaderLemmas
 pub mod RegisteredLemmas
 mod RegisteringLemmas

@@ -1,5 +1,6 @@
 ghost use Rattle.frame_codec.specs.Frames.{frames_left};
-ghost use Rattle.std.specs.Prelude.{◌≡◌, ℕ, ◌≤◌, false, length, IfOk, OnOk, OnErr};
+ghost use Rattle.frame_codec.specs.Sound.{AreOfOneTerm, AreTold};
+ghost use Rattle.std.specs.Prelude.{◌≡◌, ℕ, ◌≤◌, length, IfOk, OnOk, OnErr};
 ghost use Rattle.driver_core.specs.Conduct.{conduct, outcome_of};
 ghost use Rattle.driver_core.specs.Pairs.{pairs_of};
 ghost use Rattle.driver_core.specs.Soundness.{AreSettings, IsSound, MovesLogs};
@@ -17,7 +18,9 @@ use crate::opening::{Opening, open_next, prepare};
 use crate::step::Step;
 use byte_strings::Items;
 use driver_core::{Address, Astray, Entry, Event, Outcome, Peer, Registry, Settings};
-use frame_codec::{BadPacket, Datagram, Frames, Packet, TermPlace};
+use frame_codec::{
+    BadPacket, Datagram, Frames, Packet, TermPlace, frames_are_of_one_term, frames_are_told,
+};
 use policy_core::Policy;
 use rows::Rows;
 use std::alloc::{AllocError, Global};
@@ -79,7 +82,6 @@ fn follow(
 
 impl World {
     ghost use Rattle.driver_world.specs.Ends.{on_frames, on_stream, opening_end};
-    ghost use Rattle.driver_world.specs.Memory.{is_listed};
     ghost use Rattle.driver_world.specs.Receiving.{beat_move};
     ghost use Rattle.driver_world.specs.Standing.{StandsForEnd, Serves, ServesAs, Takes, Runs, Continues, pages_of_logs};
     ghost use Rattle.driver_world.specs.declared.step.Step.TheVariants.{Conductor, Packet, Offer, Poll, List as Lists, Value};
@@ -149,7 +151,9 @@ impl World {
         from: &Address,
         frames: Frames<'_>,
     ) -> Answer
-        ensures { ServesAs self.old self.new (λ e. on_frames e now local.now from.now (frames_left frames.entry)) (λ what. is_listed what.answer) result }
+        requires told { AreTold (frames_left frames) }
+        requires one { AreOfOneTerm (frames_left frames) }
+        ensures { ServesAs self.old self.new (λ e. on_frames e now local.now from.now (frames_left frames.entry)) result }
     {
         let mut left = frames;
         let Some(frame) = left.next() else {
@@ -170,7 +174,7 @@ impl World {
 
     /// A heartbeat came to the address `local`, from the address `from`. It takes no memory.
     fn beat(&mut self, now: u64, local: &Address, from: &Address, place: &TermPlace) -> Answer
-        ensures { ServesAs self.old self.new (λ e. on_stream e local.now from.now place.now (beat_move now place.now)) (λ what. false) result }
+        ensures { ServesAs self.old self.new (λ e. on_stream e local.now from.now place.now (beat_move now place.now)) result }
     {
         match self
             .registry
@@ -195,7 +199,11 @@ impl World {
     {
         match Datagram::read(bytes) {
             Err(fault) => Answer::Dropped(Cause::Unread(fault)),
-            Ok(Packet::Data(frames)) => self.receive(alloc, now, local, from, frames),
+            Ok(Packet::Data(frames)) => {
+                frames_are_told();
+                frames_are_of_one_term();
+                self.receive(alloc, now, local, from, frames)
+            }
             Ok(Packet::Beat(header)) => self.beat(now, local, from, &header.place),
             Ok(Packet::Setup(setup)) => {
                 let event = Event::Setup {
