@@ -6,6 +6,7 @@ pub mod FoundLemmas
 pub mod HeldLemmas
 pub mod HoleLemmas
 pub mod HousedLemmas
+pub mod ImageLemmas
 pub mod LiveLemmas
 pub mod MatchLemmas
 pub mod MoveLemmas
@@ -14,6 +15,7 @@ pub mod ReaderLemmas
 pub mod RegisteredLemmas
 mod RegisteringLemmas
 pub mod RunLemmas
+mod SourceLemmas
 pub mod StandLemmas
 pub mod TakeLemmas
 pub mod VacancyLemmas
