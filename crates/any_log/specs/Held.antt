@@ -2,8 +2,10 @@
 use Rattle.std.specs.Prelude.{◌≡◌, ℕ, Bool, false, List, Option}
 use Rattle.any_log.specs.declared.any_log.AnyLog.{AnyLog}
 use Rattle.any_log.specs.declared.any_log.AnyLog.TheVariants.{Term, Image}
+use Rattle.frame_codec.specs.Frame.{Sent}
 use Rattle.image_log.specs.declared.ident.Ident.{Ident as ImageIdent}
 use Rattle.image_log.specs.Rebuilt.{contiguous_of, is_silent, settled, rejoined as image_rejoined}
+use Rattle.image_receiver.specs.Receiving.{AreOf}
 use Rattle.log_arena.specs.Homes.{Home}
 use Rattle.log_pairs.specs.Pairs.{position_of}
 use Rattle.log_pairs.specs.declared.pair.Pair.{Pair}
@@ -23,6 +25,11 @@ made_held (Image log) = for_stream log.rebuilt.ident
 abbrev pub terms_of : Made → ℕ
 terms_of (for_publication ident) = ident.term_length
 terms_of (for_stream ident) = ident.term_length
+
+-- the frames of a datagram may be handed to the log: those of a remote stream are of its session and stream
+abbrev pub AreFor : Made → List Sent → Type 0
+AreFor (for_publication ident) frames = Unit {0}
+AreFor (for_stream ident) frames = AreOf ident frames
 
 -- where its lease is: the region, the first byte there, and how many bytes one of its three terms has
 pub record Place : Type 0 where

@@ -1,12 +1,16 @@
 -- A log of either kind as if nothing of it were lost: what calls make of it, and which log stands for it.
-use Rattle.std.specs.Prelude.{◌≡◌, ℕ, Bool, false, List, map, Option}
+use Rattle.std.specs.Prelude.{◌≡◌, ℕ, Bool, false, List, [], map, Option}
 use Rattle.any_log.specs.declared.any_log.AnyLog.{AnyLog}
 use Rattle.any_log.specs.declared.any_log.AnyLog.TheVariants.{Term, Image}
 use Rattle.any_log.specs.declared.fragment.Fragment.{Fragment}
 use Rattle.any_log.specs.Fragments.{fragment_of}
 use Rattle.any_log.specs.Held.{Made, for_publication, for_stream}
+use Rattle.frame_codec.specs.Frame.{Sent}
+use Rattle.frame_codec.specs.declared.header.TermPlace.{TermPlace}
 use Rattle.image_log.specs.Polling.{polled as image_polled}
 use Rattle.image_log.specs.Rebuilt.{Rebuilt, contiguous_of, is_silent, settled, rejoined as image_rejoined}
+use Rattle.image_log.specs.declared.insert.Insert.{Insert}
+use Rattle.image_receiver.specs.Receiving.{after_beat, after_data, words_of}
 use Rattle.log_pairs.specs.Pairs.{position_of}
 use Rattle.log_pairs.specs.declared.pair.Pair.{Pair}
 use Rattle.term_log.specs.Whole.{Whole, Stands, tail_of, rejoined as term_rejoined, polled as term_polled}
@@ -68,6 +72,21 @@ polled (rebuilt r) subscription limit = record {
   after = rebuilt (image_polled r subscription limit).after;
 }
 
+-- what a datagram of data makes of a remote stream's log at a moment, and the word for each of its frames; a publication's
+-- log takes none
+abbrev pub received : ℕ → List Sent → AnyWhole → AnyWhole
+received now frames (whole w) = whole w
+received now frames (rebuilt r) = rebuilt (after_data r now frames)
+
+abbrev pub words_in : List Sent → AnyWhole → List Insert
+words_in frames (whole w) = []
+words_in frames (rebuilt r) = words_of r frames
+
+-- what a heartbeat makes of it
+abbrev pub beaten : ℕ → TermPlace → AnyWhole → AnyWhole
+beaten now place (whole w) = whole w
+beaten now place (rebuilt r) = rebuilt (after_beat r now place)
+
 -- ---- what calls do, whatever the log stands for
 
 pub record Carries (old new : AnyLog) (f : AnyWhole → AnyWhole) : Type 0 where
@@ -76,3 +95,7 @@ pub record Carries (old new : AnyLog) (f : AnyWhole → AnyWhole) : Type 0 where
 -- what a poll is to give
 pub record Fetches (log : AnyLog) (subscription limit : ℕ) (fragments : List Fragment) : Type 0 where
   pub on : (w : AnyWhole) → StandsFor log w → fragments ≡ (polled w subscription limit).fragments
+
+-- the words for the frames of a datagram
+pub record Words (log : AnyLog) (frames : List Sent) (words : List Insert) : Type 0 where
+  pub on : (w : AnyWhole) → StandsFor log w → words ≡ words_in frames w

@@ -1,12 +1,15 @@
-ghost use Rattle.any_log.specs.Held.{Lies, is_silent_held, place_held, position_held, reach_held, rejoined_held};
-ghost use Rattle.any_log.specs.Whole.{Carries, Fetches, polled, rejoined};
+ghost use Rattle.any_log.specs.Held.{AreFor, Lies, is_silent_held, made_held, place_held, position_held, reach_held, rejoined_held};
+ghost use Rattle.any_log.specs.Whole.{Carries, Fetches, Words, beaten, polled, received, rejoined};
+ghost use Rattle.frame_codec.specs.Frames.{frames_left};
 ghost use Rattle.log_arena.specs.Lease.{lease_home, lease_len, lease_place};
-ghost use Rattle.std.specs.Prelude.{◌≡◌, ◌*◌, ◌≤◌, IfOk, length};
+ghost use Rattle.std.specs.Prelude.{◌≡◌, ◌*◌, ◌≤◌, IfOk, OnErr, OnOk, length};
 
 use crate::copies::{copies_of_image, copies_of_term};
 use crate::fragment::Fragment;
 use byte_strings::Items;
-use image_log::ImageLog;
+use frame_codec::{Frames, TermPlace};
+use image_log::{ImageLog, Insert};
+use image_receiver::{receive, receive_beat};
 use log_arena::Lease;
 use std::alloc::{AllocError, Global};
 use term_log::TermLog;
@@ -92,6 +95,41 @@ impl AnyLog {
         match self {
             AnyLog::Term(log) => log.poll(subscription, limit),
             AnyLog::Image(log) => log.poll(subscription, limit),
+        }
+    }
+
+    /// A datagram of data frames and pads of the stream came at a moment, in nanoseconds: each frame is handed in, and its
+    /// sender was heard. The answer is what became of each frame, in order. The log of a publication takes none.
+    ///
+    /// # Errors
+    /// Without memory for the words nothing is changed.
+    pub fn receive(
+        &mut self,
+        alloc: Global,
+        now: u64,
+        frames: Frames<'_>,
+    ) -> Result<Items<Insert>, AllocError>
+        requires { AreFor (made_held self.old) (frames_left frames) }
+        ensures words { IfOk result (λ words. Words self.old (frames_left frames.entry) words) }
+        ensures whole { OnOk result (Carries self.old self.new (received now (frames_left frames.entry))) }
+        ensures lies { Lies self.old self.new }
+        ensures err { OnErr result (self.new ≡ self.old) }
+    {
+        match self {
+            AnyLog::Term(_) => Ok(Items::new(alloc)),
+            AnyLog::Image(log) => Ok(Items::from(receive(log, alloc, now, frames)?)),
+        }
+    }
+
+    /// A heartbeat of the stream came at a moment, in nanoseconds, and tells where its sender is. The log of a publication
+    /// takes none.
+    pub fn receive_beat(&mut self, now: u64, place: &TermPlace)
+        ensures whole { Carries self.old self.new (beaten now place.now) }
+        ensures lies { Lies self.old self.new }
+    {
+        match self {
+            AnyLog::Term(_) => {}
+            AnyLog::Image(log) => receive_beat(log, now, place),
         }
     }
 
