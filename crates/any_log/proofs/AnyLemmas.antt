@@ -5,10 +5,14 @@ use Rattle.any_log.specs.declared.any_log.AnyLog.{AnyLog}
 use Rattle.any_log.specs.declared.any_log.AnyLog.TheVariants.{Term, Image}
 use Rattle.any_log.specs.Held.{Lies, for_publication, for_stream, Place, is_silent_held, made_held, pairs_held, place_held, position_held, reach_held, rejoined_held, terms_of}
 use Rattle.any_log.specs.Whole.{AnyWhole, whole, rebuilt, StandsFor, is_silent_in, made_for, pairs_in, polled as any_polled, position_in, reach_of, readers_in, rejoined}
+use Rattle.frame_codec.specs.declared.header.TermPlace.{TermPlace}
+use Rattle.frame_codec.specs.Frame.{Sent}
 use Rattle.image_log.specs.declared.ident.Ident.{Ident as ImageIdent}
 use Rattle.image_log.specs.Log.{Log as ImageLog}
 use Rattle.image_log.specs.Polling.{polled, polled_from}
 use Rattle.image_log.specs.Rebuilt.{Rebuilt, contiguous_of, is_silent, settled, rejoined as image_rejoined}
+use Rattle.image_receiver.specs.Receiving.{after_beat, after_data, after_frame, after_frames}
+use Rattle.image_receiver.proofs.ReceivingLemmas.{ident_stays}
 use Rattle.log_pairs.specs.Pairs.{moved_one, position_of}
 use Rattle.log_pairs.specs.declared.pair.Pair.{Pair}
 use Rattle.term_log.specs.Whole.{Whole, polled as term_polled, polled_from as term_polled_from, rejoined as term_rejoined, rejoined_kept}
@@ -25,15 +29,28 @@ pub polled_ident : (r : Rebuilt) (subscription limit : ℕ) → (polled r subscr
 unfolding polled
 polled_ident r subscription limit = from_ident r subscription limit (position_of r.pairs subscription)
 
-pub image_lies : (old new : ImageLog) (subscription limit : ℕ) → new ≡ record old { rebuilt = (polled old.rebuilt subscription limit).after }
-    → Lies (Image old) (Image new)
-image_lies old new subscription limit is =
-    let same = polled_ident old.rebuilt subscription limit in
-    record {
-      place_is = ap (λ (l : ImageLog). place_held (Image l)) is
-          ∙ ap (λ (i : ImageIdent). let p : Place = record { home = old.held.home; place = old.held.place; term_length = i.term_length } in p) same;
-      made_is = ap (λ (l : ImageLog). made_held (Image l)) is ∙ ap for_stream same;
-    }
+-- ---- datagrams leave the stream
+
+frames_ident : (r : Rebuilt) (frames : List Sent) → (after_frames r frames).ident ≡ r.ident
+frames_ident r [] = refl
+frames_ident r (frame ∷ later) = frames_ident (after_frame r frame) later ∙ ident_stays r frame
+
+pub data_ident : (r : Rebuilt) (now : ℕ) (frames : List Sent) → (after_data r now frames).ident ≡ r.ident
+unfolding after_data
+data_ident r now frames = frames_ident r frames
+
+pub beat_ident : (r : Rebuilt) (now : ℕ) (place : TermPlace) → (after_beat r now place).ident ≡ r.ident
+unfolding after_beat
+beat_ident r now place = refl
+
+-- ---- a log whose stream is left lies where it lay
+
+pub image_lies : (old new : ImageLog) (r : Rebuilt) → new ≡ record old { rebuilt = r } → r.ident ≡ old.rebuilt.ident → Lies (Image old) (Image new)
+image_lies old new r is same = record {
+  place_is = ap (λ (l : ImageLog). place_held (Image l)) is
+      ∙ ap (λ (i : ImageIdent). let p : Place = record { home = old.held.home; place = old.held.place; term_length = i.term_length } in p) same;
+  made_is = ap (λ (l : ImageLog). made_held (Image l)) is ∙ ap for_stream same;
+}
 
 -- ---- what a log says that stands for a whole one
 

@@ -26,6 +26,11 @@ abbrev pub terms_of : Made → ℕ
 terms_of (for_publication ident) = ident.term_length
 terms_of (for_stream ident) = ident.term_length
 
+-- the frames of a datagram may be handed to the log: those of a remote stream are of its session and stream
+abbrev pub AreFor : Made → List Sent → Type 0
+AreFor (for_publication ident) frames = Unit {0}
+AreFor (for_stream ident) frames = AreOf ident frames
+
 -- where its lease is: the region, the first byte there, and how many bytes one of its three terms has
 pub record Place : Type 0 where
   pub home : Home
@@ -43,11 +48,6 @@ place_held (Image log) = record {
   place = log.held.place;
   term_length = log.rebuilt.ident.term_length;
 }
-
--- the frames of a datagram may be handed to the log: those of a remote stream are of its session and stream
-abbrev pub AreFor : Made → List Sent → Type 0
-AreFor (for_publication ident) frames = Unit {0}
-AreFor (for_stream ident) frames = AreOf ident frames
 
 -- it lies where it lay, and is made for what it was made for
 pub record Lies (old new : AnyLog) : Type 0 where

@@ -5,11 +5,11 @@ use Rattle.any_log.specs.declared.any_log.AnyLog.TheVariants.{Term, Image}
 use Rattle.any_log.specs.declared.fragment.Fragment.{Fragment}
 use Rattle.any_log.specs.Fragments.{fragment_of}
 use Rattle.any_log.specs.Held.{Made, for_publication, for_stream}
-use Rattle.frame_codec.specs.declared.header.TermPlace.{TermPlace}
 use Rattle.frame_codec.specs.Frame.{Sent}
-use Rattle.image_log.specs.declared.insert.Insert.{Insert}
+use Rattle.frame_codec.specs.declared.header.TermPlace.{TermPlace}
 use Rattle.image_log.specs.Polling.{polled as image_polled}
 use Rattle.image_log.specs.Rebuilt.{Rebuilt, contiguous_of, is_silent, settled, rejoined as image_rejoined}
+use Rattle.image_log.specs.declared.insert.Insert.{Insert}
 use Rattle.image_receiver.specs.Receiving.{after_beat, after_data, words_of}
 use Rattle.log_pairs.specs.Pairs.{position_of}
 use Rattle.log_pairs.specs.declared.pair.Pair.{Pair}
@@ -96,6 +96,6 @@ pub record Carries (old new : AnyLog) (f : AnyWhole → AnyWhole) : Type 0 where
 pub record Fetches (log : AnyLog) (subscription limit : ℕ) (fragments : List Fragment) : Type 0 where
   pub on : (w : AnyWhole) → StandsFor log w → fragments ≡ (polled w subscription limit).fragments
 
--- the words for the frames of a datagram, whatever the log stands for
+-- the words for the frames of a datagram
 pub record Words (log : AnyLog) (frames : List Sent) (words : List Insert) : Type 0 where
   pub on : (w : AnyWhole) → StandsFor log w → words ≡ words_in frames w

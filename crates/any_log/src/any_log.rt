@@ -1,4 +1,4 @@
-ghost use Rattle.any_log.specs.Held.{AreFor, Lies, made_held, is_silent_held, place_held, position_held, reach_held, rejoined_held};
+ghost use Rattle.any_log.specs.Held.{AreFor, Lies, is_silent_held, made_held, place_held, position_held, reach_held, rejoined_held};
 ghost use Rattle.any_log.specs.Whole.{Carries, Fetches, Words, beaten, polled, received, rejoined};
 ghost use Rattle.frame_codec.specs.Frames.{frames_left};
 ghost use Rattle.log_arena.specs.Lease.{lease_home, lease_len, lease_place};
@@ -99,7 +99,7 @@ impl AnyLog {
     }
 
     /// A datagram of data frames and pads of the stream came at a moment, in nanoseconds: each frame is handed in, and its
-    /// sender was heard. The answer is what became of each, in order. The log of a publication takes none.
+    /// sender was heard. The answer is what became of each frame, in order. The log of a publication takes none.
     ///
     /// # Errors
     /// Without memory for the words nothing is changed.
@@ -121,7 +121,8 @@ impl AnyLog {
         }
     }
 
-    /// A heartbeat of the stream came at a moment, and tells where its sender is. The log of a publication takes none.
+    /// A heartbeat of the stream came at a moment, in nanoseconds, and tells where its sender is. The log of a publication
+    /// takes none.
     pub fn receive_beat(&mut self, now: u64, place: &TermPlace)
         ensures whole { Carries self.old self.new (beaten now place.now) }
         ensures lies { Lies self.old self.new }

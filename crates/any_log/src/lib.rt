@@ -1,7 +1,8 @@
 //! A log of either kind: that of a publication, and that of a remote stream.
 //!
-//! `AnyLog` has the calls that both kinds have: how far the log reaches, who reads it, and what a poll gives. Contracts see
-//! a log as what is held of it, and say what calls do to each whole log that it stands for.
+//! `AnyLog` has the calls that both kinds have: how far the log reaches, who reads it, and what a poll gives; and it takes
+//! the datagrams of its stream, which change only the log of a remote stream. Contracts see a log as what is held of it, and
+//! say what calls do to each whole log that it stands for.
 #![tactic(auto)]
 
 mod any_log;
@@ -10,3 +11,4 @@ mod fragment;
 
 pub use any_log::AnyLog;
 pub use fragment::Fragment;
+pub use image_log::Insert;

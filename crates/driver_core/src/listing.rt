@@ -19,7 +19,7 @@ const IMAGE_TYPE: i32 = 10002;
 /// A counter as it is listed.
 #[derive(Debug, PartialEq, Eq, Drop)]
 pub struct ListedCounter {
-    /// The registration number.
+    /// The registration number; the source number of a publication or an image.
     pub number: u64,
     /// What kind of thing is counted; the policy knows the counter by it.
     pub type_id: i32,
@@ -194,7 +194,7 @@ fn source_value(registry: &Registry, principal: u32, number: u64) -> Shown
 }
 
 impl Registry {
-    /// What a client is shown of the counters, those of publications among them.
+    /// What a client is shown of the counters, those of publications and images among them.
     ///
     /// # Errors
     /// Where there is no memory for the list.

@@ -5,6 +5,7 @@ use Rattle.std.proofs.lemmas.Bool.{le-leb, lt-ltb, ltb-false}
 use Rattle.driver_core.specs.Pairs.{is_within_pairs, pairs_of}
 use Rattle.driver_core.specs.Publishing.{with_publication}
 use Rattle.driver_core.specs.Reloading.{in_force}
+use Rattle.driver_core.specs.SettingUp.{has_room_for_setup, with_image}
 use Rattle.driver_core.specs.State.{State, has_number}
 use Rattle.driver_core.specs.Subscribing.{has_room_for_subscription, with_subscription}
 use Rattle.driver_laws.specs.LimitLaws.{HasRoomBelow, IsLeft}
@@ -15,10 +16,12 @@ use Rattle.stream_registry.specs.declared.fault.StreamFault.TheVariants.{Conflic
 use Rattle.stream_registry.specs.declared.row.Source.{Source}
 use Rattle.stream_registry.specs.declared.wanted.Adding.{Adding}
 use Rattle.stream_registry.specs.declared.wanted.Adding.TheVariants.{Join, Make}
+use Rattle.stream_registry.specs.declared.wanted.ImageWanted.{ImageWanted}
 use Rattle.stream_registry.specs.declared.wanted.Wanted.{Wanted}
 use Rattle.stream_registry.specs.Adding.{adding_by, adding_of, has_room_for_log, has_room_for_registration, has_room_for_subscription as has_room_in, joining_of, making_of, session_of}
 use Rattle.stream_registry.specs.Joining.{contradicts, joined_at}
-use Rattle.stream_registry.specs.Origins.{is_published}
+use Rattle.stream_registry.specs.Images.{has_room_for_image}
+use Rattle.stream_registry.specs.Origins.{is_published, is_remote}
 use Rattle.stream_registry.specs.Sessions.{is_stated_again}
 use Rattle.stream_registry.specs.Streams.{Streams}
 
@@ -44,6 +47,14 @@ subscription_room s client channel stream left' few pairs =
     (both_hold (has_number s) (has_room_in s.streams) (number_left s left')
     (lt-ltb (length s.streams.subscriptions) 512 few))
     (few_pairs (with_subscription s client channel stream) pairs)
+
+image_room : (s : State) (wanted : ImageWanted) → IsLeft s.last_number → length (filter is_remote s.streams.sources) < 512 →
+    length (pairs_of (with_image s wanted)) ≤ 4096 → has_room_for_setup s wanted ≡ true
+image_room s wanted left' few pairs =
+    both_hold (has_room_for_image s.streams) (has_number s && is_within_pairs (with_image s wanted))
+    (lt-ltb (length (filter is_remote s.streams.sources)) 512 few)
+    (both_hold (has_number s) (is_within_pairs (with_image s wanted)) (number_left s left')
+    (few_pairs (with_image s wanted) pairs))
 
 -- ---- the lists of publications
 
@@ -106,6 +117,7 @@ has_room_below s = record {
   publication = λ client wanted adding left' pairs.
       both_hold _ _ (number_left s left') (few_pairs (with_publication s client wanted adding) pairs);
   lists = λ wanted is. lists_full s.streams wanted is;
+  image = image_room s;
   counter = λ left' few.
       both_hold _ _ (lt-ltb (length s.counters) 1024 few) (lt-ltb s.last_number 18446744073709551615 left');
   policy = λ policy left' pairs.

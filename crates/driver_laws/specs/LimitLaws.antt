@@ -4,6 +4,7 @@ use Rattle.driver_core.specs.Counting.{has_room_for_counter}
 use Rattle.driver_core.specs.Pairs.{pairs_of}
 use Rattle.driver_core.specs.Publishing.{has_room_for_publication, with_publication}
 use Rattle.driver_core.specs.Reloading.{has_room_for_policy, in_force}
+use Rattle.driver_core.specs.SettingUp.{has_room_for_setup, with_image}
 use Rattle.driver_core.specs.State.{State}
 use Rattle.driver_core.specs.Subscribing.{has_room_for_subscription, with_subscription}
 use Rattle.driver_laws.specs.Events.{AfterAnyEvents}
@@ -12,10 +13,11 @@ use Rattle.client_registry.specs.Clients.{has_room}
 use Rattle.policy_core.specs.RuleList.{Rules}
 use Rattle.stream_registry.specs.declared.fault.StreamFault.TheVariants.{Full}
 use Rattle.stream_registry.specs.declared.wanted.Adding.{Adding}
+use Rattle.stream_registry.specs.declared.wanted.ImageWanted.{ImageWanted}
 use Rattle.stream_registry.specs.declared.wanted.Wanted.{Wanted}
 use Rattle.stream_registry.specs.Adding.{adding_of}
 use Rattle.stream_registry.specs.Few.{AreFew}
-use Rattle.stream_registry.specs.Origins.{is_published}
+use Rattle.stream_registry.specs.Origins.{is_published, is_remote}
 
 -- ---- none is passed
 
@@ -52,6 +54,9 @@ pub record HasRoomBelow (s : State) : Type 0 where
   pub lists :
       (wanted : Wanted) → adding_of s.streams wanted ≡ Err Full →
       (1024 ≤ length s.streams.registrations) ⊎ (256 ≤ length (filter is_published s.streams.sources))
+  pub image :
+      (wanted : ImageWanted) → IsLeft s.last_number → length (filter is_remote s.streams.sources) < 512 →
+      length (pairs_of (with_image s wanted)) ≤ 4096 → has_room_for_setup s wanted ≡ true
   pub counter : IsLeft s.last_number → length s.counters < 1024 → has_room_for_counter s ≡ true
   pub policy :
       (policy : Rules) → IsLeft s.epoch → length (pairs_of (in_force s policy)) ≤ 4096 →

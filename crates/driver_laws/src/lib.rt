@@ -93,8 +93,8 @@ pub fn counters_and_terminations_are_granted_only()
     ensures { CountersAndTerminationsAreGrantedOnly }
 {}
 
-/// A client is listed exactly the counters and publications that the policy in force shows it, and is told the value of
-/// one exactly where the policy shows that one; a denial names the least rule that matches, or the default where none does.
+/// A client is listed exactly the counters, publications and images that the policy in force shows it, and is told the value
+/// of one exactly where the policy shows that one; a denial names the least rule that matches, or the default where none does.
 pub fn counters_are_shown_exactly()
     ensures { CountersAreShownExactly }
 {}
@@ -231,7 +231,7 @@ pub fn numbers_are_unique()
 {}
 
 /// In every registry no number is that of rows of two lists, of registrations, subscriptions, counters and logs, but for
-/// one: a log has the number of the registration that made it, which is registered with that very log.
+/// one: the log of a publication has the number of the registration that made it, which is registered with that very log.
 pub fn lists_share_no_number()
     ensures { ListsShareNoNumber }
 {}

@@ -1,9 +1,9 @@
 use crate::ends::{Choppy, LineFeeds};
 use crate::play::is_shown;
+use driver_core::SetupFault;
 use driver_script::answers::AnswerLine;
 use driver_script::output::write_whole;
 use driver_script::{MayFail, RunFault, read_input};
-use driver_core::SetupFault;
 use driver_world::Offered;
 use frame_codec::Flags;
 use policy_core::Verdict;
@@ -196,9 +196,15 @@ const ANSWERS: [(AnswerLine<'static>, &str); 34] = [
     (AnswerLine::PolicyInForce(2), "policy 2\n"),
     (AnswerLine::PolicyFull, "policy refused: full\n"),
     (AnswerLine::Setup(2), "setup 2\n"),
-    (AnswerLine::Dropped(SetupFault::BadSetup), "dropped bad-setup\n"),
+    (
+        AnswerLine::Dropped(SetupFault::BadSetup),
+        "dropped bad-setup\n",
+    ),
     (AnswerLine::Dropped(SetupFault::Exists), "dropped exists\n"),
-    (AnswerLine::Dropped(SetupFault::NoSubscription), "dropped no-subscription\n"),
+    (
+        AnswerLine::Dropped(SetupFault::NoSubscription),
+        "dropped no-subscription\n",
+    ),
     (AnswerLine::Dropped(SetupFault::Full), "dropped full\n"),
     (AnswerLine::Dropped(SetupFault::NoRoom), "dropped no-room\n"),
     (

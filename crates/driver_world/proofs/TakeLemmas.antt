@@ -1,5 +1,5 @@
 -- An event that was taken goes on from each end that the world stands for.
-use Rattle.std.proofs.Common.{◌≡◌, ℕ, Bool, true, false, not, cond, List, [], ◌∷◌, ◌++◌, map, filter, Option, Some, None, refl, sym, ap, ap₂, subst, ◌∙◌, append-nil}
+use Rattle.std.proofs.Common.{◌≡◌, ℕ, Bool, true, false, not, cond, List, [], ◌∷◌, ◌++◌, map, max, filter, Option, Some, None, refl, sym, ap, ap₂, subst, ◌∙◌, append-nil}
 use Rattle.any_log.specs.Held.{rejoined_held as rejoined_any}
 use Rattle.any_log.specs.Whole.{StandsFor, rejoined}
 use Rattle.any_log.proofs.AnyLemmas.{reach_stands, rejoined_stands as any_rejoined, silent_stands as any_silent}

@@ -3,6 +3,10 @@
 //! `World::run` takes any list of steps of the conductor and of clients, and its answers continue the run that came
 //! before, whose logs contracts see as whole lists of frames. `offer_step` and `poll_step` are the steps of a client on one
 //! log, by any view of a registry.
+//!
+//! An event is told how far each log reaches and, where it is a tick, which images are silent. Then the logs follow: the one
+//! opens that the event tells, of a publication or of the image that a SETUP makes, those close that it tells, and exactly
+//! the pairs read. All memory is taken before anything is changed.
 #![tactic(auto)]
 
 mod answer;

@@ -1,24 +1,26 @@
 // Leases that come and go in an order that looks random, beside a plain page table.
-ghost use Rattle.std.specs.Prelude.{◌≡◌, ◌<◌, ◌≤◌};
 ghost use Rattle.log_arena_tests.specs.Leases.{AllOf};
 
 use log_arena::{Arena, Lease, NoRoom, PAGE};
 use std::alloc::{AllocError, Global};
 
-/// Takes `steps` steps in an arena of `pages` pages, beside a page table of `listed` pages. Whether the holes were those
-/// of the page table after each, and the bytes used and free were its counts.
-pub fn churn(alloc: Global, pages: usize, listed: usize, steps: u32) -> Result<bool, AllocError>
-    requires { (0 < pages) × (pages ≤ 65536) }
-{
-    let mut arena = Arena::new(alloc, pages)?;
+/// Takes `steps` steps in an arena without a lease, beside a page table of `listed` pages. Whether the holes were those of
+/// the page table after each, and the bytes used and free were its counts. The leases that are left then are dropped, so
+/// the arena stays as the last step left it.
+pub fn churn(
+    alloc: Global,
+    arena: &mut Arena,
+    listed: usize,
+    steps: u32,
+) -> Result<bool, AllocError> {
     let mut leases = Vec::new(alloc);
     let mut table = Vec::from_elem(alloc, false, listed)?;
     let mut word = 1;
     let mut same = true;
     for _ in 0..steps {
         word = next(word);
-        step(&mut arena, &mut leases, &mut table, word)?;
-        same &= agrees(alloc, &arena, &table)?;
+        step(arena, &mut leases, &mut table, word)?;
+        same &= agrees(alloc, arena, &table)?;
     }
     Ok(same)
 }

@@ -2,7 +2,8 @@
 //!
 //! [`Readers`] has a row of numbers for each log, in room that is there from the beginning. Each of its calls follows one
 //! call on the lists: where the readers were those of the lists before it, they are those of the lists after it. So an
-//! event asks the policy about its own rows alone.
+//! event asks the policy about its own rows alone. [`Readers::unread`] and [`Readers::closed`] tell of the images that no
+//! subscription reads, now or behind an event.
 #![tactic(auto)]
 
 mod closing;

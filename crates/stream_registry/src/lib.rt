@@ -3,9 +3,10 @@
 //!
 //! The lists are plain data for contracts (`Streams` of `specs/Streams.antt`). A source is one log: a publication, or an
 //! image, which is the log of a remote publisher. Those who add a publication of the same place and stream are registered
-//! with one log; once the last registration with it goes it lingers, and closes when it has lingered for too long. Images
-//! come and go by their own calls. `Streams::adding` says what would become of an ADD, and
-//! `Streams::add_publication` does it. Pairs of a log and a subscription are computed from the lists and a policy alone.
+//! with one log; once the last registration with it goes it lingers, and closes when it has lingered for too long.
+//! `Streams::adding` says what would become of an ADD, and `Streams::add_publication` does it. An image comes by
+//! `Streams::add_image`; it goes by `Streams::remove_images`, or by `Streams::close` where it is called silent. Pairs of a
+//! log and a subscription are computed from the lists and a policy alone.
 #![tactic(auto)]
 
 mod adding;

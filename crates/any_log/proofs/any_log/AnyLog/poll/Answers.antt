@@ -2,10 +2,12 @@ use Rattle.std.proofs.Common.{sym, subst}
 use Rattle.any_log.specs.declared.any_log.AnyLog.{AnyLog}
 use Rattle.any_log.specs.declared.any_log.AnyLog.TheVariants.{Image}
 use Rattle.any_log.specs.Held.{Lies}
-use Rattle.any_log.proofs.AnyLemmas.{image_lies}
+use Rattle.image_log.specs.Polling.{polled}
+use Rattle.any_log.proofs.AnyLemmas.{image_lies, polled_ident}
 use Rattle.any_log.proofs.any_log.AnyLog.poll.Goals as goal
 
 pub returns-in-Image-clause-lies : goal.returns-in-Image-clause-lies
 returns-in-Image-clause-lies c =
     subst (λ (old : AnyLog). Lies old (Image c.poll-in-Image.new.self)) (sym c.in-Image.is)
-    (image_lies c.in-Image.log c.poll-in-Image.new.self c.args.subscription c.args.limit c.poll-in-Image.ensures)
+    (image_lies c.in-Image.log c.poll-in-Image.new.self (polled c.in-Image.log.rebuilt c.args.subscription c.args.limit).after
+    c.poll-in-Image.ensures (polled_ident c.in-Image.log.rebuilt c.args.subscription c.args.limit))
