@@ -84,7 +84,7 @@ impl World {
     ghost use Rattle.driver_world.specs.Ends.{on_frames, on_stream, opening_end};
     ghost use Rattle.driver_world.specs.Receiving.{beat_move};
     ghost use Rattle.driver_world.specs.Standing.{StandsForEnd, Serves, ServesAs, Takes, Runs, Continues, pages_of_logs};
-    ghost use Rattle.driver_world.specs.declared.step.Step.TheVariants.{Conductor, Packet, Offer, Poll, List as Lists, Value};
+    ghost use Rattle.driver_world.specs.declared.step.Step.TheVariants.{Conductor, Packet as Packets, Offer, Poll, List as Lists, Value};
     ghost use Rattle.log_arena.specs.Pages.{holes_of};
 
     /// A world in which nothing happened yet.
@@ -195,7 +195,7 @@ impl World {
         from: &Address,
         bytes: &[u8],
     ) -> Answer
-        ensures { Serves self.old self.new (Packet now local.now from.now bytes.now) result }
+        ensures { Serves self.old self.new (Packets now local.now from.now bytes.now) result }
     {
         match Datagram::read(bytes) {
             Err(fault) => Answer::Dropped(Cause::Unread(fault)),
