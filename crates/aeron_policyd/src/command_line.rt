@@ -138,7 +138,10 @@ Lines of a script:
   poll NOW C SUB SOURCE LIMIT
                           client C takes up to LIMIT fragments of log SOURCE by its subscription SUB; or is denied, or
                           told `gone`
-  tick NOW                time goes on: clients of which nothing was heard for too long are gone
+  packet NOW LOCAL FROM HEX
+                          a datagram came to the address LOCAL from the address FROM, as 127.0.0.1:40123: a SETUP makes
+                          an image, data goes to it; what is for none is dropped by a word
+  tick NOW                time goes on: clients and images of which nothing was heard for too long are gone
   list NOW C              client C looks at the counters that the policy shows it
   value NOW C REG         client C looks at the value of counter REG
   # ...                   a comment; empty lines are skipped too

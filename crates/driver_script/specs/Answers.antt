@@ -3,9 +3,16 @@ use Rattle.std.specs.Prelude.{ℕ, ◌+◌, ◌/◌, ◌%◌, ℤ, List, [], ◌
 use Rattle.std.specs.Fmt.{decimal, signed_decimal}
 use Rattle.std.specs.List.{flat_map}
 use Rattle.driver_script.specs.declared.answers.AnswerLine.{AnswerLine}
-use Rattle.driver_script.specs.declared.answers.AnswerLine.TheVariants.{Attached, Full, Stopped, PolicyInForce, PolicyFull, Setup, Dropped, PolicyRefused, Reply, Offer, Poll, Fragment, Gone, List as Lists, Counter, Value, Denied, UnknownCounter, WrongClient, NoMemory, BadLine}
+use Rattle.driver_script.specs.declared.answers.AnswerLine.TheVariants.{Attached, Full, Stopped, PolicyInForce, PolicyFull, Setup, Dropped, Beat, PolicyRefused, Reply, Offer, Poll, Fragment, Gone, List as Lists, Counter, Value, Denied, UnknownCounter, WrongClient, NoMemory, BadLine}
 use Rattle.driver_core.specs.declared.setup_fault.SetupFault.{SetupFault}
 use Rattle.driver_core.specs.declared.setup_fault.SetupFault.TheVariants as fault
+use Rattle.driver_core.specs.declared.image_request.Astray.{Astray}
+use Rattle.driver_core.specs.declared.image_request.Astray.TheVariants as astray
+use Rattle.driver_world.specs.declared.cause.Cause.{Cause}
+use Rattle.driver_world.specs.declared.cause.Cause.TheVariants as cause
+use Rattle.frame_codec.specs.Fault.{fault_text}
+use Rattle.image_log.specs.declared.insert.Insert.{Insert}
+use Rattle.image_log.specs.declared.insert.Insert.TheVariants as insert
 use Rattle.driver_world.specs.declared.answer.Offered.{Offered}
 use Rattle.driver_world.specs.declared.answer.Offered.TheVariants as offered
 use Rattle.frame_codec.specs.declared.flags.Flags.{Flags}
@@ -96,8 +103,35 @@ cause_text (fault.Denied verdict) = verdict_text verdict
 cause_text fault.Full = codes "full"
 cause_text fault.NoRoom = codes "no-room"
 
-abbrev pub dropped_line : SetupFault → List ℕ
-dropped_line fault = codes "dropped " ++ (cause_text fault ++ codes "\n")
+-- why a datagram is for no image
+abbrev pub astray_word : Astray → List ℕ
+astray_word astray.NoStream = codes "no-stream"
+astray_word astray.Stranger = codes "stranger"
+
+-- why a datagram is dropped
+abbrev pub drop_text : Cause → List ℕ
+drop_text (cause.Unread fault) = fault_text fault
+drop_text (cause.Astray why) = astray_word why
+drop_text (cause.SetUp fault) = cause_text fault
+
+abbrev pub dropped_line : Cause → List ℕ
+dropped_line why = codes "dropped " ++ (drop_text why ++ codes "\n")
+
+-- what became of a frame
+abbrev pub insert_word : Insert → List ℕ
+insert_word insert.Taken = codes "taken"
+insert_word insert.Repeat = codes "repeat"
+insert_word insert.Overlap = codes "overlap"
+insert_word insert.Below = codes "below"
+insert_word insert.Beyond = codes "beyond"
+
+-- a word behind a space
+abbrev pub word_behind : Insert → List ℕ
+word_behind word = codes " " ++ insert_word word
+
+-- what became of the frames of a datagram
+abbrev pub data_line : List Insert → List ℕ
+data_line words = codes "data" ++ (flat_map word_behind words ++ codes "\n")
 
 -- an image that comes, by its source number
 abbrev pub setup_line : ℕ → List ℕ
@@ -115,7 +149,8 @@ line_text Stopped = codes "stopped\n"
 line_text (PolicyInForce epoch) = policy_line epoch
 line_text PolicyFull = codes "policy refused: full\n"
 line_text (Setup source) = setup_line source
-line_text (Dropped fault) = dropped_line fault
+line_text (Dropped why) = dropped_line why
+line_text Beat = codes "beat\n"
 line_text (PolicyRefused fault) = refusal_line fault
 line_text (Reply client bytes) = reply_text client bytes.now
 line_text (Offer answer) = offer_line answer

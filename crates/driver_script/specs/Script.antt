@@ -3,7 +3,7 @@ use Rattle.std.specs.Prelude.{◌≡◌, ℕ, List, [], ◌∷◌, ◌++◌, is_
 use Rattle.std.specs.Fmt.{decimal}
 use Rattle.std.specs.List.{flat_map}
 use Rattle.driver_world.specs.declared.answer.Answer.{Answer}
-use Rattle.driver_world.specs.declared.answer.Answer.TheVariants.{NoMemory, Attached, Full, Stopped, PolicyInForce, PolicyFull, Imaged, Dropped, Replies, Offered, Polled, Gone, Counters, Value, Denied, UnknownCounter, WrongClient}
+use Rattle.driver_world.specs.declared.answer.Answer.TheVariants.{NoMemory, Attached, Full, Stopped, PolicyInForce, PolicyFull, Imaged, Received, Heard, Dropped, Replies, Offered, Polled, Gone, Counters, Value, Denied, UnknownCounter, WrongClient}
 use Rattle.driver_core.specs.declared.event.Event.TheVariants.{Reload}
 use Rattle.driver_core.specs.declared.listing.ListedCounter.{ListedCounter}
 use Rattle.driver_core.specs.declared.replies.Message.{Message}
@@ -24,7 +24,7 @@ use Rattle.script_lines.specs.declared.statements.Said.{Said}
 use Rattle.driver_script.specs.declared.script.Preface.{Preface}
 use Rattle.script_lines.specs.declared.statements.Said.TheVariants.{Principal, Set, Policy, Does, Bad}
 use Rattle.script_lines.specs.declared.statements.Statement.{Statement}
-use Rattle.driver_script.specs.Answers.{counter_line, denial_line, dropped_line, fragment_line, list_line, offer_line, policy_line, poll_line, refusal_line, reply_text, setup_line, value_line}
+use Rattle.driver_script.specs.Answers.{counter_line, data_line, denial_line, dropped_line, fragment_line, list_line, offer_line, policy_line, poll_line, refusal_line, reply_text, setup_line, value_line}
 use Rattle.script_lines.specs.Settings.{Chosen, no_choices, choose}
 
 -- ---- the head of a script: its principals, its settings and its policy
@@ -143,7 +143,9 @@ answer_text Stopped = codes "stopped\n"
 answer_text (PolicyInForce epoch messages) = policy_line epoch ++ flat_map message_text messages
 answer_text PolicyFull = codes "policy refused: full\n"
 answer_text (Imaged source messages) = setup_line source ++ flat_map message_text messages
-answer_text (Dropped fault) = dropped_line fault
+answer_text (Received words) = data_line words
+answer_text Heard = codes "beat\n"
+answer_text (Dropped why) = dropped_line why
 answer_text (Replies messages) = flat_map message_text messages
 answer_text (Offered offered) = offer_line offered
 answer_text (Polled fragments) = poll_line (length fragments) ++ flat_map fragment_text fragments

@@ -1,7 +1,7 @@
 ghost use Rattle.std.specs.Prelude.{Some};
 
-use driver_core::SetupFault;
-use driver_world::Offered;
+use driver_core::{Astray, SetupFault};
+use driver_world::{Cause, Insert, Offered};
 use frame_codec::Flags;
 use policy_core::Verdict;
 use policy_text::PolicyFault;
@@ -130,9 +130,9 @@ impl fmt::Display for DenialLine {
 
 /// Why a SETUP makes no image.
 #[derive(Clone, Copy)]
-struct Cause(SetupFault);
+struct SetupCause(SetupFault);
 
-impl fmt::Display for Cause {
+impl fmt::Display for SetupCause {
     ghost use Rattle.driver_script.specs.Answers.{cause_text};
 
     ghost output = { λ cause. Some (cause_text cause.0) };
@@ -149,9 +149,64 @@ impl fmt::Display for Cause {
     }
 }
 
-/// The line of a SETUP that makes no image.
+/// Why a datagram is for no image.
 #[derive(Clone, Copy)]
-struct DroppedLine(SetupFault);
+struct AstrayWord(Astray);
+
+impl fmt::Display for AstrayWord {
+    ghost use Rattle.driver_script.specs.Answers.{astray_word};
+
+    ghost output = { λ word. Some (astray_word word.0) };
+
+    fn fmt<W: fmt::Write>(&self, f: &mut fmt::Formatter<W>) -> fmt::Result {
+        f.write_str(match self.0 {
+            Astray::NoStream => "no-stream",
+            Astray::Stranger => "stranger",
+        })
+    }
+}
+
+/// Why a datagram is dropped.
+#[derive(Clone, Copy)]
+struct Drop(Cause);
+
+impl fmt::Display for Drop {
+    ghost use Rattle.driver_script.specs.Answers.{drop_text};
+
+    ghost output = { λ why. Some (drop_text why.0) };
+
+    fn fmt<W: fmt::Write>(&self, f: &mut fmt::Formatter<W>) -> fmt::Result {
+        match self.0 {
+            Cause::Unread(fault) => fault.fmt(f),
+            Cause::Astray(why) => AstrayWord(why).fmt(f),
+            Cause::SetUp(fault) => SetupCause(fault).fmt(f),
+        }
+    }
+}
+
+/// The word for a frame, behind a space.
+#[derive(Clone, Copy)]
+pub struct InsertWord(pub Insert);
+
+impl fmt::Display for InsertWord {
+    ghost use Rattle.driver_script.specs.Answers.{word_behind};
+
+    ghost output = { λ word. Some (word_behind word.0) };
+
+    fn fmt<W: fmt::Write>(&self, f: &mut fmt::Formatter<W>) -> fmt::Result {
+        f.write_str(match self.0 {
+            Insert::Taken => " taken",
+            Insert::Repeat => " repeat",
+            Insert::Overlap => " overlap",
+            Insert::Below => " below",
+            Insert::Beyond => " beyond",
+        })
+    }
+}
+
+/// The line of a datagram that is dropped.
+#[derive(Clone, Copy)]
+struct DroppedLine(Cause);
 
 impl fmt::Display for DroppedLine {
     ghost use Rattle.driver_script.specs.Answers.{dropped_line};
@@ -159,8 +214,8 @@ impl fmt::Display for DroppedLine {
     ghost output = { λ line. Some (dropped_line line.0) };
 
     fn fmt<W: fmt::Write>(&self, f: &mut fmt::Formatter<W>) -> fmt::Result {
-        let cause = Cause(self.0);
-        writeln!(f, "dropped {cause}")
+        let why = Drop(self.0);
+        writeln!(f, "dropped {why}")
     }
 }
 
@@ -258,8 +313,10 @@ pub enum AnswerLine<'a> {
     PolicyFull,
     /// An image comes, by its source number.
     Setup(u64),
-    /// A SETUP makes no image.
-    Dropped(SetupFault),
+    /// A datagram is dropped.
+    Dropped(Cause),
+    /// A heartbeat came to its image.
+    Beat,
     /// The text is no policy, and the one before stays in force.
     PolicyRefused(PolicyFault),
     /// This client gets a reply.
@@ -317,7 +374,8 @@ impl fmt::Display for AnswerLine<'_> {
             AnswerLine::PolicyInForce(epoch) => Numbered("policy ", epoch).fmt(f),
             AnswerLine::PolicyFull => f.write_str("policy refused: full\n"),
             AnswerLine::Setup(source) => Numbered("setup ", source).fmt(f),
-            AnswerLine::Dropped(fault) => DroppedLine(fault).fmt(f),
+            AnswerLine::Dropped(why) => DroppedLine(why).fmt(f),
+            AnswerLine::Beat => f.write_str("beat\n"),
             AnswerLine::PolicyRefused(fault) => RefusalLine(fault).fmt(f),
             AnswerLine::Reply { client, bytes } => ReplyLine { client, bytes }.fmt(f),
             AnswerLine::Offer(offered) => OfferLine(offered).fmt(f),

@@ -1,6 +1,6 @@
 ghost use Rattle.driver_core.specs.Replies.{layout_of};
 ghost use Rattle.command_codec.specs.Reply.{reply_bytes};
-ghost use Rattle.driver_script.specs.Answers.{line_text, list_line, policy_line, poll_line, setup_line};
+ghost use Rattle.driver_script.specs.Answers.{data_line, line_text, list_line, policy_line, poll_line, setup_line, word_behind};
 ghost use Rattle.driver_script.specs.Ends.{OfAnswering, OfRunning};
 ghost use Rattle.driver_script.specs.Output.{AppendsFront};
 ghost use Rattle.driver_script.specs.Script.{message_text, counter_text, fragment_text, answer_text, told_text, ended_text, no_preface};
@@ -17,14 +17,14 @@ ghost use Rattle.driver_script.specs.Turns.{TakesHead, IsHead, Steps, GivesUpSte
 ghost use Rattle.std.specs.Prelude.{◌≡◌, ◌<◌, ◌≤◌, ◌++◌, [], Some, None, Err, IfOk, IfErr, IfSome, OnOk, OnErr, length};
 ghost use Rattle.std.specs.String.{string_bytes};
 
-use crate::answers::AnswerLine;
+use crate::answers::{AnswerLine, InsertWord};
 use crate::ends::{Source, Target};
 use crate::fault::RunFault;
 use crate::input::read_input;
 use crate::output::write_whole;
 use byte_strings::Text;
 use driver_core::{Event, ListedCounter, Message};
-use driver_world::{Answer, Fragment, Step, World};
+use driver_world::{Answer, Fragment, Insert, Step, World};
 use policy_text::{Names, PolicyFault};
 use script_lines::settings::Choices;
 use script_lines::statements::{LIMIT, Said, Statement, Statements};
@@ -145,6 +145,28 @@ fn text_of_image(alloc: Global, source: u64, replies: &[Message]) -> Result<Stri
     Ok(text)
 }
 
+/// Appends the word for each frame.
+fn push_words(text: &mut String, words: &[Insert]) -> Result<(), AllocError>
+    ensures { OnOk result (string_bytes text.new ≡ string_bytes text.old ++ flat_map word_behind words.now) }
+{
+    for word in words {
+        let word = InsertWord(*word);
+        write!(text, "{word}")?;
+    }
+    Ok(())
+}
+
+/// The text of the frames that came to an image.
+fn text_of_data(alloc: Global, words: &[Insert]) -> Result<String, AllocError>
+    ensures { IfOk result (λ text. string_bytes text ≡ data_line words.now) }
+{
+    let mut text = String::new(alloc);
+    text.push_str("data")?;
+    push_words(&mut text, words)?;
+    text.push_str("\n")?;
+    Ok(text)
+}
+
 /// The text of a poll and its fragments.
 #[tactic(auto, unfolding(crate::specs::Answers::line_text))]
 fn text_of_poll(alloc: Global, fragments: &[Fragment]) -> Result<String, AllocError>
@@ -180,7 +202,9 @@ fn text_of(alloc: Global, answer: &Answer) -> Result<String, AllocError>
         }
         Answer::PolicyFull => text_of_line(alloc, AnswerLine::PolicyFull),
         Answer::Imaged { source, replies } => text_of_image(alloc, *source, replies.as_slice()),
-        Answer::Dropped(fault) => text_of_line(alloc, AnswerLine::Dropped(*fault)),
+        Answer::Received(words) => text_of_data(alloc, words.as_slice()),
+        Answer::Heard => text_of_line(alloc, AnswerLine::Beat),
+        Answer::Dropped(why) => text_of_line(alloc, AnswerLine::Dropped(*why)),
         Answer::Replies(messages) => text_of_replies(alloc, messages.as_slice()),
         Answer::Offered(offered) => text_of_line(alloc, AnswerLine::Offer(*offered)),
         Answer::Polled(fragments) => text_of_poll(alloc, fragments.as_slice()),

@@ -1,11 +1,11 @@
 use crate::ends::{Choppy, LineFeeds};
 use crate::play::is_shown;
-use driver_core::SetupFault;
+use driver_core::{Astray, SetupFault};
 use driver_script::answers::AnswerLine;
 use driver_script::output::write_whole;
 use driver_script::{MayFail, RunFault, read_input};
-use driver_world::Offered;
-use frame_codec::Flags;
+use driver_world::{Cause, Offered};
+use frame_codec::{BadPacket, Flags};
 use policy_core::Verdict;
 use policy_text::PolicyFault;
 use script_lines::line::{Line, read_line};
@@ -189,24 +189,37 @@ fn are_shown(alloc: Global, rows: &[(AnswerLine<'_>, &str)]) -> bool {
     true
 }
 
-const ANSWERS: [(AnswerLine<'static>, &str); 34] = [
+const ANSWERS: [(AnswerLine<'static>, &str); 38] = [
     (AnswerLine::Attached(1), "attached 1\n"),
     (AnswerLine::Full, "full\n"),
     (AnswerLine::Stopped, "stopped\n"),
     (AnswerLine::PolicyInForce(2), "policy 2\n"),
     (AnswerLine::PolicyFull, "policy refused: full\n"),
     (AnswerLine::Setup(2), "setup 2\n"),
+    (AnswerLine::Beat, "beat\n"),
     (
-        AnswerLine::Dropped(SetupFault::BadSetup),
+        AnswerLine::Dropped(Cause::Astray(Astray::NoStream)),
+        "dropped no-stream\n",
+    ),
+    (
+        AnswerLine::Dropped(Cause::Astray(Astray::Stranger)),
+        "dropped stranger\n",
+    ),
+    (
+        AnswerLine::Dropped(Cause::Unread(BadPacket::Unaligned)),
+        "dropped unaligned\n",
+    ),
+    (
+        AnswerLine::Dropped(Cause::SetUp(SetupFault::BadSetup)),
         "dropped bad-setup\n",
     ),
-    (AnswerLine::Dropped(SetupFault::Exists), "dropped exists\n"),
+    (AnswerLine::Dropped(Cause::SetUp(SetupFault::Exists)), "dropped exists\n"),
     (
-        AnswerLine::Dropped(SetupFault::NoSubscription),
+        AnswerLine::Dropped(Cause::SetUp(SetupFault::NoSubscription)),
         "dropped no-subscription\n",
     ),
-    (AnswerLine::Dropped(SetupFault::Full), "dropped full\n"),
-    (AnswerLine::Dropped(SetupFault::NoRoom), "dropped no-room\n"),
+    (AnswerLine::Dropped(Cause::SetUp(SetupFault::Full)), "dropped full\n"),
+    (AnswerLine::Dropped(Cause::SetUp(SetupFault::NoRoom)), "dropped no-room\n"),
     (
         AnswerLine::PolicyRefused(PolicyFault::BadRange { rule: 3 }),
         "policy refused: rule 3: bad range\n",

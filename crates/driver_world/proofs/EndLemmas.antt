@@ -1,23 +1,29 @@
 -- What holds along runs; and a run leaves the registry that its events leave.
-use Rattle.std.proofs.Common.{◌≡◌, ℕ, List, [], ◌∷◌, ◌++◌, Option, Some, None, refl, sym, ap, ◌∙◌, subst}
+use Rattle.std.proofs.Common.{◌≡◌, ℕ, List, [], ◌∷◌, ◌++◌, Option, Some, None, Result, Ok, Err, refl, sym, ap, ◌∙◌, subst}
 use Rattle.driver_core.specs.declared.event.Event.{Event}
 use Rattle.driver_core.specs.declared.event.Inputs.{Inputs}
 use Rattle.driver_core.specs.declared.log_request.LogRequest.{LogRequest}
 use Rattle.driver_core.specs.declared.peer.Peer.{Peer}
 use Rattle.driver_core.specs.declared.settings.Settings.{Settings}
 use Rattle.driver_core.specs.Conduct.{outcome_of, state_after, state_of}
+use Rattle.driver_core.specs.declared.image_request.Astray.{Astray}
+use Rattle.driver_core.specs.ImageRequests.{image_for}
 use Rattle.driver_core.specs.Listing.{list, value}
 use Rattle.driver_core.specs.LogRequests.{offering_of}
 use Rattle.driver_core.specs.State.{State, opened}
 use Rattle.driver_world.specs.declared.answer.Answer.{Answer}
-use Rattle.driver_world.specs.declared.answer.Answer.TheVariants.{NoMemory, Attached, Full, Stopped, PolicyInForce, PolicyFull, Imaged, Dropped, Replies, Offered as OfferedAs, Polled, Gone as IsGone, Counters, Value as ValueIs, Denied, UnknownCounter, WrongClient}
+use Rattle.driver_world.specs.declared.answer.Answer.TheVariants.{NoMemory, Attached, Full, Stopped, PolicyInForce, PolicyFull, Imaged, Dropped, Replies, Offered as OfferedAs, Polled, Gone as IsGone, Counters, Value as ValueIs, Denied, UnknownCounter, WrongClient, Received, Heard}
 use Rattle.driver_world.specs.declared.answer.Offered.TheVariants.{Closed}
 use Rattle.driver_world.specs.declared.step.Step.{Step}
-use Rattle.driver_world.specs.declared.step.Step.TheVariants.{Conductor, Offer, Poll, List as Lists, Value}
+use Rattle.driver_world.specs.declared.step.Step.TheVariants.{Conductor, Packet, Offer, Poll, List as Lists, Value}
 use Rattle.driver_world.specs.Answers.{answer_of, answer_listed, answer_shown}
-use Rattle.driver_world.specs.Ends.{RunEnd, opening_end, inputs_of, log_at, moved_on, on_log, on_offered, conducted, moved, after, IsAnswer, end_of}
-use Rattle.driver_world.specs.Laws.{event_of, taken_by, taken_from, registry_of, IsTold, TakesEvents, RunsTakeEvents}
+use Rattle.driver_world.specs.Ends.{RunEnd, opening_end, inputs_of, log_at, moved_on, on_image, on_log, on_offered, on_packet, conducted, moved, after, IsAnswer, end_of}
+use Rattle.driver_world.specs.Laws.{event_in, event_of, taken_by, taken_from, registry_of, IsTold, TakesEvents, RunsTakeEvents}
 use Rattle.driver_world.specs.Moves.{WholeLog, Move, offer_move, poll_move}
+use Rattle.driver_world.specs.Receiving.{beat_move, receive_move, unheard}
+use Rattle.channel_uri.specs.declared.address.Address.{Address}
+use Rattle.frame_codec.specs.declared.fault.BadPacket.{BadPacket}
+use Rattle.frame_codec.specs.Datagram.{Content, frames, beat, nak, status, setup, packet_of}
 use Rattle.policy_core.specs.RuleList.{Rules}
 
 -- ---- what holds along runs
@@ -32,6 +38,8 @@ after_both P e step Stopped same moves = moves
 after_both P e step (PolicyInForce epoch replies) same moves = moves
 after_both P e step PolicyFull same moves = moves
 after_both P e step (Imaged number replies) same moves = moves
+after_both P e step (Received words) same moves = moves
+after_both P e step Heard same moves = moves
 after_both P e step (Dropped fault) same moves = moves
 after_both P e step (Replies replies) same moves = moves
 after_both P e step (OfferedAs offered) same moves = moves
@@ -74,10 +82,38 @@ unfolding on_log
 poll_keeps_registry e client subscription source limit =
     move_keeps_registry e source (poll_move e.registry client subscription limit) IsGone (log_at e.logs source)
 
+-- and so does what comes to a log
+pub log_keeps_registry : (e : RunEnd) (source : ℕ) (move : WholeLog → Move) (absent : Answer) →
+    (on_log e source move absent).after.registry ≡ e.registry
+unfolding on_log
+log_keeps_registry e source move absent = move_keeps_registry e source move absent (log_at e.logs source)
+
+image_keeps_registry : (e : RunEnd) (move : WholeLog → Move) (found : Result ℕ Astray) →
+    (on_image e move found).after.registry ≡ e.registry
+image_keeps_registry e move (Ok source) = log_keeps_registry e source move unheard
+image_keeps_registry e move (Err why) = refl
+
+-- of datagrams, SETUPs alone are events
+packet_takes_event : (e : RunEnd) (now : ℕ) (local from : Address) (read : Result Content BadPacket) →
+    (on_packet e now local from read).after.registry ≡ state_of e.registry (event_in e now local from read)
+unfolding conducted
+packet_takes_event e now local from (Err fault) = refl
+packet_takes_event e now local from (Ok (frames [])) = refl
+packet_takes_event e now local from (Ok (frames (frame ∷ later))) =
+    image_keeps_registry e (receive_move now (frame ∷ later))
+    (image_for e.registry local from frame.header.place.session_id frame.header.place.stream_id)
+packet_takes_event e now local from (Ok (beat header)) =
+    image_keeps_registry e (beat_move now header.place)
+    (image_for e.registry local from header.place.session_id header.place.stream_id)
+packet_takes_event e now local from (Ok (setup fields)) = refl
+packet_takes_event e now local from (Ok (nak fields)) = refl
+packet_takes_event e now local from (Ok (status fields)) = refl
+
 -- any step leaves the registry that its events leave
 moved_takes : (e : RunEnd) (step : Step) → (moved e step).after.registry ≡ state_of e.registry (event_of e step)
 unfolding conducted
 moved_takes e (Conductor event) = refl
+moved_takes e (Packet now local from bytes) = packet_takes_event e now local from (packet_of bytes)
 moved_takes e (Offer now client registration message) =
     offer_keeps_registry e now client registration message (offering_of e.registry client registration)
 moved_takes e (Poll now client subscription source limit) =
@@ -94,6 +130,8 @@ step_takes e step Stopped = moved_takes e step
 step_takes e step (PolicyInForce epoch replies) = moved_takes e step
 step_takes e step PolicyFull = moved_takes e step
 step_takes e step (Imaged number replies) = moved_takes e step
+step_takes e step (Received words) = moved_takes e step
+step_takes e step Heard = moved_takes e step
 step_takes e step (Dropped fault) = moved_takes e step
 step_takes e step (Replies replies) = moved_takes e step
 step_takes e step (OfferedAs offered) = moved_takes e step
@@ -133,6 +171,8 @@ answered_told e step Stopped is = is
 answered_told e step (PolicyInForce epoch replies) is = is
 answered_told e step PolicyFull is = is
 answered_told e step (Imaged number replies) is = is
+answered_told e step (Received words) is = is
+answered_told e step Heard is = is
 answered_told e step (Dropped fault) is = is
 answered_told e step (Replies replies) is = is
 answered_told e step (OfferedAs offered) is = is

@@ -20,11 +20,18 @@ use Rattle.driver_core.specs.Renewal.{source_at}
 use Rattle.driver_core.specs.Soundness.{AreSettings, IsSound, MovesLogs, Opens, log_of}
 use Rattle.driver_core.specs.State.{State, opened}
 use Rattle.driver_core.proofs.SoundnessLemmas.{moves_logs, registries_sound}
+use Rattle.driver_world.specs.Receiving.{beat_move, receive_move, unheard}
+use Rattle.driver_world.proofs.PacketLemmas.{beaten_made, beaten_readers, packet_cases, received_made, received_readers}
+use Rattle.frame_codec.specs.declared.header.TermPlace.{TermPlace}
+use Rattle.frame_codec.specs.Datagram.{packet_of}
+use Rattle.frame_codec.specs.Frame.{Sent}
+use Rattle.driver_core.specs.declared.event.Event.{Event}
+use Rattle.driver_core.specs.declared.event.Event.TheVariants.{Setup as SetUp}
 use Rattle.driver_world.specs.declared.answer.Answer.{Answer}
 use Rattle.driver_world.specs.declared.answer.Answer.TheVariants.{Offered as OfferedAs, Gone as IsGone}
 use Rattle.driver_world.specs.declared.answer.Offered.TheVariants.{Closed}
 use Rattle.driver_world.specs.declared.step.Step.{Step}
-use Rattle.driver_world.specs.declared.step.Step.TheVariants.{Conductor, Offer, Poll, List as Lists, Value}
+use Rattle.driver_world.specs.declared.step.Step.TheVariants.{Conductor, Packet, Offer, Poll, List as Lists, Value}
 use Rattle.driver_world.specs.Ends.{RunEnd, opening_end, inputs_of, begun, opened_for, stays_open, rejoined_log, logs_after, log_at, with_log, moved_on, on_log, on_offered, conducted, moved}
 use Rattle.driver_core.specs.Readers.{readers_of}
 use Rattle.driver_world.specs.Held.{is_closed}
@@ -257,14 +264,42 @@ poll_follows e client subscription source limit follows =
     (position_in log.whole subscription))
     follows
 
+log_follows : (e : RunEnd) (source : ℕ) (move : WholeLog → Move) (absent : Answer) →
+    ((log : WholeLog) → IsAlike log (move log).after) → Follows e → Follows (on_log e source move absent).after
+unfolding on_log
+log_follows e source move absent alike follows = move_follows e source move absent (log_at e.logs source) refl alike follows
+
+receive_alike : (now : ℕ) (sent : List Sent) (log : WholeLog) → IsAlike log (receive_move now sent log).after
+receive_alike now sent log = record {
+  made = ap (λ (made : Made). (log.source, made)) (received_made now sent log.whole);
+  readers = received_readers now sent log.whole;
+}
+
+beat_alike : (now : ℕ) (place : TermPlace) (log : WholeLog) → IsAlike log (beat_move now place log).after
+beat_alike now place log = record {
+  made = ap (λ (made : Made). (log.source, made)) (beaten_made now place log.whole);
+  readers = beaten_readers now place log.whole;
+}
+
 -- ---- runs
 
-step_follows : (e : RunEnd) (step : Step) → Follows e → Follows (moved e step).after
+taken_follows : (e : RunEnd) (event : Event) → Follows e → Follows (conducted e event).after
 unfolding conducted
-step_follows e (Conductor event) follows =
+taken_follows e event follows =
     let inputs : Inputs = inputs_of e.registry event e.logs in
     event_follows e.registry (conduct e.registry event inputs) e.logs (moves_logs e.registry event inputs follows.sound)
     follows.logs
+
+step_follows : (e : RunEnd) (step : Step) → Follows e → Follows (moved e step).after
+step_follows e (Conductor event) follows = taken_follows e event follows
+step_follows e (Packet now local from bytes) follows =
+    packet_cases (λ what. Follows what.after) e now local from (record {
+      drops = λ cause. follows;
+      receives = λ source sent.
+          log_follows e source (receive_move now sent) unheard (receive_alike now sent) follows;
+      hears = λ source place. log_follows e source (beat_move now place) unheard (beat_alike now place) follows;
+      sets_up = λ fields. taken_follows e (SetUp now local from fields) follows;
+    }) (packet_of bytes)
 step_follows e (Offer now client registration message) follows =
     offer_follows e now client registration message (offering_of e.registry client registration) follows
 step_follows e (Poll now client subscription source limit) follows =

@@ -6,13 +6,16 @@ pub mod FoundLemmas
 pub mod HeldLemmas
 pub mod HoleLemmas
 pub mod HousedLemmas
+pub mod ImageLemmas
 pub mod LiveLemmas
 pub mod MatchLemmas
 pub mod MoveLemmas
+pub mod PacketLemmas
 pub mod ReaderLemmas
 pub mod RegisteredLemmas
 mod RegisteringLemmas
 pub mod RunLemmas
+mod SourceLemmas
 pub mod StandLemmas
 pub mod TakeLemmas
 pub mod VacancyLemmas

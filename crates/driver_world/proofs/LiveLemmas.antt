@@ -8,7 +8,7 @@ use Rattle.std.proofs.lemmas.Bool.Decides.{nat_tests}
 use Rattle.std.proofs.lemmas.List.Elements.{All-nil, All-cons, All-head, All-tail, All-append, All-map, All-filter, All-weaker, Contains-append_cases, Contains-append_left, Contains-append_right, Contains-push}
 use Rattle.any_log.specs.declared.fragment.Fragment.{Fragment}
 use Rattle.any_log.specs.Fragments.{fragment_of}
-use Rattle.any_log.specs.Whole.{AnyWhole, whole, rebuilt, polled as any_polled, position_in, rejoined}
+use Rattle.any_log.specs.Whole.{AnyWhole, whole, rebuilt, beaten, polled as any_polled, position_in, received, rejoined}
 use Rattle.any_log.proofs.AnyLemmas.{moved_there}
 use Rattle.driver_core.specs.Change.{Change}
 use Rattle.driver_core.specs.declared.log_request.LogRequest.{LogRequest}
@@ -20,11 +20,18 @@ use Rattle.driver_core.specs.Pairs.{pairs_of}
 use Rattle.driver_core.specs.Renewal.{source_at}
 use Rattle.driver_core.specs.State.{State}
 use Rattle.driver_core.proofs.ListLemmas.{contains_none, only_one}
+use Rattle.driver_world.specs.Receiving.{beat_move, receive_move, unheard}
+use Rattle.driver_world.proofs.PacketLemmas.{packet_cases}
+use Rattle.frame_codec.specs.declared.header.TermPlace.{TermPlace}
+use Rattle.frame_codec.specs.Datagram.{packet_of}
+use Rattle.frame_codec.specs.Frame.{Sent}
+use Rattle.driver_core.specs.declared.event.Event.{Event}
+use Rattle.driver_core.specs.declared.event.Event.TheVariants.{Setup as SetUp}
 use Rattle.driver_world.specs.declared.answer.Answer.{Answer}
-use Rattle.driver_world.specs.declared.answer.Answer.TheVariants.{NoMemory, Attached, Full, Stopped, PolicyInForce, PolicyFull, Imaged, Dropped, Replies, Offered as OfferedAs, Polled, Gone as IsGone, Counters, Value as ValueIs, Denied, UnknownCounter, WrongClient}
+use Rattle.driver_world.specs.declared.answer.Answer.TheVariants.{NoMemory, Attached, Full, Stopped, PolicyInForce, PolicyFull, Imaged, Dropped, Replies, Offered as OfferedAs, Polled, Gone as IsGone, Counters, Value as ValueIs, Denied, UnknownCounter, WrongClient, Received, Heard}
 use Rattle.driver_world.specs.declared.answer.Offered.TheVariants.{At as PutAt, Closed}
 use Rattle.driver_world.specs.declared.step.Step.{Step}
-use Rattle.driver_world.specs.declared.step.Step.TheVariants.{Conductor, Offer as Offers, Poll as Polls, List as Lists, Value}
+use Rattle.driver_world.specs.declared.step.Step.TheVariants.{Conductor, Packet, Offer as Offers, Poll as Polls, List as Lists, Value}
 use Rattle.driver_world.specs.Answers.{offered_as}
 use Rattle.driver_world.specs.Ends.{RunEnd, opening_end, inputs_of, begun, opened_for, stays_open, rejoined_log, logs_after, log_at, with_log, moved_on, on_log, on_offered, conducted, moved, after, IsAnswer, AreAnswers, end_of}
 use Rattle.driver_core.specs.Readers.{readers_of}
@@ -442,13 +449,61 @@ still_owns : (granted : ℕ → List Frame) (e : RunEnd) (step : Step) (answer :
 still_owns granted e step answer logs owned =
     all_more granted (granted_with granted e step answer) (with_is_more granted e step answer) logs owned
 
+event_owns : (granted : ℕ → List Frame) (e : RunEnd) (event : Event) → All (Owns granted) e.logs →
+    All (Owns granted) (conducted e event).after.logs
+unfolding conducted
+event_owns granted e event owned =
+    after_owns granted (conduct e.registry event (inputs_of e.registry event e.logs)) e.logs owned
+
+-- datagrams put nothing into a publication's log
+log_owns : (granted : ℕ → List Frame) (e : RunEnd) (source : ℕ) (move : WholeLog → Move) (absent : Answer)
+    (o : Option WholeLog) → log_at e.logs source ≡ o → ((log : WholeLog) → Owns granted log → Owns granted (move log).after) →
+    All (Owns granted) e.logs → All (Owns granted) (moved_on e source move absent o).after.logs
+log_owns granted e source move absent None found keeps owned = owned
+log_owns granted e source move absent (Some log) found keeps owned =
+    let there = found_log (Owns granted) source log e.logs owned found in
+    all_with (Owns granted) source _ e.logs owned (keeps log there.holds)
+
+received_owns : (granted : List Frame) (now : ℕ) (sent : List Sent) (w : AnyWhole) → OwnsAny granted w →
+    OwnsAny granted (received now sent w)
+received_owns granted now sent (whole w) owns = owns
+received_owns granted now sent (rebuilt r) owns = tt
+
+beaten_owns : (granted : List Frame) (now : ℕ) (place : TermPlace) (w : AnyWhole) → OwnsAny granted w →
+    OwnsAny granted (beaten now place w)
+beaten_owns granted now place (whole w) owns = owns
+beaten_owns granted now place (rebuilt r) owns = tt
+
+receive_owns : (granted : ℕ → List Frame) (e : RunEnd) (source now : ℕ) (sent : List Sent) → All (Owns granted) e.logs →
+    All (Owns granted) (on_log e source (receive_move now sent) unheard).after.logs
+unfolding on_log
+receive_owns granted e source now sent owned =
+    log_owns granted e source (receive_move now sent) unheard (log_at e.logs source) refl
+    (λ log owns. received_owns (granted log.source) now sent log.whole owns) owned
+
+beat_owns : (granted : ℕ → List Frame) (e : RunEnd) (source now : ℕ) (place : TermPlace) → All (Owns granted) e.logs →
+    All (Owns granted) (on_log e source (beat_move now place) unheard).after.logs
+unfolding on_log
+beat_owns granted e source now place owned =
+    log_owns granted e source (beat_move now place) unheard (log_at e.logs source) refl
+    (λ log owns. beaten_owns (granted log.source) now place log.whole owns) owned
+
 moved_owns : (granted : ℕ → List Frame) (e : RunEnd) (step : Step) → All (Owns granted) e.logs →
     All (Owns (granted_with granted e step (moved e step).answer)) (moved e step).after.logs
 unfolding conducted on_log
+moved_owns granted e (Packet now local from bytes) owned =
+    let step : Step = Packet now local from bytes in
+    still_owns granted e step (moved e step).answer (moved e step).after.logs
+    (packet_cases (λ what. All (Owns granted) what.after.logs) e now local from (record {
+      drops = λ cause. owned;
+      receives = λ source sent. receive_owns granted e source now sent owned;
+      hears = λ source place. beat_owns granted e source now place owned;
+      sets_up = λ fields. event_owns granted e (SetUp now local from fields) owned;
+    }) (packet_of bytes))
 moved_owns granted e (Conductor event) owned =
     let step : Step = Conductor event in
     still_owns granted e step (moved e step).answer (moved e step).after.logs
-    (after_owns granted (conduct e.registry event (inputs_of e.registry event e.logs)) e.logs owned)
+    (event_owns granted e event owned)
 moved_owns granted e (Offers now client registration message) owned =
     let step : Step = Offers now client registration message in
     let answer : Answer = (moved e step).answer in
@@ -485,6 +540,8 @@ step_owns granted e step Stopped is owned = told_owns granted e step _ is owned
 step_owns granted e step (PolicyInForce epoch replies) is owned = told_owns granted e step _ is owned
 step_owns granted e step PolicyFull is owned = told_owns granted e step _ is owned
 step_owns granted e step (Imaged number replies) is owned = told_owns granted e step _ is owned
+step_owns granted e step (Received words) is owned = told_owns granted e step _ is owned
+step_owns granted e step Heard is owned = told_owns granted e step _ is owned
 step_owns granted e step (Dropped fault) is owned = told_owns granted e step _ is owned
 step_owns granted e step (Replies replies) is owned = told_owns granted e step _ is owned
 step_owns granted e step (OfferedAs offered') is owned = told_owns granted e step _ is owned

@@ -4,18 +4,22 @@ use Rattle.any_log.specs.declared.any_log.AnyLog.{AnyLog}
 use Rattle.any_log.specs.declared.any_log.AnyLog.TheVariants.{Term, Image}
 use Rattle.any_log.specs.declared.fragment.Fragment.{Fragment}
 use Rattle.any_log.specs.Held.{Lies, position_held}
-use Rattle.any_log.specs.Whole.{AnyWhole, whole, rebuilt, StandsFor, Carries, Fetches, polled, position_in}
+use Rattle.any_log.specs.Whole.{AnyWhole, whole, rebuilt, StandsFor, Carries, Fetches, Words, beaten, polled, position_in, received}
 use Rattle.any_log.proofs.AnyLemmas.{position_stands}
 use Rattle.driver_core.specs.declared.log_request.LogRequest.{LogRequest}
 use Rattle.driver_core.specs.LogRequests.{offering_of, receiving_of}
 use Rattle.driver_core.specs.State.{State}
 use Rattle.driver_world.specs.declared.answer.Answer.{Answer}
-use Rattle.driver_world.specs.declared.answer.Answer.TheVariants.{Offered as OfferedAs, Polled, Denied}
+use Rattle.driver_world.specs.declared.answer.Answer.TheVariants.{Offered as OfferedAs, Heard, Polled, Denied, Received}
 use Rattle.driver_world.specs.declared.answer.Offered.TheVariants.{Closed, TooLong, NotConnected}
 use Rattle.driver_world.specs.Answers.{offered_as}
 use Rattle.driver_world.specs.Held.{HeldLog, LiesAsBefore, plot_on}
 use Rattle.driver_world.specs.Memory.{Gives}
 use Rattle.driver_world.specs.Moves.{WholeLog, Move, StandsForLog, Does, answered, taken, given, offer_to, offers, offer_move, poll_move, term_held}
+use Rattle.driver_world.specs.Receiving.{beat_move, receive_move}
+use Rattle.frame_codec.specs.declared.header.TermPlace.{TermPlace}
+use Rattle.frame_codec.specs.Frame.{Sent}
+use Rattle.image_log.specs.declared.insert.Insert.{Insert}
 use Rattle.image_log.specs.Log.{Log as ImageLog}
 use Rattle.policy_core.specs.declared.verdict.Verdict.{Verdict}
 use Rattle.term_log.specs.declared.offer.Offer.{Offer}
@@ -188,3 +192,25 @@ poll_gives s client subscription limit held request position is there allowed =
 pub gone_position : (held : HeldLog) (log : WholeLog) (subscription : ℕ) → StandsForLog held log →
     position_held held.log subscription ≡ None → position_in log.whole subscription ≡ None
 gone_position held log subscription stands none = sym (position_stands held.log log.whole subscription stands.whole) ∙ none
+
+-- ---- a datagram
+
+pub frames_received : (now : ℕ) (sent : List Sent) (held after : HeldLog) (words : List Insert) → Words held.log sent words →
+    after.source ≡ held.source → Carries held.log after.log (received now sent) →
+    Does (receive_move now sent) held after (Received words)
+frames_received now sent held after words told stays carries = record {
+  on = λ log stands.
+      let given = told.on log.whole stands.whole in
+      let moved = carries.on log.whole stands.whole in
+      (ap Received given, record { source_is = rw stays stands.source_is; whole = moved });
+}
+
+pub frames_give : (now : ℕ) (sent : List Sent) (held : HeldLog) → Gives (receive_move now sent) held
+frames_give now sent held = record { on = λ log stands. refl }
+
+pub beat_heard : (now : ℕ) (place : TermPlace) (held after : HeldLog) → after.source ≡ held.source →
+    Carries held.log after.log (beaten now place) → Does (beat_move now place) held after Heard
+beat_heard now place held after stays carries = record {
+  on = λ log stands.
+      (refl, record { source_is = rw stays stands.source_is; whole = carries.on log.whole stands.whole });
+}

@@ -4,6 +4,7 @@ use Rattle.std.specs.List.{All}
 use Rattle.std.proofs.lemmas.Bool.{eqb-true}
 use Rattle.std.proofs.lemmas.List.Elements.{All-head, All-nil, All-tail}
 use Rattle.driver_core.specs.declared.event.Event.{Event}
+use Rattle.driver_core.specs.declared.event.Event.TheVariants.{Setup as SetUp}
 use Rattle.driver_core.specs.declared.event.Inputs.{Inputs}
 use Rattle.driver_core.specs.declared.peer.Peer.{Peer}
 use Rattle.driver_core.specs.declared.settings.Settings.{Settings}
@@ -14,11 +15,14 @@ use Rattle.driver_core.specs.Soundness.{AreSettings, IsSound}
 use Rattle.driver_core.specs.State.{State, opened}
 use Rattle.driver_core.proofs.SoundnessLemmas.{moves_logs, registries_sound}
 use Rattle.driver_world.specs.declared.step.Step.{Step}
-use Rattle.driver_world.specs.declared.step.Step.TheVariants.{Conductor, Offer, Poll, List as Lists, Value}
+use Rattle.driver_world.specs.declared.step.Step.TheVariants.{Conductor, Packet, Offer, Poll, List as Lists, Value}
 use Rattle.driver_world.specs.Ends.{RunEnd, conducted, inputs_of, moved, opening_end}
 use Rattle.driver_world.specs.Laws.{AtEachEnd}
+use Rattle.driver_world.specs.Receiving.{beat_move, receive_move, unheard}
+use Rattle.frame_codec.specs.Datagram.{packet_of}
 use Rattle.driver_world.specs.Registered.{AreRegistered, IsPublishedBy, IsWith}
-use Rattle.driver_world.proofs.EndLemmas.{offer_keeps_registry, poll_keeps_registry, run_keeps}
+use Rattle.driver_world.proofs.EndLemmas.{log_keeps_registry, offer_keeps_registry, poll_keeps_registry, run_keeps}
+use Rattle.driver_world.proofs.PacketLemmas.{packet_cases}
 use Rattle.driver_world.proofs.RegisteringLemmas.{registered_after}
 use Rattle.policy_core.specs.RuleList.{Rules}
 use Rattle.stream_registry.specs.declared.row.Registration.{Registration}
@@ -32,14 +36,24 @@ record Keeps (s : State) : Type 0 where
   sound : IsSound s
   registered : AreRegistered s
 
-step_keeps : (e : RunEnd) (step : Step) → Keeps e.registry → Keeps (moved e step).after.registry
+event_keeps : (e : RunEnd) (event : Event) → Keeps e.registry → Keeps (conducted e event).after.registry
 unfolding conducted
-step_keeps e (Conductor event) keeps =
+event_keeps e event keeps =
     let inputs : Inputs = inputs_of e.registry event e.logs in
     record {
       sound = (moves_logs e.registry event inputs keeps.sound).sound;
       registered = registered_after e.registry event inputs keeps.sound keeps.registered;
     }
+
+step_keeps : (e : RunEnd) (step : Step) → Keeps e.registry → Keeps (moved e step).after.registry
+step_keeps e (Conductor event) keeps = event_keeps e event keeps
+step_keeps e (Packet now local from bytes) keeps =
+    packet_cases (λ what. Keeps what.after.registry) e now local from (record {
+      drops = λ cause. keeps;
+      receives = λ source sent. rw (log_keeps_registry e source (receive_move now sent) unheard) keeps;
+      hears = λ source place. rw (log_keeps_registry e source (beat_move now place) unheard) keeps;
+      sets_up = λ fields. event_keeps e (SetUp now local from fields) keeps;
+    }) (packet_of bytes)
 step_keeps e (Offer now client registration message) keeps =
     rw (offer_keeps_registry e now client registration message (offering_of e.registry client registration)) keeps
 step_keeps e (Poll now client subscription source limit) keeps =

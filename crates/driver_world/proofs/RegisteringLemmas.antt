@@ -31,6 +31,7 @@ use Rattle.driver_core.specs.Unread.{dropping, without_unread}
 use Rattle.driver_core.specs.Unsubscribing.{unsubscribed}
 use Rattle.driver_core.proofs.EventCases.{Cases, attach_cases, command_cases, reload_cases, set_up_cases}
 use Rattle.driver_world.specs.Registered.{AreRegistered, IsPublishedBy, IsWith}
+use Rattle.driver_world.proofs.SourceLemmas.{Found, found_only, none_past}
 use Rattle.channel_uri.specs.declared.address.Address.{Address}
 use Rattle.channel_uri.specs.Channel.{Shape}
 use Rattle.client_registry.specs.declared.client.Client.{Client}
@@ -58,6 +59,9 @@ use Rattle.stream_registry.specs.Origins.{is_published, is_published_by, left_by
 use Rattle.stream_registry.specs.Pairs.{pairs_of as pairs_on}
 use Rattle.stream_registry.specs.Sessions.{is_stated_again}
 use Rattle.stream_registry.specs.Streams.{Streams}
+
+abbrev IsPublication : Source → Type 0
+IsPublication log = is_published log ≡ true
 
 -- ---- what one registration keeps
 
@@ -114,69 +118,7 @@ next_moves last log logs registrations next all =
     (λ number drawn published.
     All-push (IsPublishedBy number) logs log published (λ is. absurd (omega (arith, drawn, next, is)))) all
 
-above : (before last : ℕ) (logs : List Source) → Ascend before last logs → before ≤ last
-above before last [] up = up
-above before last (log ∷ logs) up =
-    let low = up.0 in
-    let high = above log.number last logs up.1 in
-    omega (arith, low, high)
-
--- no log has a number that is past the last
-none_past : (number before last : ℕ) (logs : List Source) → last < number → Ascend before last logs →
-    All (IsPublishedBy number) logs
-none_past number before last [] past up = All-nil (IsPublishedBy number)
-none_past number before last (log ∷ logs) past up =
-    let high = above log.number last logs up.1 in
-    All-cons (IsPublishedBy number) log logs (λ is. absurd (omega (arith, high, is, past)))
-    (none_past number log.number last logs past up.1)
-
 -- ---- a log that is joined
-
--- no log has a number that is not past those before it
-none_below : (number before last : ℕ) (logs : List Source) → number ≤ before → Ascend before last logs →
-    All (IsPublishedBy number) logs
-none_below number before last [] low up = All-nil (IsPublishedBy number)
-none_below number before last (log ∷ logs) low up =
-    let higher = up.0 in
-    All-cons (IsPublishedBy number) log logs (λ is. absurd (omega (arith, higher, is, low)))
-    (none_below number log.number last logs (omega (arith, higher, low)) up.1)
-
--- the log of these that passes the test, and has no other's number
-record Found (before last : ℕ) (logs : List Source) (log : Source) : Type 0 where
-  higher : before < log.number
-  drawn : log.number ≤ last
-  only : All (IsPublishedBy log.number) logs
-
-found_step : (test : Source → Bool) (before last : ℕ) (first log : Source) (logs : List Source) (b : Bool) →
-    ((one : Source) → test one ≡ true → is_published one ≡ true) → test first ≡ b → Ascend before last (first ∷ logs) →
-    (find test logs ≡ Some log → Found first.number last logs log) → cond b (Some first) (find test logs) ≡ Some log →
-    Found before last (first ∷ logs) log
-found_step test before last first log logs true publishes passes up later is =
-    let same : first ≡ log = cc is in
-    let high = above first.number last logs up.1 in
-    subst (Found before last (first ∷ logs)) same (record {
-      higher = up.0;
-      drawn = high;
-      only = All-cons (IsPublishedBy first.number) first logs (λ refl'. publishes first passes)
-          (none_below first.number first.number last logs (omega arith) up.1);
-    })
-found_step test before last first log logs false publishes passes up later is =
-    let found = later is in
-    let low = up.0 in
-    let higher = found.higher in
-    record {
-      higher = omega (arith, low, higher);
-      drawn = found.drawn;
-      only = All-cons (IsPublishedBy log.number) first logs (λ same. absurd (omega (arith, higher, same))) found.only;
-    }
-
-found_only : (test : Source → Bool) (before last : ℕ) (logs : List Source) (log : Source) →
-    ((one : Source) → test one ≡ true → is_published one ≡ true) → Ascend before last logs → find test logs ≡ Some log →
-    Found before last logs log
-found_only test before last [] log publishes up is = absurd (cc is)
-found_only test before last (first ∷ logs) log publishes up is =
-    found_step test before last first log logs (test first) publishes refl up
-    (found_only test first.number last logs log publishes up.1) is
 
 joinable_published : (channel : Shape) (stream : ℤ) (log : Source) → is_joinable channel stream log ≡ true →
     is_published log ≡ true
@@ -202,7 +144,7 @@ made_joined last logs false true session adding is =
     subst (IsJoined last logs) same tt
 
 log_joined : (last : ℕ) (logs : List Source) (conflicts room : Bool) (log : Source) (adding : Adding) →
-    Found 0 last logs log →
+    Found IsPublication 0 last logs log →
     cond {A = Result Adding StreamFault} conflicts (Err Conflict)
     (cond room (Ok (Join log.number log.session)) (Err Full)) ≡ Ok adding →
     IsJoined last logs adding
@@ -228,7 +170,7 @@ by_joined last streams wanted adding up None found is = making_joined last strea
 by_joined last streams wanted adding up (Some log) found is =
     log_joined last streams.sources (contradicts streams.defaults wanted.channel log) (has_room_for_registration streams)
     log adding
-    (found_only (is_joinable wanted.channel wanted.stream) 0 last streams.sources log
+    (found_only IsPublication (is_joinable wanted.channel wanted.stream) 0 last streams.sources log
     (joinable_published wanted.channel wanted.stream) up found) is
 
 either_joined : (last : ℕ) (logs : List Source) (adding : Adding) (b : Bool) (one other : Result Adding StreamFault) →
@@ -355,7 +297,7 @@ publication_registers s client correlation wanted (Make session) is up registere
     (record {
       drawn = omega arith;
       published = All-push (IsPublishedBy (s.last_number + 1)) s.streams.sources _
-          (none_past (s.last_number + 1) 0 s.last_number s.streams.sources (omega arith) up) (λ same. refl);
+          (none_past IsPublication (s.last_number + 1) 0 s.last_number s.streams.sources (omega arith) up) (λ same. refl);
     })
 
 image_registers : (s : State) (local from : Address) (setup : SetupFrame) (join : JoinedAt) (place : ℕ) → AreRegistered s →

@@ -1,5 +1,5 @@
 -- Runs are put together of steps.
-use Rattle.std.proofs.Common.{◌≡◌, ℕ, ◌==◌, not, nat_lt, Bool, true, false, List, [], ◌∷◌, ◌++◌, length, Option, Some, None, if◌then◌else◌, refl}
+use Rattle.std.proofs.Common.{◌≡◌, ℕ, ◌==◌, not, nat_lt, Bool, true, false, List, [], ◌∷◌, ◌++◌, length, Option, Some, None, Result, Ok, Err, if◌then◌else◌, refl, subst, sym}
 use Rattle.std.specs.Option.{option_map}
 use Rattle.any_log.specs.Whole.{AnyWhole, whole, rebuilt, position_in}
 use Rattle.driver_core.specs.declared.event.Event.{Event}
@@ -11,16 +11,33 @@ use Rattle.driver_core.specs.declared.replies.Message.{Message}
 use Rattle.driver_core.specs.LogRequests.{offering_of, receiving_of}
 use Rattle.driver_core.specs.State.{State}
 use Rattle.driver_world.specs.declared.answer.Answer.{Answer}
-use Rattle.driver_world.specs.declared.answer.Answer.TheVariants.{NoMemory, Attached, Full, Stopped, PolicyInForce, PolicyFull, Imaged, Dropped, Replies, Offered as OfferedAs, Polled, Gone as IsGone, Counters, Value as ValueIs, Denied, UnknownCounter, WrongClient}
+use Rattle.driver_world.specs.declared.answer.Answer.TheVariants.{NoMemory, Attached, Full, Stopped, PolicyInForce, PolicyFull, Imaged, Dropped, Replies, Offered as OfferedAs, Polled, Gone as IsGone, Counters, Value as ValueIs, Denied, UnknownCounter, WrongClient, Received, Heard}
 use Rattle.driver_world.specs.declared.answer.Offered.TheVariants.{Closed}
 use Rattle.driver_world.specs.declared.step.Step.{Step}
-use Rattle.driver_world.specs.declared.step.Step.TheVariants.{Conductor, Offer, Poll}
+use Rattle.driver_world.specs.declared.step.Step.TheVariants.{Conductor, Packet, Offer, Poll}
+use Rattle.driver_world.specs.declared.cause.Cause.{Cause}
+use Rattle.driver_world.specs.declared.cause.Cause.TheVariants.{Astray as IsAstray, Unread}
+use Rattle.driver_core.specs.declared.event.Event.TheVariants.{Setup as SetUp}
+use Rattle.driver_core.specs.declared.image_request.Astray.{Astray}
+use Rattle.driver_core.specs.declared.image_request.Astray.TheVariants.{NoStream}
+use Rattle.driver_core.specs.ImageRequests.{image_for}
+use Rattle.driver_world.specs.Receiving.{beat_move, receive_move, unheard}
+use Rattle.channel_uri.specs.declared.address.Address.{Address}
+use Rattle.frame_codec.specs.declared.fault.BadPacket.{BadPacket}
+use Rattle.frame_codec.specs.declared.fault.BadPacket.TheVariants.{OtherType}
+use Rattle.frame_codec.specs.declared.header.Header.{Header}
+use Rattle.frame_codec.specs.declared.header.TermPlace.{TermPlace}
+use Rattle.frame_codec.specs.declared.nak.Nak.{Nak}
+use Rattle.frame_codec.specs.declared.setup.Setup.{Setup}
+use Rattle.frame_codec.specs.declared.status_message.StatusMessage.{StatusMessage}
+use Rattle.frame_codec.specs.Datagram.{frames, beat, nak, status, setup, packet_of}
+use Rattle.frame_codec.specs.Frame.{Sent}
 use Rattle.driver_world.specs.Answers.{answered_by, answer_of}
-use Rattle.driver_world.specs.Ends.{RunEnd, IsAnswer, AreAnswers, after, end_of, moved, moved_on, on_log, log_at, conducted}
+use Rattle.driver_world.specs.Ends.{RunEnd, Moved, IsAnswer, IsAnswerOf, AreAnswers, after, after_by, dropped, end_of, moved, moved_on, on_frames, on_log, on_stream, log_at, conducted}
 use Rattle.driver_world.specs.Held.{HeldLogs}
-use Rattle.driver_world.specs.Memory.{GivesFirst, HasMemory, HaveMemory, takes_memory}
+use Rattle.driver_world.specs.Memory.{GivesFirst, HasMemory, HasMemoryBy, HaveMemory, is_listed, takes_memory}
 use Rattle.driver_world.specs.Moves.{WholeLog, Move, MovesFirst, offer_move, offer_to, offer_under, poll_move, poll_under}
-use Rattle.driver_world.specs.Standing.{Held, StandsForEnd, Takes, Serves, Runs, Continues}
+use Rattle.driver_world.specs.Standing.{Held, StandsForEnd, Takes, Serves, ServesAs, Runs, Continues}
 use Rattle.driver_world.proofs.StandLemmas.{gives_first, moves_first}
 use Rattle.policy_core.specs.declared.verdict.Verdict.{Verdict}
 use Rattle.term_log.specs.Log.{greatest_message}
@@ -36,6 +53,8 @@ IsTold Stopped = Unit {0}
 IsTold (PolicyInForce epoch messages) = Unit {0}
 IsTold PolicyFull = Unit {0}
 IsTold (Imaged number messages) = Unit {0}
+IsTold (Received words) = Unit {0}
+IsTold Heard = Unit {0}
 IsTold (Dropped fault) = Unit {0}
 IsTold (Replies messages) = Unit {0}
 IsTold (OfferedAs offered) = Unit {0}
@@ -47,52 +66,70 @@ IsTold (Denied verdict) = Unit {0}
 IsTold UnknownCounter = Unit {0}
 IsTold WrongClient = Unit {0}
 
--- such an answer leaves what the step leaves
-told : (e : RunEnd) (step : Step) (answer : Answer) → IsTold answer → answer ≡ (moved e step).answer →
-    IsAnswer e step answer × (after e step answer ≡ (moved e step).after)
-told e step NoMemory is_told is = absurd is_told
-told e step (Attached number) is_told is = (is, refl)
-told e step Full is_told is = (is, refl)
-told e step Stopped is_told is = (is, refl)
-told e step (PolicyInForce epoch messages) is_told is = (is, refl)
-told e step PolicyFull is_told is = (is, refl)
-told e step (Imaged number messages) is_told is = (is, refl)
-told e step (Dropped fault) is_told is = (is, refl)
-told e step (Replies messages) is_told is = (is, refl)
-told e step (OfferedAs offered) is_told is = (is, refl)
-told e step (Polled fragments) is_told is = (is, refl)
-told e step IsGone is_told is = (is, refl)
-told e step (Counters rows) is_told is = (is, refl)
-told e step (ValueIs number) is_told is = (is, refl)
-told e step (Denied verdict) is_told is = (is, refl)
-told e step UnknownCounter is_told is = (is, refl)
-told e step WrongClient is_told is = (is, refl)
+-- such an answer leaves what is left
+told : (e : RunEnd) (what : Moved) (answer : Answer) → IsTold answer → answer ≡ what.answer →
+    IsAnswerOf what answer × (after_by e what answer ≡ what.after)
+told e what NoMemory is_told is = absurd is_told
+told e what (Attached number) is_told is = (is, refl)
+told e what Full is_told is = (is, refl)
+told e what Stopped is_told is = (is, refl)
+told e what (PolicyInForce epoch messages) is_told is = (is, refl)
+told e what PolicyFull is_told is = (is, refl)
+told e what (Imaged number messages) is_told is = (is, refl)
+told e what (Received words) is_told is = (is, refl)
+told e what Heard is_told is = (is, refl)
+told e what (Dropped fault) is_told is = (is, refl)
+told e what (Replies messages) is_told is = (is, refl)
+told e what (OfferedAs offered) is_told is = (is, refl)
+told e what (Polled fragments) is_told is = (is, refl)
+told e what IsGone is_told is = (is, refl)
+told e what (Counters rows) is_told is = (is, refl)
+told e what (ValueIs number) is_told is = (is, refl)
+told e what (Denied verdict) is_told is = (is, refl)
+told e what UnknownCounter is_told is = (is, refl)
+told e what WrongClient is_told is = (is, refl)
 
 -- such an answer asks for no memory
-told_has : (e : RunEnd) (step : Step) (answer : Answer) → IsTold answer → HasMemory e step answer
-told_has e step NoMemory is_told = absurd is_told
-told_has e step (Attached number) is_told = tt
-told_has e step Full is_told = tt
-told_has e step Stopped is_told = tt
-told_has e step (PolicyInForce epoch messages) is_told = tt
-told_has e step PolicyFull is_told = tt
-told_has e step (Imaged number messages) is_told = tt
-told_has e step (Dropped fault) is_told = tt
-told_has e step (Replies messages) is_told = tt
-told_has e step (OfferedAs offered) is_told = tt
-told_has e step (Polled fragments) is_told = tt
-told_has e step IsGone is_told = tt
-told_has e step (Counters rows) is_told = tt
-told_has e step (ValueIs number) is_told = tt
-told_has e step (Denied verdict) is_told = tt
-told_has e step UnknownCounter is_told = tt
-told_has e step WrongClient is_told = tt
+told_has : (takes : Bool) (answer : Answer) → IsTold answer → HasMemoryBy takes answer
+told_has takes NoMemory is_told = absurd is_told
+told_has takes (Attached number) is_told = tt
+told_has takes Full is_told = tt
+told_has takes Stopped is_told = tt
+told_has takes (PolicyInForce epoch messages) is_told = tt
+told_has takes PolicyFull is_told = tt
+told_has takes (Imaged number messages) is_told = tt
+told_has takes (Received words) is_told = tt
+told_has takes Heard is_told = tt
+told_has takes (Dropped fault) is_told = tt
+told_has takes (Replies messages) is_told = tt
+told_has takes (OfferedAs offered) is_told = tt
+told_has takes (Polled fragments) is_told = tt
+told_has takes IsGone is_told = tt
+told_has takes (Counters rows) is_told = tt
+told_has takes (ValueIs number) is_told = tt
+told_has takes (Denied verdict) is_told = tt
+told_has takes UnknownCounter is_told = tt
+told_has takes WrongClient is_told = tt
 
 -- what such an answer says, for each end that the world stands for
-record DoesStep (new : Held) (e : RunEnd) (step : Step) (answer : Answer) : Type 0 where
+record DoesAs (new : Held) (what : Moved) (answer : Answer) : Type 0 where
   is_told : IsTold answer
-  given : answer ≡ (moved e step).answer
-  stands : StandsForEnd new (moved e step).after
+  given : answer ≡ what.answer
+  stands : StandsForEnd new what.after
+
+abbrev DoesStep : Held → RunEnd → Step → Answer → Type 0
+DoesStep new e step answer = DoesAs new (moved e step) answer
+
+served_as : (old new : Held) (what : RunEnd → Moved) (answer : Answer) →
+    ((e : RunEnd) → StandsForEnd old e → DoesAs new (what e) answer) → ServesAs old new what answer
+served_as old new what answer does =
+    record {
+      on = λ e stands.
+          let done = does e stands in
+          let told' = told e (what e) answer done.is_told done.given in
+          (told'.0, rw told'.1 done.stands);
+      without_memory = λ e stands. told_has (is_listed (what e).answer) answer (does e stands).is_told;
+    }
 
 served : (old new : Held) (step : Step) (answer : Answer) → ((e : RunEnd) → StandsForEnd old e → DoesStep new e step answer) →
     Serves old new step answer
@@ -100,9 +137,9 @@ served old new step answer does =
     record {
       on = λ e stands.
           let done = does e stands in
-          let told' = told e step answer done.is_told done.given in
+          let told' = told e (moved e step) answer done.is_told done.given in
           (told'.0, rw told'.1 done.stands);
-      without_memory = λ e stands. told_has e step answer (does e stands).is_told;
+      without_memory = λ e stands. told_has (takes_memory e step) answer (does e stands).is_told;
     }
 
 answered_told : (r : Response) (replies : List Message) → IsTold (answered_by r replies)
@@ -252,6 +289,115 @@ poll_refused registry old new now client subscription source limit same gives =
     (Poll now client subscription source limit) (rw same refl) (λ e stands.
     let there : GivesFirst source (poll_move e.registry client subscription limit) old = rw (← stands.registry) gives in
     gives_first e source (poll_move e.registry client subscription limit) IsGone old.logs stands.logs there)
+
+-- ---- a datagram
+
+-- a datagram serves its step by what its bytes hold
+pub packet_served : (old new : Held) (now : ℕ) (local from : Address) (bytes : List ℕ) (sent : List Sent) (answer : Answer) →
+    packet_of bytes ≡ Ok (frames sent) → ServesAs old new (λ e. on_frames e now local from sent) answer →
+    Serves old new (Packet now local from bytes) answer
+packet_served old new now local from bytes sent answer is serves = record {
+  on = λ e stands. rw is (serves.on e stands);
+  without_memory = λ e stands. rw is (serves.without_memory e stands);
+}
+
+pub beat_served : (old new : Held) (now : ℕ) (local from : Address) (bytes : List ℕ) (header : Header) (answer : Answer) →
+    packet_of bytes ≡ Ok (beat header) →
+    ServesAs old new (λ e. on_stream e local from header.place (beat_move now header.place)) answer →
+    Serves old new (Packet now local from bytes) answer
+beat_served old new now local from bytes header answer is serves = record {
+  on = λ e stands. rw is (serves.on e stands);
+  without_memory = λ e stands. rw is (serves.without_memory e stands);
+}
+
+pub setup_served : (old new : Held) (now : ℕ) (local from : Address) (bytes : List ℕ) (fields : Setup) (answer : Answer) →
+    packet_of bytes ≡ Ok (setup fields) → Serves old new (Conductor (SetUp now local from fields)) answer →
+    Serves old new (Packet now local from bytes) answer
+setup_served old new now local from bytes fields answer is serves = record {
+  on = λ e stands. rw is (serves.on e stands);
+  without_memory = λ e stands. rw is (serves.without_memory e stands);
+}
+
+-- one that is dropped
+drop_stands : (held : Held) (e : RunEnd) (cause : Cause) → StandsForEnd held e → DoesAs held (dropped e cause) (Dropped cause)
+drop_stands held e cause stands = record { is_told = tt; given = refl; stands = stands }
+
+pub fault_served : (held : Held) (now : ℕ) (local from : Address) (bytes : List ℕ) (fault : BadPacket) →
+    packet_of bytes ≡ Err fault → Serves held held (Packet now local from bytes) (Dropped (Unread fault))
+fault_served held now local from bytes fault is =
+    served held held (Packet now local from bytes) (Dropped (Unread fault))
+    (λ e stands. rw is (drop_stands held e (Unread fault) stands))
+
+pub nak_served : (held : Held) (now : ℕ) (local from : Address) (bytes : List ℕ) (fields : Nak) →
+    packet_of bytes ≡ Ok (nak fields) → Serves held held (Packet now local from bytes) (Dropped (Unread OtherType))
+nak_served held now local from bytes fields is =
+    served held held (Packet now local from bytes) (Dropped (Unread OtherType))
+    (λ e stands. rw is (drop_stands held e (Unread OtherType) stands))
+
+pub status_served : (held : Held) (now : ℕ) (local from : Address) (bytes : List ℕ) (fields : StatusMessage) →
+    packet_of bytes ≡ Ok (status fields) → Serves held held (Packet now local from bytes) (Dropped (Unread OtherType))
+status_served held now local from bytes fields is =
+    served held held (Packet now local from bytes) (Dropped (Unread OtherType))
+    (λ e stands. rw is (drop_stands held e (Unread OtherType) stands))
+
+-- ---- one of a stream
+
+-- it goes to the first log of its image's source
+pub stream_served : (registry : State) (old new : HeldLogs) (local from : Address) (place : TermPlace) (move : WholeLog → Move)
+    (source : ℕ) (answer : Answer) → image_for registry local from place.session_id place.stream_id ≡ Ok source →
+    ((log : WholeLog) → IsTold (move log).answer) → MovesFirst source move unheard old new answer →
+    ServesAs (record { registry = registry; logs = old.logs }) (record { registry = registry; logs = new.logs })
+    (λ e. on_stream e local from place move) answer
+unfolding on_log
+stream_served registry old new local from place move source answer is told_by moves =
+    served_as (record { registry = registry; logs = old.logs }) (record { registry = registry; logs = new.logs })
+    (λ e. on_stream e local from place move) answer (λ e stands.
+    let there : image_for e.registry local from place.session_id place.stream_id ≡ Ok source = rw (← stands.registry) is in
+    let made = moves_first e source move unheard answer old new stands.logs moves in
+    let is_told : IsTold answer =
+    rw made.0 (moved_told e source move unheard (log_at e.logs source) tt told_by) in
+    rw there
+    (record { is_told = is_told; given = made.0; stands = record { registry = rw made.2 stands.registry; logs = made.1 } }))
+
+-- it is for no image
+pub astray_served : (held : Held) (local from : Address) (place : TermPlace) (move : WholeLog → Move) (why : Astray) →
+    image_for held.registry local from place.session_id place.stream_id ≡ Err why →
+    ServesAs held held (λ e. on_stream e local from place move) (Dropped (IsAstray why))
+astray_served held local from place move why is =
+    served_as held held (λ e. on_stream e local from place move) (Dropped (IsAstray why)) (λ e stands.
+    let there : image_for e.registry local from place.session_id place.stream_id ≡ Err why = rw (← stands.registry) is in
+    rw there (drop_stands held e (IsAstray why) stands))
+
+-- there is no memory for its words
+pub stream_refused : (registry : State) (old new : HeldLogs) (local from : Address) (place : TermPlace) (move : WholeLog → Move)
+    (source : ℕ) → image_for registry local from place.session_id place.stream_id ≡ Ok source → new ≡ old →
+    GivesFirst source move old →
+    ServesAs (record { registry = registry; logs = old.logs }) (record { registry = registry; logs = new.logs })
+    (λ e. on_stream e local from place move) NoMemory
+unfolding on_log
+stream_refused registry old new local from place move source is same gives = record {
+  on = λ e stands. (tt, rw same stands);
+  without_memory = λ e stands.
+      let there : image_for e.registry local from place.session_id place.stream_id ≡ Ok source = rw (← stands.registry) is in
+      rw there (gives_first e source move unheard old.logs stands.logs gives);
+}
+
+-- frames are of the stream of the first one
+pub frames_served : (old new : Held) (now : ℕ) (local from : Address) (sent later : List Sent) (frame : Sent) (answer : Answer) →
+    sent ≡ frame ∷ later →
+    ServesAs old new (λ e. on_stream e local from frame.header.place (receive_move now sent)) answer →
+    ServesAs old new (λ e. on_frames e now local from sent) answer
+frames_served old new now local from sent later frame answer is serves =
+    subst (λ (all : List Sent). ServesAs old new (λ e. on_frames e now local from all) answer) (sym is)
+    (subst (λ (all : List Sent).
+    ServesAs old new (λ e. on_stream e local from frame.header.place (receive_move now all)) answer) is serves)
+
+pub no_frames_served : (held : Held) (now : ℕ) (local from : Address) (sent : List Sent) → sent ≡ [] →
+    ServesAs held held (λ e. on_frames e now local from sent) (Dropped (IsAstray NoStream))
+no_frames_served held now local from sent is =
+    subst (λ (all : List Sent). ServesAs held held (λ e. on_frames e now local from all) (Dropped (IsAstray NoStream))) (sym is)
+    (served_as held held (λ e. dropped e (IsAstray NoStream)) (Dropped (IsAstray NoStream))
+    (λ e stands. drop_stands held e (IsAstray NoStream) stands))
 
 -- ---- runs
 

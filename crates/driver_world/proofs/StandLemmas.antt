@@ -8,7 +8,7 @@ use Rattle.driver_core.specs.State.{State, opened}
 use Rattle.driver_world.specs.declared.answer.Answer.{Answer}
 use Rattle.driver_world.specs.Ends.{RunEnd, log_at, with_log, moved_on}
 use Rattle.driver_world.specs.Held.{HeldLog, HeldLogs, LiesAsBefore, held_at, with_held}
-use Rattle.driver_world.specs.Memory.{GivesHeld, is_polled}
+use Rattle.driver_world.specs.Memory.{GivesHeld, is_listed}
 use Rattle.driver_world.specs.Moves.{WholeLog, Move, StandsForLog, MovesHeld}
 use Rattle.policy_core.specs.RuleList.{Rules}
 use Rattle.driver_world.specs.Standing.{Match, StandAll, row_held, row_on}
@@ -76,13 +76,13 @@ moves_first e source move absent given old new all moves =
 
 -- where the first log of a source gives fragments, the end's does
 gives_found : (e : RunEnd) (source : ℕ) (move : WholeLog → Move) (absent : Answer) (found : Option HeldLog) (there : Option WholeLog) →
-    StandAt found there → GivesHeld move found → is_polled (moved_on e source move absent there).answer ≡ true
+    StandAt found there → GivesHeld move found → is_listed (moved_on e source move absent there).answer ≡ true
 gives_found e source move absent None there at gives = absurd gives
 gives_found e source move absent (Some held) None at gives = absurd at
 gives_found e source move absent (Some held) (Some log) at gives = gives.on log at
 
 pub gives_first : (e : RunEnd) (source : ℕ) (move : WholeLog → Move) (absent : Answer) (old : List HeldLog) → StandAll old e.logs →
-    GivesHeld move (held_at old source) → is_polled (moved_on e source move absent (log_at e.logs source)).answer ≡ true
+    GivesHeld move (held_at old source) → is_listed (moved_on e source move absent (log_at e.logs source)).answer ≡ true
 gives_first e source move absent old all gives =
     gives_found e source move absent (held_at old source) (log_at e.logs source) (stand_at old e.logs source all) gives
 

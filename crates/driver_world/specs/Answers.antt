@@ -11,6 +11,7 @@ use Rattle.driver_core.specs.declared.replies.Message.{Message}
 use Rattle.driver_world.specs.declared.answer.Answer.{Answer}
 use Rattle.driver_world.specs.declared.answer.Answer.TheVariants.{Attached, Full, Stopped, PolicyInForce, PolicyFull, Imaged, Dropped, Replies, Counters, Value, Denied, UnknownCounter, WrongClient}
 use Rattle.driver_world.specs.declared.answer.Offered.{Offered}
+use Rattle.driver_world.specs.declared.cause.Cause.TheVariants.{SetUp}
 use Rattle.driver_world.specs.declared.answer.Offered.TheVariants as offered
 use Rattle.term_log.specs.declared.offer.Offer.{Offer}
 use Rattle.term_log.specs.declared.offer.Offer.TheVariants as offer
@@ -24,7 +25,7 @@ answered_by response.Stopped replies = Stopped
 answered_by (response.PolicyInForce epoch) replies = PolicyInForce epoch replies
 answered_by response.PolicyFull replies = PolicyFull
 answered_by (response.Imaged number) replies = Imaged number replies
-answered_by (response.Dropped fault) replies = Dropped fault
+answered_by (response.Dropped fault) replies = Dropped (SetUp fault)
 
 unfoldable pub answer_of : Outcome → Answer
 answer_of outcome = answered_by outcome.response outcome.replies

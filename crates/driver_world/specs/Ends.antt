@@ -1,30 +1,42 @@
 -- What stands at the end of a run, its logs as whole lists of frames; what each step leaves, and what it is answered.
-use Rattle.std.specs.Prelude.{◌≡◌, ℕ, Bool, List, [], ◌∷◌, ◌++◌, map, filter, find, max, not, ◌==◌, if◌then◌else◌, Option, Some, None}
+use Rattle.std.specs.Prelude.{◌≡◌, ℕ, Bool, List, [], ◌∷◌, ◌++◌, map, filter, find, max, not, ◌==◌, if◌then◌else◌, Option, Some, None, Result, Ok, Err}
 use Rattle.any_log.specs.Whole.{is_silent_in, reach_of, rejoined}
 use Rattle.driver_core.specs.Change.{Change}
 use Rattle.driver_core.specs.declared.event.End.{End}
 use Rattle.driver_core.specs.declared.event.Event.{Event}
-use Rattle.driver_core.specs.declared.event.Event.TheVariants.{Tick}
+use Rattle.driver_core.specs.declared.event.Event.TheVariants.{Setup as SetUp, Tick}
 use Rattle.driver_core.specs.declared.event.Inputs.{Inputs}
+use Rattle.driver_core.specs.declared.image_request.Astray.{Astray}
+use Rattle.driver_core.specs.declared.image_request.Astray.TheVariants.{NoStream}
 use Rattle.driver_core.specs.declared.log_request.LogRequest.{LogRequest}
 use Rattle.driver_core.specs.declared.peer.Peer.{Peer}
 use Rattle.driver_core.specs.declared.settings.Settings.{Settings}
 use Rattle.driver_core.specs.Conduct.{conduct}
+use Rattle.driver_core.specs.ImageRequests.{image_for}
 use Rattle.driver_core.specs.Listing.{list, value}
 use Rattle.driver_core.specs.LogRequests.{offering_of}
 use Rattle.driver_core.specs.Pairs.{pairs_of}
 use Rattle.driver_core.specs.Renewal.{source_at}
 use Rattle.driver_core.specs.State.{State, opened}
 use Rattle.driver_world.specs.declared.answer.Answer.{Answer}
-use Rattle.driver_world.specs.declared.answer.Answer.TheVariants.{NoMemory, Offered as OfferedAs, Gone as IsGone}
+use Rattle.driver_world.specs.declared.answer.Answer.TheVariants.{Dropped, NoMemory, Offered as OfferedAs, Gone as IsGone}
 use Rattle.driver_world.specs.declared.answer.Offered.TheVariants.{Closed}
+use Rattle.driver_world.specs.declared.cause.Cause.{Cause}
+use Rattle.driver_world.specs.declared.cause.Cause.TheVariants.{Astray as IsAstray, Unread}
 use Rattle.driver_world.specs.declared.step.Step.{Step}
-use Rattle.driver_world.specs.declared.step.Step.TheVariants.{Conductor, Offer, Poll, List as Lists, Value}
+use Rattle.driver_world.specs.declared.step.Step.TheVariants.{Conductor, Packet, Offer, Poll, List as Lists, Value}
 use Rattle.driver_world.specs.Answers.{answer_of, answer_listed, answer_shown}
 use Rattle.driver_core.specs.Readers.{readers_of}
 use Rattle.driver_world.specs.Held.{is_closed}
 use Rattle.driver_world.specs.Idents.{begins_of}
 use Rattle.driver_world.specs.Moves.{WholeLog, Move, offer_move, poll_move}
+use Rattle.driver_world.specs.Receiving.{beat_move, receive_move, unheard}
+use Rattle.channel_uri.specs.declared.address.Address.{Address}
+use Rattle.frame_codec.specs.declared.fault.BadPacket.{BadPacket}
+use Rattle.frame_codec.specs.declared.fault.BadPacket.TheVariants.{OtherType}
+use Rattle.frame_codec.specs.declared.header.TermPlace.{TermPlace}
+use Rattle.frame_codec.specs.Datagram.{Content, frames, beat, nak, status, setup, packet_of}
+use Rattle.frame_codec.specs.Frame.{Sent}
 use Rattle.policy_core.specs.RuleList.{Rules}
 use Rattle.stream_registry.specs.declared.lingering.LogPlace.{LogPlace}
 use Rattle.stream_registry.specs.declared.pairs.Pair.{Pair}
@@ -111,9 +123,9 @@ on_offered e now client registration message None = record { after = e; answer =
 on_offered e now client registration message (Some request) =
     on_log e request.source (offer_move e.registry now client registration message) (OfferedAs Closed)
 
--- ---- any step
+-- ---- an event
 
--- an event of the conductor
+-- the conductor takes it
 unfoldable pub conducted : RunEnd → Event → Moved
 conducted e event =
     let change : Change = conduct e.registry event (inputs_of e.registry event e.logs) in
@@ -122,8 +134,42 @@ conducted e event =
       answer = answer_of change.outcome;
     }
 
+-- ---- a datagram
+
+-- all stays as it was
+abbrev pub dropped : RunEnd → Cause → Moved
+dropped e cause = record { after = e; answer = Dropped cause }
+
+-- the log of the image that it is for moves
+abbrev pub on_image : RunEnd → (WholeLog → Move) → Result ℕ Astray → Moved
+on_image e move (Ok source) = on_log e source move unheard
+on_image e move (Err why) = dropped e (IsAstray why)
+
+-- one of that session and stream
+abbrev pub on_stream : RunEnd → Address → Address → TermPlace → (WholeLog → Move) → Moved
+on_stream e local from place move =
+    on_image e move (image_for e.registry local from place.session_id place.stream_id)
+
+-- frames of one stream; there is one at least
+abbrev pub on_frames : RunEnd → ℕ → Address → Address → List Sent → Moved
+on_frames e now local from [] = dropped e (IsAstray NoStream)
+on_frames e now local from (frame ∷ later) =
+    on_stream e local from frame.header.place (receive_move now (frame ∷ later))
+
+-- by what its bytes hold: a SETUP is an event; NAKs and status messages are not taken yet
+abbrev pub on_packet : RunEnd → ℕ → Address → Address → Result Content BadPacket → Moved
+on_packet e now local from (Err fault) = dropped e (Unread fault)
+on_packet e now local from (Ok (frames sent)) = on_frames e now local from sent
+on_packet e now local from (Ok (beat header)) = on_stream e local from header.place (beat_move now header.place)
+on_packet e now local from (Ok (setup fields)) = conducted e (SetUp now local from fields)
+on_packet e now local from (Ok (nak fields)) = dropped e (Unread OtherType)
+on_packet e now local from (Ok (status fields)) = dropped e (Unread OtherType)
+
+-- ---- any step
+
 abbrev pub moved : RunEnd → Step → Moved
 moved e (Conductor event) = conducted e event
+moved e (Packet now local from bytes) = on_packet e now local from (packet_of bytes)
 moved e (Offer now client registration message) =
     on_offered e now client registration message (offering_of e.registry client registration)
 moved e (Poll now client subscription source limit) =
@@ -132,13 +178,19 @@ moved e (Lists now client) = record { after = e; answer = answer_listed (list e.
 moved e (Value now client number) = record { after = e; answer = answer_shown (value e.registry client number) }
 
 -- a step that is refused memory leaves all as it was; any other leaves and is answered what `moved` says
+abbrev pub after_by : RunEnd → Moved → Answer → RunEnd
+after_by e what NoMemory = e
+after_by e what answer = what.after
+
 abbrev pub after : RunEnd → Step → Answer → RunEnd
-after e step NoMemory = e
-after e step answer = (moved e step).after
+after e step answer = after_by e (moved e step) answer
+
+abbrev pub IsAnswerOf : Moved → Answer → Type 0
+IsAnswerOf what NoMemory = Unit {0}
+IsAnswerOf what answer = answer ≡ what.answer
 
 abbrev pub IsAnswer : RunEnd → Step → Answer → Type 0
-IsAnswer e step NoMemory = Unit {0}
-IsAnswer e step answer = answer ≡ (moved e step).answer
+IsAnswer e step answer = IsAnswerOf (moved e step) answer
 
 -- the answers of a list of steps, each given where the ones before it left off
 abbrev pub AreAnswers : RunEnd → List Step → List Answer → Type 0

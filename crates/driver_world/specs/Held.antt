@@ -1,8 +1,8 @@
 -- The logs that a driver holds open, and where each lies. Own rules.
-use Rattle.std.specs.Prelude.{◌≡◌, ℕ, zero, suc, ◌+◌, ◌*◌, Bool, not, ◌==◌, List, [], ◌∷◌, ◌++◌, filter, map, find, max, position, take, drop, Option, Some, None, if◌then◌else◌}
+use Rattle.std.specs.Prelude.{◌≡◌, ℕ, zero, suc, ◌+◌, ◌*◌, Bool, not, ◌==◌, List, [], ◌∷◌, ◌++◌, filter, map, find, max, position, take, drop, Option, Some, None, IfSome, if◌then◌else◌}
 use Rattle.std.specs.List.{list_any}
 use Rattle.any_log.specs.declared.any_log.AnyLog.{AnyLog}
-use Rattle.any_log.specs.Held.{Place, is_silent_held, made_held, place_held, reach_held, rejoined_held as rejoined_any, terms_of}
+use Rattle.any_log.specs.Held.{AreFor, Place, is_silent_held, made_held, place_held, reach_held, rejoined_held as rejoined_any, terms_of}
 use Rattle.any_log.specs.Whole.{AnyWhole, StandsFor, made_for}
 use Rattle.driver_core.specs.declared.event.End.{End}
 use Rattle.driver_core.specs.declared.event.Event.{Event}
@@ -13,6 +13,7 @@ use Rattle.driver_core.specs.Soundness.{AreSizes, BeginsSoundly}
 use Rattle.driver_core.specs.State.{State}
 use Rattle.driver_world.specs.Idents.{begins_of}
 use Rattle.driver_world.specs.Plots.{Plot, IsLeastVacant}
+use Rattle.frame_codec.specs.Frame.{Sent}
 use Rattle.stream_registry.specs.declared.lingering.LogPlace.{LogPlace}
 use Rattle.stream_registry.specs.declared.pairs.Pair.{Pair}
 use Rattle.stream_registry.specs.declared.row.Source.{Source}
@@ -122,3 +123,7 @@ with_held (first ∷ logs) source log =
 -- where the first log of that source is in the list
 abbrev pub place_at : List HeldLog → ℕ → Option ℕ
 place_at logs source = position (λ held. held.source == source) logs
+
+-- the frames of a datagram may be handed to the first log of that source, if there is one
+abbrev pub AreForFirst : List HeldLog → ℕ → List Sent → Type 0
+AreForFirst logs source frames = IfSome (held_at logs source) (λ held. AreFor (made_held held.log) frames)

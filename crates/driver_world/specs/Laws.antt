@@ -1,5 +1,5 @@
 -- What holds at the end of every run, of the offers and polls there, and of the bytes that a poll gives.
-use Rattle.std.specs.Prelude.{◌≡◌, ℕ, ◌+◌, ◌==◌, ◌&&◌, not, nat_lt, true, false, List, [], ◌∷◌, ◌++◌, length, map, All, Contains, Option, Some, None, if◌then◌else◌}
+use Rattle.std.specs.Prelude.{◌≡◌, ℕ, ◌+◌, ◌==◌, ◌&&◌, not, nat_lt, true, false, List, [], ◌∷◌, ◌++◌, length, map, All, Contains, Option, Some, None, Result, Ok, if◌then◌else◌}
 use Rattle.any_log.specs.declared.fragment.Fragment.{Fragment}
 use Rattle.any_log.specs.Fragments.{fragment_of}
 use Rattle.any_log.specs.Held.{Made}
@@ -7,6 +7,7 @@ use Rattle.any_log.specs.Whole.{AnyWhole, whole, rebuilt, made_for as made_any, 
 use Rattle.image_log.specs.Polling.{polled as image_polled, polled_frame, whole_from}
 use Rattle.image_log.specs.Rebuilt.{Rebuilt}
 use Rattle.driver_core.specs.declared.event.Event.{Event}
+use Rattle.driver_core.specs.declared.event.Event.TheVariants.{Setup as SetUp}
 use Rattle.driver_core.specs.declared.event.Inputs.{Inputs}
 use Rattle.driver_core.specs.declared.log_request.LogRequest.{LogRequest}
 use Rattle.driver_core.specs.declared.peer.Peer.{Peer}
@@ -23,13 +24,16 @@ use Rattle.driver_world.specs.declared.answer.Answer.{Answer}
 use Rattle.driver_world.specs.declared.answer.Answer.TheVariants.{NoMemory, Offered as OfferedAs, Polled, Gone as IsGone, Denied}
 use Rattle.driver_world.specs.declared.answer.Offered.TheVariants.{At, Closed, TooLong, NotConnected}
 use Rattle.driver_world.specs.declared.step.Step.{Step}
-use Rattle.driver_world.specs.declared.step.Step.TheVariants.{Conductor, Offer, Poll, List as Lists, Value}
+use Rattle.driver_world.specs.declared.step.Step.TheVariants.{Conductor, Packet, Offer, Poll, List as Lists, Value}
 use Rattle.driver_world.specs.Answers.{answer_of, answer_listed, answer_shown, offered_as}
 use Rattle.driver_world.specs.Ends.{RunEnd, Moved, opening_end, inputs_of, log_at, with_log, moved, after, IsAnswer, AreAnswers, end_of}
 use Rattle.driver_core.specs.Readers.{readers_of}
 use Rattle.driver_world.specs.Idents.{made_of}
 use Rattle.driver_world.specs.Moves.{WholeLog}
+use Rattle.channel_uri.specs.declared.address.Address.{Address}
 use Rattle.client_registry.specs.declared.client.Client.{Client}
+use Rattle.frame_codec.specs.declared.fault.BadPacket.{BadPacket}
+use Rattle.frame_codec.specs.Datagram.{Content, setup, packet_of}
 use Rattle.client_registry.specs.Clients.{client_at}
 use Rattle.policy_core.specs.declared.act.Act.TheVariants.{Offer as ToOffer, Receive}
 use Rattle.policy_core.specs.declared.verdict.Verdict.{Verdict}
@@ -58,18 +62,30 @@ AtEachEnd P =
 
 -- ---- the registry of a run
 
+abbrev pub event_at : RunEnd → Event → List (Event × Inputs)
+event_at e event = (event, inputs_of e.registry event e.logs) ∷ []
+
+-- that of a SETUP
+abbrev pub event_in : RunEnd → ℕ → Address → Address → Result Content BadPacket → List (Event × Inputs)
+event_in e now local from (Ok (setup fields)) = event_at e (SetUp now local from fields)
+event_in e now local from read = []
+
 -- the event of a step of the conductor, with what the logs say at it
 abbrev pub event_of : RunEnd → Step → List (Event × Inputs)
-event_of e (Conductor event) = (event, inputs_of e.registry event e.logs) ∷ []
+event_of e (Conductor event) = event_at e event
+event_of e (Packet now local from bytes) = event_in e now local from (packet_of bytes)
 event_of e (Offer now client registration message) = []
 event_of e (Poll now client subscription source limit) = []
 event_of e (Lists now client) = []
 event_of e (Value now client number) = []
 
 -- the events that a run took: those of the conductor's steps that were not refused memory
+abbrev pub taken_at : List (Event × Inputs) → Answer → List (Event × Inputs)
+taken_at events NoMemory = []
+taken_at events answer = events
+
 abbrev pub taken_by : RunEnd → Step → Answer → List (Event × Inputs)
-taken_by e step NoMemory = []
-taken_by e step answer = event_of e step
+taken_by e step answer = taken_at (event_of e step) answer
 
 abbrev pub taken_from : RunEnd → List Step → List Answer → List (Event × Inputs)
 taken_from e [] answers = []

@@ -8,5 +8,6 @@ pub mod Memory
 pub mod Moves
 pub mod Opening
 pub mod Plots
+pub mod Receiving
 pub mod Registered
 pub mod Standing

@@ -12,10 +12,10 @@ use Rattle.driver_core.specs.Soundness.{IsSound}
 use Rattle.driver_core.specs.State.{State}
 use Rattle.driver_world.specs.declared.answer.Answer.{Answer}
 use Rattle.driver_world.specs.declared.step.Step.{Step}
-use Rattle.driver_world.specs.Ends.{RunEnd, opening_end, conducted, inputs_of, IsAnswer, AreAnswers, after, end_of}
+use Rattle.driver_world.specs.Ends.{RunEnd, Moved, opening_end, conducted, inputs_of, IsAnswer, IsAnswerOf, AreAnswers, after, after_by, end_of}
 use Rattle.driver_world.specs.Held.{HeldLog, HeldLogs, plot_of}
 use Rattle.driver_world.specs.Idents.{made_of}
-use Rattle.driver_world.specs.Memory.{HasMemory, HaveMemory}
+use Rattle.driver_world.specs.Memory.{HasMemory, HasMemoryBy, HaveMemory, is_listed}
 use Rattle.driver_world.specs.Moves.{WholeLog, StandsForLog}
 use Rattle.driver_world.specs.Plots.{Plot}
 use Rattle.policy_core.specs.RuleList.{Rules}
@@ -82,6 +82,13 @@ pub record Takes (old new : Held) (event : Event) (outcome : Outcome) : Type 0 w
   pub on :
       (e : RunEnd) → StandsForEnd old e →
       (outcome ≡ (conduct e.registry event (inputs_of e.registry event e.logs)).outcome) × StandsForEnd new (conducted e event).after
+
+-- What comes of a step, for each end that the world stands for. Want of memory is an answer only where a list is given.
+pub record ServesAs (old new : Held) (what : RunEnd → Moved) (answer : Answer) : Type 0 where
+  pub on :
+      (e : RunEnd) → StandsForEnd old e →
+      IsAnswerOf (what e) answer × StandsForEnd new (after_by e (what e) answer)
+  pub without_memory : (e : RunEnd) → StandsForEnd old e → HasMemoryBy (is_listed (what e).answer) answer
 
 -- One step, for each end that the world stands for. Want of memory is an answer only to a step that may take some.
 pub record Serves (old new : Held) (step : Step) (answer : Answer) : Type 0 where

@@ -1,9 +1,11 @@
 ghost use Rattle.driver_world.specs.Answers.{answer_of, answer_listed, answer_shown, offered_as};
 ghost use Rattle.std.specs.Prelude.{◌≡◌};
 
+use crate::cause::Cause;
 use any_log::Fragment;
 use byte_strings::Items;
-use driver_core::{Listed, ListedCounter, Message, Outcome, Response, SetupFault, Shown};
+use driver_core::{Listed, ListedCounter, Message, Outcome, Response, Shown};
+use image_log::Insert;
 use policy_core::Verdict;
 use term_log::Offer;
 
@@ -29,8 +31,8 @@ pub enum Offered {
 /// What a step is answered.
 #[derive(Debug, PartialEq, Eq, Drop)]
 pub enum Answer {
-    /// There was no memory for the step, and it changed nothing. Only an event, a look at all counters and a poll that is
-    /// neither gone nor denied are answered so.
+    /// There was no memory for the step, and it changed nothing. Only an event, a look at all counters, a poll that is
+    /// neither gone nor denied and a datagram of data that came to its image are answered so.
     NoMemory,
     /// A client is attached, under this id.
     Attached(u64),
@@ -53,8 +55,12 @@ pub enum Answer {
         /// The replies that it gives, in their order.
         replies: Items<Message>,
     },
-    /// A SETUP makes no image.
-    Dropped(SetupFault),
+    /// The frames of a datagram came to their image: what became of each, in their order.
+    Received(Items<Insert>),
+    /// A heartbeat came to its image.
+    Heard,
+    /// A datagram is dropped.
+    Dropped(Cause),
     /// The replies that a command gives, in their order.
     Replies(Items<Message>),
     /// What became of the message that was offered.
@@ -96,7 +102,7 @@ impl Answer {
                 source,
                 replies: outcome.replies,
             },
-            Response::Dropped(fault) => Answer::Dropped(fault),
+            Response::Dropped(fault) => Answer::Dropped(Cause::SetUp(fault)),
         }
     }
 

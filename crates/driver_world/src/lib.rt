@@ -10,6 +10,7 @@
 #![tactic(auto)]
 
 mod answer;
+mod cause;
 mod inputs;
 mod laws;
 mod offering;
@@ -17,11 +18,14 @@ mod open_log;
 mod open_logs;
 mod opening;
 mod polling;
+mod receiving;
 mod step;
 mod world;
 
 pub use answer::{Answer, Offered};
 pub use any_log::Fragment;
+pub use cause::Cause;
+pub use image_log::Insert;
 pub use laws::{
     bytes_come_from_the_live_log, logs_follow_the_registry, offers_are_granted_exactly,
     polls_are_granted_exactly, runs_take_events,

@@ -3,13 +3,15 @@
 ghost use Rattle.any_log.specs.Whole.{rebuilt, whole};
 ghost use Rattle.driver_core.specs.Pairs.{pairs_of as all_pairs};
 ghost use Rattle.driver_core.specs.Readers.{readers_of};
-ghost use Rattle.driver_world.specs.Held.{IsOpened, is_closed, is_kept, place_at, plots_of, rejoined_held, with_readers, without};
+ghost use Rattle.driver_world.specs.Held.{AreForFirst, IsOpened, is_closed, is_kept, place_at, plots_of, rejoined_held, with_readers, without};
 ghost use Rattle.driver_world.specs.Idents.{heard_at};
 ghost use Rattle.driver_world.specs.declared.answer.Answer.TheVariants.{Gone, Offered as OfferedAs};
 ghost use Rattle.driver_world.specs.declared.answer.Offered.TheVariants.{Closed};
 ghost use Rattle.driver_world.specs.Memory.{GivesFirst};
 ghost use Rattle.driver_world.specs.Moves.{MovesFirst, offer_move, poll_move};
 ghost use Rattle.driver_world.specs.Plots.{IsLeastVacant, taken_pages};
+ghost use Rattle.driver_world.specs.Receiving.{beat_move, receive_move, unheard};
+ghost use Rattle.frame_codec.specs.Frames.{frames_left};
 ghost use Rattle.image_log.specs.Rebuilt.{opened};
 ghost use Rattle.log_arena.specs.Pages.{holes_of};
 ghost use Rattle.std.specs.Prelude.{◌≡◌, ℕ, ◌*◌, ◌%◌, ◌^◌, ◌<◌, ◌≤◌, [], length, map, filter, IfOk, OnOk, OnErr};
@@ -18,11 +20,14 @@ ghost use Rattle.term_log.specs.Ident.{IsIdent};
 ghost use Rattle.term_log.specs.Whole.{fresh};
 
 use crate::answer::{Answer, Offered};
+use crate::cause::Cause;
 use crate::offering::offer_step;
 use crate::open_log::OpenLog;
 use crate::polling::poll_step;
+use crate::receiving::{beat_step, receive_step};
 use any_log::AnyLog;
-use driver_core::{Registry, View};
+use driver_core::{Astray, Registry, View};
+use frame_codec::{Frames, TermPlace};
 use image_log::{ImageLog, ImageRoom};
 use log_arena::Arena;
 use rows::Rows;
@@ -236,5 +241,34 @@ impl OpenLogs {
             return Ok(Answer::Gone);
         };
         poll_step(view, &mut self.logs[at], alloc, client, subscription, limit)
+    }
+
+    /// The frames of a datagram come to the first log of that source, as [`receive_step`] says.
+    pub(crate) fn receive(
+        &mut self,
+        alloc: Global,
+        source: u64,
+        now: u64,
+        frames: Frames<'_>,
+    ) -> Result<Answer, AllocError>
+        requires { AreForFirst self.old.logs source (frames_left frames) }
+        ensures moved { IfOk result (λ answer. MovesFirst source (receive_move now (frames_left frames.entry)) unheard self.old self.new answer) }
+        ensures err { OnErr result (self.new ≡ self.old) }
+        ensures without_memory { OnErr result (GivesFirst source (receive_move now (frames_left frames.entry)) self.old) }
+    {
+        let Some(at) = place_of(self.logs.as_slice(), source) else {
+            return Ok(Answer::Dropped(Cause::Astray(Astray::NoStream)));
+        };
+        receive_step(&mut self.logs[at], alloc, now, frames)
+    }
+
+    /// A heartbeat comes to the first log of that source, as [`beat_step`] says.
+    pub(crate) fn beat(&mut self, source: u64, now: u64, place: &TermPlace) -> Answer
+        ensures { MovesFirst source (beat_move now place.now) unheard self.old self.new result }
+    {
+        let Some(at) = place_of(self.logs.as_slice(), source) else {
+            return Answer::Dropped(Cause::Astray(Astray::NoStream));
+        };
+        beat_step(&mut self.logs[at], now, place)
     }
 }

@@ -1,11 +1,20 @@
 use byte_strings::Bytes;
-use driver_core::Event;
+use driver_core::{Address, Event};
 
 /// A step of one of the actors of a driver. Moments are nanoseconds.
 #[derive(Debug, Drop)]
 pub enum Step {
     /// The conductor takes an event.
     Conductor(Event),
+    /// A datagram came: a SETUP for the conductor, any other for the receiver.
+    Packet {
+        now: u64,
+        /// The address that it came to.
+        local: Address,
+        /// The address that it is from.
+        from: Address,
+        bytes: Bytes,
+    },
     /// A client offers a message to the log that its registration is with.
     Offer {
         now: u64,

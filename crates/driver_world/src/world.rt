@@ -1,3 +1,5 @@
+ghost use Rattle.frame_codec.specs.Frames.{frames_left};
+ghost use Rattle.frame_codec.specs.Sound.{AreOfOneTerm, AreTold};
 ghost use Rattle.std.specs.Prelude.{◌≡◌, ℕ, ◌≤◌, length, IfOk, OnOk, OnErr};
 ghost use Rattle.driver_core.specs.Conduct.{conduct, outcome_of};
 ghost use Rattle.driver_core.specs.Pairs.{pairs_of};
@@ -8,13 +10,17 @@ ghost use Rattle.driver_world.specs.Held.{inputs_held};
 ghost use Rattle.driver_world.specs.Opening.{CanOpen, Follows, HasRoom, place_of};
 
 use crate::answer::{Answer, Offered};
+use crate::cause::Cause;
 use crate::inputs::inputs_of;
 use crate::open_log::OpenLog;
 use crate::open_logs::OpenLogs;
 use crate::opening::{Opening, open_next, prepare};
 use crate::step::Step;
 use byte_strings::Items;
-use driver_core::{Entry, Event, Outcome, Peer, Registry, Settings};
+use driver_core::{Address, Astray, Entry, Event, Outcome, Peer, Registry, Settings};
+use frame_codec::{
+    BadPacket, Datagram, Frames, Packet, TermPlace, frames_are_of_one_term, frames_are_told,
+};
 use policy_core::Policy;
 use rows::Rows;
 use std::alloc::{AllocError, Global};
@@ -75,9 +81,10 @@ fn follow(
 }
 
 impl World {
-    ghost use Rattle.driver_world.specs.Ends.{opening_end};
-    ghost use Rattle.driver_world.specs.Standing.{StandsForEnd, Serves, Takes, Runs, Continues, pages_of_logs};
-    ghost use Rattle.driver_world.specs.declared.step.Step.TheVariants.{Conductor, Offer, Poll, List as Lists, Value};
+    ghost use Rattle.driver_world.specs.Ends.{on_frames, on_stream, opening_end};
+    ghost use Rattle.driver_world.specs.Receiving.{beat_move};
+    ghost use Rattle.driver_world.specs.Standing.{StandsForEnd, Serves, ServesAs, Takes, Runs, Continues, pages_of_logs};
+    ghost use Rattle.driver_world.specs.declared.step.Step.TheVariants.{Conductor, Packet as Packets, Offer, Poll, List as Lists, Value};
     ghost use Rattle.log_arena.specs.Pages.{holes_of};
 
     /// A world in which nothing happened yet.
@@ -132,6 +139,84 @@ impl World {
         match self.take(alloc, event) {
             Ok(outcome) => Answer::of(outcome),
             Err(_) => Answer::NoMemory,
+        }
+    }
+
+    /// The frames of a datagram came to the address `local`, from the address `from`.
+    fn receive(
+        &mut self,
+        alloc: Global,
+        now: u64,
+        local: &Address,
+        from: &Address,
+        frames: Frames<'_>,
+    ) -> Answer
+        requires told { AreTold (frames_left frames) }
+        requires one { AreOfOneTerm (frames_left frames) }
+        ensures { ServesAs self.old self.new (λ e. on_frames e now local.now from.now (frames_left frames.entry)) result }
+    {
+        let mut left = frames;
+        let Some(frame) = left.next() else {
+            return Answer::Dropped(Cause::Astray(Astray::NoStream));
+        };
+        let place = frame.header.place;
+        match self
+            .registry
+            .image_for(local, from, place.session_id, place.stream_id)
+        {
+            Ok(source) => match self.logs.receive(alloc, source, now, frames) {
+                Ok(answer) => answer,
+                Err(_) => Answer::NoMemory,
+            },
+            Err(why) => Answer::Dropped(Cause::Astray(why)),
+        }
+    }
+
+    /// A heartbeat came to the address `local`, from the address `from`. It takes no memory.
+    fn beat(&mut self, now: u64, local: &Address, from: &Address, place: &TermPlace) -> Answer
+        ensures { ServesAs self.old self.new (λ e. on_stream e local.now from.now place.now (beat_move now place.now)) result }
+    {
+        match self
+            .registry
+            .image_for(local, from, place.session_id, place.stream_id)
+        {
+            Ok(source) => self.logs.beat(source, now, place),
+            Err(why) => Answer::Dropped(Cause::Astray(why)),
+        }
+    }
+
+    /// A datagram came to the address `local`, from the address `from`: a SETUP is an event; the frames of data and a
+    /// heartbeat go to the image of that address, session and stream, where they are from its publisher.
+    fn packet(
+        &mut self,
+        alloc: Global,
+        now: u64,
+        local: &Address,
+        from: &Address,
+        bytes: &[u8],
+    ) -> Answer
+        ensures { Serves self.old self.new (Packets now local.now from.now bytes.now) result }
+    {
+        match Datagram::read(bytes) {
+            Err(fault) => Answer::Dropped(Cause::Unread(fault)),
+            Ok(Packet::Data(frames)) => {
+                frames_are_told();
+                frames_are_of_one_term();
+                self.receive(alloc, now, local, from, frames)
+            }
+            Ok(Packet::Beat(header)) => self.beat(now, local, from, &header.place),
+            Ok(Packet::Setup(setup)) => {
+                let event = Event::Setup {
+                    now,
+                    local: *local,
+                    from: *from,
+                    setup,
+                };
+                self.conduct(alloc, &event)
+            }
+            Ok(Packet::Nak(_)) | Ok(Packet::Sm(_)) => {
+                Answer::Dropped(Cause::Unread(BadPacket::OtherType))
+            }
         }
     }
 
@@ -191,6 +276,12 @@ impl World {
     {
         match step {
             Step::Conductor(event) => self.conduct(alloc, event),
+            Step::Packet {
+                now,
+                local,
+                from,
+                bytes,
+            } => self.packet(alloc, *now, local, from, bytes.as_slice()),
             Step::Offer {
                 now,
                 client,

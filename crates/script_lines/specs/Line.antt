@@ -6,7 +6,8 @@ use Rattle.std.specs.Option.{option_map}
 use Rattle.std.specs.Str.{bytes_eq}
 use Rattle.driver_core.specs.declared.event.Event.TheVariants.{Attach, Command, Tick}
 use Rattle.driver_world.specs.declared.step.Step.{Step}
-use Rattle.driver_world.specs.declared.step.Step.TheVariants.{Conductor, Offer, Poll, List as Lists, Value}
+use Rattle.driver_world.specs.declared.step.Step.TheVariants.{Conductor, Packet, Offer, Poll, List as Lists, Value}
+use Rattle.channel_uri.specs.Address.{address_of}
 use Rattle.script_lines.specs.declared.line.Line.{Line}
 use Rattle.script_lines.specs.declared.line.Line.TheVariants.{Skipped, Principal, Set, Policy, Does, Bad}
 use Rattle.script_lines.specs.Hex.{◌>>=◌, hex_of}
@@ -82,6 +83,16 @@ offer_of fields =
     hex_of words.3 >>= λ message.
     Some (Offer now client registration message)
 
+-- `packet NOW LOCAL FROM HEX`
+unfoldable pub packet_of : List (List ℕ) → Option Step
+packet_of fields =
+    four fields >>= λ words.
+    number_of words.0 >>= λ now.
+    address_of words.1 >>= λ local.
+    address_of words.2 >>= λ from.
+    hex_of words.3 >>= λ bytes.
+    Some (Packet now local from bytes)
+
 -- `poll NOW C SUB SOURCE LIMIT`
 unfoldable pub poll_of : List (List ℕ) → Option Step
 poll_of fields =
@@ -129,6 +140,7 @@ unfoldable pub step_by : List ℕ → List (List ℕ) → Option Step
 step_by word fields =
     if bytes_eq word (codes "cmd") then command_of fields
     else if bytes_eq word (codes "offer") then offer_of fields
+    else if bytes_eq word (codes "packet") then packet_of fields
     else plain_step_by word fields
 
 -- and those of any line
@@ -153,7 +165,8 @@ abbrev pub keeps_fields : List (List ℕ) → Bool
 keeps_fields [] = false
 keeps_fields (word ∷ fields) =
     bytes_eq word (codes "principal")
-    || (bytes_eq word (codes "set") || (bytes_eq word (codes "cmd") || bytes_eq word (codes "offer")))
+    || (bytes_eq word (codes "set")
+    || (bytes_eq word (codes "cmd") || (bytes_eq word (codes "offer") || bytes_eq word (codes "packet"))))
 
 -- whether all bytes are ASCII
 abbrev pub is_plain : List ℕ → Bool

@@ -1,4 +1,4 @@
-ghost use Rattle.script_lines.specs.Line.{is_plain, line_of, or_bad, said_by, step_by, plain_step_by, one, two, three, four, five, name_of, principal_of, set_of, policy_of, attach_of, command_of, offer_of, tick_of, poll_of, list_of, value_of, keeps_fields};
+ghost use Rattle.script_lines.specs.Line.{is_plain, line_of, or_bad, said_by, step_by, plain_step_by, one, two, three, four, five, name_of, principal_of, set_of, policy_of, attach_of, command_of, offer_of, packet_of, tick_of, poll_of, list_of, value_of, keeps_fields};
 ghost use Rattle.script_lines.specs.LineFault.{Gives, HasMemory};
 ghost use Rattle.script_lines.specs.Pieces.{pieces, pieces_behind};
 ghost use Rattle.script_lines.specs.declared.line.LineFault.TheVariants.{NoMemory};
@@ -9,6 +9,7 @@ use crate::hex;
 use crate::number::{number, small_number};
 use crate::pieces::first_piece;
 use byte_strings::Text;
+use channel_uri::address_of;
 use driver_core::{Event, Received};
 use driver_world::Step;
 use std::alloc::{AllocError, AllocFailed, Global};
@@ -215,6 +216,23 @@ fn offer_of(alloc: Global, fields: Option<&str>) -> Result<Step, LineFault>
     })
 }
 
+#[tactic(auto, unfolding(crate::specs::Line::packet_of))]
+fn packet_of(alloc: Global, fields: Option<&str>) -> Result<Step, LineFault>
+    ensures { Gives result (packet_of (pieces_behind 32 (option_copied fields.entry))) }
+{
+    let (now, local, from, bytes) = four_words(fields).ok_or(LineFault::Bad)?;
+    let now = number(now).ok_or(LineFault::Bad)?;
+    let local = address_of(local).ok_or(LineFault::Bad)?;
+    let from = address_of(from).ok_or(LineFault::Bad)?;
+    let bytes = hex::read_hex(alloc, bytes)?;
+    Ok(Step::Packet {
+        now,
+        local,
+        from,
+        bytes,
+    })
+}
+
 #[tactic(auto, unfolding(crate::specs::Line::poll_of))]
 fn poll_of(fields: Option<&str>) -> Option<Step>
     ensures { result ≡ poll_of (pieces_behind 32 (option_copied fields.entry)) }
@@ -301,6 +319,9 @@ fn step_by(alloc: Global, word: &str, fields: Option<&str>) -> Result<Step, Line
     }
     if word == "offer" {
         return offer_of(alloc, fields);
+    }
+    if word == "packet" {
+        return packet_of(alloc, fields);
     }
     plain_step_by(word, fields).ok_or(LineFault::Bad)
 }
