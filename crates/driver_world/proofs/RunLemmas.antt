@@ -176,11 +176,11 @@ told_cond false one other is_told others = others
 
 offers_told : (now timeout : ℕ) (verdict : Verdict) (message : List ℕ) (log : WholeLog) (w : AnyWhole) →
     IsTold (offer_to now timeout verdict message log w).answer
-offers_told now timeout verdict message log (whole frames) =
+offers_told now timeout verdict message log (whole kept) =
     told_cond (not verdict.allow) _ _ tt
-    (told_cond (nat_lt (greatest_message frames.ident) (length message)) _ _ tt
-    (told_cond (not (is_connected frames now timeout)) _ _ tt tt))
-offers_told now timeout verdict message log (rebuilt frames) = tt
+    (told_cond (nat_lt (greatest_message kept.ident) (length message)) _ _ tt
+    (told_cond (not (is_connected kept now timeout)) _ _ tt tt))
+offers_told now timeout verdict message log (rebuilt kept) = tt
 
 offer_told : (s : State) (now : ℕ) (message : List ℕ) (log : WholeLog) (request : Option LogRequest) →
     IsTold (offer_under s now message log request).answer

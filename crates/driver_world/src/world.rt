@@ -2,6 +2,7 @@ ghost use Rattle.frame_codec.specs.Frames.{frames_left};
 ghost use Rattle.frame_codec.specs.Sound.{AreOfOneTerm, AreTold};
 ghost use Rattle.std.specs.Prelude.{◌≡◌, ℕ, ◌≤◌, length, IfOk, OnOk, OnErr};
 ghost use Rattle.driver_core.specs.Conduct.{conduct, outcome_of};
+ghost use Rattle.driver_core.specs.ImageRequests.{image_for};
 ghost use Rattle.driver_core.specs.Pairs.{pairs_of};
 ghost use Rattle.driver_core.specs.Soundness.{AreSettings, IsSound, MovesLogs};
 ghost use Rattle.driver_world.specs.Ends.{inputs_of};
@@ -58,6 +59,18 @@ fn plan_for(
 {
     let inputs = inputs_of(alloc, registry, event, logs)?;
     registry.plan(alloc, event, &inputs)
+}
+
+/// The source number of the image of that place's session and stream, for a datagram that came to `local` from `from`.
+fn image_of(
+    registry: &Registry,
+    local: &Address,
+    from: &Address,
+    place: &TermPlace,
+) -> Result<u64, Astray>
+    ensures { result ≡ image_for registry.now local.now from.now place.now.session_id place.now.stream_id }
+{
+    registry.image_for(local, from, place.session_id, place.stream_id)
 }
 
 /// The logs follow an event that left this registry: the log that it opens is opened before those are closed that it
@@ -159,11 +172,7 @@ impl World {
         let Some(frame) = left.next() else {
             return Answer::Dropped(Cause::Astray(Astray::NoStream));
         };
-        let place = frame.header.place;
-        match self
-            .registry
-            .image_for(local, from, place.session_id, place.stream_id)
-        {
+        match image_of(&self.registry, local, from, &frame.header.place) {
             Ok(source) => match self.logs.receive(alloc, source, now, frames) {
                 Ok(answer) => answer,
                 Err(_) => Answer::NoMemory,
@@ -176,10 +185,7 @@ impl World {
     fn beat(&mut self, now: u64, local: &Address, from: &Address, place: &TermPlace) -> Answer
         ensures { ServesAs self.old self.new (λ e. on_stream e local.now from.now place.now (beat_move now place.now)) result }
     {
-        match self
-            .registry
-            .image_for(local, from, place.session_id, place.stream_id)
-        {
+        match image_of(&self.registry, local, from, place) {
             Ok(source) => self.logs.beat(source, now, place),
             Err(why) => Answer::Dropped(Cause::Astray(why)),
         }

@@ -1,8 +1,9 @@
-use Rattle.std.proofs.Common.{◌≡◌, ◌<◌, List, length, Some, None, sym, ap, subst, ◌∙◌}
+use Rattle.std.proofs.Common.{◌≡◌, ◌<◌, IfSome, List, length, Option, Some, None, sym, ap, subst, ◌∙◌}
 use Rattle.std.specs.Vec.{vec_capacity}
 use Rattle.std.specs.Prelude.{slice_set}
 use Rattle.std.proofs.lemmas.List.{get_or_default, set-get_or}
-use Rattle.driver_world.specs.Held.{HeldLog, HeldLogs, LiesAsBefore, place_at}
+use Rattle.any_log.specs.Held.{AreFor, made_held}
+use Rattle.driver_world.specs.Held.{AreForFirst, HeldLog, HeldLogs, LiesAsBefore, held_at, place_at}
 use Rattle.driver_world.specs.Memory.{Gives, GivesFirst}
 use Rattle.driver_world.specs.Moves.{Does, MovesFirst}
 use Rattle.driver_world.specs.Receiving.{receive_move, unheard}
@@ -14,11 +15,23 @@ use Rattle.driver_world.proofs.open_logs.OpenLogs.receive.Goals as goal
 pub returns-in_default-clause-moved : goal.returns-in_default-clause-moved
 returns-in_default-clause-moved c =
     let old : HeldLogs = record { pages = c.self.inside.arena.home.pages; logs = c.self.inside.logs.items; room = vec_capacity c.self.inside.logs } in
-    let move = receive_move c.args.now (frames_left c.args.frames.entry) in
+    let move = receive_move c.args.now (frames_left c.args.frames) in
     let none : place_at old.logs c.args.source ≡ None =
     ap (λ l. place_at l c.args.source) (sym c.as_slice.ensures.value) ∙ sym c.place_of.ensures ∙ c.in_default.is in
     subst (λ (h : HeldLogs). MovesFirst c.args.source move unheard h h unheard) c.self.view_is
     (moves_none c.args.source move unheard old none)
+
+pub receive_step-requires : goal.receive_step-requires
+receive_step-requires c =
+    let logs : List HeldLog = c.self.inside.logs.items in
+    let held : HeldLog = c.index_mut.result.now in
+    let place : place_at logs c.args.source ≡ Some c.in-Some.at =
+    ap (λ l. place_at l c.args.source) (sym c.as_slice.ensures.value) ∙ sym c.place_of.ensures ∙ c.in-Some.is in
+    let found : held_at logs c.args.source ≡ Some held =
+    (found_at logs c.args.source c.in-Some.at place).1 held ∙ ap Some (sym c.index_mut.ensures.value) in
+    let given : AreForFirst logs c.args.source (frames_left c.args.frames) =
+    subst (λ (h : HeldLogs). AreForFirst h.logs c.args.source (frames_left c.args.frames)) (sym c.self.view_is) c.requires in
+    subst (λ (one : Option HeldLog). IfSome one (λ (h : HeldLog). AreFor (made_held h.log) (frames_left c.args.frames))) found given
 
 pub invariant_of-self : goal.invariant_of-self
 invariant_of-self c =
@@ -35,7 +48,7 @@ returns-clause-moved c =
     let old : HeldLogs = record { pages = c.self.inside.arena.home.pages; logs = c.self.inside.logs.items; room = vec_capacity c.self.inside.logs } in
     let held : HeldLog = c.index_mut.result.now in
     let log : HeldLog = c.receive_step.new.log in
-    let move = receive_move c.args.now (frames_left c.args.frames.entry) in
+    let move = receive_move c.args.now (frames_left c.args.frames) in
     let place : place_at old.logs c.args.source ≡ Some c.in-Some.at =
     ap (λ l. place_at l c.args.source) (sym c.as_slice.ensures.value) ∙ sym c.place_of.ensures ∙ c.in-Some.is in
     let new : HeldLogs = record { pages = old.pages; logs = slice_set old.logs c.in-Some.at log; room = old.room } in
@@ -62,7 +75,7 @@ pub returns-clause-without_memory : goal.returns-clause-without_memory
 returns-clause-without_memory c =
     let old : HeldLogs = record { pages = c.self.inside.arena.home.pages; logs = c.self.inside.logs.items; room = vec_capacity c.self.inside.logs } in
     let held : HeldLog = c.index_mut.result.now in
-    let move = receive_move c.args.now (frames_left c.args.frames.entry) in
+    let move = receive_move c.args.now (frames_left c.args.frames) in
     let place : place_at old.logs c.args.source ≡ Some c.in-Some.at =
     ap (λ l. place_at l c.args.source) (sym c.as_slice.ensures.value) ∙ sym c.place_of.ensures ∙ c.in-Some.is in
     err_each (Gives move held) (GivesFirst c.args.source move c.args.self.now)
