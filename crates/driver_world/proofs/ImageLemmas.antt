@@ -1,23 +1,23 @@
 -- The log of the image that a datagram is for.
-use Rattle.std.proofs.Common.{◌≡◌, ℕ, ℤ, ◌==◌, Bool, true, false, cond, List, [], ◌∷◌, map, Option, Some, None, Result, Ok, Err, refl, sym, ap, subst, ◌∙◌}
+use Rattle.std.proofs.Common.{◌≡◌, ℕ, ℤ, ◌==◌, Bool, true, false, cond, List, [], ◌∷◌, map, Option, Some, None, Result, Ok, Err, refl, sym, subst}
 use Rattle.std.specs.List.{All}
 use Rattle.std.specs.Prelude.{IfSome}
 use Rattle.std.proofs.lemmas.Bool.{and_parts, eqb-true}
 use Rattle.std.proofs.lemmas.Bool.Decides.{Decides-int_eq}
-use Rattle.std.proofs.lemmas.List.Elements.{All-head, All-map, All-nil, All-tail, All-weaker}
+use Rattle.std.proofs.lemmas.List.Elements.{All-head, All-map, All-tail}
 use Rattle.any_log.specs.Held.{AreFor, Made, for_publication, for_stream, made_held}
 use Rattle.channel_uri.specs.declared.address.Address.{Address}
 use Rattle.channel_uri.specs.Address.{is_same}
 use Rattle.channel_uri.specs.Channel.{Shape, endpoint_shape}
 use Rattle.driver_core.specs.declared.image_request.Astray.{Astray}
-use Rattle.driver_core.specs.declared.image_request.Astray.TheVariants.{NoStream, Stranger}
+use Rattle.driver_core.specs.declared.image_request.Astray.TheVariants.{Stranger}
 use Rattle.driver_core.specs.ImageRequests.{image_for, received_by, sent_to}
 use Rattle.driver_core.specs.declared.settings.Settings.{Settings}
 use Rattle.driver_core.specs.State.{State}
 use Rattle.driver_world.specs.Held.{AreForFirst, HeldLog, HeldLogs, held_at}
 use Rattle.driver_world.specs.Idents.{made_by, made_of}
 use Rattle.driver_world.specs.Standing.{LogRow, Match, row_for, row_held}
-use Rattle.driver_world.proofs.SourceLemmas.{Found, IsBy, found_only}
+use Rattle.driver_world.proofs.SourceLemmas.{Found, found_only}
 use Rattle.frame_codec.specs.Frame.{Sent}
 use Rattle.frame_codec.specs.Sound.{AreOfOneTerm, AreTold}
 use Rattle.image_receiver.proofs.ReceivingLemmas.{frames_are}

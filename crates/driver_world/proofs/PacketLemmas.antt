@@ -1,5 +1,5 @@
 -- What a datagram comes to.
-use Rattle.std.proofs.Common.{◌≡◌, ℕ, List, [], ◌∷◌, map, Result, Ok, Err, refl, ap, ◌∙◌}
+use Rattle.std.proofs.Common.{◌≡◌, ℕ, List, [], ◌∷◌, map, Result, Ok, Err, refl, ap}
 use Rattle.any_log.specs.Held.{for_stream}
 use Rattle.any_log.specs.Whole.{AnyWhole, whole, rebuilt, beaten, made_for as made_any, readers_in, received}
 use Rattle.driver_core.specs.declared.event.Event.TheVariants.{Setup as SetUp}

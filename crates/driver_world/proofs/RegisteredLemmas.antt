@@ -8,7 +8,6 @@ use Rattle.driver_core.specs.declared.event.Event.TheVariants.{Setup as SetUp}
 use Rattle.driver_core.specs.declared.event.Inputs.{Inputs}
 use Rattle.driver_core.specs.declared.peer.Peer.{Peer}
 use Rattle.driver_core.specs.declared.settings.Settings.{Settings}
-use Rattle.driver_core.specs.Conduct.{state_after}
 use Rattle.driver_core.specs.LogRequests.{offering_of, registration_at}
 use Rattle.driver_core.specs.Renewal.{source_at}
 use Rattle.driver_core.specs.Soundness.{AreSettings, IsSound}

@@ -1,8 +1,8 @@
 -- Each event keeps registrations with publications.
-use Rattle.std.proofs.Common.{◌≡◌, ℕ, ℤ, ◌+◌, ◌<◌, ◌≤◌, ◌==◌, Bool, true, false, not, ◌&&◌, cond, List, [], ◌∷◌, ◌++◌, filter, find, map, Option, Some, None, Result, Ok, Err, refl, sym, ap, ◌∙◌, subst, arith}
+use Rattle.std.proofs.Common.{◌≡◌, ℕ, ℤ, ◌+◌, ◌≤◌, Bool, true, false, ◌&&◌, cond, List, [], ◌∷◌, ◌++◌, filter, map, Option, Some, None, Result, Ok, Err, refl, ◌∙◌, subst, arith}
 use Rattle.std.specs.List.{All}
 use Rattle.std.proofs.lemmas.Bool.{and_parts}
-use Rattle.std.proofs.lemmas.List.Elements.{All-cons, All-filter, All-head, All-map, All-nil, All-push, All-tail, All-weaker}
+use Rattle.std.proofs.lemmas.List.Elements.{All-filter, All-map, All-nil, All-push, All-weaker}
 use Rattle.driver_core.specs.Draft.{Draft}
 use Rattle.driver_core.specs.declared.event.Event.{Event}
 use Rattle.driver_core.specs.declared.event.Event.TheVariants.{Attach, Command, Reload, Setup, Tick}
@@ -12,14 +12,14 @@ use Rattle.driver_core.specs.declared.refusal.Refusal.{Refusal}
 use Rattle.driver_core.specs.Attaching.{attached}
 use Rattle.driver_core.specs.Closing.{keep_alive, close}
 use Rattle.driver_core.specs.Commands.{heard, at_request}
-use Rattle.driver_core.specs.Conduct.{conduct, drafted, state_after, state_of}
+use Rattle.driver_core.specs.Conduct.{conduct, drafted, state_after}
 use Rattle.driver_core.specs.Counting.{counted, with_counter, valued, uncounted}
 use Rattle.driver_core.specs.Draft.{answered, told, replied, replied_opening, refused}
 use Rattle.driver_core.specs.Leaving.{left, all_left}
 use Rattle.driver_core.specs.Publishing.{published, with_publication}
 use Rattle.driver_core.specs.Reloading.{in_force, reloaded}
 use Rattle.driver_core.specs.Renewal.{renewed}
-use Rattle.driver_core.specs.Requests.{PublicationRequest, wanted_by}
+use Rattle.driver_core.specs.Requests.{wanted_by}
 use Rattle.driver_core.specs.SettingUp.{image_made, wanted_by as image_wanted_by, with_image}
 use Rattle.driver_core.specs.Soundness.{Ascend, IsSound}
 use Rattle.driver_core.specs.State.{State, at_moment}

@@ -1,5 +1,5 @@
 -- Runs are put together of steps.
-use Rattle.std.proofs.Common.{◌≡◌, ℕ, ◌==◌, not, nat_lt, Bool, true, false, List, [], ◌∷◌, ◌++◌, length, Option, Some, None, Result, Ok, Err, if◌then◌else◌, refl, subst, sym}
+use Rattle.std.proofs.Common.{◌≡◌, ℕ, ◌==◌, not, nat_lt, Bool, true, false, List, [], ◌∷◌, ◌++◌, length, Option, Some, None, Ok, Err, if◌then◌else◌, refl, subst, sym}
 use Rattle.std.specs.Option.{option_map}
 use Rattle.any_log.specs.Whole.{AnyWhole, whole, rebuilt, position_in}
 use Rattle.driver_core.specs.declared.event.Event.{Event}
@@ -33,9 +33,9 @@ use Rattle.frame_codec.specs.declared.status_message.StatusMessage.{StatusMessag
 use Rattle.frame_codec.specs.Datagram.{frames, beat, nak, status, setup, packet_of}
 use Rattle.frame_codec.specs.Frame.{Sent}
 use Rattle.driver_world.specs.Answers.{answered_by, answer_of}
-use Rattle.driver_world.specs.Ends.{RunEnd, Moved, IsAnswer, IsAnswerOf, AreAnswers, after, after_by, dropped, end_of, moved, moved_on, on_frames, on_log, on_stream, log_at, conducted}
+use Rattle.driver_world.specs.Ends.{RunEnd, Moved, IsAnswerOf, AreAnswers, after, after_by, dropped, end_of, moved, moved_on, on_frames, on_log, on_stream, log_at, conducted}
 use Rattle.driver_world.specs.Held.{HeldLogs}
-use Rattle.driver_world.specs.Memory.{GivesFirst, HasMemory, HasMemoryBy, HaveMemory, is_listed, takes_memory}
+use Rattle.driver_world.specs.Memory.{GivesFirst, HasMemoryBy, HaveMemory, is_listed, takes_memory}
 use Rattle.driver_world.specs.Moves.{WholeLog, Move, MovesFirst, offer_move, offer_to, offer_under, poll_move, poll_under}
 use Rattle.driver_world.specs.Standing.{Held, StandsForEnd, Takes, Serves, ServesAs, Runs, Continues}
 use Rattle.driver_world.proofs.StandLemmas.{gives_first, moves_first}

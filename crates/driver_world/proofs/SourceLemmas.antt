@@ -1,5 +1,5 @@
 -- Of live logs, those of one number: the list ascends, so there is one at most.
-use Rattle.std.proofs.Common.{◌≡◌, ℕ, ◌<◌, ◌≤◌, Bool, true, false, cond, List, [], ◌∷◌, find, Option, Some, refl, subst, arith}
+use Rattle.std.proofs.Common.{◌≡◌, ℕ, ◌<◌, ◌≤◌, Bool, true, false, cond, List, [], ◌∷◌, find, Some, refl, subst, arith}
 use Rattle.std.specs.List.{All}
 use Rattle.std.proofs.lemmas.List.Elements.{All-cons, All-nil}
 use Rattle.driver_core.specs.Soundness.{Ascend}
@@ -71,4 +71,3 @@ found_only Q test before last [] log publishes up is = absurd (cc is)
 found_only Q test before last (first ∷ logs) log publishes up is =
     found_step Q test before last first log logs (test first) publishes refl up
     (found_only Q test first.number last logs log publishes up.1) is
-

@@ -1,4 +1,4 @@
-use Rattle.std.proofs.Common.{◌≡◌, Err, Ok, sym, ◌∙◌}
+use Rattle.std.proofs.Common.{◌≡◌, Ok, sym, ◌∙◌}
 use Rattle.driver_core.specs.ImageRequests.{image_for}
 use Rattle.driver_world.specs.Receiving.{beat_move, unheard}
 use Rattle.driver_world.proofs.RunLemmas.{stream_served}
