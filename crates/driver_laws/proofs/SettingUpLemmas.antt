@@ -112,7 +112,7 @@ room_never_denies s wanted verdict =
     never (Some place) is = absurd (cc is)
 
 -- the first that it fits, and none to which it is allowed
-record IsDeniedIn (s : State) (verdict : Verdict) (rows : List Subscription) : Type 0 where
+pub record IsDeniedIn (s : State) (verdict : Verdict) (rows : List Subscription) : Type 0 where
   first : Subscription
   others : List Subscription
   rows_are : rows ≡ first ∷ others
@@ -129,7 +129,7 @@ denied_in s wanted verdict (first ∷ others) =
     (λ denies is.
     record { first = first; others = others; rows_are = refl; verdict_is = cc is; denies = denies })
 
-denied_is : (s : State) (wanted : ImageWanted) (verdict : Verdict) → setting_of s wanted ≡ Err (Denied verdict) →
+pub denied_is : (s : State) (wanted : ImageWanted) (verdict : Verdict) → setting_of s wanted ≡ Err (Denied verdict) →
     IsDeniedIn s verdict (fitting s wanted)
 unfolding setting_of
 denied_is s wanted verdict =
@@ -165,7 +165,7 @@ acts_for [] number there = absurd (cc there)
 acts_for (row ∷ rows) number there =
     one_found (row.number == number) row (client_at rows number) _ (acts_for rows number) there
 
-denied_to : (s : State) (now : ℕ) (wanted : ImageWanted) (verdict : Verdict) → AreRising s → HaveTheirClients s →
+pub denied_to : (s : State) (now : ℕ) (wanted : ImageWanted) (verdict : Verdict) → AreRising s → HaveTheirClients s →
     IsDeniedIn (at_moment s now) verdict (fitting (at_moment s now) wanted) → IsDeniedToAll s now wanted verdict
 unfolding at_moment is_allowed
 denied_to s now wanted verdict rises owned denied =

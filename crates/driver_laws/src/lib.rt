@@ -100,7 +100,8 @@ pub fn counters_are_shown_exactly()
 {}
 
 /// A denial is told only of a request that the policy in force denies, and names the least rule that matches, or the
-/// default where none does.
+/// default where none does. So does the verdict by which a SETUP is dropped as denied, which is that for the subscription of
+/// the lowest number that its image fits; the policy in force denies the image to each that it fits.
 pub fn denials_are_named()
     ensures { DenialsAreNamed }
 {}
