@@ -35,3 +35,4 @@ pub mod SettingUpLemmas
 pub mod StayingLemmas
 pub mod SubscribingLemmas
 pub mod SubscribingOnlyLemmas
+pub mod UniqueImageLemmas

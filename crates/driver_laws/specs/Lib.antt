@@ -17,3 +17,4 @@ pub mod RemovalLaws
 pub mod SettingLaws
 pub mod SoundnessLaws
 pub mod SubscribingLaws
+pub mod UniqueImageLaws

@@ -21,6 +21,7 @@ ghost use Rattle.driver_laws.specs.RemovalLaws.{SubscriptionsAreRemovedExactly, 
 ghost use Rattle.driver_laws.specs.SettingLaws.{SetupsAreGrantedExactly};
 ghost use Rattle.driver_laws.specs.SoundnessLaws.{RegistriesAreSound};
 ghost use Rattle.driver_laws.specs.SubscribingLaws.{SubscriptionsAreGrantedExactly, SubscriptionsAreGrantedOnly};
+ghost use Rattle.driver_laws.specs.UniqueImageLaws.{ImagesAreUnique};
 
 /// A client's well-formed request for a subscription is granted where the first rule that matches allows it, or where
 /// none matches and the default does, and there is room; else it is refused, by the verdict or as full.
@@ -68,6 +69,11 @@ pub fn images_are_granted_exactly()
 /// In every registry each image is read by some subscription.
 pub fn images_are_read()
     ensures { ImagesAreRead }
+{}
+
+/// In every registry no two images are of one endpoint, session and stream, so that a search by these finds the only one.
+pub fn images_are_unique()
+    ensures { ImagesAreUnique }
 {}
 
 /// Of all replies to an event one for each pair that came, and no other, tells the subscription's client of an image that is
