@@ -31,6 +31,7 @@ pub mod RemovedExactlyLemmas
 pub mod RenewalLemmas
 pub mod RisingLemmas
 pub mod RoomLemmas
+pub mod SettingCauseLemmas
 pub mod SettingUpLemmas
 pub mod StayingLemmas
 pub mod SubscribingLemmas

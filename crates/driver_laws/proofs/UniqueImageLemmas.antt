@@ -1,10 +1,9 @@
 -- In every registry no two images are of one endpoint, session and stream.
-use Rattle.std.proofs.Common.{◌≡◌, ℤ, Bool, true, false, not, cond, List, [], ◌∷◌, find, Option, Some, None, is_some, refl, sym, subst, ap, ◌∙◌, ⊎_elim}
+use Rattle.std.proofs.Common.{◌≡◌, ℤ, true, false, not, List, find, Option, Some, None, is_some, refl, sym, subst, ap, ◌∙◌, ⊎_elim}
 use Rattle.std.specs.List.{Contains}
 use Rattle.std.specs.Ordering.{int_eq}
 use Rattle.std.proofs.lemmas.Bool.{and_parts}
 use Rattle.std.proofs.lemmas.Bool.Decides.{Decides-int_eq}
-use Rattle.std.proofs.lemmas.List.Elements.{Contains-append_cases}
 use Rattle.std.proofs.lemmas.Slice.Eq.{bytes_eq-Decides}
 use Rattle.driver_core.specs.declared.event.Event.{Event}
 use Rattle.driver_core.specs.declared.event.Inputs.{Inputs}
@@ -28,8 +27,9 @@ use Rattle.stream_registry.specs.Images.{is_image_at}
 use Rattle.stream_registry.specs.Origins.{is_published_by, is_remote, unlingering}
 use Rattle.stream_registry.specs.Places.{are_same, is_same_place, is_same_spot}
 use Rattle.driver_core.proofs.CacheLemmas.{IsFound, found_in}
-use Rattle.driver_core.proofs.ListLemmas.{contains_none, only_one}
+use Rattle.driver_core.proofs.ListLemmas.{contains_none}
 use Rattle.driver_core.proofs.SettingLemmas.{IsSet, is_set}
+use Rattle.driver_laws.proofs.DroppingLemmas.{none_found}
 use Rattle.driver_laws.proofs.EveryLemmas.{after_any}
 use Rattle.driver_laws.proofs.NewNumberLemmas.{image_number}
 use Rattle.driver_laws.proofs.NumberLemmas.{event_rises, opened_rises}
@@ -153,25 +153,6 @@ were_of_one log other before another one two both =
 
 -- ---- an image that comes
 
--- where none is found, none is there
-found_here : {X : Type 0} (test : X → Bool) (b : Bool) (y x : X) (ys : List X) → test y ≡ b →
-    is_some (cond b (Some y) (find test ys)) ≡ false → (is_some (find test ys) ≡ false → Contains ys x → test x ≡ true → ⊥) →
-    Contains (y ∷ ys) x → test x ≡ true → ⊥
-found_here test true y x ys is none later has passes = absurd (cc none)
-found_here test false y x ys is none later has passes =
-    ⊎_elim
-    (λ first.
-    let never : false ≡ true = sym is ∙ ap test (only_one y x first) ∙ passes in
-    absurd (cc never))
-    (λ rest. later none rest passes)
-    (Contains-append_cases (y ∷ []) ys x has)
-
-never_found : {X : Type 0} (test : X → Bool) (xs : List X) (x : X) → is_some (find test xs) ≡ false → Contains xs x →
-    test x ≡ true → ⊥
-never_found test [] x none has passes = contains_none x has
-never_found test (y ∷ ys) x none has passes =
-    found_here test (test y) y x ys refl none (never_found test ys x) has passes
-
 -- none of its publisher was there
 is_new : (s : State) (event : Event) (image log : Source) → IsImageMadeBy s event image → Contains s.streams.sources log →
     AreOfOnePublisher log image → ⊥
@@ -182,13 +163,16 @@ is_new s event image log made has both =
     let channel : image.channel ≡ wanted.channel = ap (λ (p : Source). p.channel) made.log_is in
     let session : image.session ≡ wanted.session = ap (λ (p : Source). p.session) made.log_is in
     let stream : image.stream ≡ wanted.stream = ap (λ (p : Source). p.stream) made.log_is in
-    never_found (is_image_at wanted.channel wanted.session wanted.stream) s.streams.sources log set.new has
-    (looked_for wanted.channel wanted.session wanted.stream log (record {
+    let there : is_image_at wanted.channel wanted.session wanted.stream log ≡ true =
+    looked_for wanted.channel wanted.session wanted.stream log (record {
       is_image = both.is_image;
       session_is = both.session ∙ session;
       stream_is = both.stream ∙ stream;
       place = rw (← channel) both.place;
-    }))
+    }) in
+    let none = none_found (is_image_at wanted.channel wanted.session wanted.stream) s.streams.sources set.new log has in
+    let never : false ≡ true = sym none ∙ there in
+    absurd (cc never)
 
 -- ---- behind an event
 
@@ -225,7 +209,9 @@ only_found : (logs : List Source) (channel : Shape) (session stream : ℤ) (log 
     Contains logs log → is_image_at channel session stream log ≡ true →
     (found : Option Source) → find (is_image_at channel session stream) logs ≡ found → found ≡ Some log
 only_found logs channel session stream log unique has is None found =
-    absurd (never_found (is_image_at channel session stream) logs log (ap is_some found) has is)
+    let none = none_found (is_image_at channel session stream) logs (ap is_some found) log has in
+    let never : false ≡ true = sym none ∙ is in
+    absurd (cc never)
 only_found logs channel session stream log unique has is (Some other) found =
     let there : IsFound (is_image_at channel session stream) logs other =
     found_in (is_image_at channel session stream) logs other found in

@@ -53,9 +53,10 @@ pub fn images_come_by_setups()
     ensures { ImagesComeBySetups }
 {}
 
-/// A SETUP makes an image, whose log opens at the place that it gets, exactly where it is well-formed and new, a subscription
-/// that it fits reads it by the policy in force, and there is room; else it is dropped by the first of these that fails, and
-/// nothing changes but the moment. Where the policy denies it to each, the verdict is that for the one of the lowest number.
+/// A SETUP makes an image, whose log opens at the least vacant place, exactly where it is well-formed and no image of its
+/// endpoint, session and stream is there, a subscription that it fits reads it by the policy in force, there is room, and a
+/// place is vacant; else it is dropped by the first of these that fails, and nothing changes but the moment. Where the policy
+/// denies it to each, the verdict is that for the one of the lowest number.
 pub fn setups_are_granted_exactly()
     ensures { SetupsAreGrantedExactly }
 {}
