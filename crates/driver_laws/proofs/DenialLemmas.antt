@@ -159,7 +159,7 @@ termination_names s event left client correlation = record { replies = (tt, tt);
 
 -- ---- a denial
 
-asked_before : (s : State) (now handle : ℕ) (bytes : List ℕ) (correlation : ℕ) (question : Question) →
+pub asked_before : (s : State) (now handle : ℕ) (bytes : List ℕ) (correlation : ℕ) (question : Question) →
     IsAsked (at_moment s now) handle bytes correlation question → IsAsked s handle bytes correlation question
 unfolding at_moment
 asked_before s now handle bytes correlation question asked =

@@ -2,6 +2,7 @@ pub mod ApartLemmas
 pub mod ClientComingLemmas
 pub mod ClosedLogLemmas
 pub mod ClosingLemmas
+pub mod DecisionLemmas
 pub mod DenialLemmas
 pub mod DenialTextLemmas
 pub mod DroppingLemmas

@@ -1,5 +1,6 @@
 pub mod ClosingLaws
 pub mod CounterLaws
+pub mod DecisionLaws
 pub mod DenialLaws
 pub mod Events
 pub mod GrantLaws

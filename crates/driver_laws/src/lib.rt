@@ -5,6 +5,7 @@
 
 ghost use Rattle.driver_laws.specs.ClosingLaws.{ClosedLogsWereThere, LogsCloseExactly, LogsCloseOnly};
 ghost use Rattle.driver_laws.specs.CounterLaws.{CountersAreRemovedExactly, CountersAreRemovedOnly, CountersAreSetExactly, CountersAreSetOnly};
+ghost use Rattle.driver_laws.specs.DecisionLaws.{DecisionsAreByThePolicyInForce};
 ghost use Rattle.driver_laws.specs.DenialLaws.{DenialsAreNamed};
 ghost use Rattle.driver_laws.specs.GrantLaws.{CountersAreGrantedExactly, TerminationsAreGrantedExactly, CountersAndTerminationsAreGrantedOnly};
 ghost use Rattle.driver_laws.specs.ImageLaws.{ImagesAreGrantedExactly, ImagesAreRead};
@@ -111,6 +112,13 @@ pub fn counters_are_shown_exactly()
 /// the lowest number that its image fits; the policy in force denies the image to each that it fits.
 pub fn denials_are_named()
     ensures { DenialsAreNamed }
+{}
+
+/// Each decision that an event tells is by the first rule that matches, or by the default where none does: that of the policy
+/// in force on what the event's request asks, or that of the policy in force behind the event on a pair that it takes away or
+/// brings.
+pub fn decisions_are_by_the_policy_in_force()
+    ensures { DecisionsAreByThePolicyInForce }
 {}
 
 /// A client's request that a subscription go takes away the one of that number that is the client's own, and the images
