@@ -1,5 +1,5 @@
 -- Denials name the first rule that matches, or the default.
-use Rattle.std.proofs.Common.{◌≡◌, ℕ, ℤ, false, List, [], ◌∷◌, Some, inl, inr, refl, sym, ap, ◌∙◌, ⊎_elim}
+use Rattle.std.proofs.Common.{◌≡◌, ℕ, ℤ, false, List, [], ◌∷◌, Option, Some, None, Result, Ok, Err, inl, inr, refl, sym, ap, ◌∙◌, ⊎_elim}
 use Rattle.std.proofs.lemmas.Bool.{cond_both}
 use Rattle.std.specs.List.{AllByRecursion}
 use Rattle.driver_core.specs.declared.event.Event.{Event}
@@ -9,6 +9,8 @@ use Rattle.driver_core.specs.declared.outcome.Response.{Response}
 use Rattle.driver_core.specs.declared.refusal.Refusal.{Refusal}
 use Rattle.driver_core.specs.declared.refusal.Refusal.TheVariants.{UnknownCommandType, MalformedCommand, WrongClient, InvalidChannel, UnknownSubscription, UnknownPublication, UnknownCounter, Denied, Conflict, Full, NoRoom}
 use Rattle.driver_core.specs.declared.replies.Message.{Message}
+use Rattle.driver_core.specs.declared.setup_fault.SetupFault.{SetupFault}
+use Rattle.driver_core.specs.declared.setup_fault.SetupFault.TheVariants as fault
 use Rattle.driver_core.specs.Attaching.{attached}
 use Rattle.driver_core.specs.Closing.{keep_alive, close}
 use Rattle.driver_core.specs.Commands.{heard, at_request}
@@ -26,9 +28,13 @@ use Rattle.driver_core.specs.Ticking.{tick, ticked, late}
 use Rattle.driver_core.specs.Unpublishing.{unpublished}
 use Rattle.driver_core.specs.Unsubscribing.{unsubscribed}
 use Rattle.driver_core.specs.Verdicts.{verdict_on}
-use Rattle.driver_core.specs.SettingUp.{image_made}
+use Rattle.driver_core.specs.Renewal.{renewed}
+use Rattle.driver_core.specs.SettingUp.{image_made, set_by, set_up, set_up_by, setting_of, wanted_by as image_wanted_by}
 use Rattle.driver_core.specs.Unread.{dropping}
-use Rattle.driver_laws.specs.DenialLaws.{IsDenialNamed, IsNamedRefusal, IsDeniedOn}
+use Rattle.driver_laws.specs.DenialLaws.{IsDenialNamed, IsDeniedOn, IsImageDeniedOn, IsNamedFault, IsNamedRefusal, IsResponseNamed, NamesDenials}
+use Rattle.driver_laws.specs.NumberLaws.{AreRising}
+use Rattle.driver_laws.specs.OwnerLaws.{HaveTheirClients}
+use Rattle.driver_laws.specs.SettingLaws.{IsDeniedToAll}
 use Rattle.channel_uri.specs.Channel.{Shape}
 use Rattle.channel_uri.specs.declared.address.Address.{Address}
 use Rattle.client_registry.specs.declared.client.Client.{Client}
@@ -43,10 +49,14 @@ use Rattle.policy_core.specs.RuleList.{Rules}
 use Rattle.stream_registry.specs.declared.wanted.Adding.{Adding}
 use Rattle.stream_registry.specs.declared.wanted.Wanted.{Wanted}
 use Rattle.stream_registry.specs.declared.wanted.ImageWanted.{ImageWanted}
+use Rattle.stream_registry.specs.Pairs.{image_question}
+use Rattle.frame_codec.specs.declared.join.Join.{Join}
 use Rattle.frame_codec.specs.declared.setup.Setup.{Setup as SetupFrame}
-use Rattle.driver_core.proofs.EventCases.{Cases, IsPlain, attach_cases, command_cases, reload_cases, set_up_cases}
+use Rattle.frame_codec.specs.Join.{join_of}
+use Rattle.driver_core.proofs.EventCases.{Cases, IsPlain, attach_cases, command_cases, reload_cases}
 use Rattle.driver_core.proofs.VerdictLemmas.{by_policy}
 use Rattle.driver_laws.proofs.DenialTextLemmas.{epoch_of, denial_words, denial_is_named}
+use Rattle.driver_laws.proofs.SettingUpLemmas.{denied_is, denied_to}
 use Rattle.driver_laws.proofs.SubscribingLemmas.{asks_before, found_number}
 use Rattle.driver_laws.proofs.LeavingLemmas.{all_timeouts}
 use Rattle.driver_laws.proofs.RenewalLemmas.{all_replies}
@@ -74,36 +84,38 @@ IsNamed s event message = IsDenialNamed s event message.client message.reply
 record Names (s : State) (event : Event) (draft : Draft) : Type 0 where
   replies : AllByRecursion (IsNamed s event) draft.replies
   later : AllByRecursion (IsNamed s event) draft.later
+  response : IsResponseNamed s event draft.response
 
 refusal_names : (s : State) (event : Event) (after : State) (decisions : List Decision) (client correlation : ℕ)
     (refusal : Refusal) → IsNamedRefusal s event client correlation refusal →
     Names s event (refused after decisions client correlation refusal)
 unfolding refused replied told
-refusal_names s event after decisions client correlation refusal named = record { replies = (named, tt); later = tt }
+refusal_names s event after decisions client correlation refusal named = record { replies = (named, tt); later = tt; response = tt }
 
-answer_names : (s : State) (event : Event) (after : State) (response : Response) → Names s event (answered after response)
+answer_names : (s : State) (event : Event) (after : State) (response : Response) → IsResponseNamed s event response →
+    Names s event (answered after response)
 unfolding answered
-answer_names s event after response = record { replies = tt; later = tt }
+answer_names s event after response named = record { replies = tt; later = tt; response = named }
 
 removal_names : (s : State) (event : Event) (left : State) (request : RemovalRequest) →
     Names s event (unsubscribed left request.client request.correlation request.fields.registration)
 unfolding unsubscribed replied told
-removal_names s event left request = record { replies = (tt, tt); later = tt }
+removal_names s event left request = record { replies = (tt, tt); later = tt; response = tt }
 
 unpublished_names : (s : State) (event : Event) (left : State) (client : Client) (correlation number : ℕ) →
     Names s event (unpublished left client correlation number)
 unfolding unpublished replied told
-unpublished_names s event left client correlation number = record { replies = (tt, tt); later = tt }
+unpublished_names s event left client correlation number = record { replies = (tt, tt); later = tt; response = tt }
 
 reloaded_names : (s : State) (event : Event) (left : State) (policy : Rules) → Names s event (reloaded left policy)
 unfolding reloaded answered
-reloaded_names s event left policy = record { replies = tt; later = tt }
+reloaded_names s event left policy = record { replies = tt; later = tt; response = tt }
 
 grant_names : (s : State) (now handle : ℕ) (bytes : List ℕ) (request : SubscriptionRequest) →
     Names s (Command now handle bytes) (
     subscribed (at_request s now handle) request.client request.correlation request.channel request.fields.stream)
 unfolding subscribed replied told
-grant_names s now handle bytes request = record { replies = (tt, tt); later = tt }
+grant_names s now handle bytes request = record { replies = (tt, tt); later = tt; response = tt }
 
 ready_is_named : (s : State) (event : Event) (client : ℕ) (wanted : Wanted) (correlation number : ℕ) (session : ℤ) →
     IsDenialNamed s event client (ready_for wanted correlation number session)
@@ -114,40 +126,40 @@ publication_names : (s : State) (event : Event) (left : State) (request : Public
     Names s event (published left request.client request.correlation (wanted_by request) adding)
 unfolding published replied_opening replied told
 publication_names s event left request adding =
-    record { replies = (ready_is_named s event request.client.number (wanted_by request) _ _ _, tt); later = tt }
+    record { replies = (ready_is_named s event request.client.number (wanted_by request) _ _ _, tt); later = tt; response = tt }
 
 keepalive_names : (s : State) (event : Event) (left : State) → Names s event (keep_alive left)
 unfolding keep_alive told
-keepalive_names s event left = record { replies = tt; later = tt }
+keepalive_names s event left = record { replies = tt; later = tt; response = tt }
 
 closing_names : (s : State) (event : Event) (left : State) (client : Client) (correlation : ℕ) →
     Names s event (close left client correlation)
 unfolding close replied told
-closing_names s event left client correlation = record { replies = (tt, tt); later = tt }
+closing_names s event left client correlation = record { replies = (tt, tt); later = tt; response = tt }
 
 counter_names : (s : State) (event : Event) (left : State) (client : Client) (correlation : ℕ) (fields : AddCounter) →
     Names s event (counted left client correlation fields)
 unfolding counted replied told
-counter_names s event left client correlation fields = record { replies = (tt, tt); later = tt }
+counter_names s event left client correlation fields = record { replies = (tt, tt); later = tt; response = tt }
 
 value_names : (s : State) (event : Event) (left : State) (client : Client) (correlation : ℕ) (fields : SetCounter) →
     Names s event (valued left client correlation fields)
 unfolding valued replied told
-value_names s event left client correlation fields = record { replies = (tt, tt); later = tt }
+value_names s event left client correlation fields = record { replies = (tt, tt); later = tt; response = tt }
 
 counter_removal_names : (s : State) (event : Event) (left : State) (client : Client) (correlation number : ℕ) →
     Names s event (uncounted left client correlation number)
 unfolding uncounted told
-counter_removal_names s event left client correlation number = record { replies = (tt, tt); later = (tt, tt) }
+counter_removal_names s event left client correlation number = record { replies = (tt, tt); later = (tt, tt); response = tt }
 
 termination_names : (s : State) (event : Event) (left : State) (client : Client) (correlation : ℕ) →
     Names s event (terminated left client correlation)
 unfolding terminated
-termination_names s event left client correlation = record { replies = (tt, tt); later = tt }
+termination_names s event left client correlation = record { replies = (tt, tt); later = tt; response = tt }
 
 -- ---- a denial
 
-asked_before : (s : State) (now handle : ℕ) (bytes : List ℕ) (correlation : ℕ) (question : Question) →
+pub asked_before : (s : State) (now handle : ℕ) (bytes : List ℕ) (correlation : ℕ) (question : Question) →
     IsAsked (at_moment s now) handle bytes correlation question → IsAsked s handle bytes correlation question
 unfolding at_moment
 asked_before s now handle bytes correlation question asked =
@@ -269,13 +281,13 @@ attach_names : (s : State) (now principal : ℕ) (inputs : Inputs) →
 unfolding drafted attached
 attach_names s now principal inputs =
     attach_cases (Names s (Attach now principal)) (at_moment s now) principal
-    (answer_names s (Attach now principal) _ _)
-    (answer_names s (Attach now principal) _ _)
-    (answer_names s (Attach now principal) _ _)
+    (answer_names s (Attach now principal) _ _ tt)
+    (answer_names s (Attach now principal) _ _ tt)
+    (answer_names s (Attach now principal) _ _ tt)
 
 tick_names : (s : State) (now : ℕ) (inputs : Inputs) → Names s (Tick now) (drafted s (Tick now) inputs)
 unfolding drafted tick ticked
-tick_names s now inputs = record { replies = tt; later = all_timeouts _ (λ client. tt) (late (at_moment s now)) }
+tick_names s now inputs = record { replies = tt; later = all_timeouts _ (λ client. tt) (late (at_moment s now)); response = tt }
 
 reload_names : (s : State) (now : ℕ) (policy : Rules) (inputs : Inputs) →
     Names s (Reload now policy) (drafted s (Reload now policy) inputs)
@@ -283,36 +295,99 @@ unfolding drafted
 reload_names s now policy inputs =
     reload_cases (Names s (Reload now policy)) (at_moment s now) policy
     (λ room. reloaded_names s (Reload now policy) _ policy)
-    (λ full. answer_names s (Reload now policy) _ _)
+    (λ full. answer_names s (Reload now policy) _ _ tt)
 
 image_names : (s : State) (event : Event) (left : State) (wanted : ImageWanted) (place : ℕ) →
     Names s event (image_made left wanted place)
 unfolding image_made answered
-image_names s event left wanted place = record { replies = tt; later = tt }
+image_names s event left wanted place = record { replies = tt; later = tt; response = tt }
 
-set_up_names : (s : State) (now : ℕ) (local from : Address) (setup : SetupFrame) (inputs : Inputs) →
-    Names s (Setup now local from setup) (drafted s (Setup now local from setup) inputs)
-unfolding drafted
-set_up_names s now local from setup inputs =
-    let event = Setup now local from setup in
-    set_up_cases (Names s event) (at_moment s now) local from setup (λ fault. answer_names s event _ _)
-    (λ join place is set. image_names s event (at_moment s now) _ place)
+-- a SETUP whose image is denied to each that it fits
+image_denied : (s : State) (now : ℕ) (local from : Address) (setup : SetupFrame) (join : Join) (verdict : Verdict) →
+    AreRising s → HaveTheirClients s → join_of setup ≡ Some join →
+    setting_of (at_moment s now) (image_wanted_by local from setup join) ≡ Err (fault.Denied verdict) →
+    IsImageDeniedOn s (Setup now local from setup) verdict
+image_denied s now local from setup join verdict rises owned is set =
+    let wanted : ImageWanted = image_wanted_by local from setup join in
+    let all : IsDeniedToAll s now wanted verdict =
+    denied_to s now wanted verdict rises owned (denied_is (at_moment s now) wanted verdict set) in
+    let question : Question = image_question all.principal all.first in
+    let denies : verdict.allow ≡ false =
+    ap (λ (v : Verdict). v.allow) all.verdict_is
+    ∙ all.denies all.first all.principal all.stands all.fitting all.attached in
+    let epoch : verdict.epoch ≡ s.epoch = ap (λ (v : Verdict). v.epoch) all.verdict_is ∙ epoch_of s question in
+    record {
+      now = now;
+      local = local;
+      from = from;
+      setup = setup;
+      join = join;
+      event_is = refl;
+      join_is = is;
+      to_all = all;
+      denies = denies;
+      text = sym (denial_words verdict) ∙ denial_is_named verdict s.epoch denies epoch;
+    }
 
-draft_names : (s : State) (event : Event) (inputs : Inputs) → Names s event (drafted s event inputs)
-draft_names s (Attach now principal) inputs = attach_names s now principal inputs
-draft_names s (Command now handle bytes) inputs =
+fault_named : (s : State) (now : ℕ) (local from : Address) (setup : SetupFrame) (join : Join) (why : SetupFault) →
+    AreRising s → HaveTheirClients s → join_of setup ≡ Some join →
+    setting_of (at_moment s now) (image_wanted_by local from setup join) ≡ Err why →
+    IsNamedFault s (Setup now local from setup) why
+fault_named s now local from setup join (fault.Denied verdict) rises owned is set =
+    image_denied s now local from setup join verdict rises owned is set
+fault_named s now local from setup join fault.BadSetup rises owned is set = tt
+fault_named s now local from setup join fault.Exists rises owned is set = tt
+fault_named s now local from setup join fault.NoSubscription rises owned is set = tt
+fault_named s now local from setup join fault.Full rises owned is set = tt
+fault_named s now local from setup join fault.NoRoom rises owned is set = tt
+
+set_names : (s : State) (now : ℕ) (local from : Address) (setup : SetupFrame) (join : Join) → AreRising s →
+    HaveTheirClients s → join_of setup ≡ Some join → (found : Result ℕ SetupFault) →
+    setting_of (at_moment s now) (image_wanted_by local from setup join) ≡ found →
+    Names s (Setup now local from setup) (set_by (at_moment s now) (image_wanted_by local from setup join) found)
+set_names s now local from setup join rises owned is (Ok place) set =
+    image_names s (Setup now local from setup) (at_moment s now) _ place
+set_names s now local from setup join rises owned is (Err why) set =
+    answer_names s (Setup now local from setup) _ _ (fault_named s now local from setup join why rises owned is set)
+
+joining_names : (s : State) (now : ℕ) (local from : Address) (setup : SetupFrame) → AreRising s → HaveTheirClients s →
+    (found : Option Join) → join_of setup ≡ found →
+    Names s (Setup now local from setup) (set_up_by (at_moment s now) local from setup found)
+joining_names s now local from setup rises owned None is = answer_names s (Setup now local from setup) _ _ tt
+joining_names s now local from setup rises owned (Some join) is =
+    set_names s now local from setup join rises owned is _ refl
+
+set_up_names : (s : State) (now : ℕ) (local from : Address) (setup : SetupFrame) (inputs : Inputs) → AreRising s →
+    HaveTheirClients s → Names s (Setup now local from setup) (drafted s (Setup now local from setup) inputs)
+unfolding drafted set_up
+set_up_names s now local from setup inputs rises owned =
+    joining_names s now local from setup rises owned (join_of setup) refl
+
+draft_names : (s : State) (event : Event) (inputs : Inputs) → AreRising s → HaveTheirClients s →
+    Names s event (drafted s event inputs)
+draft_names s (Attach now principal) inputs rises owned = attach_names s now principal inputs
+draft_names s (Command now handle bytes) inputs rises owned =
     command_cases (Names s (Command now handle bytes)) s now handle bytes inputs (command_names s now handle bytes)
-draft_names s (Reload now policy) inputs = reload_names s now policy inputs
-draft_names s (Tick now) inputs = tick_names s now inputs
-draft_names s (Setup now local from setup) inputs = set_up_names s now local from setup inputs
+draft_names s (Reload now policy) inputs rises owned = reload_names s now policy inputs
+draft_names s (Tick now) inputs rises owned = tick_names s now inputs
+draft_names s (Setup now local from setup) inputs rises owned = set_up_names s now local from setup inputs rises owned
 
 -- what is told of images denies nothing
-pub denials_named : (s : State) (event : Event) (inputs : Inputs) →
-    AllByRecursion (λ message. IsDenialNamed s event message.client message.reply) (outcome_of s event inputs).replies
+replies_named : (s : State) (event : Event) (inputs : Inputs) → Names s event (drafted s event inputs) →
+    AllByRecursion (IsNamed s event) (outcome_of s event inputs).replies
 unfolding conduct dropping
-denials_named s event inputs =
-    let names = draft_names s event inputs in
+replies_named s event inputs names =
     all_replies (IsNamed s event) s inputs (drafted s event inputs) names.replies
     (λ client source subscription stream. tt)
     (λ client source subscription session stream position address. tt)
     names.later
+
+pub denials_named : (s : State) (event : Event) (inputs : Inputs) → AreRising s → HaveTheirClients s →
+    NamesDenials s event (outcome_of s event inputs)
+unfolding conduct dropping renewed
+denials_named s event inputs rises owned =
+    let names = draft_names s event inputs rises owned in
+    record {
+      replies = replies_named s event inputs names;
+      response = names.response;
+    }

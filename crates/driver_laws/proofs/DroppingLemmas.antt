@@ -1,5 +1,5 @@
 -- Behind an event images go that none reads: what that leaves as it was, and where none goes.
-use Rattle.std.proofs.Common.{◌≡◌, ℕ, Bool, true, false, not, ◌&&◌, ◌||◌, List, [], ◌∷◌, map, filter, refl, sym, ap, ◌∙◌, ⊎_elim}
+use Rattle.std.proofs.Common.{◌≡◌, ℕ, Bool, true, false, not, ◌&&◌, ◌||◌, cond, List, [], ◌∷◌, map, filter, find, Some, is_some, refl, sym, ap, ◌∙◌, ⊎_elim}
 use Rattle.std.specs.List.{AllByRecursion, Contains, list_any}
 use Rattle.std.proofs.lemmas.Bool.{cases_Bool, not-true, or_left, or_right}
 use Rattle.std.proofs.lemmas.List.Elements.{All-contains, Contains-append_cases, Contains-append_left, Contains-append_right, Contains-push, filter_passes}
@@ -86,6 +86,21 @@ found_in test y ys false is rest any =
 pub found_of : {X : Type 0} (test : X → Bool) (xs : List X) → list_any test xs ≡ true → Found test xs
 found_of test [] any = absurd (cc any)
 found_of test (y ∷ ys) any = found_in test y ys (test y) refl (found_of test ys) any
+
+-- where none is found, none passes
+none_here : {X : Type 0} (test : X → Bool) (b : Bool) (y x : X) (ys : List X) → test y ≡ b →
+    is_some (cond b (Some y) (find test ys)) ≡ false → (is_some (find test ys) ≡ false → Contains ys x → test x ≡ false) →
+    Contains (y ∷ ys) x → test x ≡ false
+none_here test true y x ys is none later has = absurd (cc none)
+none_here test false y x ys is none later has =
+    ⊎_elim (λ first. sym (ap test (only_one y x first)) ∙ is) (λ rest. later none rest)
+    (Contains-append_cases (y ∷ []) ys x has)
+
+pub none_found : {X : Type 0} (test : X → Bool) (xs : List X) → is_some (find test xs) ≡ false → (x : X) → Contains xs x →
+    test x ≡ false
+none_found test [] none x has = absurd (contains_none x has)
+none_found test (y ∷ ys) none x has =
+    none_here test (test y) y x ys refl none (λ rest. none_found test ys rest x) has
 
 -- ---- images that are read
 

@@ -2,6 +2,7 @@ pub mod ApartLemmas
 pub mod ClientComingLemmas
 pub mod ClosedLogLemmas
 pub mod ClosingLemmas
+pub mod DecisionLemmas
 pub mod DenialLemmas
 pub mod DenialTextLemmas
 pub mod DroppingLemmas
@@ -31,7 +32,9 @@ pub mod RemovedExactlyLemmas
 pub mod RenewalLemmas
 pub mod RisingLemmas
 pub mod RoomLemmas
+pub mod SettingCauseLemmas
 pub mod SettingUpLemmas
 pub mod StayingLemmas
 pub mod SubscribingLemmas
 pub mod SubscribingOnlyLemmas
+pub mod UniqueImageLemmas

@@ -7,12 +7,10 @@ use Rattle.std.specs.Option.{option_map}
 use Rattle.std.proofs.lemmas.Bool.{cases_Bool, cond_both}
 use Rattle.std.proofs.lemmas.List.{append-nil}
 use Rattle.std.proofs.lemmas.List.Elements.{Contains-append_cases, Contains-append_left, Contains-push, Contains-push_cases}
-use Rattle.driver_core.specs.declared.event.Event.TheVariants.{Setup}
 use Rattle.driver_core.specs.declared.event.Inputs.{Inputs}
 use Rattle.driver_core.specs.declared.outcome.Response.TheVariants.{Dropped}
 use Rattle.driver_core.specs.declared.setup_fault.SetupFault.{SetupFault}
 use Rattle.driver_core.specs.declared.setup_fault.SetupFault.TheVariants.{BadSetup, Denied}
-use Rattle.driver_core.specs.Conduct.{conduct, drafted}
 use Rattle.driver_core.specs.Draft.{answered}
 use Rattle.driver_core.specs.Pairs.{pairs_of}
 use Rattle.driver_core.specs.Renewal.{renewed}
@@ -23,7 +21,7 @@ use Rattle.driver_core.specs.Verdicts.{verdict_on}
 use Rattle.driver_laws.specs.ImageLaws.{AreRead}
 use Rattle.driver_laws.specs.NumberLaws.{AreRising, Rises}
 use Rattle.driver_laws.specs.OwnerLaws.{HaveTheirClients}
-use Rattle.driver_laws.specs.SettingLaws.{IsAllowedToOne, IsDeniedToAll, IsDropped, IsImaged, IsSetExactly}
+use Rattle.driver_laws.specs.SettingLaws.{IsAllowedToOne, IsDeniedToAll, IsDropped, IsImaged}
 use Rattle.channel_uri.specs.declared.address.Address.{Address}
 use Rattle.client_registry.specs.declared.client.Client.{Client}
 use Rattle.client_registry.specs.Clients.{client_at, principal_at}
@@ -49,12 +47,12 @@ use Rattle.driver_laws.proofs.StayingLemmas.{DropsNothing, as_before, drops_none
 
 -- ---- what the SETUP comes to
 
-bad_is : (s : State) (local from : Address) (setup : SetupFrame) → join_of setup ≡ None →
+pub bad_is : (s : State) (local from : Address) (setup : SetupFrame) → join_of setup ≡ None →
     set_up s local from setup ≡ answered s (Dropped BadSetup)
 unfolding set_up
 bad_is s local from setup is = ap (set_up_by s local from setup) is
 
-set_is : (s : State) (local from : Address) (setup : SetupFrame) (join : Join) (found : Result ℕ SetupFault) →
+pub set_is : (s : State) (local from : Address) (setup : SetupFrame) (join : Join) (found : Result ℕ SetupFault) →
     join_of setup ≡ Some join → setting_of s (wanted_by local from setup join) ≡ found →
     set_up s local from setup ≡ set_by s (wanted_by local from setup join) found
 unfolding set_up
@@ -91,7 +89,7 @@ dropped_change s now inputs fault =
       come = same.come;
     }
 
-nothing_changes : (s : State) (now : ℕ) (inputs : Inputs) (fault : SetupFault) → AreRead s →
+pub nothing_changes : (s : State) (now : ℕ) (inputs : Inputs) (fault : SetupFault) → AreRead s →
     IsDropped s now fault (dropping s (renewed s inputs (answered (at_moment s now) (Dropped fault))))
 nothing_changes s now inputs fault read =
     rw (drops_none s inputs (answered (at_moment s now) (Dropped fault)) (dropped_drops s now fault read))
@@ -112,12 +110,12 @@ room_never_denies s wanted verdict =
     never (Some place) is = absurd (cc is)
 
 -- the first that it fits, and none to which it is allowed
-record IsDeniedIn (s : State) (verdict : Verdict) (rows : List Subscription) : Type 0 where
-  first : Subscription
-  others : List Subscription
-  rows_are : rows ≡ first ∷ others
-  verdict_is : verdict ≡ verdict_for s first
-  denies : list_any (is_allowed s.clients.rows s.policy s.epoch) rows ≡ false
+pub record IsDeniedIn (s : State) (verdict : Verdict) (rows : List Subscription) : Type 0 where
+  pub first : Subscription
+  pub others : List Subscription
+  pub rows_are : rows ≡ first ∷ others
+  pub verdict_is : verdict ≡ verdict_for s first
+  pub denies : list_any (is_allowed s.clients.rows s.policy s.epoch) rows ≡ false
 
 denied_in : (s : State) (wanted : ImageWanted) (verdict : Verdict) (rows : List Subscription) →
     allowed_for s wanted rows ≡ Err (Denied verdict) → IsDeniedIn s verdict rows
@@ -129,7 +127,7 @@ denied_in s wanted verdict (first ∷ others) =
     (λ denies is.
     record { first = first; others = others; rows_are = refl; verdict_is = cc is; denies = denies })
 
-denied_is : (s : State) (wanted : ImageWanted) (verdict : Verdict) → setting_of s wanted ≡ Err (Denied verdict) →
+pub denied_is : (s : State) (wanted : ImageWanted) (verdict : Verdict) → setting_of s wanted ≡ Err (Denied verdict) →
     IsDeniedIn s verdict (fitting s wanted)
 unfolding setting_of
 denied_is s wanted verdict =
@@ -139,7 +137,7 @@ denied_is s wanted verdict =
     (λ new is. denied_in s wanted verdict (fitting s wanted) is)
 
 -- the first of rising rows has the lowest number
-is_lowest : (last : ℕ) (first : Subscription) (others : List Subscription) (other : Subscription) →
+pub is_lowest : (last : ℕ) (first : Subscription) (others : List Subscription) (other : Subscription) →
     Rises (λ (row : Subscription). row.number) 0 last (first ∷ others) → Contains (first ∷ others) other →
     first.number ≤ other.number
 is_lowest last first others other up has =
@@ -159,13 +157,19 @@ one_found : (b : Bool) (row : Client) (rest : Option Client) (later : Bool) →
 one_found true row rest later more there = (row.principal, refl)
 one_found false row rest later more there = more there
 
-acts_for : (rows : List Client) (number : ℕ) → list_any (λ (row : Client). row.number == number) rows ≡ true →
+pub acts_for : (rows : List Client) (number : ℕ) → list_any (λ (row : Client). row.number == number) rows ≡ true →
     (of : ℕ) × (principal_at rows number ≡ Some of)
 acts_for [] number there = absurd (cc there)
 acts_for (row ∷ rows) number there =
     one_found (row.number == number) row (client_at rows number) _ (acts_for rows number) there
 
-denied_to : (s : State) (now : ℕ) (wanted : ImageWanted) (verdict : Verdict) → AreRising s → HaveTheirClients s →
+pub verdict_of_first : (s : State) (now : ℕ) (row : Subscription) (of : ℕ) →
+    principal_at s.clients.rows row.client ≡ Some of →
+    verdict_for (at_moment s now) row ≡ verdict_on s (image_question of row)
+unfolding at_moment
+verdict_of_first s now row of acting = rw acting refl
+
+pub denied_to : (s : State) (now : ℕ) (wanted : ImageWanted) (verdict : Verdict) → AreRising s → HaveTheirClients s →
     IsDeniedIn (at_moment s now) verdict (fitting (at_moment s now) wanted) → IsDeniedToAll s now wanted verdict
 unfolding at_moment is_allowed
 denied_to s now wanted verdict rises owned denied =
@@ -198,11 +202,6 @@ denied_to s now wanted verdict rises owned denied =
           (passes_are_left (fits log) s.streams.subscriptions other fitting there) denied.denies;
     }
   where
-    verdict_of_first : (t : State) (moment : ℕ) (row : Subscription) (of : ℕ) →
-        principal_at t.clients.rows row.client ≡ Some of →
-        verdict_for (at_moment t moment) row ≡ verdict_on t (image_question of row)
-    verdict_of_first t moment row of acting = rw acting refl
-
     each_denied : (test : Subscription → Bool) (all : List Subscription) (row : Subscription) → Contains all row →
         list_any test all ≡ false → test row ≡ false
     each_denied test all row there none =
@@ -215,7 +214,7 @@ denied_to s now wanted verdict rises owned denied =
 
 -- ---- an image is made
 
-found_one : (s : State) (now : ℕ) (wanted : ImageWanted) →
+pub found_one : (s : State) (now : ℕ) (wanted : ImageWanted) →
     list_any (is_allowed (at_moment s now).clients.rows (at_moment s now).policy (at_moment s now).epoch)
     (fitting (at_moment s now) wanted)
     ≡ true →
@@ -293,27 +292,9 @@ imaged s now inputs wanted place placed allowed = record {
   closes = refl;
 }
 
-image_change : (s : State) (now : ℕ) (inputs : Inputs) (wanted : ImageWanted) (place : ℕ) → AreRead s →
+pub image_change : (s : State) (now : ℕ) (inputs : Inputs) (wanted : ImageWanted) (place : ℕ) → AreRead s →
     setting_of (at_moment s now) wanted ≡ Ok place →
     IsImaged s now inputs wanted place (dropping s (renewed s inputs (image_made (at_moment s now) wanted place)))
 image_change s now inputs wanted place read set =
     rw (drops_none s inputs (image_made (at_moment s now) wanted place) (image_drops s now wanted place read set))
     (imaged s now inputs wanted place (image_place (at_moment s now) wanted place set) (allowed_one s now wanted place set))
-
--- ---- exactly so
-
-pub set_exactly : (s : State) → AreRising s → AreRead s → HaveTheirClients s → (now : ℕ) (local from : Address)
-    (setup : SetupFrame) (inputs : Inputs) →
-    IsSetExactly s now local from setup inputs (conduct s (Setup now local from setup) inputs)
-unfolding conduct drafted
-set_exactly s rises read owned now local from setup inputs = record {
-  bad = λ is. rw (bad_is (at_moment s now) local from setup is) (nothing_changes s now inputs BadSetup read);
-  made = λ join place is set.
-      rw (set_is (at_moment s now) local from setup join (Ok place) is set)
-      (image_change s now inputs (wanted_by local from setup join) place read set);
-  dropped = λ join fault is set.
-      rw (set_is (at_moment s now) local from setup join (Err fault) is set) (nothing_changes s now inputs fault read);
-  denied = λ join verdict is set.
-      denied_to s now (wanted_by local from setup join) verdict rises owned
-      (denied_is (at_moment s now) (wanted_by local from setup join) verdict set);
-}

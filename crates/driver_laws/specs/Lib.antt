@@ -1,5 +1,6 @@
 pub mod ClosingLaws
 pub mod CounterLaws
+pub mod DecisionLaws
 pub mod DenialLaws
 pub mod Events
 pub mod GrantLaws
@@ -17,3 +18,4 @@ pub mod RemovalLaws
 pub mod SettingLaws
 pub mod SoundnessLaws
 pub mod SubscribingLaws
+pub mod UniqueImageLaws

@@ -1,28 +1,53 @@
 -- Over every list of events: SETUPs make images as the policy in force says, and are dropped otherwise.
-use Rattle.std.specs.Prelude.{◌≡◌, ℕ, ◌+◌, ◌≤◌, true, false, [], Contains, Some, None, Ok, Err}
+use Rattle.std.specs.Prelude.{◌≡◌, ℕ, ◌+◌, ◌<◌, ◌≤◌, true, false, [], length, filter, Contains, Some, None, Result, Ok, Err}
 use Rattle.driver_core.specs.Change.{Change}
 use Rattle.driver_core.specs.declared.event.Event.TheVariants.{Setup}
 use Rattle.driver_core.specs.declared.event.Inputs.{Inputs}
 use Rattle.driver_core.specs.declared.outcome.Response.TheVariants.{Dropped, Imaged}
 use Rattle.driver_core.specs.declared.setup_fault.SetupFault.{SetupFault}
-use Rattle.driver_core.specs.declared.setup_fault.SetupFault.TheVariants.{BadSetup, Denied}
+use Rattle.driver_core.specs.declared.setup_fault.SetupFault.TheVariants.{BadSetup, Exists, NoSubscription, Denied, Full, NoRoom}
 use Rattle.driver_core.specs.Conduct.{conduct}
+use Rattle.driver_core.specs.Pairs.{pairs_of}
 use Rattle.driver_core.specs.Renewal.{images_decided, images_told}
 use Rattle.driver_core.specs.SettingUp.{new_image, setting_of, wanted_by, with_image}
 use Rattle.driver_core.specs.State.{State, at_moment}
 use Rattle.driver_core.specs.Verdicts.{IsByPolicy, verdict_on}
 use Rattle.driver_laws.specs.Events.{AfterAnyEvents}
+use Rattle.driver_laws.specs.LimitLaws.{IsLeft}
 use Rattle.channel_uri.specs.declared.address.Address.{Address}
 use Rattle.client_registry.specs.Clients.{principal_at}
 use Rattle.frame_codec.specs.declared.join.Join.{Join}
 use Rattle.frame_codec.specs.declared.setup.Setup.{Setup as SetupFrame}
 use Rattle.frame_codec.specs.Join.{join_of}
 use Rattle.policy_core.specs.declared.verdict.Verdict.{Verdict}
+use Rattle.stream_registry.specs.declared.row.Source.{Source}
 use Rattle.stream_registry.specs.declared.row.Subscription.{Subscription}
 use Rattle.stream_registry.specs.declared.wanted.ImageWanted.{ImageWanted}
+use Rattle.stream_registry.specs.Images.{is_image_at}
+use Rattle.stream_registry.specs.LogPages.{pages_of}
+use Rattle.stream_registry.specs.Origins.{is_remote}
+use Rattle.stream_registry.specs.PageLaws.{IsVacant}
 use Rattle.stream_registry.specs.Pairs.{fits, image_question}
 
--- ---- an image is made
+-- ---- what may hold of a SETUP
+
+-- an image of that endpoint, session and stream is live
+pub record IsThere (s : State) (wanted : ImageWanted) : Type 0 where
+  pub image : Source
+  pub is_live : Contains s.streams.sources image
+  pub is_of_it : is_image_at wanted.channel wanted.session wanted.stream image ≡ true
+
+-- none is
+abbrev pub IsNew : State → ImageWanted → Type 0
+IsNew s wanted =
+    (log : Source) → Contains s.streams.sources log →
+    is_image_at wanted.channel wanted.session wanted.stream log ≡ false
+
+-- the image fits no subscription
+abbrev pub FitsNone : State → ℕ → ImageWanted → Type 0
+FitsNone s now wanted =
+    (subscription : Subscription) → Contains s.streams.subscriptions subscription →
+    fits (new_image (at_moment s now) wanted) subscription ≡ false
 
 -- a subscription that the image fits, where the policy in force allows the image to its client, by the first rule that
 -- matches or the default
@@ -34,33 +59,6 @@ pub record IsAllowedToOne (s : State) (now : ℕ) (wanted : ImageWanted) : Type 
   pub attached : principal_at s.clients.rows subscription.client ≡ Some principal
   pub by : IsByPolicy s (image_question principal subscription) (verdict_on s (image_question principal subscription))
   pub allowed : (verdict_on s (image_question principal subscription)).allow ≡ true
-
--- its number is told, its log opens at that place, and it is live behind the others, which all stay; what is told beside that
--- is of the images that come by it
-pub record IsImaged (s : State) (now : ℕ) (inputs : Inputs) (wanted : ImageWanted) (place : ℕ) (change : Change) : Type 0 where
-  pub after_is : change.after ≡ with_image (at_moment s now) wanted
-  pub response : change.outcome.response ≡ Imaged (s.last_number + 1)
-  pub opens : change.outcome.opens ≡ Some (record { source = s.last_number + 1; place = place })
-  pub placed : (new_image (at_moment s now) wanted).place ≡ place
-  pub live : Contains change.after.streams.sources (new_image (at_moment s now) wanted)
-  pub allowed : IsAllowedToOne s now wanted
-  pub replies :
-      change.outcome.replies ≡ images_told change.after inputs change.outcome.gone change.outcome.come
-  pub decisions : change.outcome.decisions ≡ images_decided change.after change.outcome.gone change.outcome.come
-  pub closes : change.outcome.closes ≡ []
-
--- ---- the SETUP is dropped
-
--- nothing changes but the moment, and nobody but who sent the event is told
-pub record IsDropped (s : State) (now : ℕ) (fault : SetupFault) (change : Change) : Type 0 where
-  pub after_is : change.after ≡ at_moment s now
-  pub response : change.outcome.response ≡ Dropped fault
-  pub replies : change.outcome.replies ≡ []
-  pub decisions : change.outcome.decisions ≡ []
-  pub opens : change.outcome.opens ≡ None
-  pub closes : change.outcome.closes ≡ []
-  pub gone : change.outcome.gone ≡ []
-  pub come : change.outcome.come ≡ []
 
 -- the verdict is that for the subscription of the lowest number that the image fits, and it is denied to each
 pub record IsDeniedToAll (s : State) (now : ℕ) (wanted : ImageWanted) (verdict : Verdict) : Type 0 where
@@ -79,21 +77,84 @@ pub record IsDeniedToAll (s : State) (now : ℕ) (wanted : ImageWanted) (verdict
       fits (new_image (at_moment s now) wanted) other ≡ true → principal_at s.clients.rows other.client ≡ Some of →
       (verdict_on s (image_question of other)).allow ≡ false
 
+-- there are fewer than 512 images, a number is left, and at most 4,096 pairs would be there with it
+pub record HasRoom (s : State) (now : ℕ) (wanted : ImageWanted) : Type 0 where
+  pub images : length (filter is_remote s.streams.sources) < 512
+  pub number : IsLeft s.last_number
+  pub pairs : length (pairs_of (with_image (at_moment s now) wanted)) ≤ 4096
+
+-- from that place on its three terms lie in the arena, and have no page of another log
+abbrev pub IsVacantFor : State → ImageWanted → ℕ → Type 0
+IsVacantFor s wanted place = IsVacant s.streams s.settings.arena_pages (pages_of wanted.measures.term_length) place
+
+-- ---- which comes first
+
+-- the cause by which it is dropped: what comes before this one doesn't hold
+abbrev pub IsCause : State → ℕ → ImageWanted → SetupFault → Type 0
+IsCause s now wanted BadSetup = ⊥
+IsCause s now wanted Exists = IsThere s wanted
+IsCause s now wanted NoSubscription = IsNew s wanted × FitsNone s now wanted
+IsCause s now wanted (Denied verdict) = IsNew s wanted × IsDeniedToAll s now wanted verdict
+IsCause s now wanted Full = IsNew s wanted × (IsAllowedToOne s now wanted × ¬ HasRoom s now wanted)
+IsCause s now wanted NoRoom =
+    IsNew s wanted
+    × (IsAllowedToOne s now wanted × (HasRoom s now wanted × ((place : ℕ) → ¬ IsVacantFor s wanted place)))
+
+-- nothing stands against it, and this is the least place for its log
+pub record MayCome (s : State) (now : ℕ) (wanted : ImageWanted) (place : ℕ) : Type 0 where
+  pub new : IsNew s wanted
+  pub allowed : IsAllowedToOne s now wanted
+  pub room : HasRoom s now wanted
+  pub vacant : IsVacantFor s wanted place
+  pub least : (lower : ℕ) → lower < place → ¬ IsVacantFor s wanted lower
+
+-- what the driver finds of it is so
+abbrev pub IsDecided : State → ℕ → ImageWanted → Result ℕ SetupFault → Type 0
+IsDecided s now wanted (Ok place) = MayCome s now wanted place
+IsDecided s now wanted (Err fault) = IsCause s now wanted fault
+
+-- ---- what the event comes to
+
+-- its number is told, its log opens at that place, and it is live behind the others, which all stay; what is told beside that
+-- is of the images that come by it
+pub record IsImaged (s : State) (now : ℕ) (inputs : Inputs) (wanted : ImageWanted) (place : ℕ) (change : Change) : Type 0 where
+  pub after_is : change.after ≡ with_image (at_moment s now) wanted
+  pub response : change.outcome.response ≡ Imaged (s.last_number + 1)
+  pub opens : change.outcome.opens ≡ Some (record { source = s.last_number + 1; place = place })
+  pub placed : (new_image (at_moment s now) wanted).place ≡ place
+  pub live : Contains change.after.streams.sources (new_image (at_moment s now) wanted)
+  pub allowed : IsAllowedToOne s now wanted
+  pub replies :
+      change.outcome.replies ≡ images_told change.after inputs change.outcome.gone change.outcome.come
+  pub decisions : change.outcome.decisions ≡ images_decided change.after change.outcome.gone change.outcome.come
+  pub closes : change.outcome.closes ≡ []
+
+-- nothing changes but the moment, and nobody but who sent the event is told
+pub record IsDropped (s : State) (now : ℕ) (fault : SetupFault) (change : Change) : Type 0 where
+  pub after_is : change.after ≡ at_moment s now
+  pub response : change.outcome.response ≡ Dropped fault
+  pub replies : change.outcome.replies ≡ []
+  pub decisions : change.outcome.decisions ≡ []
+  pub opens : change.outcome.opens ≡ None
+  pub closes : change.outcome.closes ≡ []
+  pub gone : change.outcome.gone ≡ []
+  pub come : change.outcome.come ≡ []
+
 -- ---- exactly so
 
+-- A SETUP that no sender may send is dropped. Else the image may come, or there is a cause, and that decides.
 pub record IsSetExactly (s : State) (now : ℕ) (local from : Address) (setup : SetupFrame) (inputs : Inputs) (change : Change) : Type 0 where
   pub bad : join_of setup ≡ None → IsDropped s now BadSetup change
   pub made :
       (join : Join) (place : ℕ) → join_of setup ≡ Some join →
-      setting_of (at_moment s now) (wanted_by local from setup join) ≡ Ok place →
+      MayCome s now (wanted_by local from setup join) place →
       IsImaged s now inputs (wanted_by local from setup join) place change
   pub dropped :
       (join : Join) (fault : SetupFault) → join_of setup ≡ Some join →
-      setting_of (at_moment s now) (wanted_by local from setup join) ≡ Err fault → IsDropped s now fault change
-  pub denied :
-      (join : Join) (verdict : Verdict) → join_of setup ≡ Some join →
-      setting_of (at_moment s now) (wanted_by local from setup join) ≡ Err (Denied verdict) →
-      IsDeniedToAll s now (wanted_by local from setup join) verdict
+      IsCause s now (wanted_by local from setup join) fault → IsDropped s now fault change
+  pub decided :
+      (join : Join) → join_of setup ≡ Some join →
+      IsDecided s now (wanted_by local from setup join) (setting_of (at_moment s now) (wanted_by local from setup join))
 
 abbrev pub SetupsAreGrantedExactly : Type 0
 SetupsAreGrantedExactly =

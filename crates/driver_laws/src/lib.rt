@@ -5,6 +5,7 @@
 
 ghost use Rattle.driver_laws.specs.ClosingLaws.{ClosedLogsWereThere, LogsCloseExactly, LogsCloseOnly};
 ghost use Rattle.driver_laws.specs.CounterLaws.{CountersAreRemovedExactly, CountersAreRemovedOnly, CountersAreSetExactly, CountersAreSetOnly};
+ghost use Rattle.driver_laws.specs.DecisionLaws.{DecisionsAreByThePolicyInForce};
 ghost use Rattle.driver_laws.specs.DenialLaws.{DenialsAreNamed};
 ghost use Rattle.driver_laws.specs.GrantLaws.{CountersAreGrantedExactly, TerminationsAreGrantedExactly, CountersAndTerminationsAreGrantedOnly};
 ghost use Rattle.driver_laws.specs.ImageLaws.{ImagesAreGrantedExactly, ImagesAreRead};
@@ -21,6 +22,7 @@ ghost use Rattle.driver_laws.specs.RemovalLaws.{SubscriptionsAreRemovedExactly, 
 ghost use Rattle.driver_laws.specs.SettingLaws.{SetupsAreGrantedExactly};
 ghost use Rattle.driver_laws.specs.SoundnessLaws.{RegistriesAreSound};
 ghost use Rattle.driver_laws.specs.SubscribingLaws.{SubscriptionsAreGrantedExactly, SubscriptionsAreGrantedOnly};
+ghost use Rattle.driver_laws.specs.UniqueImageLaws.{ImagesAreUnique};
 
 /// A client's well-formed request for a subscription is granted where the first rule that matches allows it, or where
 /// none matches and the default does, and there is room; else it is refused, by the verdict or as full.
@@ -52,9 +54,10 @@ pub fn images_come_by_setups()
     ensures { ImagesComeBySetups }
 {}
 
-/// A SETUP makes an image, whose log opens at the place that it gets, exactly where it is well-formed and new, a subscription
-/// that it fits reads it by the policy in force, and there is room; else it is dropped by the first of these that fails, and
-/// nothing changes but the moment. Where the policy denies it to each, the verdict is that for the one of the lowest number.
+/// A SETUP makes an image, whose log opens at the least vacant place, exactly where it is well-formed and no image of its
+/// endpoint, session and stream is there, a subscription that it fits reads it by the policy in force, there is room, and a
+/// place is vacant; else it is dropped by the first of these that fails, and nothing changes but the moment. Where the policy
+/// denies it to each, the verdict is that for the one of the lowest number.
 pub fn setups_are_granted_exactly()
     ensures { SetupsAreGrantedExactly }
 {}
@@ -68,6 +71,11 @@ pub fn images_are_granted_exactly()
 /// In every registry each image is read by some subscription.
 pub fn images_are_read()
     ensures { ImagesAreRead }
+{}
+
+/// In every registry no two images are of one endpoint, session and stream, so that a search by these finds the only one.
+pub fn images_are_unique()
+    ensures { ImagesAreUnique }
 {}
 
 /// Of all replies to an event one for each pair that came, and no other, tells the subscription's client of an image that is
@@ -100,9 +108,17 @@ pub fn counters_are_shown_exactly()
 {}
 
 /// A denial is told only of a request that the policy in force denies, and names the least rule that matches, or the
-/// default where none does.
+/// default where none does. So does the verdict by which a SETUP is dropped as denied, which is that for the subscription of
+/// the lowest number that its image fits; the policy in force denies the image to each that it fits.
 pub fn denials_are_named()
     ensures { DenialsAreNamed }
+{}
+
+/// Each decision that an event tells is by the first rule that matches, or by the default where none does: that of the policy
+/// in force on what the event's request asks, or that of the policy in force behind the event on a pair that it takes away or
+/// brings.
+pub fn decisions_are_by_the_policy_in_force()
+    ensures { DecisionsAreByThePolicyInForce }
 {}
 
 /// A client's request that a subscription go takes away the one of that number that is the client's own, and the images

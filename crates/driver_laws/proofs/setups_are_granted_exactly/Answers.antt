@@ -1,6 +1,6 @@
 use Rattle.driver_laws.proofs.NumberLemmas.{numbers_rise}
 use Rattle.driver_laws.proofs.OwnerLemmas.{rows_owned}
-use Rattle.driver_laws.proofs.SettingUpLemmas.{set_exactly}
+use Rattle.driver_laws.proofs.SettingCauseLemmas.{set_exactly}
 use Rattle.driver_laws.proofs.StayingLemmas.{images_read}
 use Rattle.driver_laws.proofs.setups_are_granted_exactly.Goals as goal
 
