@@ -10,7 +10,7 @@ use Rattle.driver_core.specs.declared.image_request.Astray.{Astray}
 use Rattle.driver_core.specs.declared.image_request.Astray.TheVariants as astray
 use Rattle.driver_world.specs.declared.cause.Cause.{Cause}
 use Rattle.driver_world.specs.declared.cause.Cause.TheVariants as cause
-use Rattle.frame_codec.specs.Fault.{fault_text}
+use Rattle.frame_codec.specs.Fault.{fault_text as unread_text}
 use Rattle.image_log.specs.declared.insert.Insert.{Insert}
 use Rattle.image_log.specs.declared.insert.Insert.TheVariants as insert
 use Rattle.driver_world.specs.declared.answer.Offered.{Offered}
@@ -110,7 +110,7 @@ astray_word astray.Stranger = codes "stranger"
 
 -- why a datagram is dropped
 abbrev pub drop_text : Cause → List ℕ
-drop_text (cause.Unread fault) = fault_text fault
+drop_text (cause.Unread fault) = unread_text fault
 drop_text (cause.Astray why) = astray_word why
 drop_text (cause.SetUp fault) = cause_text fault
 

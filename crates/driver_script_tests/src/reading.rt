@@ -213,13 +213,22 @@ const ANSWERS: [(AnswerLine<'static>, &str); 38] = [
         AnswerLine::Dropped(Cause::SetUp(SetupFault::BadSetup)),
         "dropped bad-setup\n",
     ),
-    (AnswerLine::Dropped(Cause::SetUp(SetupFault::Exists)), "dropped exists\n"),
+    (
+        AnswerLine::Dropped(Cause::SetUp(SetupFault::Exists)),
+        "dropped exists\n",
+    ),
     (
         AnswerLine::Dropped(Cause::SetUp(SetupFault::NoSubscription)),
         "dropped no-subscription\n",
     ),
-    (AnswerLine::Dropped(Cause::SetUp(SetupFault::Full)), "dropped full\n"),
-    (AnswerLine::Dropped(Cause::SetUp(SetupFault::NoRoom)), "dropped no-room\n"),
+    (
+        AnswerLine::Dropped(Cause::SetUp(SetupFault::Full)),
+        "dropped full\n",
+    ),
+    (
+        AnswerLine::Dropped(Cause::SetUp(SetupFault::NoRoom)),
+        "dropped no-room\n",
+    ),
     (
         AnswerLine::PolicyRefused(PolicyFault::BadRange { rule: 3 }),
         "policy refused: rule 3: bad range\n",
