@@ -33,7 +33,7 @@ use Rattle.driver_world.specs.declared.answer.Offered.TheVariants.{At as PutAt, 
 use Rattle.driver_world.specs.declared.step.Step.{Step}
 use Rattle.driver_world.specs.declared.step.Step.TheVariants.{Conductor, Packet, Offer as Offers, Poll as Polls, List as Lists, Value}
 use Rattle.driver_world.specs.Answers.{offered_as}
-use Rattle.driver_world.specs.Ends.{RunEnd, opening_end, inputs_of, begun, opened_for, stays_open, rejoined_log, logs_after, log_at, with_log, moved_on, on_log, on_offered, conducted, moved, after, IsAnswer, AreAnswers, end_of}
+use Rattle.driver_world.specs.Ends.{RunEnd, opening_end, inputs_of, begun, opened_for, stays_open, rejoined_log, logs_after, log_at, with_log, Moved, moved_on, on_log, on_offered, conducted, moved, after_by, after, IsAnswerOf, IsAnswer, AreAnswers, end_of}
 use Rattle.driver_core.specs.Readers.{readers_of}
 use Rattle.driver_world.specs.Idents.{begins_by, begins_of}
 use Rattle.driver_world.specs.Laws.{frames_for, put_into, granted_by, granted_in, AreNext, AreNextWhole, AreNextIn, ComeFromLog, BytesComeFromTheLiveLog}
@@ -171,17 +171,6 @@ begins_owns granted settings now log (Published exclusive since) = record {
 }
 begins_owns granted settings now log (Remote address initial_term join) = tt
 
-begun_owns : (granted : ℕ → List Frame) (s : State) (o : Option Source) → All (Owns granted) (begun s o)
-begun_owns granted s None = All-nil (Owns granted)
-begun_owns granted s (Some log) =
-    let begins : WholeLog = record { source = log.number; whole = begins_of s.settings s.moment log } in
-    All-cons (Owns granted) begins [] (begins_owns (granted log.number) s.settings s.moment log log.origin)
-    (All-nil (Owns granted))
-
-opened_owns : (granted : ℕ → List Frame) (s : State) (o : Option LogPlace) → All (Owns granted) (opened_for s o)
-opened_owns granted s None = All-nil (Owns granted)
-opened_owns granted s (Some place) = begun_owns granted s (source_at s.streams.sources place.source)
-
 rejoined_any : (granted : List Frame) (subscriptions : List ℕ) (w : AnyWhole) → OwnsAny granted w →
     OwnsAny granted (rejoined subscriptions w)
 unfolding term_rejoined
@@ -312,18 +301,39 @@ poll_under_owns granted subscription limit log (Some request) (Some at) owns =
 
 -- ---- all logs
 
-after_owns : (granted : ℕ → List Frame) (change : Change) (logs : List WholeLog) → All (Owns granted) logs →
-    All (Owns granted) (logs_after change logs)
+-- what holds of each log that begins, and goes on to hold whoever reads it, is kept by events
+pub record IsKept (P : WholeLog → Type 0) : Type 0 where
+  pub begins :
+      (settings : Settings) (now : ℕ) (log : Source) → P (record { source = log.number; whole = begins_of settings now log })
+  pub rejoins : (pairs : List Pair) (log : WholeLog) → P log → P (rejoined_log pairs log)
+
+begun_keeps : (P : WholeLog → Type 0) (s : State) (o : Option Source) → IsKept P → All P (begun s o)
+begun_keeps P s None kept = All-nil P
+begun_keeps P s (Some log) kept =
+    let begins : WholeLog = record { source = log.number; whole = begins_of s.settings s.moment log } in
+    All-cons P begins [] (kept.begins s.settings s.moment log) (All-nil P)
+
+opened_keeps : (P : WholeLog → Type 0) (s : State) (o : Option LogPlace) → IsKept P → All P (opened_for s o)
+opened_keeps P s None kept = All-nil P
+opened_keeps P s (Some place) kept = begun_keeps P s (source_at s.streams.sources place.source) kept
+
+after_keeps : (P : WholeLog → Type 0) (change : Change) (logs : List WholeLog) → IsKept P → All P logs →
+    All P (logs_after change logs)
 unfolding logs_after
-after_owns granted change logs owned =
-    let P : WholeLog → Type 0 = Owns granted in
+after_keeps P change logs kept all =
     let pairs : List Pair = pairs_of change.after in
     let opened : List WholeLog = opened_for change.after change.outcome.opens in
-    let kept : List WholeLog = filter (stays_open change.outcome.closes) (logs ++ opened) in
-    let all = All-append P logs opened owned (opened_owns granted change.after change.outcome.opens) in
-    let left = All-filter (stays_open change.outcome.closes) P (logs ++ opened) all in
-    All-map P (rejoined_log pairs) kept
-    (All-weaker P (λ log. P (rejoined_log pairs log)) (rejoined_owns granted pairs) kept left)
+    let kept_logs : List WholeLog = filter (stays_open change.outcome.closes) (logs ++ opened) in
+    let both = All-append P logs opened all (opened_keeps P change.after change.outcome.opens kept) in
+    let left = All-filter (stays_open change.outcome.closes) P (logs ++ opened) both in
+    All-map P (rejoined_log pairs) kept_logs
+    (All-weaker P (λ log. P (rejoined_log pairs log)) (kept.rejoins pairs) kept_logs left)
+
+pub event_keeps : (P : WholeLog → Type 0) (e : RunEnd) (event : Event) → IsKept P → All P e.logs →
+    All P (conducted e event).after.logs
+unfolding conducted
+event_keeps P e event kept all =
+    after_keeps P (conduct e.registry event (inputs_of e.registry event e.logs)) e.logs kept all
 
 -- the log that is found is one of them, of that source
 pub record IsFound (P : WholeLog → Type 0) (source : ℕ) (log : WholeLog) : Type 0 where
@@ -353,6 +363,22 @@ all_with P source log (first ∷ logs) all holds =
     cond_both (first.source == source) _ _ (All P) (λ _. All-cons P log logs holds rest)
     (λ _.
     All-cons P first (with_log logs source log) (All-head P first logs all) (all_with P source log logs rest holds))
+
+found_keeps : (P : WholeLog → Type 0) (e : RunEnd) (source : ℕ) (move : WholeLog → Move) (absent : Answer)
+    (o : Option WholeLog) → log_at e.logs source ≡ o →
+    ((log : WholeLog) → log_at e.logs source ≡ Some log → IsFound P source log → P (move log).after) → All P e.logs →
+    All P (moved_on e source move absent o).after.logs
+found_keeps P e source move absent None found keeps all = all
+found_keeps P e source move absent (Some log) found keeps all =
+    all_with P source _ e.logs all (keeps log found (found_log P source log e.logs all found))
+
+-- what holds of all logs, and after its move of the one that moves
+pub log_keeps : (P : WholeLog → Type 0) (e : RunEnd) (source : ℕ) (move : WholeLog → Move) (absent : Answer) →
+    ((log : WholeLog) → log_at e.logs source ≡ Some log → IsFound P source log → P (move log).after) → All P e.logs →
+    All P (on_log e source move absent).after.logs
+unfolding on_log
+log_keeps P e source move absent keeps all =
+    found_keeps P e source move absent (log_at e.logs source) refl keeps all
 
 -- ---- steps
 
@@ -423,16 +449,14 @@ offer_owns granted more e now client registration message (Some request) asked i
     offer_found_owns granted more e now client registration message request (log_at e.logs request.source) asked refl is
     puts owned
 
-poll_owns : (granted : ℕ → List Frame) (e : RunEnd) (client subscription source limit : ℕ) (o : Option WholeLog) →
-    log_at e.logs source ≡ o → All (Owns granted) e.logs →
-    All (Owns granted) (moved_on e source (poll_move e.registry client subscription limit) IsGone o).after.logs
+poll_owns : (granted : ℕ → List Frame) (e : RunEnd) (client subscription source limit : ℕ) → All (Owns granted) e.logs →
+    All (Owns granted) (on_log e source (poll_move e.registry client subscription limit) IsGone).after.logs
 unfolding poll_move
-poll_owns granted e client subscription source limit None found owned = owned
-poll_owns granted e client subscription source limit (Some log) found owned =
-    let there = found_log (Owns granted) source log e.logs owned found in
-    all_with (Owns granted) source _ e.logs owned
-    (poll_under_owns granted subscription limit log (receiving_of e.registry client subscription log.source)
-    (position_in log.whole subscription) there.holds)
+poll_owns granted e client subscription source limit owned =
+    log_keeps (Owns granted) e source (poll_move e.registry client subscription limit) IsGone
+    (λ log found there.
+    poll_under_owns granted subscription limit log (receiving_of e.registry client subscription log.source)
+    (position_in log.whole subscription) there.holds) owned
 
 -- what was granted before a step, and by it
 abbrev granted_with : (ℕ → List Frame) → RunEnd → Step → Answer → ℕ → List Frame
@@ -449,21 +473,14 @@ still_owns : (granted : ℕ → List Frame) (e : RunEnd) (step : Step) (answer :
 still_owns granted e step answer logs owned =
     all_more granted (granted_with granted e step answer) (with_is_more granted e step answer) logs owned
 
-event_owns : (granted : ℕ → List Frame) (e : RunEnd) (event : Event) → All (Owns granted) e.logs →
-    All (Owns granted) (conducted e event).after.logs
-unfolding conducted
-event_owns granted e event owned =
-    after_owns granted (conduct e.registry event (inputs_of e.registry event e.logs)) e.logs owned
+-- a publication's log begins without frames, and who reads a log changes none of them
+owns_kept : (granted : ℕ → List Frame) → IsKept (Owns granted)
+owns_kept granted = record {
+  begins = λ settings now log. begins_owns (granted log.number) settings now log log.origin;
+  rejoins = rejoined_owns granted;
+}
 
 -- datagrams put nothing into a publication's log
-log_owns : (granted : ℕ → List Frame) (e : RunEnd) (source : ℕ) (move : WholeLog → Move) (absent : Answer)
-    (o : Option WholeLog) → log_at e.logs source ≡ o → ((log : WholeLog) → Owns granted log → Owns granted (move log).after) →
-    All (Owns granted) e.logs → All (Owns granted) (moved_on e source move absent o).after.logs
-log_owns granted e source move absent None found keeps owned = owned
-log_owns granted e source move absent (Some log) found keeps owned =
-    let there = found_log (Owns granted) source log e.logs owned found in
-    all_with (Owns granted) source _ e.logs owned (keeps log there.holds)
-
 received_owns : (granted : List Frame) (now : ℕ) (sent : List Sent) (w : AnyWhole) → OwnsAny granted w →
     OwnsAny granted (received now sent w)
 received_owns granted now sent (whole w) owns = owns
@@ -476,21 +493,18 @@ beaten_owns granted now place (rebuilt r) owns = tt
 
 receive_owns : (granted : ℕ → List Frame) (e : RunEnd) (source now : ℕ) (sent : List Sent) → All (Owns granted) e.logs →
     All (Owns granted) (on_log e source (receive_move now sent) unheard).after.logs
-unfolding on_log
 receive_owns granted e source now sent owned =
-    log_owns granted e source (receive_move now sent) unheard (log_at e.logs source) refl
-    (λ log owns. received_owns (granted log.source) now sent log.whole owns) owned
+    log_keeps (Owns granted) e source (receive_move now sent) unheard
+    (λ log found there. received_owns (granted log.source) now sent log.whole there.holds) owned
 
 beat_owns : (granted : ℕ → List Frame) (e : RunEnd) (source now : ℕ) (place : TermPlace) → All (Owns granted) e.logs →
     All (Owns granted) (on_log e source (beat_move now place) unheard).after.logs
-unfolding on_log
 beat_owns granted e source now place owned =
-    log_owns granted e source (beat_move now place) unheard (log_at e.logs source) refl
-    (λ log owns. beaten_owns (granted log.source) now place log.whole owns) owned
+    log_keeps (Owns granted) e source (beat_move now place) unheard
+    (λ log found there. beaten_owns (granted log.source) now place log.whole there.holds) owned
 
 moved_owns : (granted : ℕ → List Frame) (e : RunEnd) (step : Step) → All (Owns granted) e.logs →
     All (Owns (granted_with granted e step (moved e step).answer)) (moved e step).after.logs
-unfolding conducted on_log
 moved_owns granted e (Packet now local from bytes) owned =
     let step : Step = Packet now local from bytes in
     still_owns granted e step (moved e step).answer (moved e step).after.logs
@@ -498,12 +512,12 @@ moved_owns granted e (Packet now local from bytes) owned =
       drops = λ cause. owned;
       receives = λ source sent. receive_owns granted e source now sent owned;
       hears = λ source place. beat_owns granted e source now place owned;
-      sets_up = λ fields. event_owns granted e (SetUp now local from fields) owned;
+      sets_up = λ fields. event_keeps (Owns granted) e (SetUp now local from fields) (owns_kept granted) owned;
     }) (packet_of bytes))
 moved_owns granted e (Conductor event) owned =
     let step : Step = Conductor event in
     still_owns granted e step (moved e step).answer (moved e step).after.logs
-    (event_owns granted e event owned)
+    (event_keeps (Owns granted) e event (owns_kept granted) owned)
 moved_owns granted e (Offers now client registration message) owned =
     let step : Step = Offers now client registration message in
     let answer : Answer = (moved e step).answer in
@@ -516,7 +530,7 @@ moved_owns granted e (Offers now client registration message) owned =
 moved_owns granted e (Polls now client subscription source limit) owned =
     let step : Step = Polls now client subscription source limit in
     still_owns granted e step (moved e step).answer (moved e step).after.logs
-    (poll_owns granted e client subscription source limit (log_at e.logs source) refl owned)
+    (poll_owns granted e client subscription source limit owned)
 moved_owns granted e (Lists now client) owned =
     let step : Step = Lists now client in
     still_owns granted e step (moved e step).answer e.logs owned
@@ -524,34 +538,39 @@ moved_owns granted e (Value now client number) owned =
     let step : Step = Value now client number in
     still_owns granted e step (moved e step).answer e.logs owned
 
--- a step is answered what it comes to, or is refused memory
-told_owns : (granted : ℕ → List Frame) (e : RunEnd) (step : Step) (answer : Answer) → answer ≡ (moved e step).answer →
-    All (Owns granted) e.logs → All (Owns (granted_with granted e step answer)) (moved e step).after.logs
-told_owns granted e step answer is owned =
-    subst (λ (a : Answer). All (Owns (granted_with granted e step a)) (moved e step).after.logs) (sym is)
-    (moved_owns granted e step owned)
+-- a step leaves and is answered what it comes to
+told_either : (P : Answer → RunEnd → Type 0) (what : Moved) (answer : Answer) → answer ≡ what.answer →
+    P what.answer what.after → P answer what.after
+told_either P what answer is holds = subst (λ (a : Answer). P a what.after) (sym is) holds
+
+-- or it is refused memory, and all is as it was
+pub step_either : (P : Answer → RunEnd → Type 0) (e : RunEnd) (what : Moved) (answer : Answer) → IsAnswerOf what answer →
+    P NoMemory e → P what.answer what.after → P answer (after_by e what answer)
+step_either P e what NoMemory is stays moves = stays
+step_either P e what (Attached number) is stays moves = told_either P what _ is moves
+step_either P e what Full is stays moves = told_either P what _ is moves
+step_either P e what Stopped is stays moves = told_either P what _ is moves
+step_either P e what (PolicyInForce epoch replies) is stays moves = told_either P what _ is moves
+step_either P e what PolicyFull is stays moves = told_either P what _ is moves
+step_either P e what (Imaged number replies) is stays moves = told_either P what _ is moves
+step_either P e what (Received words) is stays moves = told_either P what _ is moves
+step_either P e what Heard is stays moves = told_either P what _ is moves
+step_either P e what (Dropped fault) is stays moves = told_either P what _ is moves
+step_either P e what (Replies replies) is stays moves = told_either P what _ is moves
+step_either P e what (OfferedAs offered') is stays moves = told_either P what _ is moves
+step_either P e what (Polled fragments) is stays moves = told_either P what _ is moves
+step_either P e what IsGone is stays moves = told_either P what _ is moves
+step_either P e what (Counters rows) is stays moves = told_either P what _ is moves
+step_either P e what (ValueIs number) is stays moves = told_either P what _ is moves
+step_either P e what (Denied verdict) is stays moves = told_either P what _ is moves
+step_either P e what UnknownCounter is stays moves = told_either P what _ is moves
+step_either P e what WrongClient is stays moves = told_either P what _ is moves
 
 step_owns : (granted : ℕ → List Frame) (e : RunEnd) (step : Step) (answer : Answer) → IsAnswer e step answer →
     All (Owns granted) e.logs → All (Owns (granted_with granted e step answer)) (after e step answer).logs
-step_owns granted e step NoMemory is owned = still_owns granted e step NoMemory e.logs owned
-step_owns granted e step (Attached number) is owned = told_owns granted e step _ is owned
-step_owns granted e step Full is owned = told_owns granted e step _ is owned
-step_owns granted e step Stopped is owned = told_owns granted e step _ is owned
-step_owns granted e step (PolicyInForce epoch replies) is owned = told_owns granted e step _ is owned
-step_owns granted e step PolicyFull is owned = told_owns granted e step _ is owned
-step_owns granted e step (Imaged number replies) is owned = told_owns granted e step _ is owned
-step_owns granted e step (Received words) is owned = told_owns granted e step _ is owned
-step_owns granted e step Heard is owned = told_owns granted e step _ is owned
-step_owns granted e step (Dropped fault) is owned = told_owns granted e step _ is owned
-step_owns granted e step (Replies replies) is owned = told_owns granted e step _ is owned
-step_owns granted e step (OfferedAs offered') is owned = told_owns granted e step _ is owned
-step_owns granted e step (Polled fragments) is owned = told_owns granted e step _ is owned
-step_owns granted e step IsGone is owned = told_owns granted e step _ is owned
-step_owns granted e step (Counters rows) is owned = told_owns granted e step _ is owned
-step_owns granted e step (ValueIs number) is owned = told_owns granted e step _ is owned
-step_owns granted e step (Denied verdict) is owned = told_owns granted e step _ is owned
-step_owns granted e step UnknownCounter is owned = told_owns granted e step _ is owned
-step_owns granted e step WrongClient is owned = told_owns granted e step _ is owned
+step_owns granted e step answer is owned =
+    step_either (λ told end. All (Owns (granted_with granted e step told)) end.logs) e (moved e step) answer is
+    (still_owns granted e step NoMemory e.logs owned) (moved_owns granted e step owned)
 
 -- ---- runs
 
@@ -659,13 +678,13 @@ next_of granted subscription limit at fragments (rebuilt frames) owns stood give
     next_of_image subscription limit at fragments frames stood given_is
 
 -- where the subscription stood, and what it is given
-record IsGiven (subscription limit : ℕ) (fragments : List Fragment) (w : AnyWhole) : Type 0 where
-  at : ℕ
-  stood : position_in w subscription ≡ Some at
-  given_is : fragments ≡ (any_polled w subscription limit).fragments
+pub record IsGiven (subscription limit : ℕ) (fragments : List Fragment) (w : AnyWhole) : Type 0 where
+  pub at : ℕ
+  pub stood : position_in w subscription ≡ Some at
+  pub given_is : fragments ≡ (any_polled w subscription limit).fragments
 
 -- a poll that gives fragments gives those of the log
-poll_gives : (subscription limit : ℕ) (log : WholeLog) (o : Option LogRequest) (at : Option ℕ)
+pub poll_gives : (subscription limit : ℕ) (log : WholeLog) (o : Option LogRequest) (at : Option ℕ)
     (fragments : List Fragment) → position_in log.whole subscription ≡ at →
     Polled fragments ≡ (poll_under subscription limit log o at).answer → IsGiven subscription limit fragments log.whole
 poll_gives subscription limit log None at fragments stood is = absurd (cc is)

@@ -1,5 +1,6 @@
 //! What holds over every run: each function does nothing, and its clause is the law.
 
+ghost use Rattle.driver_world.specs.CarryingLaws.{PayloadsComeFromTheirPublisher};
 ghost use Rattle.driver_world.specs.Laws.{BytesComeFromTheLiveLog, LogsFollowTheRegistry, OffersAreGrantedExactly, PollsAreGrantedExactly, RunsTakeEvents};
 
 /// A run leaves the registry that its events leave, those apart that were refused memory: so what is said of all lists of
@@ -35,4 +36,11 @@ pub fn polls_are_granted_exactly()
 /// was put into it by an offer that the policy in force allowed.
 pub fn bytes_come_from_the_live_log()
     ensures { BytesComeFromTheLiveLog }
+{}
+
+/// Each fragment that a poll gives of an image's log is what a frame holds that a datagram brought: a datagram that came
+/// earlier in the run to the image's endpoint, of its session and stream, from the address at which its publisher is. So
+/// nothing that anybody else sends comes into the log.
+pub fn payloads_come_from_their_publisher()
+    ensures { PayloadsComeFromTheirPublisher }
 {}
