@@ -25,7 +25,7 @@ use Rattle.client_registry.specs.Clients.{client_at, has_room}
 use Rattle.counters.specs.Counters.{has}
 use Rattle.destinations.specs.declared.fault.DestinationFault.{DestinationFault}
 use Rattle.destinations.specs.declared.fault.DestinationFault.TheVariants as destination_fault
-use Rattle.destinations.specs.Destinations.{adding, has as has_destination}
+use Rattle.destinations.specs.Destinations.{adding as naming, has as has_destination}
 use Rattle.driver_core.specs.Commands.{heard, requested, asked, asked_by, command, command_from, body_change, refusal_for}
 use Rattle.driver_core.specs.Conduct.{drafted}
 use Rattle.driver_core.specs.Requests.{is_heard, Asks, PublicationRequest, AsksToPublish, wanted_by, SubscriptionRequest, AsksToSubscribe, RemovalRequest, AsksToRemove, DestinationRequest, AsksToDirect, IsAsked}
@@ -114,7 +114,7 @@ pub record Cases (P : Draft → Type 0) (s : State) (handle : ℕ) (bytes : List
       (request : DestinationRequest) (number : ℕ) → is_heard s handle bytes ≡ true → AsksToDirect s handle bytes request →
       (destination_decision (heard s handle) request.client request.channel request.target).verdict.allow ≡ true →
       request.target.manual ≡ true →
-      adding (heard s handle).destinations request.target.source request.target.address ≡ Ok number →
+      naming (heard s handle).destinations request.target.source request.target.address ≡ Ok number →
       P (directed (heard s handle) request.client request.correlation (record {
         decision = destination_decision (heard s handle) request.client request.channel request.target;
         target = request.target;
@@ -333,7 +333,7 @@ published_cases P s handle bytes request cases known asks =
           cases.refusal _ request.client request.correlation (refused_by_streams why) (plain_refusal why) known;
       full = λ adding allows is full. cases.refusal _ request.client request.correlation Full tt known;
       no_room = λ adding allows is room lacks. cases.refusal _ request.client request.correlation NoRoom tt known;
-      granted = λ taken. cases.publication request taken known asks;
+      granted = λ adding. cases.publication request adding known asks;
     })
 
 publication_cases : (P : Draft → Type 0) (s : State) (handle : ℕ) (bytes : List ℕ) (client : Client) (correlation : ℕ)
@@ -417,7 +417,7 @@ taken_cases : (P : Draft → Type 0) (s : State) (handle : ℕ) (bytes : List �
     Cases P s handle bytes → is_heard s handle bytes ≡ true → AsksToDirect s handle bytes request →
     (destination_decision (heard s handle) request.client request.channel request.target).verdict.allow ≡ true →
     request.target.manual ≡ true → (found : Result ℕ DestinationFault) →
-    adding (heard s handle).destinations request.target.source request.target.address ≡ found →
+    naming (heard s handle).destinations request.target.source request.target.address ≡ found →
     P (directed_as (heard s handle) request.client request.correlation
     (added_on (destination_decision (heard s handle) request.client request.channel request.target) request.target found))
 taken_cases P s handle bytes request cases known asks allows manual (Ok number) is =

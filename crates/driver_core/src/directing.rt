@@ -103,10 +103,12 @@ impl Registry {
         match adding {
             Adding::Join { .. } => true,
             Adding::Make { .. } => match sole_address(&wanted.channel) {
-                Some(address) => self
-                    .destinations
-                    .adding(self.next_number(), &address)
-                    .is_ok(),
+                Some(address) => {
+                    matches!(
+                        self.destinations.adding(self.next_number(), &address),
+                        Ok(_)
+                    )
+                }
                 None => true,
             },
         }
