@@ -16,13 +16,13 @@ use Rattle.driver_core.specs.Conduct.{conduct, drafted, outcome_of}
 use Rattle.driver_core.specs.Counting.{counted, valued, uncounted}
 use Rattle.driver_core.specs.Deciding.{decision_by, question_by}
 use Rattle.driver_core.specs.Draft.{Draft, answered, told, replied, replied_opening, refused}
-use Rattle.driver_core.specs.Publishing.{published, ready_for}
+use Rattle.driver_core.specs.Publishing.{published, ready_for, with_directed_publication}
 use Rattle.driver_core.specs.Reloading.{reloaded}
 use Rattle.driver_core.specs.Requests.{PublicationRequest, SubscriptionRequest, RemovalRequest, IsAsked, wanted_by}
 use Rattle.driver_core.specs.State.{State, at_moment}
 use Rattle.driver_core.specs.Subscribing.{subscribed}
 use Rattle.driver_core.specs.Terminating.{terminated}
-use Rattle.driver_core.specs.Ticking.{tick, ticked, late}
+use Rattle.driver_core.specs.Ticking.{closed_past, tick, ticked, late}
 use Rattle.driver_core.specs.Unpublishing.{unpublished}
 use Rattle.driver_core.specs.Unsubscribing.{unsubscribed}
 use Rattle.driver_core.specs.Verdicts.{verdict_on}
@@ -112,7 +112,7 @@ ready_is_named s event client wanted correlation number session =
 
 publication_names : (s : State) (event : Event) (left : State) (request : PublicationRequest) (adding : Adding) →
     Names s event (published left request.client request.correlation (wanted_by request) adding)
-unfolding published replied_opening replied told
+unfolding published with_directed_publication replied_opening replied told
 publication_names s event left request adding =
     record { replies = (ready_is_named s event request.client.number (wanted_by request) _ _ _, tt); later = tt }
 
@@ -274,7 +274,7 @@ attach_names s now principal inputs =
     (answer_names s (Attach now principal) _ _)
 
 tick_names : (s : State) (now : ℕ) (inputs : Inputs) → Names s (Tick now) (drafted s (Tick now) inputs)
-unfolding drafted tick ticked
+unfolding drafted tick ticked closed_past
 tick_names s now inputs = record { replies = tt; later = all_timeouts _ (λ client. tt) (late (at_moment s now)) }
 
 reload_names : (s : State) (now : ℕ) (policy : Rules) (inputs : Inputs) →

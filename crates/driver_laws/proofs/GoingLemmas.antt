@@ -16,14 +16,14 @@ use Rattle.driver_core.specs.Conduct.{conduct, drafted, state_after}
 use Rattle.driver_core.specs.Counting.{counted, has_room_for_counter, uncounted, valued, with_counter}
 use Rattle.driver_core.specs.Draft.{Draft, answered, refused, replied, replied_opening, told}
 use Rattle.driver_core.specs.Leaving.{all_left, left}
-use Rattle.driver_core.specs.Publishing.{published, with_publication}
+use Rattle.driver_core.specs.Publishing.{published, with_directed_publication, with_publication}
 use Rattle.driver_core.specs.Reloading.{in_force, reloaded}
 use Rattle.driver_core.specs.Renewal.{renewed}
 use Rattle.driver_core.specs.Requests.{Asks, PublicationRequest, RemovalRequest, SubscriptionRequest, counter_question, termination_question, wanted_by}
 use Rattle.driver_core.specs.State.{State, at_moment}
 use Rattle.driver_core.specs.Subscribing.{subscribed, with_subscription}
 use Rattle.driver_core.specs.Terminating.{stopped_for_good, terminated}
-use Rattle.driver_core.specs.Ticking.{late, tick, ticked}
+use Rattle.driver_core.specs.Ticking.{closed_past, late, tick, ticked}
 use Rattle.driver_core.specs.Unpublishing.{unpublished}
 use Rattle.driver_core.specs.Unsubscribing.{unsubscribed}
 use Rattle.driver_core.specs.Verdicts.{verdict_on}
@@ -291,7 +291,7 @@ module _ (inputs : Inputs) where
 
   publication_stays : (s : State) (event : Event) (left' : State) (request : PublicationRequest) (adding : Adding) →
       IsSame s left' → Leaves s event (published left' request.client request.correlation (wanted_by request) adding)
-  unfolding published with_publication replied_opening replied told
+  unfolding published with_directed_publication with_publication replied_opening replied told
   publication_stays s event left' request adding same =
       let after = (published left' request.client request.correlation (wanted_by request) adding).after in
       record {
@@ -619,7 +619,7 @@ module _ (inputs : Inputs) where
   ticked_stays : (s between : State) (now : ℕ) (clients : List ℕ) → Behind s (Tick now) between →
       Left (max s.moment now) (at_moment s now) between (Contains clients) →
       Leaves s (Tick now) (ticked between clients inputs.silent)
-  unfolding ticked
+  unfolding ticked closed_past
   ticked_stays s between now clients rows leaves = record {
     clients = rows.clients;
     registrations = closed_registrations s between (Tick now) rows;

@@ -14,14 +14,14 @@ use Rattle.driver_core.specs.Conduct.{conduct, drafted}
 use Rattle.driver_core.specs.Counting.{counted, with_counter, valued, uncounted, has_room_for_counter}
 use Rattle.driver_core.specs.Draft.{Draft, answered, told, replied, replied_opening, refused}
 use Rattle.driver_core.specs.Leaving.{left, all_left}
-use Rattle.driver_core.specs.Publishing.{published, with_publication}
+use Rattle.driver_core.specs.Publishing.{published, with_directed_publication, with_publication}
 use Rattle.driver_core.specs.Reloading.{in_force, reloaded}
 use Rattle.driver_core.specs.Renewal.{renewed}
 use Rattle.driver_core.specs.Requests.{Asks, PublicationRequest, SubscriptionRequest, RemovalRequest, counter_question, termination_question, wanted_by}
 use Rattle.driver_core.specs.State.{State, at_moment}
 use Rattle.driver_core.specs.Subscribing.{subscribed, with_subscription}
 use Rattle.driver_core.specs.Terminating.{terminated, stopped_for_good}
-use Rattle.driver_core.specs.Ticking.{tick, ticked, late}
+use Rattle.driver_core.specs.Ticking.{closed_past, tick, ticked, late}
 use Rattle.driver_core.specs.Unpublishing.{unpublished}
 use Rattle.driver_core.specs.Unsubscribing.{unsubscribed}
 use Rattle.driver_core.specs.Verdicts.{verdict_on}
@@ -117,7 +117,7 @@ subscription_only s event left' request same =
 
 publication_only : (s : State) (event : Event) (left' : State) (request : PublicationRequest) (adding : Adding) → IsSame s left' →
     DraftsOnly s event (published left' request.client request.correlation (wanted_by request) adding)
-unfolding published with_publication replied_opening replied told
+unfolding published with_directed_publication with_publication replied_opening replied told
 publication_only s event left' request adding same =
     same_only s event _ (record { counters = same.counters; stopped = same.stopped })
 
@@ -179,7 +179,7 @@ left_stopped s [] = refl
 left_stopped s (client ∷ clients) = left_stopped (left s client) clients ∙ one_left_stopped s client
 
 tick_only : (s : State) (now : ℕ) (inputs : Inputs) → DraftsOnly s (Tick now) (drafted s (Tick now) inputs)
-unfolding drafted tick ticked at_moment
+unfolding drafted tick ticked closed_past at_moment
 tick_only s now inputs = record {
   counters = λ counter has.
       inl (stood s counter (left_was_counted (at_moment s now) (late (at_moment s now)) counter has));

@@ -20,14 +20,14 @@ use Rattle.driver_core.specs.Counting.{counted, uncounted, valued}
 use Rattle.driver_core.specs.Draft.{Draft, answered, refused, replied, replied_opening, told}
 use Rattle.driver_core.specs.Leaving.{all_left}
 use Rattle.driver_core.specs.Pairs.{is_lacked_by, pairs_of}
-use Rattle.driver_core.specs.Publishing.{published, ready_for}
+use Rattle.driver_core.specs.Publishing.{published, ready_for, with_directed_publication}
 use Rattle.driver_core.specs.Reloading.{reloaded}
 use Rattle.driver_core.specs.Renewal.{available_for, available_to, come_to, gone_from, images_told, position_at, position_by, source_at, renewed, subscription_at, unavailable_for, unavailable_to}
 use Rattle.driver_core.specs.Requests.{wanted_by}
 use Rattle.driver_core.specs.State.{State, at_moment}
 use Rattle.driver_core.specs.Subscribing.{subscribed}
 use Rattle.driver_core.specs.Terminating.{terminated}
-use Rattle.driver_core.specs.Ticking.{late, tick, ticked, timeout_of}
+use Rattle.driver_core.specs.Ticking.{closed_past, late, tick, ticked, timeout_of}
 use Rattle.driver_core.specs.Unpublishing.{unpublished}
 use Rattle.driver_core.specs.Unsubscribing.{unsubscribed}
 use Rattle.driver_core.specs.Commands.{at_request}
@@ -108,7 +108,7 @@ ready_unavailable wanted correlation number session = by wanted.exclusive
 
 publication_tells_none : (s : State) (client : Client) (correlation : ℕ) (wanted : Wanted) (adding : Adding) →
     TellsNone (published s client correlation wanted adding)
-unfolding published replied_opening replied told
+unfolding published with_directed_publication replied_opening replied told
 publication_tells_none s client correlation wanted adding = record {
   available = rw (ready_available wanted correlation _ _) refl;
   unavailable = rw (ready_unavailable wanted correlation _ _) refl;
@@ -141,7 +141,7 @@ timeouts_unavailable [] = refl
 timeouts_unavailable (client ∷ clients) = timeouts_unavailable clients
 
 ticked_tells_none : (s : State) (clients silent : List ℕ) → TellsNone (ticked s clients silent)
-unfolding ticked
+unfolding ticked closed_past
 ticked_tells_none s clients silent = record {
   available = refl;
   unavailable = refl;

@@ -18,14 +18,14 @@ use Rattle.driver_core.specs.Counting.{counted, has_room_for_counter, uncounted,
 use Rattle.driver_core.specs.Draft.{Draft, answered, refused, replied, replied_opening, told}
 use Rattle.driver_core.specs.Leaving.{all_left, left}
 use Rattle.driver_core.specs.Pairs.{is_within_pairs, pairs_of}
-use Rattle.driver_core.specs.Publishing.{has_room_for_publication, published, with_publication}
+use Rattle.driver_core.specs.Publishing.{has_room_for_publication, published, with_directed_publication, with_publication}
 use Rattle.driver_core.specs.Reloading.{has_room_for_policy, in_force, reloaded}
 use Rattle.driver_core.specs.Renewal.{renewed}
 use Rattle.driver_core.specs.Requests.{RemovalRequest, SubscriptionRequest, wanted_by}
 use Rattle.driver_core.specs.State.{State, at_moment, opened}
 use Rattle.driver_core.specs.Subscribing.{has_room_for_subscription, subscribed, with_subscription}
 use Rattle.driver_core.specs.Terminating.{stopped_for_good, terminated}
-use Rattle.driver_core.specs.Ticking.{late, tick, ticked}
+use Rattle.driver_core.specs.Ticking.{closed_past, late, tick, ticked}
 use Rattle.driver_core.specs.Unpublishing.{unpublished}
 use Rattle.driver_core.specs.Unsubscribing.{unsubscribed}
 use Rattle.driver_core.specs.SettingUp.{image_made, setting_of, with_image}
@@ -135,7 +135,7 @@ subscription_within s request room within =
 publication_within : (s : State) (client : Client) (correlation : ℕ) (wanted : Wanted) (adding : Adding) →
     adding_of s.streams wanted ≡ Ok adding → has_room_for_publication s client.number wanted adding ≡ true → IsWithin s →
     IsWithin (published s client correlation wanted adding).after
-unfolding published with_publication replied_opening replied told
+unfolding published with_directed_publication with_publication replied_opening replied told
 publication_within s client correlation wanted adding is room within =
     let parts = and_parts _ _ room in
     record {
@@ -226,7 +226,7 @@ all_left_within s [] within = within
 all_left_within s (client ∷ clients) within = all_left_within (left s client) clients (one_left_within s client within)
 
 ticked_within : (s : State) (clients silent : List ℕ) → IsWithin s → IsWithin (ticked s clients silent).after
-unfolding ticked
+unfolding ticked closed_past
 ticked_within s clients silent within = record {
   clients = within.clients;
   streams = stays_within_limits.closed s.streams s.moment silent within.streams;

@@ -14,14 +14,14 @@ use Rattle.driver_core.specs.Conduct.{conduct, drafted, state_after}
 use Rattle.driver_core.specs.Counting.{counted, uncounted, valued, with_counter}
 use Rattle.driver_core.specs.Draft.{Draft, answered, refused, replied, replied_opening, told}
 use Rattle.driver_core.specs.Leaving.{all_left, left}
-use Rattle.driver_core.specs.Publishing.{published, with_publication}
+use Rattle.driver_core.specs.Publishing.{published, with_directed_publication, with_publication}
 use Rattle.driver_core.specs.Reloading.{in_force, reloaded}
 use Rattle.driver_core.specs.Renewal.{renewed}
 use Rattle.driver_core.specs.Requests.{RemovalRequest, SubscriptionRequest, wanted_by}
 use Rattle.driver_core.specs.State.{State, at_moment, opened}
 use Rattle.driver_core.specs.Subscribing.{subscribed, with_subscription}
 use Rattle.driver_core.specs.Terminating.{stopped_for_good, terminated}
-use Rattle.driver_core.specs.Ticking.{late, tick, ticked}
+use Rattle.driver_core.specs.Ticking.{closed_past, late, tick, ticked}
 use Rattle.driver_core.specs.Unpublishing.{unpublished}
 use Rattle.driver_core.specs.Unsubscribing.{unsubscribed}
 use Rattle.driver_core.specs.SettingUp.{image_made, with_image}
@@ -184,7 +184,7 @@ counter_rises s client correlation fields rises =
 
 publication_rises : (s : State) (client : Client) (correlation : ℕ) (wanted : Wanted) (adding : Adding) → AreRising s →
     Rising s (published s client correlation wanted adding).after
-unfolding published with_publication replied_opening replied told
+unfolding published with_directed_publication with_publication replied_opening replied told
 publication_rises s client correlation wanted (Join source session) rises =
     let last = s.last_number in
     record {
@@ -330,7 +330,7 @@ all_left_rises s (client ∷ clients) rises = all_left_rises (left s client) cli
 
 ticked_rises : (s between : State) (clients silent : List ℕ) → SameLast s between → AreRising between →
     Rising s (ticked between clients silent).after
-unfolding ticked closed
+unfolding ticked closed_past closed
 ticked_rises s between clients silent same rises =
     none_drawn s _ (record { last = same.last; last_client = same.last_client; epoch = same.epoch }) (record {
       clients = rises.clients;

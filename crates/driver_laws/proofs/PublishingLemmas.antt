@@ -12,7 +12,7 @@ use Rattle.driver_core.specs.Conduct.{conduct, drafted}
 use Rattle.driver_core.specs.Deciding.{decision_by}
 use Rattle.driver_core.specs.Draft.{replied, replied_opening, refused, told}
 use Rattle.driver_core.specs.Pairs.{is_within_pairs}
-use Rattle.driver_core.specs.Publishing.{add_publication, has_place, has_room_for_publication, is_publishable, opening_of, publication_decision, publish, publish_by, publish_under, published, ready_for, refused_by_streams, session_of, with_publication}
+use Rattle.driver_core.specs.Publishing.{add_publication, has_place, has_room_for_publication, is_publishable, opening_of, publication_decision, publish, publish_by, publish_under, published, ready_for, refused_by_streams, session_of, with_directed_publication, with_publication}
 use Rattle.driver_core.specs.Renewal.{renewed}
 use Rattle.driver_core.specs.Requests.{PublicationRequest, AsksToPublish, publication_question, wanted_by}
 use Rattle.driver_core.specs.State.{State, at_moment, has_number}
@@ -169,7 +169,7 @@ published_change : (s : State) (now handle : ℕ) (inputs : Inputs) (request : P
     IsPublished s now handle inputs request adding (
     renewed s inputs (
     published (at_request s now handle) request.client request.correlation (wanted_by request) adding))
-unfolding renewed published replied_opening replied told with_publication decision_by heard at_moment
+unfolding renewed published replied_opening replied told with_directed_publication with_publication decision_by heard at_moment
 published_change s now handle inputs request adding own = record {
   after_is = rw own refl;
   told = rw own

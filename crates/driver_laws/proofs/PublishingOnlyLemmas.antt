@@ -14,13 +14,13 @@ use Rattle.driver_core.specs.Conduct.{conduct, drafted}
 use Rattle.driver_core.specs.Counting.{counted, with_counter, valued, uncounted}
 use Rattle.driver_core.specs.Draft.{Draft, answered, refused, replied, replied_opening, told}
 use Rattle.driver_core.specs.Leaving.{left, all_left}
-use Rattle.driver_core.specs.Publishing.{has_place, has_room_for_publication, published, ready_for, session_of, wanted_of, with_publication}
+use Rattle.driver_core.specs.Publishing.{has_place, has_room_for_publication, published, ready_for, session_of, wanted_of, with_directed_publication, with_publication}
 use Rattle.driver_core.specs.Reloading.{in_force, reloaded}
 use Rattle.driver_core.specs.Requests.{PublicationRequest, AsksToPublish, publication_question, wanted_by}
 use Rattle.driver_core.specs.State.{State, at_moment}
 use Rattle.driver_core.specs.Subscribing.{subscribed, with_subscription}
 use Rattle.driver_core.specs.Terminating.{stopped_for_good, terminated}
-use Rattle.driver_core.specs.Ticking.{late, tick, ticked}
+use Rattle.driver_core.specs.Ticking.{closed_past, late, tick, ticked}
 use Rattle.driver_core.specs.Unpublishing.{unpublished}
 use Rattle.driver_core.specs.Unsubscribing.{unsubscribed}
 use Rattle.driver_core.specs.Change.{Change}
@@ -164,7 +164,7 @@ publication_only : (s : State) (now handle : ℕ) (bytes : List ℕ) (request : 
     has_place s (wanted_by request) adding ≡ true →
     DraftsOnly s (Command now handle bytes) (
     published (at_request s now handle) request.client request.correlation (wanted_by request) adding)
-unfolding registered_by published replied_opening replied told with_publication heard at_moment
+unfolding registered_by published replied_opening replied told with_directed_publication with_publication heard at_moment
 publication_only s now handle bytes request adding asks allows is room placed =
     let event : Event = Command now handle bytes in
     let wanted : Wanted = wanted_by request in
@@ -335,7 +335,7 @@ reload_only s now policy inputs =
     (λ full. answer_only s (Reload now policy) _ _ refl)
 
 tick_only : (s : State) (now : ℕ) (inputs : Inputs) → DraftsOnly s (Tick now) (drafted s (Tick now) inputs)
-unfolding drafted tick ticked closed at_moment
+unfolding drafted tick ticked closed_past closed at_moment
 tick_only s now inputs =
     let clients : List ℕ = late (at_moment s now) in
     record {

@@ -16,14 +16,14 @@ use Rattle.driver_core.specs.Conduct.{conduct, drafted, outcome_of, state_after}
 use Rattle.driver_core.specs.Counting.{counted, valued, uncounted}
 use Rattle.driver_core.specs.Draft.{Draft, answered, told, replied, replied_opening, refused}
 use Rattle.driver_core.specs.Leaving.{all_left}
-use Rattle.driver_core.specs.Publishing.{published}
+use Rattle.driver_core.specs.Publishing.{published, with_directed_publication}
 use Rattle.driver_core.specs.Reloading.{reloaded}
 use Rattle.driver_core.specs.Renewal.{renewed}
 use Rattle.driver_core.specs.Requests.{is_heard, PublicationRequest, SubscriptionRequest, RemovalRequest, wanted_by}
 use Rattle.driver_core.specs.State.{State, at_moment}
 use Rattle.driver_core.specs.Subscribing.{subscribed}
 use Rattle.driver_core.specs.Terminating.{terminated}
-use Rattle.driver_core.specs.Ticking.{tick, ticked, late}
+use Rattle.driver_core.specs.Ticking.{closed_past, tick, ticked, late}
 use Rattle.driver_core.specs.Unpublishing.{unpublished}
 use Rattle.driver_core.specs.Unsubscribing.{unsubscribed}
 use Rattle.driver_core.specs.Pairs.{pairs_of}
@@ -134,7 +134,7 @@ ready_is_grant false ready other first second refuses = second refuses
 
 publication_leaves : (after s : State) (request : PublicationRequest) (adding : Adding) →
     Leaves after (published s request.client request.correlation (wanted_by request) adding)
-unfolding published replied_opening replied told
+unfolding published with_directed_publication replied_opening replied told
 publication_leaves after s request adding =
     record {
       on = λ nothing.
@@ -241,7 +241,7 @@ attach_leaves s now principal inputs =
 
 -- a tick that tells nobody takes nobody away, and no log
 ticked_leaves : (s : State) (clients silent : List ℕ) → Leaves s (ticked (all_left s clients) clients silent)
-unfolding ticked
+unfolding ticked closed_past
 ticked_leaves s [] silent = record { on = λ nothing. rw (none_closed s.streams s.moment silent nothing.stays) refl }
 ticked_leaves s (client ∷ clients) silent = record { on = λ nothing. absurd nothing.later.0 }
 

@@ -15,14 +15,14 @@ use Rattle.driver_core.specs.Conduct.{conduct, drafted, state_after}
 use Rattle.driver_core.specs.Counting.{counted, with_counter, valued, uncounted}
 use Rattle.driver_core.specs.Draft.{Draft, answered, told, replied, replied_opening, refused}
 use Rattle.driver_core.specs.Pairs.{pairs_of, is_within_pairs, lacking}
-use Rattle.driver_core.specs.Publishing.{published, with_publication}
+use Rattle.driver_core.specs.Publishing.{published, with_directed_publication, with_publication}
 use Rattle.driver_core.specs.Reloading.{in_force, reloaded, has_room_for_policy, reload}
 use Rattle.driver_core.specs.Renewal.{renewed}
 use Rattle.driver_core.specs.Requests.{PublicationRequest, SubscriptionRequest, RemovalRequest, wanted_by}
 use Rattle.driver_core.specs.State.{State, at_moment}
 use Rattle.driver_core.specs.Subscribing.{subscribed, with_subscription}
 use Rattle.driver_core.specs.Terminating.{terminated, stopped_for_good}
-use Rattle.driver_core.specs.Ticking.{tick, ticked, late}
+use Rattle.driver_core.specs.Ticking.{closed_past, tick, ticked, late}
 use Rattle.driver_core.specs.Unpublishing.{unpublished}
 use Rattle.driver_core.specs.Unsubscribing.{unsubscribed}
 use Rattle.driver_core.specs.SettingUp.{image_made, with_image}
@@ -161,7 +161,7 @@ grant_keeps s left request same = record { same = same }
 
 publication_keeps : (s left : State) (request : PublicationRequest) (adding : Adding) → in_force_at left ≡ in_force_at s →
     Keeps s (published left request.client request.correlation (wanted_by request) adding)
-unfolding published with_publication replied_opening replied told
+unfolding published with_directed_publication with_publication replied_opening replied told
 publication_keeps s left request adding same = record { same = same }
 
 publication_removal_keeps : (s left : State) (client : Client) (correlation number : ℕ) →
@@ -237,7 +237,7 @@ command_keeps s now handle bytes =
     }
 
 tick_keeps : (s : State) (now : ℕ) (silent : List ℕ) → Keeps s (tick (at_moment s now) silent)
-unfolding tick ticked
+unfolding tick ticked closed_past
 tick_keeps s now silent =
     record { same = left_in_force (at_moment s now) (late (at_moment s now)) ∙ moment_keeps s now }
 

@@ -19,14 +19,14 @@ use Rattle.driver_core.specs.Conduct.{conduct, drafted, state_after}
 use Rattle.driver_core.specs.Counting.{counted, with_counter, valued, uncounted}
 use Rattle.driver_core.specs.Deciding.{decision_by}
 use Rattle.driver_core.specs.Draft.{Draft, answered, told, replied, replied_opening, refused}
-use Rattle.driver_core.specs.Publishing.{published, with_publication}
+use Rattle.driver_core.specs.Publishing.{published, with_directed_publication, with_publication}
 use Rattle.driver_core.specs.Reloading.{in_force, reloaded}
 use Rattle.driver_core.specs.Renewal.{renewed, images_decided, images_told}
 use Rattle.driver_core.specs.Requests.{Asks, PublicationRequest, SubscriptionRequest, RemovalRequest, AsksToRemove, termination_question, wanted_by}
 use Rattle.driver_core.specs.State.{State, at_moment}
 use Rattle.driver_core.specs.Subscribing.{subscribed, with_subscription}
 use Rattle.driver_core.specs.Terminating.{terminated, termination_decision}
-use Rattle.driver_core.specs.Ticking.{tick, ticked, late}
+use Rattle.driver_core.specs.Ticking.{closed_past, tick, ticked, late}
 use Rattle.driver_core.specs.Unpublishing.{unpublished}
 use Rattle.driver_core.specs.Unsubscribing.{remove_subscription, unsubscribed}
 use Rattle.driver_core.specs.Verdicts.{verdict_on}
@@ -227,7 +227,7 @@ added_same t number client wanted place (Make session) = refl
 publication_stays : (s : State) (event : Event) (left : State) (request : PublicationRequest) (adding : Adding) →
     left.streams.subscriptions ≡ s.streams.subscriptions →
     Leaves s event (published left request.client request.correlation (wanted_by request) adding)
-unfolding published with_publication replied_opening replied told
+unfolding published with_directed_publication with_publication replied_opening replied told
 publication_stays s event left request adding same =
     all_stay s event _ (added_same left.streams _ request.client.number (wanted_by request) _ adding ∙ same)
 
@@ -410,7 +410,7 @@ attach_stays s now principal inputs =
     (answer_stays s (Attach now principal) (at_moment s now) _ (moment_same s now))
 
 tick_stays : (s : State) (now : ℕ) (inputs : Inputs) → Leaves s (Tick now) (drafted s (Tick now) inputs)
-unfolding drafted tick ticked closed at_moment
+unfolding drafted tick ticked closed_past closed at_moment
 tick_stays s now inputs =
     record {
       on = λ subscription has.

@@ -18,14 +18,14 @@ use Rattle.driver_core.specs.Commands.{heard, at_request}
 use Rattle.driver_core.specs.Conduct.{conduct, drafted}
 use Rattle.driver_core.specs.Counting.{counted, with_counter, valued, uncounted}
 use Rattle.driver_core.specs.Draft.{Draft, answered, told, replied, replied_opening, refused}
-use Rattle.driver_core.specs.Publishing.{published, session_of, with_publication}
+use Rattle.driver_core.specs.Publishing.{published, session_of, with_directed_publication, with_publication}
 use Rattle.driver_core.specs.Reloading.{in_force, reloaded}
 use Rattle.driver_core.specs.Renewal.{renewed}
 use Rattle.driver_core.specs.Requests.{SubscriptionRequest, AsksToSubscribe, RemovalRequest, wanted_by, question_of}
 use Rattle.driver_core.specs.State.{State, at_moment}
 use Rattle.driver_core.specs.Subscribing.{subscribed, with_subscription}
 use Rattle.driver_core.specs.Terminating.{terminated, stopped_for_good}
-use Rattle.driver_core.specs.Ticking.{tick, ticked, late}
+use Rattle.driver_core.specs.Ticking.{closed_past, tick, ticked, late}
 use Rattle.driver_core.specs.Unpublishing.{unpublished}
 use Rattle.driver_core.specs.Unsubscribing.{unsubscribed}
 use Rattle.driver_core.specs.Verdicts.{verdict_on}
@@ -195,7 +195,7 @@ ready_grants_none false s event after client correlation number session stream =
 publication_grants_only : (s : State) (event : Event) (before : State) (client : Client) (correlation : ℕ) (wanted : Wanted)
     (adding : Adding) → before.streams ≡ s.streams →
     DraftGrantsOnly s event (published before client correlation wanted adding)
-unfolding published with_publication replied_opening replied told
+unfolding published with_directed_publication with_publication replied_opening replied told
 publication_grants_only s event before client correlation wanted adding same =
     let after : State = with_publication before client.number wanted adding in
     let grants_none = ready_grants_none wanted.exclusive s event after client.number correlation (before.last_number + 1)
@@ -229,7 +229,7 @@ termination_grants_only s event before client correlation = record {
 }
 
 tick_grants_only : (s : State) (now : ℕ) (inputs : Inputs) → DraftGrantsOnly s (Tick now) (drafted s (Tick now) inputs)
-unfolding drafted tick ticked closed at_moment
+unfolding drafted tick ticked closed_past closed at_moment
 tick_grants_only s now inputs = record {
   replies = tt;
   later = all_timeouts _ (λ client. tt) (late (at_moment s now));

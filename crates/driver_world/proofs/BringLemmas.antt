@@ -16,7 +16,7 @@ use Rattle.driver_core.specs.Commands.{heard, at_request}
 use Rattle.driver_core.specs.Conduct.{conduct, drafted}
 use Rattle.driver_core.specs.Counting.{counted, valued, uncounted}
 use Rattle.driver_core.specs.Draft.{answered, told, replied, replied_opening, refused}
-use Rattle.driver_core.specs.Publishing.{opening_of, published, with_publication}
+use Rattle.driver_core.specs.Publishing.{opening_of, published, with_directed_publication, with_publication}
 use Rattle.driver_core.specs.Reloading.{reloaded}
 use Rattle.driver_core.specs.Renewal.{renewed, source_at}
 use Rattle.driver_core.specs.Requests.{wanted_by}
@@ -25,7 +25,7 @@ use Rattle.driver_core.specs.Soundness.{Ascend, IsSound}
 use Rattle.driver_core.specs.State.{State, at_moment}
 use Rattle.driver_core.specs.Subscribing.{subscribed}
 use Rattle.driver_core.specs.Terminating.{terminated}
-use Rattle.driver_core.specs.Ticking.{tick, ticked}
+use Rattle.driver_core.specs.Ticking.{closed_past, tick, ticked}
 use Rattle.driver_core.specs.Unpublishing.{unpublished}
 use Rattle.driver_core.specs.Unread.{dropping, without_unread}
 use Rattle.driver_core.specs.Unsubscribing.{unsubscribed}
@@ -158,7 +158,7 @@ unfolding terminated replied told
 termination_brings event s client correlation = tt
 
 tick_brings : (event : Event) (s : State) (silent : List ℕ) → Brought event (tick s silent)
-unfolding tick ticked
+unfolding tick ticked closed_past
 tick_brings event s silent = tt
 
 -- ---- drafts that open a log
@@ -166,7 +166,7 @@ tick_brings event s silent = tt
 publication_brings : (event : Event) (s : State) (client : Client) (correlation : ℕ) (wanted : Wanted) (adding : Adding) →
     terms_brought event ≡ None → Ascend 0 s.last_number s.streams.sources →
     Brought event (published s client correlation wanted adding)
-unfolding published replied_opening replied told opening_of with_publication
+unfolding published replied_opening replied told opening_of with_directed_publication with_publication
 publication_brings event s client correlation wanted (Join source session) none up = tt
 publication_brings event s client correlation wanted (Make session) none up =
     All-push (IsBrought event (s.last_number + 1)) s.streams.sources _ (none_next event 0 s.last_number s.streams.sources up)

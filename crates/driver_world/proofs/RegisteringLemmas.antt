@@ -16,7 +16,7 @@ use Rattle.driver_core.specs.Conduct.{conduct, drafted, state_after, state_of}
 use Rattle.driver_core.specs.Counting.{counted, with_counter, valued, uncounted}
 use Rattle.driver_core.specs.Draft.{answered, told, replied, replied_opening, refused}
 use Rattle.driver_core.specs.Leaving.{left, all_left}
-use Rattle.driver_core.specs.Publishing.{published, with_publication}
+use Rattle.driver_core.specs.Publishing.{published, with_directed_publication, with_publication}
 use Rattle.driver_core.specs.Reloading.{in_force, reloaded}
 use Rattle.driver_core.specs.Renewal.{renewed}
 use Rattle.driver_core.specs.Requests.{PublicationRequest, wanted_by}
@@ -25,7 +25,7 @@ use Rattle.driver_core.specs.Soundness.{Ascend, IsSound}
 use Rattle.driver_core.specs.State.{State, at_moment}
 use Rattle.driver_core.specs.Subscribing.{subscribed, with_subscription}
 use Rattle.driver_core.specs.Terminating.{stopped_for_good, terminated}
-use Rattle.driver_core.specs.Ticking.{late, tick, ticked}
+use Rattle.driver_core.specs.Ticking.{closed_past, late, tick, ticked}
 use Rattle.driver_core.specs.Unpublishing.{unpublished}
 use Rattle.driver_core.specs.Unread.{dropping, without_unread}
 use Rattle.driver_core.specs.Unsubscribing.{unsubscribed}
@@ -277,7 +277,7 @@ unfolding terminated stopped_for_good
 termination_registers s client correlation = All-nil _
 
 tick_registers : (s : State) (silent : List ℕ) → AreRegistered s → Registers (tick s silent)
-unfolding tick ticked closed
+unfolding tick ticked closed_past closed
 tick_registers s silent registered =
     let after : State = all_left s (late s) in
     kept_move after.last_number (stays_live after.moment silent) after.streams.sources after.streams.registrations
@@ -286,7 +286,7 @@ tick_registers s silent registered =
 publication_registers : (s : State) (client : Client) (correlation : ℕ) (wanted : Wanted) (adding : Adding) →
     IsJoined s.last_number s.streams.sources adding → Ascend 0 s.last_number s.streams.sources → AreRegistered s →
     Registers (published s client correlation wanted adding)
-unfolding published replied_opening replied told with_publication
+unfolding published replied_opening replied told with_directed_publication with_publication
 publication_registers s client correlation wanted (Join source session) is up registered =
     All-push (IsWith (s.last_number + 1) s.streams.sources) s.streams.registrations _
     (drawn_registers s.last_number s.streams.sources s.streams.registrations registered)
