@@ -2,6 +2,7 @@
 use Rattle.std.proofs.Common.{◌≡◌, ℕ, ◌<◌, ◌==◌, Bool, true, false, cond, List, [], ◌∷◌, max, inl, inr, refl, sym, ap, ◌∙◌, ◌⊎◌, ⊎_elim, arith}
 use Rattle.std.specs.List.{Contains}
 use Rattle.std.proofs.lemmas.List.Elements.{Contains-push_cases}
+use Rattle.driver_core.specs.Directing.{directed, recalled, with_destination, without_destination}
 use Rattle.driver_core.specs.declared.event.Event.{Event}
 use Rattle.driver_core.specs.declared.event.Event.TheVariants.{Attach, Command, Reload, Setup, Tick}
 use Rattle.driver_core.specs.declared.event.Inputs.{Inputs}
@@ -79,7 +80,7 @@ all_left_come s between (client ∷ clients) come =
     all_left_come s (left between client) clients (fewer_left s between client come)
 
 command_comes : (s : State) (now handle : ℕ) (bytes : List ℕ) → Cases (Comes s) (at_moment s now) handle bytes
-unfolding at_moment heard refused replied told subscribed with_subscription published with_directed_publication with_publication replied_opening unpublished unsubscribed keep_alive counted with_counter valued uncounted close terminated stopped_for_good
+unfolding at_moment heard refused replied told subscribed with_subscription published with_directed_publication with_publication replied_opening unpublished unsubscribed keep_alive counted with_counter valued uncounted directed with_destination recalled without_destination close terminated stopped_for_good
 command_comes s now handle bytes =
     let heard' : AllCome s (touched s.clients handle (max s.moment now)).rows = all_heard s handle (max s.moment now) in
     record {
@@ -91,6 +92,10 @@ command_comes s now handle bytes =
       publication_removal = λ client correlation fields was_heard asks. heard';
       removal = λ request was_heard asks. heard';
       keepalive = λ was_heard. heard';
+      destination = λ request number was_heard asks allows manual is.
+          heard';
+      destination_removal = λ client correlation fields target was_heard asks is.
+          heard';
       counter = λ client correlation fields was_heard asks allows room. heard';
       value = λ client correlation fields was_heard asks. heard';
       counter_removal = λ client correlation fields was_heard asks. heard';

@@ -2,6 +2,9 @@
 use Rattle.std.proofs.Common.{◌≡◌, ℕ, ℤ, false, List, [], ◌∷◌, Some, inl, inr, refl, sym, ap, ◌∙◌, ⊎_elim}
 use Rattle.std.proofs.lemmas.Bool.{cond_both}
 use Rattle.std.specs.List.{AllByRecursion}
+use Rattle.driver_core.specs.declared.directing.Directed.{Directed}
+use Rattle.driver_core.specs.declared.directing.Target.{Target}
+use Rattle.driver_core.specs.Directing.{directed, recalled, with_destination, without_destination}
 use Rattle.driver_core.specs.declared.event.Event.{Event}
 use Rattle.driver_core.specs.declared.event.Event.TheVariants.{Attach, Command, Reload, Setup, Tick}
 use Rattle.driver_core.specs.declared.event.Inputs.{Inputs}
@@ -135,6 +138,16 @@ value_names : (s : State) (event : Event) (left : State) (client : Client) (corr
 unfolding valued replied told
 value_names s event left client correlation fields = record { replies = (tt, tt); later = tt }
 
+destination_names : (s : State) (event : Event) (left : State) (client : Client) (correlation : ℕ) (granted : Directed) →
+    Names s event (directed left client correlation granted)
+unfolding directed with_destination replied told
+destination_names s event left client correlation granted = record { replies = (tt, tt); later = tt }
+
+destination_removal_names : (s : State) (event : Event) (left : State) (client : Client) (correlation : ℕ) (target : Target) →
+    Names s event (recalled left client correlation target)
+unfolding recalled without_destination replied told
+destination_removal_names s event left client correlation target = record { replies = (tt, tt); later = tt }
+
 counter_removal_names : (s : State) (event : Event) (left : State) (client : Client) (correlation number : ℕ) →
     Names s event (uncounted left client correlation number)
 unfolding uncounted told
@@ -254,6 +267,10 @@ command_names s now handle bytes =
           unpublished_names s event left client correlation fields.registration;
       removal = λ request was_heard asks. removal_names s event left request;
       keepalive = λ was_heard. keepalive_names s event left;
+      destination = λ request number was_heard asks allows manual is.
+          destination_names s event left request.client request.correlation _;
+      destination_removal = λ client correlation fields target was_heard asks is.
+          destination_removal_names s event left client correlation target;
       counter = λ client correlation fields was_heard asks allows room.
           counter_names s event left client correlation fields;
       value = λ client correlation fields was_heard asks. value_names s event left client correlation fields;

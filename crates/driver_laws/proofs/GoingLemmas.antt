@@ -4,6 +4,9 @@ use Rattle.std.specs.List.{Contains, list_any}
 use Rattle.std.proofs.lemmas.Bool.{and_parts, cases_Bool, eqb-true, not-false, not_from_false, or_left}
 use Rattle.std.proofs.lemmas.List.Elements.{All-contains, Contains-append_left, Contains-push_cases, filter_passes}
 use Rattle.std.proofs.lemmas.List.Folds.{list_any-append}
+use Rattle.driver_core.specs.declared.directing.Directed.{Directed}
+use Rattle.driver_core.specs.declared.directing.Target.{Target}
+use Rattle.driver_core.specs.Directing.{directed, recalled, with_destination, without_destination}
 use Rattle.driver_core.specs.declared.event.Event.{Event}
 use Rattle.driver_core.specs.declared.event.Event.TheVariants.{Attach, Command, Reload, Setup, Tick}
 use Rattle.driver_core.specs.declared.event.Inputs.{Inputs}
@@ -228,6 +231,28 @@ module _ (inputs : Inputs) where
       Leaves s event (unsubscribed left' request.client request.correlation request.fields.registration)
   unfolding unsubscribed unsubscribed_in replied told
   removal_stays s event left' request same =
+      all_stay s event _ (record {
+        clients = same.clients;
+        registrations = same.registrations;
+        counters = same.counters;
+        logs = same.logs;
+      }) refl
+
+  destination_stays : (s : State) (event : Event) (left' : State) (client : Client) (correlation : ℕ) (granted : Directed) →
+      IsSame s left' → Leaves s event (directed left' client correlation granted)
+  unfolding directed with_destination replied told
+  destination_stays s event left' client correlation granted same =
+      all_stay s event _ (record {
+        clients = same.clients;
+        registrations = same.registrations;
+        counters = same.counters;
+        logs = same.logs;
+      }) refl
+
+  destination_removal_stays : (s : State) (event : Event) (left' : State) (client : Client) (correlation : ℕ)
+      (target : Target) → IsSame s left' → Leaves s event (recalled left' client correlation target)
+  unfolding recalled without_destination replied told
+  destination_removal_stays s event left' client correlation target same =
       all_stay s event _ (record {
         clients = same.clients;
         registrations = same.registrations;
@@ -693,6 +718,10 @@ module _ (inputs : Inputs) where
             (before client correlation (Unpublishes fields) asks) same;
         removal = λ request was_heard asks. removal_stays s event after request same;
         keepalive = λ was_heard. keepalive_stays s event after same;
+        destination = λ request number was_heard asks allows manual is.
+            destination_stays s event after request.client request.correlation _ same;
+        destination_removal = λ client correlation fields target was_heard asks is.
+            destination_removal_stays s event after client correlation target same;
         counter = λ client correlation fields was_heard asks allows room.
             let word = ap (λ (v : Verdict). v.allow) (counter_verdict s now handle client fields) in
             counter_stays s now handle bytes client correlation fields

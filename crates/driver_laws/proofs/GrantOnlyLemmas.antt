@@ -2,6 +2,9 @@
 use Rattle.std.proofs.Common.{◌≡◌, ℕ, ℤ, ◌+◌, Bool, true, false, cond, List, [], ◌∷◌, map, ◌⊎◌, inl, inr, refl, sym, ap, ◌∙◌, ⊎_elim}
 use Rattle.std.specs.List.{Contains}
 use Rattle.std.proofs.lemmas.List.Elements.{All-map, All-weaker, All-contains, All-contains_itself, Contains-push_cases}
+use Rattle.driver_core.specs.declared.directing.Directed.{Directed}
+use Rattle.driver_core.specs.declared.directing.Target.{Target}
+use Rattle.driver_core.specs.Directing.{directed, recalled, with_destination, without_destination}
 use Rattle.driver_core.specs.declared.event.Event.{Event}
 use Rattle.driver_core.specs.declared.event.Event.TheVariants.{Attach, Command, Reload, Setup, Tick}
 use Rattle.driver_core.specs.declared.event.Inputs.{Inputs}
@@ -215,6 +218,18 @@ value_only s event left' client correlation fields same =
       ends = λ is. inl (rw same.stopped at is);
     }
 
+destination_only : (s : State) (event : Event) (left' : State) (client : Client) (correlation : ℕ) (granted : Directed) →
+    IsSame s left' → DraftsOnly s event (directed left' client correlation granted)
+unfolding directed with_destination replied told
+destination_only s event left' client correlation granted same =
+    same_only s event _ (record { counters = same.counters; stopped = same.stopped })
+
+destination_removal_only : (s : State) (event : Event) (left' : State) (client : Client) (correlation : ℕ) (target : Target) →
+    IsSame s left' → DraftsOnly s event (recalled left' client correlation target)
+unfolding recalled without_destination replied told
+destination_removal_only s event left' client correlation target same =
+    same_only s event _ (record { counters = same.counters; stopped = same.stopped })
+
 -- ---- a counter that comes
 
 pub made_by : (s : State) (now handle : ℕ) (bytes : List ℕ) (client : Client) (correlation : ℕ) (fields : AddCounter) →
@@ -298,6 +313,10 @@ command_only s now handle bytes =
           publication_removal_only s event after client correlation fields.registration same;
       removal = λ request was_heard asks. removal_only s event after request same;
       keepalive = λ was_heard. keepalive_only s event after same;
+      destination = λ request number was_heard asks allows manual is.
+          destination_only s event after request.client request.correlation _ same;
+      destination_removal = λ client correlation fields target was_heard asks is.
+          destination_removal_only s event after client correlation target same;
       counter = λ client correlation fields was_heard asks allows room.
           let word = ap (λ (v : Verdict). v.allow) (counter_verdict s now handle client fields) in
           counter_only s now handle bytes client correlation fields

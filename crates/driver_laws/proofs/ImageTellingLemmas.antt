@@ -5,6 +5,7 @@ use Rattle.std.specs.Prelude.{find, is_some}
 use Rattle.std.proofs.lemmas.Bool.{eqb-true, eq-eqb}
 use Rattle.std.proofs.lemmas.List.{append-nil}
 use Rattle.std.proofs.lemmas.List.Elements.{Contains-append_cases, Contains-append_left, Contains-append_right, Contains-push, filter-append}
+use Rattle.driver_core.specs.Directing.{directed, recalled}
 use Rattle.driver_core.specs.declared.event.End.{End}
 use Rattle.driver_core.specs.declared.event.Event.{Event}
 use Rattle.driver_core.specs.declared.event.Event.TheVariants.{Attach, Command, Reload, Setup, Tick}
@@ -150,7 +151,7 @@ ticked_tells_none s clients silent = record {
 }
 
 command_tells_none : (s : State) (now handle : ℕ) (bytes : List ℕ) → Cases TellsNone (at_moment s now) handle bytes
-unfolding subscribed unpublished unsubscribed counted valued close
+unfolding subscribed unpublished unsubscribed directed recalled counted valued close
 command_tells_none s now handle bytes = record {
   unheard = λ correlation refusal plain not_heard. refusal_tells_none _ [] handle correlation refusal;
   refusal = λ decisions client correlation refusal plain was_heard.
@@ -163,6 +164,10 @@ command_tells_none s now handle bytes = record {
   publication_removal = λ client correlation fields was_heard asks. reply_tells_none _ [] client.number _ refl refl;
   removal = λ request was_heard asks. reply_tells_none _ [] request.client.number _ refl refl;
   keepalive = λ was_heard. keepalive_tells_none (at_request s now handle);
+  destination = λ request number was_heard asks allows manual is.
+      reply_tells_none _ _ request.client.number _ refl refl;
+  destination_removal = λ client correlation fields target was_heard asks is.
+      reply_tells_none _ [] client.number _ refl refl;
   counter = λ client correlation fields was_heard asks allows room.
       reply_tells_none _ _ client.number _ refl refl;
   value = λ client correlation fields was_heard asks. reply_tells_none _ [] client.number _ refl refl;

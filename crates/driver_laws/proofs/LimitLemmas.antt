@@ -3,6 +3,9 @@ use Rattle.std.proofs.Common.{◌≡◌, ℕ, ◌+◌, ◌<◌, ◌≤◌, Bool,
 use Rattle.std.proofs.lemmas.Bool.{and_parts, cond_both, leb-true, ltb-true}
 use Rattle.std.proofs.lemmas.List.{length-append, length-map}
 use Rattle.std.proofs.lemmas.List.Filters.{length-filter_both}
+use Rattle.driver_core.specs.declared.directing.Directed.{Directed}
+use Rattle.driver_core.specs.declared.directing.Target.{Target}
+use Rattle.driver_core.specs.Directing.{directed, recalled, with_destination, without_destination}
 use Rattle.driver_core.specs.declared.event.Event.{Event}
 use Rattle.driver_core.specs.declared.event.Event.TheVariants.{Attach, Command, Reload, Setup, Tick}
 use Rattle.driver_core.specs.declared.event.Inputs.{Inputs}
@@ -177,6 +180,26 @@ value_within s client correlation fields within = record {
   pairs = within.pairs;
 }
 
+destination_within : (s : State) (client : Client) (correlation : ℕ) (granted : Directed) → IsWithin s →
+    IsWithin (directed s client correlation granted).after
+unfolding directed with_destination replied told pairs_of
+destination_within s client correlation granted within = record {
+  clients = within.clients;
+  streams = within.streams;
+  counters = within.counters;
+  pairs = within.pairs;
+}
+
+destination_removal_within : (s : State) (client : Client) (correlation : ℕ) (target : Target) → IsWithin s →
+    IsWithin (recalled s client correlation target).after
+unfolding recalled without_destination replied told pairs_of
+destination_removal_within s client correlation target within = record {
+  clients = within.clients;
+  streams = within.streams;
+  counters = within.counters;
+  pairs = within.pairs;
+}
+
 counter_removal_within : (s : State) (client : Client) (correlation number : ℕ) → IsWithin s →
     IsWithin (uncounted s client correlation number).after
 unfolding uncounted told counters_without pairs_of
@@ -327,6 +350,10 @@ command_within s now handle bytes was_within =
           publication_removal_within at client correlation fields.registration within;
       removal = λ request was_heard asks. removal_within at request within;
       keepalive = λ was_heard. keepalive_within at within;
+      destination = λ request number was_heard asks allows manual is.
+          destination_within at request.client request.correlation _ within;
+      destination_removal = λ client correlation fields target was_heard asks is.
+          destination_removal_within at client correlation target within;
       counter = λ client correlation fields was_heard asks allows room.
           counter_within at client correlation fields room within;
       value = λ client correlation fields was_heard asks. value_within at client correlation fields within;

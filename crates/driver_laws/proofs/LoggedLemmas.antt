@@ -4,6 +4,7 @@ use Rattle.std.specs.Prelude.{find, is_none}
 use Rattle.std.specs.List.{Contains}
 use Rattle.std.proofs.lemmas.Bool.{and_parts, eq-eqb}
 use Rattle.std.proofs.lemmas.List.Elements.{Contains-append_left, Contains-append_right, Contains-push, Contains-push_cases}
+use Rattle.driver_core.specs.Directing.{directed, recalled, with_destination, without_destination}
 use Rattle.driver_core.specs.declared.event.Event.{Event}
 use Rattle.driver_core.specs.declared.event.Event.TheVariants.{Attach, Command, Reload, Setup, Tick}
 use Rattle.driver_core.specs.declared.event.Inputs.{Inputs}
@@ -260,7 +261,7 @@ all_left_logged s (client ∷ clients) logged =
 
 command_logged : (s : State) (now handle : ℕ) (bytes : List ℕ) → HaveTheirLogs s.streams →
     Cases (Keeps s) (at_moment s now) handle bytes
-unfolding at_moment heard refused replied told subscribed with_subscription subscribed_in published with_directed_publication with_publication replied_opening unpublished unsubscribed unsubscribed_in keep_alive counted with_counter valued uncounted close left terminated stopped_for_good
+unfolding at_moment heard refused replied told subscribed with_subscription subscribed_in published with_directed_publication with_publication replied_opening unpublished unsubscribed unsubscribed_in keep_alive counted with_counter valued uncounted directed with_destination recalled without_destination close left terminated stopped_for_good
 command_logged s now handle bytes logged = record {
   unheard = λ correlation refusal plain not_heard. logged;
   refusal = λ decisions client correlation refusal plain was_heard. logged;
@@ -273,6 +274,10 @@ command_logged s now handle bytes logged = record {
       unregistered_logged s.streams client.number fields.registration (max s.moment now) logged;
   removal = λ request was_heard asks. logged;
   keepalive = λ was_heard. logged;
+  destination = λ request number was_heard asks allows manual is.
+      logged;
+  destination_removal = λ client correlation fields target was_heard asks is.
+      logged;
   counter = λ client correlation fields was_heard asks allows room. logged;
   value = λ client correlation fields was_heard asks. logged;
   counter_removal = λ client correlation fields was_heard asks. logged;

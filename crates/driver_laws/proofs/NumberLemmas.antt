@@ -1,5 +1,8 @@
 -- Each event keeps the numbers rising, and draws the next ones alone.
 use Rattle.std.proofs.Common.{◌≡◌, ℕ, ◌+◌, ◌==◌, ℤ, Bool, true, false, cond, List, [], ◌∷◌, refl, ◌∙◌, arith}
+use Rattle.driver_core.specs.declared.directing.Directed.{Directed}
+use Rattle.driver_core.specs.declared.directing.Target.{Target}
+use Rattle.driver_core.specs.Directing.{directed, recalled, with_destination, without_destination}
 use Rattle.driver_core.specs.declared.event.Event.{Event}
 use Rattle.driver_core.specs.declared.event.Event.TheVariants.{Attach, Command, Reload, Setup, Tick}
 use Rattle.driver_core.specs.declared.event.Inputs.{Inputs}
@@ -248,6 +251,30 @@ value_rises s client correlation fields rises =
           rises.counters;
     })
 
+destination_rises : (s : State) (client : Client) (correlation : ℕ) (granted : Directed) → AreRising s →
+    Rising s (directed s client correlation granted).after
+unfolding directed with_destination replied told
+destination_rises s client correlation granted rises =
+    none_drawn s _ (record { last = refl; last_client = refl; epoch = refl }) (record {
+      clients = rises.clients;
+      sources = rises.sources;
+      registrations = rises.registrations;
+      subscriptions = rises.subscriptions;
+      counters = rises.counters;
+    })
+
+destination_removal_rises : (s : State) (client : Client) (correlation : ℕ) (target : Target) → AreRising s →
+    Rising s (recalled s client correlation target).after
+unfolding recalled without_destination replied told
+destination_removal_rises s client correlation target rises =
+    none_drawn s _ (record { last = refl; last_client = refl; epoch = refl }) (record {
+      clients = rises.clients;
+      sources = rises.sources;
+      registrations = rises.registrations;
+      subscriptions = rises.subscriptions;
+      counters = rises.counters;
+    })
+
 counter_removal_rises : (s : State) (client : Client) (correlation number : ℕ) → AreRising s →
     Rising s (uncounted s client correlation number).after
 unfolding uncounted told counters_without
@@ -419,6 +446,10 @@ command_rises s now handle bytes rising =
           by _ (publication_removal_rises at client correlation fields.registration rises);
       removal = λ request was_heard asks. by _ (removal_rises at request rises);
       keepalive = λ was_heard. by _ (keepalive_rises at rises);
+      destination = λ request number was_heard asks allows manual is.
+          by _ (destination_rises at request.client request.correlation _ rises);
+      destination_removal = λ client correlation fields target was_heard asks is.
+          by _ (destination_removal_rises at client correlation target rises);
       counter = λ client correlation fields was_heard asks allows room.
           by _ (counter_rises at client correlation fields rises);
       value = λ client correlation fields was_heard asks. by _ (value_rises at client correlation fields rises);

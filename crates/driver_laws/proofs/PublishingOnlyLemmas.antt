@@ -2,6 +2,7 @@
 use Rattle.std.proofs.Common.{◌≡◌, ℕ, ◌+◌, ℤ, Bool, true, false, cond, List, [], ◌∷◌, ◌++◌, map, Some, Ok, ◌⊎◌, inl, inr, refl, sym, ap, ◌∙◌, ⊎_elim}
 use Rattle.std.specs.List.{AllByRecursion, Contains}
 use Rattle.std.proofs.lemmas.List.Elements.{All-contains, All-contains_itself, All-map, All-weaker, Contains-push, Contains-push_cases}
+use Rattle.driver_core.specs.Directing.{directed, recalled, with_destination, without_destination}
 use Rattle.driver_core.specs.declared.event.Event.{Event}
 use Rattle.driver_core.specs.declared.event.Event.TheVariants.{Attach, Command, Reload, Setup, Tick}
 use Rattle.driver_core.specs.declared.event.Inputs.{Inputs}
@@ -284,7 +285,7 @@ answer_only s event after response same =
 
 command_only : (s : State) (now handle : ℕ) (bytes : List ℕ) →
     Cases (DraftsOnly s (Command now handle bytes)) (at_moment s now) handle bytes
-unfolding replied told subscribed with_subscription subscribed_in unsubscribed unsubscribed_in keep_alive counted with_counter valued uncounted terminated stopped_for_good heard at_moment
+unfolding replied told subscribed with_subscription subscribed_in unsubscribed unsubscribed_in keep_alive counted with_counter valued uncounted directed with_destination recalled without_destination terminated stopped_for_good heard at_moment
 command_only s now handle bytes =
     let event : Event = Command now handle bytes in
     let left : State = at_request s now handle in
@@ -306,6 +307,10 @@ command_only s now handle bytes =
           removal_only s event now handle client correlation fields.registration;
       removal = λ request was_heard asks. same_only s event _ refl refl (tt, tt) tt;
       keepalive = λ was_heard. same_only s event _ refl refl tt tt;
+      destination = λ request number was_heard asks allows manual is.
+          same_only s event _ refl refl (tt, tt) tt;
+      destination_removal = λ client correlation fields target was_heard asks is.
+          same_only s event _ refl refl (tt, tt) tt;
       counter = λ client correlation fields was_heard asks allows room. same_only s event _ refl refl (tt, tt) tt;
       value = λ client correlation fields was_heard asks. same_only s event _ refl refl (tt, tt) tt;
       counter_removal = λ client correlation fields was_heard asks. same_only s event _ refl refl (tt, tt) (tt, tt);

@@ -2,6 +2,9 @@
 use Rattle.std.proofs.Common.{◌≡◌, ℕ, ◌==◌, ◌||◌, not, Bool, true, false, if◌then◌else◌, List, [], ◌∷◌, ◌++◌, map, refl, sym, ap, ◌∙◌, ⊎_elim}
 use Rattle.std.proofs.lemmas.Bool.{cases_Bool, eq-eqb}
 use Rattle.std.specs.List.{AllByRecursion, Contains, filter, list_any}
+use Rattle.driver_core.specs.declared.directing.Directed.{Directed}
+use Rattle.driver_core.specs.declared.directing.Target.{Target}
+use Rattle.driver_core.specs.Directing.{directed, recalled, with_destination, without_destination}
 use Rattle.driver_core.specs.declared.event.Event.{Event}
 use Rattle.driver_core.specs.declared.event.Event.TheVariants.{Attach, Command, Reload, Setup, Tick}
 use Rattle.driver_core.specs.declared.event.Inputs.{Inputs}
@@ -183,6 +186,16 @@ value_leaves : (after left : State) (client : Client) (correlation : ℕ) (field
 unfolding valued replied told
 value_leaves after left client correlation fields = record { on = λ nothing. absurd nothing.replies.0 }
 
+destination_leaves : (after left : State) (client : Client) (correlation : ℕ) (granted : Directed) →
+    Leaves after (directed left client correlation granted)
+unfolding directed with_destination replied told
+destination_leaves after left client correlation granted = record { on = λ nothing. absurd nothing.replies.0 }
+
+destination_removal_leaves : (after left : State) (client : Client) (correlation : ℕ) (target : Target) →
+    Leaves after (recalled left client correlation target)
+unfolding recalled without_destination replied told
+destination_removal_leaves after left client correlation target = record { on = λ nothing. absurd nothing.replies.0 }
+
 counter_removal_leaves : (after left : State) (client : Client) (correlation number : ℕ) →
     Leaves after (uncounted left client correlation number)
 unfolding uncounted told
@@ -210,6 +223,10 @@ command_leaves s now handle bytes =
           publication_removal_leaves _ left client correlation fields.registration;
       removal = λ request was_heard asks. removal_leaves _ left request;
       keepalive = λ was_heard. keepalive_leaves _ left (heard_leaves s now handle bytes was_heard);
+      destination = λ request number was_heard asks allows manual is.
+          destination_leaves _ left request.client request.correlation _;
+      destination_removal = λ client correlation fields target was_heard asks is.
+          destination_removal_leaves _ left client correlation target;
       counter = λ client correlation fields was_heard asks allows room. counter_leaves _ left client correlation fields;
       value = λ client correlation fields was_heard asks. value_leaves _ left client correlation fields;
       counter_removal = λ client correlation fields was_heard asks.

@@ -2,6 +2,9 @@
 use Rattle.std.proofs.Common.{◌≡◌, ℕ, ◌+◌, true, false, List, [], map, filter, refl, sym, ap, ◌∙◌}
 use Rattle.std.proofs.lemmas.Bool.{cond_both}
 use Rattle.std.proofs.lemmas.List.{append-nil}
+use Rattle.driver_core.specs.declared.directing.Directed.{Directed}
+use Rattle.driver_core.specs.declared.directing.Target.{Target}
+use Rattle.driver_core.specs.Directing.{directed, recalled, with_destination, without_destination}
 use Rattle.driver_core.specs.declared.event.Event.{Event}
 use Rattle.driver_core.specs.declared.event.Event.TheVariants.{Attach, Command, Reload, Setup, Tick}
 use Rattle.driver_core.specs.declared.event.Inputs.{Inputs}
@@ -193,6 +196,16 @@ value_keeps : (s left : State) (client : Client) (correlation : ℕ) (fields : S
 unfolding valued replied told
 value_keeps s left client correlation fields same = record { same = same }
 
+destination_keeps : (s left : State) (client : Client) (correlation : ℕ) (granted : Directed) →
+    in_force_at left ≡ in_force_at s → Keeps s (directed left client correlation granted)
+unfolding directed with_destination replied told
+destination_keeps s left client correlation granted same = record { same = same }
+
+destination_removal_keeps : (s left : State) (client : Client) (correlation : ℕ) (target : Target) →
+    in_force_at left ≡ in_force_at s → Keeps s (recalled left client correlation target)
+unfolding recalled without_destination replied told
+destination_removal_keeps s left client correlation target same = record { same = same }
+
 counter_removal_keeps : (s left : State) (client : Client) (correlation number : ℕ) →
     in_force_at left ≡ in_force_at s → Keeps s (uncounted left client correlation number)
 unfolding uncounted told
@@ -228,6 +241,10 @@ command_keeps s now handle bytes =
           publication_removal_keeps s left client correlation fields.registration same;
       removal = λ request was_heard asks. removal_keeps s left request same;
       keepalive = λ was_heard. keepalive_keeps s left same;
+      destination = λ request number was_heard asks allows manual is.
+          destination_keeps s left request.client request.correlation _ same;
+      destination_removal = λ client correlation fields target was_heard asks is.
+          destination_removal_keeps s left client correlation target same;
       counter = λ client correlation fields was_heard asks allows room. counter_keeps s left client correlation fields same;
       value = λ client correlation fields was_heard asks. value_keeps s left client correlation fields same;
       counter_removal = λ client correlation fields was_heard asks.

@@ -4,6 +4,9 @@ use Rattle.std.specs.List.{Contains}
 use Rattle.std.proofs.lemmas.Bool.{eqb-true, eq-eqb, and_parts, cases_Bool, not_from_false}
 use Rattle.std.proofs.lemmas.List.{append-nil}
 use Rattle.std.proofs.lemmas.List.Elements.{Contains-append_left}
+use Rattle.driver_core.specs.declared.directing.Directed.{Directed}
+use Rattle.driver_core.specs.declared.directing.Target.{Target}
+use Rattle.driver_core.specs.Directing.{directed, recalled, with_destination, without_destination}
 use Rattle.driver_core.specs.declared.event.Event.{Event}
 use Rattle.driver_core.specs.declared.event.Event.TheVariants.{Attach, Command, Reload, Setup, Tick}
 use Rattle.driver_core.specs.declared.event.Inputs.{Inputs}
@@ -302,6 +305,16 @@ value_stays : (s : State) (event : Event) (left : State) (client : Client) (corr
 unfolding valued replied told
 value_stays s event left client correlation fields same = all_stay s event _ same
 
+destination_stays : (s : State) (event : Event) (left : State) (client : Client) (correlation : ℕ) (granted : Directed) →
+    left.streams.subscriptions ≡ s.streams.subscriptions → Leaves s event (directed left client correlation granted)
+unfolding directed with_destination replied told
+destination_stays s event left client correlation granted same = all_stay s event _ same
+
+destination_removal_stays : (s : State) (event : Event) (left : State) (client : Client) (correlation : ℕ) (target : Target) →
+    left.streams.subscriptions ≡ s.streams.subscriptions → Leaves s event (recalled left client correlation target)
+unfolding recalled without_destination replied told
+destination_removal_stays s event left client correlation target same = all_stay s event _ same
+
 counter_removal_stays : (s : State) (event : Event) (left : State) (client : Client) (correlation number : ℕ) →
     left.streams.subscriptions ≡ s.streams.subscriptions → Leaves s event (uncounted left client correlation number)
 unfolding uncounted told
@@ -387,6 +400,10 @@ command_stays s now handle bytes =
       removal = λ request was_heard asks.
           stays_or_goes s now handle bytes request (asks_before s now handle bytes request asks) left same;
       keepalive = λ was_heard. keepalive_stays s event left same;
+      destination = λ request number was_heard asks allows manual is.
+          destination_stays s event left request.client request.correlation _ same;
+      destination_removal = λ client correlation fields target was_heard asks is.
+          destination_removal_stays s event left client correlation target same;
       counter = λ client correlation fields was_heard asks allows room.
           counter_stays s event left client correlation fields same;
       value = λ client correlation fields was_heard asks. value_stays s event left client correlation fields same;

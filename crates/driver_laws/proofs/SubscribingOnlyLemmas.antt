@@ -3,6 +3,9 @@ use Rattle.std.proofs.Common.{◌≡◌, ℕ, ℤ, ◌+◌, Bool, true, false, c
 use Rattle.std.proofs.lemmas.List.Elements.{Contains-push, Contains-push_cases}
 use Rattle.std.specs.List.{AllByRecursion, Contains}
 use Rattle.std.specs.Prelude.{◌⊎◌}
+use Rattle.driver_core.specs.declared.directing.Directed.{Directed}
+use Rattle.driver_core.specs.declared.directing.Target.{Target}
+use Rattle.driver_core.specs.Directing.{directed, recalled, with_destination, without_destination}
 use Rattle.driver_core.specs.declared.event.Event.{Event}
 use Rattle.driver_core.specs.declared.event.Event.TheVariants.{Attach, Command, Reload, Setup, Tick}
 use Rattle.driver_core.specs.declared.event.Inputs.{Inputs}
@@ -151,6 +154,18 @@ unfolding valued replied told
 value_grants_only s event before client correlation fields same =
     record { replies = (tt, tt); later = tt; stands = λ subscription stands. inl (rw same at stands) }
 
+destination_grants_only : (s : State) (event : Event) (before : State) (client : Client) (correlation : ℕ) (granted : Directed) →
+    before.streams ≡ s.streams → DraftGrantsOnly s event (directed before client correlation granted)
+unfolding directed with_destination replied told
+destination_grants_only s event before client correlation granted same =
+    record { replies = (tt, tt); later = tt; stands = λ subscription stands. inl (rw same at stands) }
+
+destination_removal_grants_only : (s : State) (event : Event) (before : State) (client : Client) (correlation : ℕ) (target : Target) →
+    before.streams ≡ s.streams → DraftGrantsOnly s event (recalled before client correlation target)
+unfolding recalled without_destination replied told
+destination_removal_grants_only s event before client correlation target same =
+    record { replies = (tt, tt); later = tt; stands = λ subscription stands. inl (rw same at stands) }
+
 counter_removal_grants_only : (s : State) (event : Event) (before : State) (client : Client) (correlation number : ℕ) →
     before.streams ≡ s.streams → DraftGrantsOnly s event (uncounted before client correlation number)
 unfolding uncounted told
@@ -294,6 +309,10 @@ command_grants_only s now handle bytes =
           unpublished_grants_only s event before client correlation fields.registration refl;
       removal = λ request was_heard asks. removal_grants_only s event before request refl;
       keepalive = λ was_heard. keepalive_grants_only s event before refl;
+      destination = λ request number was_heard asks allows manual is.
+          destination_grants_only s event before request.client request.correlation _ refl;
+      destination_removal = λ client correlation fields target was_heard asks is.
+          destination_removal_grants_only s event before client correlation target refl;
       counter = λ client correlation fields was_heard asks allows room.
           counter_grants_only s event before client correlation fields refl;
       value = λ client correlation fields was_heard asks. value_grants_only s event before client correlation fields refl;

@@ -4,6 +4,9 @@ use Rattle.std.specs.List.{All}
 use Rattle.std.specs.Prelude.{IfSome}
 use Rattle.std.proofs.lemmas.Bool.{eqb-true}
 use Rattle.std.proofs.lemmas.List.Elements.{All-cons, All-filter, All-head, All-nil, All-push, All-tail}
+use Rattle.driver_core.specs.declared.directing.Directed.{Directed}
+use Rattle.driver_core.specs.declared.directing.Target.{Target}
+use Rattle.driver_core.specs.Directing.{directed, recalled, with_destination, without_destination}
 use Rattle.driver_core.specs.Draft.{Draft}
 use Rattle.driver_core.specs.declared.event.Event.{Event}
 use Rattle.driver_core.specs.declared.event.Event.TheVariants.{Attach, Command, Reload, Setup, Tick}
@@ -129,6 +132,16 @@ value_brings : (event : Event) (s : State) (client : Client) (correlation : ℕ)
 unfolding valued replied told
 value_brings event s client correlation fields = tt
 
+destination_brings : (event : Event) (s : State) (client : Client) (correlation : ℕ) (granted : Directed) →
+    Brought event (directed s client correlation granted)
+unfolding directed with_destination replied told
+destination_brings event s client correlation granted = tt
+
+destination_removal_brings : (event : Event) (s : State) (client : Client) (correlation : ℕ) (target : Target) →
+    Brought event (recalled s client correlation target)
+unfolding recalled without_destination replied told
+destination_removal_brings event s client correlation target = tt
+
 counter_removal_brings : (event : Event) (s : State) (client : Client) (correlation number : ℕ) →
     Brought event (uncounted s client correlation number)
 unfolding uncounted told
@@ -213,6 +226,10 @@ command_brings event s now handle bytes none up =
       removal = λ request was_heard asks.
           removal_brings event at request.client request.correlation request.fields.registration;
       keepalive = λ was_heard. keepalive_brings event at;
+      destination = λ request number was_heard asks allows manual is.
+          destination_brings event at request.client request.correlation _;
+      destination_removal = λ client correlation fields target was_heard asks is.
+          destination_removal_brings event at client correlation target;
       counter = λ client correlation fields was_heard asks allows room. counter_brings event at client correlation fields;
       value = λ client correlation fields was_heard asks. value_brings event at client correlation fields;
       counter_removal = λ client correlation fields was_heard asks.

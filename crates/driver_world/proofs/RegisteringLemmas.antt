@@ -3,6 +3,9 @@ use Rattle.std.proofs.Common.{◌≡◌, ℕ, ℤ, ◌+◌, ◌<◌, ◌≤◌, 
 use Rattle.std.specs.List.{All}
 use Rattle.std.proofs.lemmas.Bool.{and_parts}
 use Rattle.std.proofs.lemmas.List.Elements.{All-cons, All-filter, All-head, All-map, All-nil, All-push, All-tail, All-weaker}
+use Rattle.driver_core.specs.declared.directing.Directed.{Directed}
+use Rattle.driver_core.specs.declared.directing.Target.{Target}
+use Rattle.driver_core.specs.Directing.{directed, recalled, with_destination, without_destination}
 use Rattle.driver_core.specs.Draft.{Draft}
 use Rattle.driver_core.specs.declared.event.Event.{Event}
 use Rattle.driver_core.specs.declared.event.Event.TheVariants.{Attach, Command, Reload, Setup, Tick}
@@ -232,6 +235,16 @@ value_registers : (s : State) (client : Client) (correlation : ℕ) (fields : Se
 unfolding valued replied told
 value_registers s client correlation fields registered = registered
 
+destination_registers : (s : State) (client : Client) (correlation : ℕ) (granted : Directed) → AreRegistered s →
+    Registers (directed s client correlation granted)
+unfolding directed with_destination replied told
+destination_registers s client correlation granted registered = registered
+
+destination_removal_registers : (s : State) (client : Client) (correlation : ℕ) (target : Target) → AreRegistered s →
+    Registers (recalled s client correlation target)
+unfolding recalled without_destination replied told
+destination_removal_registers s client correlation target registered = registered
+
 counter_removal_registers : (s : State) (client : Client) (correlation number : ℕ) → AreRegistered s →
     Registers (uncounted s client correlation number)
 unfolding uncounted told
@@ -345,6 +358,10 @@ command_registers s now handle bytes up registered =
       removal = λ request was_heard asks.
           removal_registers at request.client request.correlation request.fields.registration there;
       keepalive = λ was_heard. keepalive_registers at there;
+      destination = λ request number was_heard asks allows manual is.
+          destination_registers at request.client request.correlation _ there;
+      destination_removal = λ client correlation fields target was_heard asks is.
+          destination_removal_registers at client correlation target there;
       counter = λ client correlation fields was_heard asks allows room.
           counter_registers at client correlation fields there;
       value = λ client correlation fields was_heard asks. value_registers at client correlation fields there;
