@@ -82,7 +82,8 @@ target_at_same : (s : State) (now handle client number : ℕ) (address : Option 
 target_at_same s now handle client number None = refl
 target_at_same s now handle client number (Some address) = ap (target_on address) (own_log_same s now handle client number)
 
-target_asked : (s : State) (now handle client number : ℕ) (channel : Shape) →
+-- the target is the same before the client was heard of
+pub target_asked : (s : State) (now handle client number : ℕ) (channel : Shape) →
     target_of (at_request s now handle) client number channel ≡ target_of s client number channel
 unfolding target_of
 target_asked s now handle client number channel = target_at_same s now handle client number (target_address channel)
@@ -244,7 +245,7 @@ unfolding subscribing_of decision_by heard at_moment
 subscribing_same s now handle client channel stream =
     rw (room_for_subscription s now handle client.number channel stream) refl
 
-sole_same : (s : State) (now handle : ℕ) (wanted : Wanted) (adding : Adding) →
+pub sole_same : (s : State) (now handle : ℕ) (wanted : Wanted) (adding : Adding) →
     has_room_for_sole (at_request s now handle) wanted adding ≡ has_room_for_sole s wanted adding
 unfolding has_room_for_sole heard at_moment
 sole_same s now handle wanted (Join source session) = refl

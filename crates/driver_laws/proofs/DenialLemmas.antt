@@ -4,7 +4,8 @@ use Rattle.std.proofs.lemmas.Bool.{cond_both}
 use Rattle.std.specs.List.{AllByRecursion}
 use Rattle.driver_core.specs.declared.directing.Directed.{Directed}
 use Rattle.driver_core.specs.declared.directing.Target.{Target}
-use Rattle.driver_core.specs.Directing.{directed, recalled, with_destination, without_destination}
+use Rattle.driver_core.specs.Directing.{directed, recalled, target_of, with_destination, without_destination}
+use Rattle.driver_core.proofs.AskingLemmas.{target_asked}
 use Rattle.driver_core.specs.declared.event.Event.{Event}
 use Rattle.driver_core.specs.declared.event.Event.TheVariants.{Attach, Command, Reload, Setup, Tick}
 use Rattle.driver_core.specs.declared.event.Inputs.{Inputs}
@@ -47,7 +48,7 @@ use Rattle.stream_registry.specs.declared.wanted.Adding.{Adding}
 use Rattle.stream_registry.specs.declared.wanted.Wanted.{Wanted}
 use Rattle.stream_registry.specs.declared.wanted.ImageWanted.{ImageWanted}
 use Rattle.frame_codec.specs.declared.setup.Setup.{Setup as SetupFrame}
-use Rattle.driver_core.proofs.EventCases.{Cases, IsPlain, attach_cases, command_cases, reload_cases, set_up_cases}
+use Rattle.driver_core.proofs.EventCases.{target_heard, Cases, IsPlain, attach_cases, command_cases, reload_cases, set_up_cases}
 use Rattle.driver_core.proofs.VerdictLemmas.{by_policy}
 use Rattle.driver_laws.proofs.DenialTextLemmas.{epoch_of, denial_words, denial_is_named}
 use Rattle.driver_laws.proofs.SubscribingLemmas.{asks_before, found_number}
@@ -160,6 +161,13 @@ termination_names s event left client correlation = record { replies = (tt, tt);
 
 -- ---- a denial
 
+-- a destination's target is the same at that moment
+target_before : (s : State) (now handle client number : ℕ) (channel : Shape) →
+    target_of s client number channel ≡ target_of (at_moment s now) client number channel
+target_before s now handle client number channel =
+    sym (target_asked s now handle client number channel)
+    ∙ target_heard (at_moment s now) handle client number channel
+
 asked_before : (s : State) (now handle : ℕ) (bytes : List ℕ) (correlation : ℕ) (question : Question) →
     IsAsked (at_moment s now) handle bytes correlation question → IsAsked s handle bytes correlation question
 unfolding at_moment
@@ -190,8 +198,10 @@ asked_before s now handle bytes correlation question asked =
       asks = record { command = by.asks.command; attached = by.asks.attached };
       question_is = by.question_is;
     }))))
+    (λ rest.
+    ⊎_elim
     (λ by.
-    inr (inr (inr (record {
+    inr (inr (inr (inl (record {
       request = by.request;
       asks = record {
         asks = record { command = by.asks.asks.command; attached = by.asks.asks.attached };
@@ -200,7 +210,21 @@ asked_before s now handle bytes correlation question asked =
       };
       correlation_is = by.correlation_is;
       question_is = by.question_is;
-    }))))
+    })))))
+    (λ by.
+    inr (inr (inr (inr (record {
+      request = by.request;
+      asks = record {
+        asks = record { command = by.asks.asks.command; attached = by.asks.asks.attached };
+        denotes_channel = by.asks.denotes_channel;
+        names_target =
+            target_before s now handle by.request.client.number by.request.fields.registration by.request.channel
+            ∙ by.asks.names_target;
+      };
+      correlation_is = by.correlation_is;
+      question_is = by.question_is;
+    })))))
+    rest)
     further)
     others)
     asked
