@@ -71,3 +71,4 @@ found_only Q test before last [] log publishes up is = absurd (cc is)
 found_only Q test before last (first ∷ logs) log publishes up is =
     found_step Q test before last first log logs (test first) publishes refl up
     (found_only Q test first.number last logs log publishes up.1) is
+
