@@ -771,14 +771,14 @@ fn main() {
     let setup = setup_bytes();
     for (what, frames, payload) in [("1 frame of 1,376 bytes", 1, 1_376), ("20 frames of 32 bytes", 20, 32)] {
         for late in [false, true] {
-            let datagrams = stream(40, frames, payload);
+            let datagrams = stream(8, frames, payload);
             let datagrams = if late { with_late_ones(datagrams) } else { datagrams };
             let lengths: Vec<u16> = datagrams.iter().map(|bytes| bytes.len() as u16).collect();
             let bytes = datagrams.concat();
             let mut times = [u64::MAX; 2];
             let mut sums = [0; 2];
             // In turns, so that both meet the same machine.
-            for _ in 0..60 {
+            for _ in 0..200 {
                 for (i, receive) in [plain_receive, proved_receive].into_iter().enumerate() {
                     let mut time = 0;
                     sums[i] = black_box(receive(&setup, black_box(&bytes), &lengths, &mut time));
