@@ -39,8 +39,8 @@ pub fn bytes_come_from_the_live_log()
 {}
 
 /// Each fragment that a poll gives of an image's log is what a frame holds that a datagram brought: a datagram that came
-/// earlier in the run to the image's endpoint, of its session and stream, from the address at which its publisher is. So
-/// nothing that anybody else sends comes into the log.
+/// earlier in the run to the image's endpoint, of its session and stream, from the address at which its publisher is. So a
+/// poll gives nothing that came from another address.
 pub fn payloads_come_from_their_publisher()
     ensures { PayloadsComeFromTheirPublisher }
 {}
