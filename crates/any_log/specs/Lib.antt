@@ -1,3 +1,5 @@
+pub mod Asking
 pub mod Fragments
 pub mod Held
+pub mod Reporting
 pub mod Whole

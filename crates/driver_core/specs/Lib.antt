@@ -13,6 +13,7 @@ pub mod Leaving
 pub mod Listing
 pub mod LogRequests
 pub mod Pairs
+pub mod PublicationRequests
 pub mod Publishing
 pub mod Readers
 pub mod Received

@@ -7,7 +7,8 @@
 //! data. Behind each event the images go that no subscription reads.
 //!
 //! `Registry::list` and `Registry::value` show a client counters, `Registry::offering` and `Registry::receiving` say what it
-//! asks of a log, and `Registry::image_for` which image a datagram is for. None of them changes anything.
+//! asks of a log, `Registry::image_for` which image a datagram is for, `Registry::publication_for` and `Registry::resending`
+//! which publication, and who may have frames of it again. None of them changes anything.
 #![tactic(auto)]
 
 mod asking;
@@ -28,6 +29,7 @@ mod log_request;
 mod outcome;
 mod pairs;
 mod peer;
+mod publication_request;
 mod publishing;
 mod readers;
 mod received;

@@ -16,6 +16,7 @@ use Rattle.driver_core.specs.ImageRequests.{image_for}
 use Rattle.driver_core.specs.Listing.{list, value}
 use Rattle.driver_core.specs.LogRequests.{offering_of}
 use Rattle.driver_core.specs.Pairs.{pairs_of}
+use Rattle.driver_core.specs.PublicationRequests.{publication_for, publisher_of, resending_of}
 use Rattle.driver_core.specs.Renewal.{source_at}
 use Rattle.driver_core.specs.State.{State, opened}
 use Rattle.driver_world.specs.declared.answer.Answer.{Answer}
@@ -24,17 +25,21 @@ use Rattle.driver_world.specs.declared.answer.Offered.TheVariants.{Closed}
 use Rattle.driver_world.specs.declared.cause.Cause.{Cause}
 use Rattle.driver_world.specs.declared.cause.Cause.TheVariants.{Astray as IsAstray, Unread}
 use Rattle.driver_world.specs.declared.step.Step.{Step}
-use Rattle.driver_world.specs.declared.step.Step.TheVariants.{Conductor, Packet, Offer, Poll, List as Lists, Value}
+use Rattle.driver_world.specs.declared.step.Step.TheVariants.{Conductor, Packet, Offer, Poll, Image, List as Lists, Value}
 use Rattle.driver_world.specs.Answers.{answer_of, answer_listed, answer_shown}
 use Rattle.driver_core.specs.Readers.{readers_of}
 use Rattle.driver_world.specs.Held.{is_closed}
 use Rattle.driver_world.specs.Idents.{begins_of}
 use Rattle.driver_world.specs.Moves.{WholeLog, Move, offer_move, poll_move}
 use Rattle.driver_world.specs.Receiving.{beat_move, receive_move, unheard}
+use Rattle.driver_world.specs.Recovery.{recovering}
+use Rattle.driver_world.specs.Hearing.{nak_move, status_move}
+use Rattle.driver_world.specs.Reporting.{report_move}
 use Rattle.channel_uri.specs.declared.address.Address.{Address}
 use Rattle.frame_codec.specs.declared.fault.BadPacket.{BadPacket}
-use Rattle.frame_codec.specs.declared.fault.BadPacket.TheVariants.{OtherType}
 use Rattle.frame_codec.specs.declared.header.TermPlace.{TermPlace}
+use Rattle.frame_codec.specs.declared.nak.Nak.{Nak}
+use Rattle.frame_codec.specs.declared.status_message.StatusMessage.{StatusMessage}
 use Rattle.frame_codec.specs.Datagram.{Content, frames, beat, nak, status, setup, packet_of}
 use Rattle.frame_codec.specs.Frame.{Sent}
 use Rattle.policy_core.specs.RuleList.{Rules}
@@ -76,7 +81,11 @@ inputs_of s event logs = record { silent = silent_of s event logs; ends = map en
 -- a log without frames, made for what its row says
 abbrev pub begun : State → Option Source → List WholeLog
 begun s None = []
-begun s (Some log) = record { source = log.number; whole = begins_of s.settings s.moment log } ∷ []
+begun s (Some log) = record {
+  source = log.number;
+  whole = begins_of s.settings s.moment log;
+  recovery = recovering s.settings;
+} ∷ []
 
 abbrev pub opened_for : State → Option LogPlace → List WholeLog
 opened_for s None = []
@@ -156,14 +165,35 @@ on_frames e now local from [] = dropped e (IsAstray NoStream)
 on_frames e now local from (frame ∷ later) =
     on_stream e local from frame.header.place (receive_move now (frame ∷ later))
 
--- by what its bytes hold: a SETUP is an event; NAKs and status messages are not taken yet
+-- a NAK goes to the log of its session and stream, on what the policy in force says of who asks
+abbrev pub on_asked : RunEnd → ℕ → Address → Nak → Option LogRequest → Moved
+on_asked e now from fields None = dropped e (IsAstray NoStream)
+on_asked e now from fields (Some request) =
+    on_log e request.source (nak_move now from request.decision fields) unheard
+
+-- a status message goes to the log of its session and stream; no policy is asked
+abbrev pub on_told : RunEnd → ℕ → StatusMessage → Option ℕ → Moved
+on_told e now fields None = dropped e (IsAstray NoStream)
+on_told e now fields (Some source) = on_log e source (status_move now fields) unheard
+
+-- by what its bytes hold: a SETUP is an event
 abbrev pub on_packet : RunEnd → ℕ → Address → Address → Result Content BadPacket → Moved
 on_packet e now local from (Err fault) = dropped e (Unread fault)
 on_packet e now local from (Ok (frames sent)) = on_frames e now local from sent
 on_packet e now local from (Ok (beat header)) = on_stream e local from header.place (beat_move now header.place)
 on_packet e now local from (Ok (setup fields)) = conducted e (SetUp now local from fields)
-on_packet e now local from (Ok (nak fields)) = dropped e (Unread OtherType)
-on_packet e now local from (Ok (status fields)) = dropped e (Unread OtherType)
+on_packet e now local from (Ok (nak fields)) =
+    on_asked e now from fields (resending_of e.registry from fields.session_id fields.stream_id)
+on_packet e now local from (Ok (status fields)) =
+    on_told e now fields (publication_for e.registry fields.session_id fields.stream_id)
+
+-- ---- a turn of the receiver with an image
+
+-- what is due goes to the address of its publisher
+abbrev pub on_report : RunEnd → ℕ → ℕ → Option Address → Moved
+on_report e now source None = record { after = e; answer = IsGone }
+on_report e now source (Some to) =
+    on_log e source (report_move now e.registry.settings.receiver_id to) IsGone
 
 -- ---- any step
 
@@ -174,6 +204,7 @@ moved e (Offer now client registration message) =
     on_offered e now client registration message (offering_of e.registry client registration)
 moved e (Poll now client subscription source limit) =
     on_log e source (poll_move e.registry client subscription limit) IsGone
+moved e (Image now source) = on_report e now source (publisher_of e.registry source)
 moved e (Lists now client) = record { after = e; answer = answer_listed (list e.registry client) }
 moved e (Value now client number) = record { after = e; answer = answer_shown (value e.registry client number) }
 

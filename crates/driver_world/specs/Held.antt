@@ -13,16 +13,18 @@ use Rattle.driver_core.specs.Soundness.{AreSizes, BeginsSoundly}
 use Rattle.driver_core.specs.State.{State}
 use Rattle.driver_world.specs.Idents.{begins_of}
 use Rattle.driver_world.specs.Plots.{Plot, IsLeastVacant}
+use Rattle.driver_world.specs.Recovery.{Recovering, recovering}
 use Rattle.frame_codec.specs.Frame.{Sent}
 use Rattle.stream_registry.specs.declared.lingering.LogPlace.{LogPlace}
 use Rattle.stream_registry.specs.declared.pairs.Pair.{Pair}
 use Rattle.stream_registry.specs.declared.row.Source.{Source}
 use Rattle.stream_registry.specs.LogPages.{log_pages}
 
--- a log, by its source number
+-- a log, by its source number, and what is kept beside it
 pub record HeldLog : Type 0 where
   pub source : ℕ
   pub log : AnyLog
+  pub recovery : Recovering
 
 -- how many pages there are for logs, the logs that are open, in the order in which they were opened, and for how many of
 -- them there is room in memory
@@ -51,13 +53,13 @@ pub record LiesAsBefore (old new : HeldLog) : Type 0 where
 
 -- ---- what becomes of the logs
 
--- a log that begins as that one was opened behind the others
-pub record IsOpened (old new : HeldLogs) (source place : ℕ) (begins : AnyWhole) : Type 0 where
+-- a log that begins as that one was opened behind the others, with that beside it
+pub record IsOpened (old new : HeldLogs) (source place : ℕ) (begins : AnyWhole) (recovery : Recovering) : Type 0 where
   pub log : AnyLog
   pub stands : StandsFor log begins
   pub place_is : (place_held log).place ≡ 4096 * place
   pub terms_are : (place_held log).term_length ≡ terms_of (made_for begins)
-  pub new_is : new ≡ record old { logs = old.logs ++ record { source = source; log = log } ∷ [] }
+  pub new_is : new ≡ record old { logs = old.logs ++ record { source = source; log = log; recovery = recovery } ∷ [] }
 
 -- the source is one of those that close
 abbrev pub is_closed : List LogPlace → ℕ → Bool
@@ -108,7 +110,7 @@ IsOpening logs place (Some log) =
 abbrev pub OpensFor : HeldLogs → HeldLogs → State → ℕ → Option Source → Type 0
 OpensFor old new after place None = new ≡ old
 OpensFor old new after place (Some log) =
-    IsOpened old new log.number place (begins_of after.settings after.moment log)
+    IsOpened old new log.number place (begins_of after.settings after.moment log) (recovering after.settings)
 
 -- the first log of that source
 abbrev pub held_at : List HeldLog → ℕ → Option HeldLog

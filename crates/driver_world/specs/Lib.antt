@@ -2,6 +2,7 @@ pub mod Answers
 pub mod Bringing
 pub mod CarryingLaws
 pub mod Ends
+pub mod Hearing
 pub mod Held
 pub mod Idents
 pub mod Laws
@@ -10,5 +11,7 @@ pub mod Moves
 pub mod Opening
 pub mod Plots
 pub mod Receiving
+pub mod Recovery
 pub mod Registered
+pub mod Reporting
 pub mod Standing

@@ -10,14 +10,16 @@ use Rattle.driver_world.specs.declared.answer.Answer.TheVariants.{Offered as Off
 use Rattle.driver_world.specs.declared.answer.Offered.TheVariants.{Closed, TooLong, NotConnected}
 use Rattle.driver_world.specs.Answers.{offered_as}
 use Rattle.driver_world.specs.Held.{HeldLog, HeldLogs, LiesAsBefore, held_at, with_held}
+use Rattle.driver_world.specs.Recovery.{Recovering}
 use Rattle.policy_core.specs.declared.verdict.Verdict.{Verdict}
 use Rattle.term_log.specs.Log.{Log, greatest_message}
 use Rattle.term_log.specs.Whole.{Whole, answer_to, is_connected, offered}
 
--- a log by its source number, as if nothing of it were lost
+-- a log by its source number, as if nothing of it were lost, and what is kept beside it
 pub record WholeLog : Type 0 where
   pub source : ℕ
   pub whole : AnyWhole
+  pub recovery : Recovering
 
 -- what a step on one log leaves of it, and what it is answered
 pub record Move : Type 0 where
@@ -92,13 +94,14 @@ poll_move s client subscription limit log =
 pub record StandsForLog (held : HeldLog) (log : WholeLog) : Type 0 where
   pub source_is : held.source ≡ log.source
   pub whole : StandsFor held.log log.whole
+  pub recovery_is : held.recovery ≡ log.recovery
 
 pub record Does (move : WholeLog → Move) (old new : HeldLog) (answer : Answer) : Type 0 where
   pub on : (log : WholeLog) → StandsForLog old log → (answer ≡ (move log).answer) × StandsForLog new (move log).after
 
--- the log of a publication, under a number
-abbrev pub term_held : ℕ → Log → HeldLog
-term_held source log = record { source = source; log = Term log }
+-- the log of a publication, under a number, with what is kept beside it
+abbrev pub term_held : ℕ → Recovering → Log → HeldLog
+term_held source recovery log = record { source = source; log = Term log; recovery = recovery }
 
 -- The first log of that source moves, and no other; where there is none, all is as it was, and that is the answer.
 abbrev pub MovesHeld : ℕ → (WholeLog → Move) → Answer → HeldLogs → HeldLogs → Answer → Option HeldLog → Type 0

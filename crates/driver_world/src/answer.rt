@@ -3,8 +3,8 @@ ghost use Rattle.std.specs.Prelude.{◌≡◌};
 
 use crate::cause::Cause;
 use any_log::Fragment;
-use byte_strings::Items;
-use driver_core::{Listed, ListedCounter, Message, Outcome, Response, Shown};
+use byte_strings::{Bytes, Items};
+use driver_core::{Address, Listed, ListedCounter, Message, Outcome, Response, Shown};
 use image_log::Insert;
 use policy_core::Verdict;
 use term_log::Offer;
@@ -32,7 +32,8 @@ pub enum Offered {
 #[derive(Debug, PartialEq, Eq, Drop)]
 pub enum Answer {
     /// There was no memory for the step, and it changed nothing. Only an event, a look at all counters, a poll that is
-    /// neither gone nor denied and a datagram of data that came to its image are answered so.
+    /// neither gone nor denied, a datagram of data that came to its image, a NAK by which frames are sent again and a turn of
+    /// the receiver in which something is due are answered so.
     NoMemory,
     /// A client is attached, under this id.
     Attached(u64),
@@ -59,6 +60,24 @@ pub enum Answer {
     Received(Items<Insert>),
     /// A heartbeat came to its image.
     Heard,
+    /// A status message came to its publication, which may be sent up to this position.
+    Limited(u64),
+    /// A status message came to its publication and asks for a SETUP.
+    Elicited,
+    /// Frames are sent again on a NAK.
+    Resent {
+        /// Where they go: to who asks, and to nobody else.
+        to: Address,
+        /// The datagrams, in their order.
+        datagrams: Items<Bytes>,
+    },
+    /// What the receiver tells the publisher of an image.
+    Reported {
+        /// Where the publisher is.
+        to: Address,
+        /// What is due, the NAK first.
+        datagrams: Items<Bytes>,
+    },
     /// A datagram is dropped.
     Dropped(Cause),
     /// The replies that a command gives, in their order.
@@ -67,7 +86,7 @@ pub enum Answer {
     Offered(Offered),
     /// The fragments that were polled, in their order.
     Polled(Items<Fragment>),
-    /// The client's subscription does not read that log.
+    /// The client's subscription does not read that log; or there is no image of that number.
     Gone,
     /// The counters that the client may see, by their numbers. One that it may not see is not told from one that is not
     /// there.

@@ -1,13 +1,24 @@
 use driver_core::{Astray, SetupFault};
 use frame_codec::BadPacket;
+use policy_core::Verdict;
 
 /// Why a datagram is dropped.
 #[derive(Clone, Copy, Debug, PartialEq, Eq)]
 pub enum Cause {
     /// Its bytes are no datagram: their first fault.
     Unread(BadPacket),
-    /// It is for no image.
+    /// It is for no log, or from a stranger.
     Astray(Astray),
     /// Its SETUP makes no image.
     SetUp(SetupFault),
+    /// The policy does not let who asks by the NAK have frames again, by this verdict.
+    Denied(Verdict),
+    /// A NAK asks for no bytes.
+    Empty,
+    /// A NAK asks for what may not be sent again, or a status message names a position that was not sent.
+    OutOfWindow,
+    /// A NAK asks for what was sent again lately.
+    Lingering,
+    /// A NAK asks for more while enough that was sent again lingers.
+    Busy,
 }

@@ -11,6 +11,7 @@
 
 mod answer;
 mod cause;
+mod hearing;
 mod inputs;
 mod laws;
 mod offering;
@@ -19,6 +20,9 @@ mod open_logs;
 mod opening;
 mod polling;
 mod receiving;
+mod recovery;
+mod reporting;
+mod resending;
 mod step;
 mod world;
 

@@ -4,6 +4,7 @@ ghost use Rattle.any_log.specs.declared.any_log.AnyLog.TheVariants.{Term};
 ghost use Rattle.any_log.specs.Held.{Lies};
 ghost use Rattle.driver_world.specs.Held.{LiesAsBefore};
 ghost use Rattle.driver_world.specs.Moves.{Does, offer_move, offers, term_held};
+ghost use Rattle.driver_world.specs.Recovery.{Recovering};
 ghost use Rattle.std.specs.Prelude.{ℕ};
 
 use crate::answer::{Answer, Offered};
@@ -16,7 +17,7 @@ use term_log::TermLog;
 /// A message is offered to a publication's log, where the verdict is that: denied, too long, to nobody, or taken as the log
 /// can.
 fn offer_to(log: &mut TermLog, now: u64, timeout: u64, verdict: Verdict, message: &[u8]) -> Answer
-    ensures does { (source : ℕ) → Does (offers now timeout verdict message.now) (term_held source log.old) (term_held source log.new) result }
+    ensures does { (source : ℕ) (recovery : Recovering) → Does (offers now timeout verdict message.now) (term_held source recovery log.old) (term_held source recovery log.new) result }
     ensures lies { Lies (Term log.old) (Term log.new) }
 {
     if !verdict.allow {

@@ -1,3 +1,4 @@
+use crate::recovery::Recovery;
 use any_log::AnyLog;
 use std::marker::Model;
 
@@ -6,6 +7,8 @@ use std::marker::Model;
 pub struct OpenLog {
     pub(crate) source: u64,
     pub(crate) log: AnyLog,
+    /// What is kept beside it to repair what was lost.
+    pub(crate) recovery: Recovery,
 }
 
 impl Model for OpenLog {
@@ -13,5 +16,5 @@ impl Model for OpenLog {
 
     ghost Value = { HeldLog };
 
-    ghost view = { λ held. record { source = held.source; log = held.log } };
+    ghost view = { λ held. record { source = held.source; log = held.log; recovery = held.recovery } };
 }

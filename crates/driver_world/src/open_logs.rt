@@ -4,6 +4,7 @@ ghost use Rattle.any_log.specs.Whole.{rebuilt, whole};
 ghost use Rattle.driver_core.specs.Pairs.{pairs_of as all_pairs};
 ghost use Rattle.driver_core.specs.Readers.{readers_of};
 ghost use Rattle.driver_world.specs.Held.{AreForFirst, IsOpened, is_closed, is_kept, place_at, plots_of, rejoined_held, with_readers, without};
+ghost use Rattle.driver_world.specs.Hearing.{nak_move, status_move};
 ghost use Rattle.driver_world.specs.Idents.{heard_at};
 ghost use Rattle.driver_world.specs.declared.answer.Answer.TheVariants.{Gone, Offered as OfferedAs};
 ghost use Rattle.driver_world.specs.declared.answer.Offered.TheVariants.{Closed};
@@ -11,6 +12,7 @@ ghost use Rattle.driver_world.specs.Memory.{GivesFirst};
 ghost use Rattle.driver_world.specs.Moves.{MovesFirst, offer_move, poll_move};
 ghost use Rattle.driver_world.specs.Plots.{IsLeastVacant, taken_pages};
 ghost use Rattle.driver_world.specs.Receiving.{beat_move, receive_move, unheard};
+ghost use Rattle.driver_world.specs.Reporting.{report_move};
 ghost use Rattle.frame_codec.specs.Frames.{frames_left};
 ghost use Rattle.image_log.specs.Rebuilt.{opened};
 ghost use Rattle.log_arena.specs.Pages.{holes_of};
@@ -21,15 +23,20 @@ ghost use Rattle.term_log.specs.Whole.{fresh};
 
 use crate::answer::{Answer, Offered};
 use crate::cause::Cause;
+use crate::hearing::status_step;
 use crate::offering::offer_step;
 use crate::open_log::OpenLog;
 use crate::polling::poll_step;
 use crate::receiving::{beat_step, receive_step};
+use crate::recovery::Recovery;
+use crate::reporting::report_step;
+use crate::resending::nak_step;
 use any_log::AnyLog;
-use driver_core::{Astray, Registry, View};
-use frame_codec::{Frames, TermPlace};
+use driver_core::{Address, Astray, Registry, View};
+use frame_codec::{Frames, Nak, StatusMessage, TermPlace};
 use image_log::{ImageLog, ImageRoom};
 use log_arena::Arena;
+use policy_core::Decision;
 use rows::Rows;
 use std::alloc::{AllocError, Global};
 use std::marker::Model;
@@ -112,12 +119,19 @@ impl OpenLogs {
 
     /// Opens a log without frames behind the others, in the pages from `place` on, which is the least place for them, and
     /// in memory that was taken before.
-    pub(crate) fn open(&mut self, memory: LogRoom, source: u64, place: u64, ident: Ident)
+    pub(crate) fn open(
+        &mut self,
+        memory: LogRoom,
+        source: u64,
+        place: u64,
+        ident: Ident,
+        recovery: Recovery,
+    )
         requires ident { IsIdent ident }
         requires whole { ident.term_length % 4096 ≡ 0 }
         requires vacant { IsLeastVacant self.old.pages (plots_of self.old.logs) (pages_of ident.term_length) place }
         requires room { length self.old.logs < self.old.room }
-        ensures { IsOpened self.old self.new source place (whole (fresh ident)) }
+        ensures { IsOpened self.old self.new source place (whole (fresh ident)) recovery }
     {
         let Ok(lease) = self.arena.lease(3 * ident.term_length as usize) else {
             // the place is there
@@ -127,6 +141,7 @@ impl OpenLogs {
         self.logs.push_reserved(OpenLog {
             source,
             log: AnyLog::Term(log),
+            recovery,
         });
     }
 
@@ -140,6 +155,7 @@ impl OpenLogs {
         ident: image_log::Ident,
         join: u64,
         now: u64,
+        recovery: Recovery,
     )
         requires memory { memory ≡ 3 * ident.term_length }
         requires terms { (65536 ≤ ident.term_length) × (ident.term_length ≤ 16777216) }
@@ -147,7 +163,7 @@ impl OpenLogs {
         requires join { (join % 32 ≡ 0) × (join < ident.term_length * 2 ^ 31) }
         requires vacant { IsLeastVacant self.old.pages (plots_of self.old.logs) (pages_of ident.term_length) place }
         requires room { length self.old.logs < self.old.room }
-        ensures { IsOpened self.old self.new source place (rebuilt (heard_at now (opened ident join))) }
+        ensures { IsOpened self.old self.new source place (rebuilt (heard_at now (opened ident join))) recovery }
     {
         let Ok(lease) = self.arena.lease(3 * ident.term_length as usize) else {
             // the place is there
@@ -158,6 +174,7 @@ impl OpenLogs {
         self.logs.push_reserved(OpenLog {
             source,
             log: AnyLog::Image(log),
+            recovery,
         });
     }
 
@@ -167,7 +184,11 @@ impl OpenLogs {
         ensures { self.new ≡ record self.old { logs = without at self.old.logs } }
     {
         let open = self.logs.remove(at);
-        let OpenLog { source: _, log } = open;
+        let OpenLog {
+            source: _,
+            log,
+            recovery: _,
+        } = open;
         self.arena.give(log.close());
     }
 
@@ -270,5 +291,54 @@ impl OpenLogs {
             return Answer::Dropped(Cause::Astray(Astray::NoStream));
         };
         beat_step(&mut self.logs[at], now, place)
+    }
+
+    /// A status message comes to the first log of that source, as [`status_step`] says.
+    pub(crate) fn status(&mut self, source: u64, now: u64, message: &StatusMessage) -> Answer
+        ensures { MovesFirst source (status_move now message.now) unheard self.old self.new result }
+    {
+        let Some(at) = place_of(self.logs.as_slice(), source) else {
+            return Answer::Dropped(Cause::Astray(Astray::NoStream));
+        };
+        status_step(&mut self.logs[at], now, message)
+    }
+
+    /// A NAK comes to the first log of that source, as [`nak_step`] says.
+    pub(crate) fn nak(
+        &mut self,
+        alloc: Global,
+        source: u64,
+        now: u64,
+        from: &Address,
+        nak: &Nak,
+        decision: &Decision,
+    ) -> Result<Answer, AllocError>
+        ensures moved { IfOk result (λ answer. MovesFirst source (nak_move now from.now decision.now nak.now) unheard self.old self.new answer) }
+        ensures err { OnErr result (self.new ≡ self.old) }
+        ensures without_memory { OnErr result (GivesFirst source (nak_move now from.now decision.now nak.now) self.old) }
+    {
+        let Some(at) = place_of(self.logs.as_slice(), source) else {
+            return Ok(Answer::Dropped(Cause::Astray(Astray::NoStream)));
+        };
+        nak_step(&mut self.logs[at], alloc, now, from, nak, decision)
+    }
+
+    /// The receiver of that id has a turn with the first log of that source, as [`report_step`] says.
+    pub(crate) fn report(
+        &mut self,
+        alloc: Global,
+        source: u64,
+        now: u64,
+        receiver_id: u64,
+        to: &Address,
+    ) -> Result<Answer, AllocError>
+        ensures moved { IfOk result (λ answer. MovesFirst source (report_move now receiver_id to.now) Gone self.old self.new answer) }
+        ensures err { OnErr result (self.new ≡ self.old) }
+        ensures without_memory { OnErr result (GivesFirst source (report_move now receiver_id to.now) self.old) }
+    {
+        let Some(at) = place_of(self.logs.as_slice(), source) else {
+            return Ok(Answer::Gone);
+        };
+        report_step(&mut self.logs[at], alloc, now, receiver_id, to)
     }
 }

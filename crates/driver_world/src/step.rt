@@ -6,7 +6,8 @@ use driver_core::{Address, Event};
 pub enum Step {
     /// The conductor takes an event.
     Conductor(Event),
-    /// A datagram came: a SETUP for the conductor, any other for the receiver.
+    /// A datagram came: a SETUP for the conductor, data and heartbeats for the receiver, NAKs and status messages for the
+    /// sender.
     Packet {
         now: u64,
         /// The address that it came to.
@@ -33,6 +34,12 @@ pub enum Step {
         source: u64,
         /// How many fragments it takes at most.
         limit: u32,
+    },
+    /// The receiver has a turn with an image: it tells the image's publisher what is due.
+    Image {
+        now: u64,
+        /// The source number of the image.
+        source: u64,
     },
     /// A client looks at the counters that the policy in force shows it.
     List {

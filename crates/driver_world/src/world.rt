@@ -20,7 +20,8 @@ use crate::step::Step;
 use byte_strings::Items;
 use driver_core::{Address, Astray, Entry, Event, Outcome, Peer, Registry, Settings};
 use frame_codec::{
-    BadPacket, Datagram, Frames, Packet, TermPlace, frames_are_of_one_term, frames_are_told,
+    Datagram, Frames, Nak, Packet, StatusMessage, TermPlace, frames_are_of_one_term,
+    frames_are_told,
 };
 use policy_core::Policy;
 use rows::Rows;
@@ -94,10 +95,11 @@ fn follow(
 }
 
 impl World {
-    ghost use Rattle.driver_world.specs.Ends.{on_frames, on_stream, opening_end};
+    ghost use Rattle.driver_core.specs.PublicationRequests.{publication_for, resending_of};
+    ghost use Rattle.driver_world.specs.Ends.{on_asked, on_frames, on_stream, on_told, opening_end};
     ghost use Rattle.driver_world.specs.Receiving.{beat_move};
     ghost use Rattle.driver_world.specs.Standing.{StandsForEnd, Serves, ServesAs, Takes, Runs, Continues, pages_of_logs};
-    ghost use Rattle.driver_world.specs.declared.step.Step.TheVariants.{Conductor, Packet as Packets, Offer, Poll, List as Lists, Value};
+    ghost use Rattle.driver_world.specs.declared.step.Step.TheVariants.{Conductor, Packet as Packets, Offer, Poll, Image, List as Lists, Value};
     ghost use Rattle.log_arena.specs.Pages.{holes_of};
 
     /// A world in which nothing happened yet.
@@ -191,8 +193,52 @@ impl World {
         }
     }
 
+    /// A status message came, for the publication of its session and stream. It takes no memory.
+    fn status(&mut self, now: u64, message: &StatusMessage) -> Answer
+        ensures { ServesAs self.old self.new (λ e. on_told e now message.now (publication_for e.registry message.now.session_id message.now.stream_id)) result }
+    {
+        match self
+            .registry
+            .publication_for(message.session_id, message.stream_id)
+        {
+            Some(source) => self.logs.status(source, now, message),
+            None => Answer::Dropped(Cause::Astray(Astray::NoStream)),
+        }
+    }
+
+    /// A NAK came from the address `from`, for the publication of its session and stream.
+    fn nak(&mut self, alloc: Global, now: u64, from: &Address, nak: &Nak) -> Answer
+        ensures { ServesAs self.old self.new (λ e. on_asked e now from.now nak.now (resending_of e.registry from.now nak.now.session_id nak.now.stream_id)) result }
+    {
+        let Some(request) = self.registry.resending(from, nak.session_id, nak.stream_id) else {
+            return Answer::Dropped(Cause::Astray(Astray::NoStream));
+        };
+        match self
+            .logs
+            .nak(alloc, request.source, now, from, nak, &request.decision)
+        {
+            Ok(answer) => answer,
+            Err(_) => Answer::NoMemory,
+        }
+    }
+
+    /// The receiver has a turn with an image.
+    fn report(&mut self, alloc: Global, now: u64, source: u64) -> Answer
+        ensures { Serves self.old self.new (Image now source) result }
+    {
+        let Some(to) = self.registry.publisher_of(source) else {
+            return Answer::Gone;
+        };
+        let receiver_id = self.registry.settings().receiver_id;
+        match self.logs.report(alloc, source, now, receiver_id, &to) {
+            Ok(answer) => answer,
+            Err(_) => Answer::NoMemory,
+        }
+    }
+
     /// A datagram came to the address `local`, from the address `from`: a SETUP is an event; the frames of data and a
-    /// heartbeat go to the image of that address, session and stream, where they are from its publisher.
+    /// heartbeat go to the image of that address, session and stream, where they are from its publisher; a NAK and a status
+    /// message go to the publication of their session and stream, whatever address they came to.
     fn packet(
         &mut self,
         alloc: Global,
@@ -220,9 +266,8 @@ impl World {
                 };
                 self.conduct(alloc, &event)
             }
-            Ok(Packet::Nak(_)) | Ok(Packet::Sm(_)) => {
-                Answer::Dropped(Cause::Unread(BadPacket::OtherType))
-            }
+            Ok(Packet::Nak(nak)) => self.nak(alloc, now, from, &nak),
+            Ok(Packet::Sm(message)) => self.status(now, &message),
         }
     }
 
@@ -301,6 +346,7 @@ impl World {
                 source,
                 limit,
             } => self.poll(alloc, *now, *client, *subscription, *source, *limit),
+            Step::Image { now, source } => self.report(alloc, *now, *source),
             Step::List { now, client } => self.list(alloc, *now, *client),
             Step::Value {
                 now,

@@ -2,14 +2,16 @@
 //! missing and how far it is.
 //!
 //! `receive` and `receive_beat` do what a datagram does to a log; `Receiver::tick` says which NAK and which status message
-//! are due. But for the words that `receive` answers, nothing here takes memory. Recovery and flow control are those of the
+//! are due, and `nak_frame` and `status_frame` are their frames. But for the words that `receive` answers, nothing here takes memory. Recovery and flow control are those of the
 //! Aeron Transport Protocol Specification.
 #![tactic(auto)]
 
+mod frames;
 mod laws;
 mod receiver;
 mod receiving;
 
+pub use frames::{nak_frame, status_frame};
 pub use laws::datagrams_may_be_received;
 pub use receiver::{Due, Receiver, Status};
 pub use receiving::{receive, receive_beat};

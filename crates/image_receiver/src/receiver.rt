@@ -45,19 +45,27 @@ impl Model for Receiver {
     } };
 }
 
+/// The status message that is due at a moment.
+#[tactic(auto, unfolding(crate::specs::Receiver::status_due))]
+fn status_due(log: &ImageLog, moment: u64, interval: u64) -> Option<Status>
+    ensures { result ≡ status_due interval moment log.now.rebuilt }
+{
+    if !log.status_due(moment, interval) {
+        return None;
+    }
+    Some(Status {
+        base: log.base(),
+        window: log.window(),
+    })
+}
+
 /// The status message that is due at a moment. The log keeps that it was sent.
 #[tactic(auto, unfolding(crate::specs::Receiver::status_due, crate::specs::Receiver::after_status))]
 fn status_at(log: &mut ImageLog, moment: u64, interval: u64) -> Option<Status>
     ensures status { result ≡ status_due interval moment log.old.rebuilt }
     ensures after { log.new ≡ record log.old { rebuilt = after_status interval moment log.old.rebuilt } }
 {
-    if !log.status_due(moment, interval) {
-        return None;
-    }
-    let status = Status {
-        base: log.base(),
-        window: log.window(),
-    };
+    let status = status_due(log, moment, interval)?;
     log.status_sent(moment);
     Some(status)
 }
@@ -72,6 +80,19 @@ impl Receiver {
             interval: status_interval,
             latest: 0,
             nakker: Nakker::new(nak_delay, nak_repeat),
+        }
+    }
+
+    /// What [`Receiver::tick`] would give at the moment `now`, in nanoseconds. Nothing is changed.
+    #[tactic(auto, unfolding(crate::specs::Receiver::due_of))]
+    pub fn due(&self, now: u64, log: &ImageLog) -> Due
+        ensures { result ≡ due_of self.now log.now.rebuilt now }
+    {
+        let moment = self.latest.max(now);
+        let mut nakker = self.nakker.copy();
+        Due {
+            nak: nakker.on_tick(moment, log.gap()),
+            status: status_due(log, moment, self.interval),
         }
     }
 

@@ -90,6 +90,17 @@ fn decide(
 }
 
 impl Gate {
+    /// Another gate, equal to this one. It takes no memory.
+    pub fn copy(&self) -> Gate
+        ensures { result ≡ self.now }
+    {
+        Gate {
+            linger: self.linger,
+            latest: self.latest,
+            resent: self.resent.copy(),
+        }
+    }
+
     /// The gate of a log of which nothing was sent again. A range that was sent again lingers for `linger` nanoseconds.
     #[tactic(auto, unfolding(crate::specs::Gate::kept_of))]
     pub fn new(linger: u64) -> Gate

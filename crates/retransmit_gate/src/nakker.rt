@@ -90,6 +90,18 @@ impl Nakker {
         }
     }
 
+    /// Another one, equal to this. It takes no memory.
+    pub fn copy(&self) -> Nakker
+        ensures { result ≡ self.now }
+    {
+        Nakker {
+            delay: self.delay,
+            repeat: self.repeat,
+            latest: self.latest,
+            missing: self.missing,
+        }
+    }
+
     /// The NAK that is due at the moment `now`, in nanoseconds. `gap` is the position and the length in bytes of what is
     /// missing next.
     ///

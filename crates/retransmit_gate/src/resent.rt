@@ -54,6 +54,16 @@ impl ResentList {
         }
     }
 
+    /// Another list, equal to this one.
+    pub(crate) fn copy(&self) -> ResentList
+        ensures { result ≡ self.now }
+    {
+        ResentList {
+            places: self.places,
+            len: self.len,
+        }
+    }
+
     /// The ranges, in order.
     pub(crate) fn as_slice(&self) -> &[Resent]
         ensures ranges { result.now ≡ self.now }

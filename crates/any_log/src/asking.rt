@@ -1,0 +1,113 @@
+//! What receivers ask of a publication's log, by status messages and NAKs.
+
+ghost use Rattle.any_log.specs.Asking.{Hears, IsGranted, IsToResend, Keeps, Replies, RepliesTo, after_status};
+ghost use Rattle.any_log.specs.Held.{Lies};
+ghost use Rattle.any_log.specs.Whole.{Carries};
+ghost use Rattle.publication_sender.specs.Resending.{ResendsOver, gate_after, asking_of};
+ghost use Rattle.std.specs.Prelude.{◌≡◌, ◌++◌, ◌≤◌, IfOk, OnErr, OnOk, length};
+
+use crate::any_log::AnyLog;
+use byte_strings::{Bytes, Items};
+use frame_codec::{Nak, StatusMessage};
+use policy_core::{Decision, Verdict};
+use publication_sender::{Datagrams, NakAnswer, StatusAnswer, receive_nak, receive_status};
+use retransmit_gate::Gate;
+use std::alloc::{AllocError, Global};
+use term_log::TermLog;
+
+/// What becomes of a NAK.
+#[derive(Debug, PartialEq, Eq, Drop)]
+pub enum NakReply {
+    /// The policy does not let who asks have frames again, by this verdict.
+    Denied(Verdict),
+    /// It asks for nothing.
+    Empty,
+    /// It asks for what may not be sent again.
+    OutOfWindow,
+    /// It meets what was sent again lately.
+    Lingering,
+    /// Too much was sent again lately.
+    Busy,
+    /// These datagrams go to who asks, in their order.
+    Resent(Items<Bytes>),
+}
+
+/// Copies of the datagrams, in their order.
+fn copies_of(alloc: Global, datagrams: Datagrams<'_>) -> Result<Items<Bytes>, AllocError>
+    ensures { IfOk result (λ copies. copies ≡ datagrams.entry.datagrams) }
+{
+    let mut left = datagrams;
+    let mut room = Vec::from_elem(alloc, 0u8, left.mtu())?;
+    let mut copies = Items::new(alloc);
+    while let Some(size) = left.next_into(room.as_mut_slice()) {
+        copies.push(Bytes::new(alloc, &room.as_slice()[..size])?)?;
+    }
+    Ok(copies)
+}
+
+/// What becomes of a NAK of the log's session and stream. The gate is changed where there is memory for what is sent again.
+fn reply(
+    log: &TermLog,
+    alloc: Global,
+    gate: &mut Gate,
+    now: u64,
+    nak: &Nak,
+    decision: &Decision,
+) -> Result<NakReply, AllocError>
+    ensures reply { IfOk result (λ reply. RepliesTo decision.now now nak.now gate.old log.now reply) }
+    ensures gate { gate.new ≡ gate_after decision.now.verdict.allow gate.old (asking_of now log.now nak.now) }
+    ensures without_memory { OnErr result (IsGranted decision.now now nak.now gate.old log.now) }
+{
+    match receive_nak(log, gate, now, nak, decision) {
+        NakAnswer::Denied(decision) => Ok(NakReply::Denied(decision.verdict)),
+        NakAnswer::Empty => Ok(NakReply::Empty),
+        NakAnswer::OutOfWindow => Ok(NakReply::OutOfWindow),
+        NakAnswer::Lingering => Ok(NakReply::Lingering),
+        NakAnswer::Busy => Ok(NakReply::Busy),
+        NakAnswer::Resent(datagrams) => Ok(NakReply::Resent(copies_of(alloc, datagrams)?)),
+    }
+}
+
+impl AnyLog {
+    /// A status message of the log's session and stream came at a moment, in nanoseconds. With the flag that asks for a SETUP
+    /// it does only that; one that names a position that was not sent is dropped; else the log is connected, and may be sent
+    /// as far as the receiver has room. The log of a remote stream is told nothing, which `None` says.
+    pub fn hear_status(&mut self, now: u64, message: &StatusMessage) -> Option<StatusAnswer>
+        ensures hears { Hears self.old message.now result }
+        ensures whole { Carries self.old self.new (after_status now message.now) }
+        ensures lies { Lies self.old self.new }
+    {
+        match self {
+            AnyLog::Term(log) => Some(receive_status(log, now, message)),
+            AnyLog::Image(_) => None,
+        }
+    }
+
+    /// A NAK of the log's session and stream came at a moment, in nanoseconds; `decision` is what the policy says of sending
+    /// again to who asks, and `gate` has seen all that was sent again of this log. The log of a remote stream is asked
+    /// nothing, which `None` says.
+    ///
+    /// # Errors
+    /// The gate is as it was where there is no memory for the datagrams, which alone take some.
+    pub fn answer_nak(
+        &self,
+        alloc: Global,
+        gate: &mut Gate,
+        now: u64,
+        nak: &Nak,
+        decision: &Decision,
+    ) -> Result<Option<NakReply>, AllocError>
+        ensures reply { IfOk result (λ reply. Replies self.now decision.now now nak.now gate.old reply) }
+        ensures gate { OnOk result (Keeps self.now decision.now now nak.now gate.old gate.new) }
+        ensures err { OnErr result (gate.new ≡ gate.old) }
+        ensures without_memory { OnErr result (IsToResend self.now decision.now now nak.now gate.old) }
+    {
+        let AnyLog::Term(log) = self else {
+            return Ok(None);
+        };
+        let mut asked = gate.copy();
+        let reply = reply(log, alloc, &mut asked, now, nak, decision)?;
+        *gate = asked;
+        Ok(Some(reply))
+    }
+}
