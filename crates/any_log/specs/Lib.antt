@@ -2,4 +2,5 @@ pub mod Asking
 pub mod Fragments
 pub mod Held
 pub mod Reporting
+pub mod Sending
 pub mod Whole

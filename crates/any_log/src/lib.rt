@@ -11,6 +11,7 @@ mod asking;
 mod copies;
 mod fragment;
 mod reporting;
+mod sending;
 
 pub use any_log::AnyLog;
 pub use asking::NakReply;
