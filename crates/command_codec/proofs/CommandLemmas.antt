@@ -13,6 +13,7 @@ use Rattle.command_codec.specs.Fields.{number_in, number_at, number_bytes, IsByt
 use Rattle.command_codec.specs.AddPublication.{add_publication_of}
 use Rattle.command_codec.specs.AddSubscription.{add_subscription_of}
 use Rattle.command_codec.specs.Removal.{removal_of}
+use Rattle.command_codec.specs.Destination.{destination_of}
 use Rattle.command_codec.specs.AddCounter.{add_counter_of}
 use Rattle.command_codec.specs.TerminateDriver.{terminate_driver_of}
 use Rattle.command_codec.specs.SetCounter.{set_counter_of}
@@ -22,6 +23,7 @@ use Rattle.command_codec.proofs.Finding.{found_by_number}
 use Rattle.command_codec.proofs.AddPublicationLemmas.{add_publication_takes, add_publication_again}
 use Rattle.command_codec.proofs.AddSubscriptionLemmas.{add_subscription_takes, add_subscription_again}
 use Rattle.command_codec.proofs.RemovalLemmas.{removal_takes, removal_again}
+use Rattle.command_codec.proofs.DestinationLemmas.{destination_takes, destination_again}
 use Rattle.command_codec.proofs.AddCounterLemmas.{add_counter_takes, add_counter_again}
 use Rattle.command_codec.proofs.TerminateDriverLemmas.{terminate_driver_takes, terminate_driver_again}
 use Rattle.command_codec.proofs.SetCounterLemmas.{set_counter_takes, set_counter_again}
@@ -36,6 +38,8 @@ kind_again kinds.AddExclusivePublication = refl
 kind_again kinds.AddSubscription = refl
 kind_again kinds.RemoveSubscription = refl
 kind_again kinds.ClientKeepalive = refl
+kind_again kinds.AddDestination = refl
+kind_again kinds.RemoveDestination = refl
 kind_again kinds.AddCounter = refl
 kind_again kinds.RemoveCounter = refl
 kind_again kinds.ClientClose = refl
@@ -50,6 +54,8 @@ number_fits kinds.AddExclusivePublication = omega arith
 number_fits kinds.AddSubscription = omega arith
 number_fits kinds.RemoveSubscription = omega arith
 number_fits kinds.ClientKeepalive = omega arith
+number_fits kinds.AddDestination = omega arith
+number_fits kinds.RemoveDestination = omega arith
 number_fits kinds.AddCounter = omega arith
 number_fits kinds.RemoveCounter = omega arith
 number_fits kinds.ClientClose = omega arith
@@ -64,6 +70,8 @@ fields_again (bodies.AddExclusivePublication fields) h = rw (add_publication_aga
 fields_again (bodies.AddSubscription fields) h = rw (add_subscription_again fields h) refl
 fields_again (bodies.RemoveSubscription fields) h = rw (removal_again fields h) refl
 fields_again bodies.ClientKeepalive h = refl
+fields_again (bodies.AddDestination fields) h = rw (destination_again fields h) refl
+fields_again (bodies.RemoveDestination fields) h = rw (destination_again fields h) refl
 fields_again (bodies.AddCounter fields) h = rw (add_counter_again fields h) refl
 fields_again (bodies.RemoveCounter fields) h = rw (removal_again fields h) refl
 fields_again bodies.ClientClose h = refl
@@ -105,6 +113,14 @@ fields_take kinds.RemoveSubscription bytes body fits e =
 fields_take kinds.ClientKeepalive bytes body fits e =
     let t = ended_takes bodies.ClientKeepalive body bytes e in
     subst (Reads kinds.ClientKeepalive bytes) t.0 (record { is_kind = refl; spelt = t.1; sound = tt })
+fields_take kinds.AddDestination bytes body fits e =
+    made_from (destination_of bytes) (λ fields. bodies.AddDestination fields) (Reads kinds.AddDestination bytes) body (λ fields is.
+    let t = destination_takes bytes fields fits is in
+    record { is_kind = refl; spelt = t.0; sound = t.1 }) e
+fields_take kinds.RemoveDestination bytes body fits e =
+    made_from (destination_of bytes) (λ fields. bodies.RemoveDestination fields) (Reads kinds.RemoveDestination bytes) body (λ fields is.
+    let t = destination_takes bytes fields fits is in
+    record { is_kind = refl; spelt = t.0; sound = t.1 }) e
 fields_take kinds.AddCounter bytes body fits e =
     made_from (add_counter_of bytes) (λ fields. bodies.AddCounter fields) (Reads kinds.AddCounter bytes) body (λ fields is.
     let t = add_counter_takes bytes fields fits is in

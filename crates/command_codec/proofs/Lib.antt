@@ -9,8 +9,8 @@ pub mod RemovalLemmas
 pub mod AddCounterLemmas
 pub mod SetCounterLemmas
 pub mod TerminateDriverLemmas
-pub mod CommandLemmas
 pub mod DestinationLemmas
+pub mod CommandLemmas
 pub mod ErrorReplyLemmas
 pub mod AvailableImageLemmas
 pub mod PublicationReadyLemmas

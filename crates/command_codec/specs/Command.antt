@@ -13,6 +13,7 @@ use Rattle.command_codec.specs.Fields.{number_in, number_at, ended, number_bytes
 use Rattle.command_codec.specs.AddPublication.{add_publication_of, add_publication_bytes, IsAddPublication}
 use Rattle.command_codec.specs.AddSubscription.{add_subscription_of, add_subscription_bytes, IsAddSubscription}
 use Rattle.command_codec.specs.Removal.{removal_of, removal_bytes, IsRemoval}
+use Rattle.command_codec.specs.Destination.{destination_of, destination_bytes, IsDestination}
 use Rattle.command_codec.specs.AddCounter.{add_counter_of, add_counter_bytes, IsAddCounter}
 use Rattle.command_codec.specs.TerminateDriver.{terminate_driver_of, terminate_driver_bytes, IsTerminateDriver}
 use Rattle.command_codec.specs.SetCounter.{set_counter_of, set_counter_bytes, IsSetCounter}
@@ -22,8 +23,8 @@ use Rattle.command_codec.specs.SetCounter.{set_counter_of, set_counter_bytes, Is
 abbrev pub all_kinds : List Kind
 all_kinds =
     kinds.AddPublication ∷ kinds.RemovePublication ∷ kinds.AddExclusivePublication ∷ kinds.AddSubscription
-    ∷ kinds.RemoveSubscription ∷ kinds.ClientKeepalive ∷ kinds.AddCounter ∷ kinds.RemoveCounter ∷ kinds.ClientClose
-    ∷ kinds.TerminateDriver ∷ kinds.SetCounter ∷ []
+    ∷ kinds.RemoveSubscription ∷ kinds.ClientKeepalive ∷ kinds.AddDestination ∷ kinds.RemoveDestination ∷ kinds.AddCounter
+    ∷ kinds.RemoveCounter ∷ kinds.ClientClose ∷ kinds.TerminateDriver ∷ kinds.SetCounter ∷ []
 
 -- the number of a kind
 unfoldable pub kind_number : Kind → ℕ
@@ -33,6 +34,8 @@ kind_number kinds.AddExclusivePublication = 3
 kind_number kinds.AddSubscription = 4
 kind_number kinds.RemoveSubscription = 5
 kind_number kinds.ClientKeepalive = 6
+kind_number kinds.AddDestination = 7
+kind_number kinds.RemoveDestination = 8
 kind_number kinds.AddCounter = 9
 kind_number kinds.RemoveCounter = 0x0A
 kind_number kinds.ClientClose = 0x0B
@@ -51,6 +54,8 @@ kind_in (bodies.AddExclusivePublication fields) = kinds.AddExclusivePublication
 kind_in (bodies.AddSubscription fields) = kinds.AddSubscription
 kind_in (bodies.RemoveSubscription fields) = kinds.RemoveSubscription
 kind_in bodies.ClientKeepalive = kinds.ClientKeepalive
+kind_in (bodies.AddDestination fields) = kinds.AddDestination
+kind_in (bodies.RemoveDestination fields) = kinds.RemoveDestination
 kind_in (bodies.AddCounter fields) = kinds.AddCounter
 kind_in (bodies.RemoveCounter fields) = kinds.RemoveCounter
 kind_in bodies.ClientClose = kinds.ClientClose
@@ -65,6 +70,8 @@ fields_of kinds.AddExclusivePublication bytes = add_publication_of bytes >>= λ 
 fields_of kinds.AddSubscription bytes = add_subscription_of bytes >>= λ fields. Ok (bodies.AddSubscription fields)
 fields_of kinds.RemoveSubscription bytes = removal_of bytes >>= λ fields. Ok (bodies.RemoveSubscription fields)
 fields_of kinds.ClientKeepalive bytes = ended bodies.ClientKeepalive bytes
+fields_of kinds.AddDestination bytes = destination_of bytes >>= λ fields. Ok (bodies.AddDestination fields)
+fields_of kinds.RemoveDestination bytes = destination_of bytes >>= λ fields. Ok (bodies.RemoveDestination fields)
 fields_of kinds.AddCounter bytes = add_counter_of bytes >>= λ fields. Ok (bodies.AddCounter fields)
 fields_of kinds.RemoveCounter bytes = removal_of bytes >>= λ fields. Ok (bodies.RemoveCounter fields)
 fields_of kinds.ClientClose bytes = ended bodies.ClientClose bytes
@@ -78,6 +85,8 @@ fields_bytes (bodies.AddExclusivePublication fields) = add_publication_bytes fie
 fields_bytes (bodies.AddSubscription fields) = add_subscription_bytes fields
 fields_bytes (bodies.RemoveSubscription fields) = removal_bytes fields
 fields_bytes bodies.ClientKeepalive = []
+fields_bytes (bodies.AddDestination fields) = destination_bytes fields
+fields_bytes (bodies.RemoveDestination fields) = destination_bytes fields
 fields_bytes (bodies.AddCounter fields) = add_counter_bytes fields
 fields_bytes (bodies.RemoveCounter fields) = removal_bytes fields
 fields_bytes bodies.ClientClose = []
@@ -92,6 +101,8 @@ AreFields (bodies.AddExclusivePublication fields) = IsAddPublication fields
 AreFields (bodies.AddSubscription fields) = IsAddSubscription fields
 AreFields (bodies.RemoveSubscription fields) = IsRemoval fields
 AreFields bodies.ClientKeepalive = Unit {0}
+AreFields (bodies.AddDestination fields) = IsDestination fields
+AreFields (bodies.RemoveDestination fields) = IsDestination fields
 AreFields (bodies.AddCounter fields) = IsAddCounter fields
 AreFields (bodies.RemoveCounter fields) = IsRemoval fields
 AreFields bodies.ClientClose = Unit {0}
@@ -106,6 +117,8 @@ has_bytes (bodies.AddExclusivePublication fields) = true
 has_bytes (bodies.AddSubscription fields) = true
 has_bytes (bodies.RemoveSubscription fields) = false
 has_bytes bodies.ClientKeepalive = false
+has_bytes (bodies.AddDestination fields) = true
+has_bytes (bodies.RemoveDestination fields) = true
 has_bytes (bodies.AddCounter fields) = false
 has_bytes (bodies.RemoveCounter fields) = false
 has_bytes bodies.ClientClose = false

@@ -4,6 +4,7 @@ ghost use Rattle.command_codec.specs.Gives.{Gives, takes_memory};
 use crate::add_counter::AddCounter;
 use crate::add_publication::AddPublication;
 use crate::add_subscription::AddSubscription;
+use crate::destination::Destination;
 use crate::fault::CommandFault;
 use crate::fields;
 use crate::removal::Removal;
@@ -32,6 +33,8 @@ pub enum Body {
     RemoveSubscription(Removal),
     /// The client is there still (CLIENT_KEEPALIVE).
     ClientKeepalive,
+    AddDestination(Destination),
+    RemoveDestination(Destination),
     AddCounter(AddCounter),
     RemoveCounter(Removal),
     /// The client goes (CLIENT_CLOSE).
@@ -49,6 +52,8 @@ enum Kind {
     AddSubscription,
     RemoveSubscription,
     ClientKeepalive,
+    AddDestination,
+    RemoveDestination,
     AddCounter,
     RemoveCounter,
     ClientClose,
@@ -70,6 +75,8 @@ impl Kind {
             4 => Ok(Kind::AddSubscription),
             5 => Ok(Kind::RemoveSubscription),
             6 => Ok(Kind::ClientKeepalive),
+            7 => Ok(Kind::AddDestination),
+            8 => Ok(Kind::RemoveDestination),
             9 => Ok(Kind::AddCounter),
             0x0A => Ok(Kind::RemoveCounter),
             0x0B => Ok(Kind::ClientClose),
@@ -96,6 +103,10 @@ impl Kind {
             )?)),
             Kind::RemoveSubscription => Ok(Body::RemoveSubscription(Removal::read(bytes)?)),
             Kind::ClientKeepalive => fields::end(bytes).map(|()| Body::ClientKeepalive),
+            Kind::AddDestination => Ok(Body::AddDestination(Destination::read(alloc, bytes)?)),
+            Kind::RemoveDestination => Ok(Body::RemoveDestination(Destination::read(
+                alloc, bytes,
+            )?)),
             Kind::AddCounter => Ok(Body::AddCounter(AddCounter::read(bytes)?)),
             Kind::RemoveCounter => Ok(Body::RemoveCounter(Removal::read(bytes)?)),
             Kind::ClientClose => fields::end(bytes).map(|()| Body::ClientClose),
@@ -121,6 +132,8 @@ impl Body {
             Body::AddSubscription(_) => 4,
             Body::RemoveSubscription(_) => 5,
             Body::ClientKeepalive => 6,
+            Body::AddDestination(_) => 7,
+            Body::RemoveDestination(_) => 8,
             Body::AddCounter(_) => 9,
             Body::RemoveCounter(_) => 0x0A,
             Body::ClientClose => 0x0B,
@@ -140,6 +153,8 @@ impl Body {
             Body::AddSubscription(fields) => fields.put(out),
             Body::RemoveSubscription(fields) => fields.put(out),
             Body::ClientKeepalive => Ok(()),
+            Body::AddDestination(fields) => fields.put(out),
+            Body::RemoveDestination(fields) => fields.put(out),
             Body::AddCounter(fields) => fields.put(out),
             Body::RemoveCounter(fields) => fields.put(out),
             Body::ClientClose => Ok(()),
@@ -160,6 +175,8 @@ impl Body {
             Body::AddSubscription(fields) => Ok(Body::AddSubscription(fields.copy(alloc)?)),
             Body::RemoveSubscription(fields) => Ok(Body::RemoveSubscription(*fields)),
             Body::ClientKeepalive => Ok(Body::ClientKeepalive),
+            Body::AddDestination(fields) => Ok(Body::AddDestination(fields.copy(alloc)?)),
+            Body::RemoveDestination(fields) => Ok(Body::RemoveDestination(fields.copy(alloc)?)),
             Body::AddCounter(fields) => Ok(Body::AddCounter(fields.copy())),
             Body::RemoveCounter(fields) => Ok(Body::RemoveCounter(*fields)),
             Body::ClientClose => Ok(Body::ClientClose),

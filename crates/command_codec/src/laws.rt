@@ -22,8 +22,7 @@ pub fn commands_write_back()
         → (command_bytes command ≡ bytes) × IsCommand command }
 {}
 
-/// The fields of a command on a destination are read again as they were written, and have one spelling. (No type number
-/// leads to them yet: such a command is still `Unknown`.)
+/// The fields of a command on a destination are read again as they were written, and have one spelling.
 pub fn destinations_read_back()
     ensures { DestinationsReadBack }
 {}

@@ -1,8 +1,8 @@
 use crate::layouts::is_so;
 use byte_strings::{Bytes, ShortBytes, ShortText, Text};
 use command_codec::{
-    AddCounter, AddPublication, AddSubscription, Body, Command, CommandFault, Removal, SetCounter,
-    TerminateDriver,
+    AddCounter, AddPublication, AddSubscription, Body, Command, CommandFault, Destination, Removal,
+    SetCounter, TerminateDriver,
 };
 use std::alloc::{AllocError, Global};
 
@@ -65,6 +65,26 @@ const KEEPALIVE: [u8; 20] = [
     0x06, 0, 0, 0, // type
     0x02, 0, 0, 0, 0, 0, 0, 0, // client
     0x07, 0, 0, 0, 0, 0, 0, 0, // correlation
+];
+
+/// ADD_DESTINATION of client 1 with correlation id 14: `aeron:udp?endpoint=127.0.0.1:40201` for registration 1.
+const ADD_DESTINATION: [u8; 66] = [
+    0x07, 0, 0, 0, // type
+    0x01, 0, 0, 0, 0, 0, 0, 0, // client
+    0x0e, 0, 0, 0, 0, 0, 0, 0, // correlation
+    0x01, 0, 0, 0, 0, 0, 0, 0, // registration
+    0x22, 0, 0, 0, 0x61, 0x65, 0x72, 0x6f, 0x6e, 0x3a, 0x75, 0x64, 0x70, 0x3f, 0x65, 0x6e, 0x64,
+    0x70, 0x6f, 0x69, 0x6e, 0x74, 0x3d, 0x31, 0x32, 0x37, 0x2e, 0x30, 0x2e, 0x30, 0x2e, 0x31, 0x3a,
+    0x34, 0x30, 0x32, 0x30, 0x31, // channel
+];
+
+/// REMOVE_DESTINATION of client 2 with correlation id 15: `aeron:udp` for registration 258.
+const REMOVE_DESTINATION: [u8; 41] = [
+    0x08, 0, 0, 0, // type
+    0x02, 0, 0, 0, 0, 0, 0, 0, // client
+    0x0f, 0, 0, 0, 0, 0, 0, 0, // correlation
+    0x02, 0x01, 0, 0, 0, 0, 0, 0, // registration
+    0x09, 0, 0, 0, 0x61, 0x65, 0x72, 0x6f, 0x6e, 0x3a, 0x75, 0x64, 0x70, // channel
 ];
 
 /// ADD_COUNTER of client 3 with correlation id 5: type 100, a key of three bytes, label `ab`.
@@ -130,6 +150,8 @@ enum Plain {
     AddSubscription(u64, i32, &'static str),
     RemoveSubscription(u64),
     ClientKeepalive,
+    AddDestination(u64, &'static str),
+    RemoveDestination(u64, &'static str),
     AddCounter(i32, &'static [u8], &'static str),
     RemoveCounter(u64),
     ClientClose,
@@ -152,6 +174,14 @@ fn subscription(
     Ok(AddSubscription {
         registration_correlation,
         stream,
+        channel,
+    })
+}
+
+fn destination(alloc: Global, registration: u64, channel: &str) -> Result<Destination, AllocError> {
+    let channel = Text::new(alloc, channel)?;
+    Ok(Destination {
+        registration,
         channel,
     })
 }
@@ -183,6 +213,12 @@ fn body(alloc: Global, plain: Plain) -> Result<Body, CommandFault> {
             Body::RemoveSubscription(Removal { registration })
         }
         Plain::ClientKeepalive => Body::ClientKeepalive,
+        Plain::AddDestination(registration, channel) => {
+            Body::AddDestination(destination(alloc, registration, channel)?)
+        }
+        Plain::RemoveDestination(registration, channel) => {
+            Body::RemoveDestination(destination(alloc, registration, channel)?)
+        }
         Plain::AddCounter(type_id, key, label) => {
             Body::AddCounter(counter(type_id, key, label)?)
         }
@@ -201,7 +237,7 @@ fn body(alloc: Global, plain: Plain) -> Result<Body, CommandFault> {
 /// The client, the correlation id and the rest of a command, and its bytes.
 type Row = (u64, u64, Plain, &'static [u8]);
 
-const COMMANDS: [Row; 14] = [
+const COMMANDS: [Row; 16] = [
     (1, 12, Plain::AddPublication(10, "aeron:ipc"), &ADD),
     (
         2,
@@ -224,6 +260,18 @@ const COMMANDS: [Row; 14] = [
     ),
     (1, 13, Plain::RemoveSubscription(1), &REMOVE_SUBSCRIPTION),
     (2, 7, Plain::ClientKeepalive, &KEEPALIVE),
+    (
+        1,
+        14,
+        Plain::AddDestination(1, "aeron:udp?endpoint=127.0.0.1:40201"),
+        &ADD_DESTINATION,
+    ),
+    (
+        2,
+        15,
+        Plain::RemoveDestination(258, "aeron:udp"),
+        &REMOVE_DESTINATION,
+    ),
     (
         3,
         5,

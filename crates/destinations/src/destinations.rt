@@ -85,6 +85,16 @@ impl Destinations {
         })
     }
 
+    /// Another table, equal to this one.
+    pub fn copy(&self, alloc: Global) -> Result<Destinations, AllocError>
+        ensures { IfOk result (λ copy. copy ≡ self.now) }
+    {
+        Ok(Destinations {
+            rows: self.rows.copy(alloc)?,
+            last: self.last,
+        })
+    }
+
     /// Becomes equal to another table.
     pub fn set_from(&mut self, other: &Destinations)
         ensures { self.new ≡ other.now }

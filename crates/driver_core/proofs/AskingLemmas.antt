@@ -1,5 +1,5 @@
 -- What a client's command tells, and what is decided on it, is the same before the client was heard of.
-use Rattle.std.proofs.Common.{◌≡◌, ℕ, ℤ, max, Bool, true, false, not, ◌&&◌, nat_le, List, length, [], ◌∷◌, Result, Ok, Err, if◌then◌else◌, refl, ap}
+use Rattle.std.proofs.Common.{◌≡◌, ℕ, ℤ, max, Bool, true, false, not, ◌&&◌, nat_le, List, length, [], ◌∷◌, Option, Some, None, Result, Ok, Err, if◌then◌else◌, refl, ap, ◌∙◌}
 use Rattle.driver_core.specs.declared.refusal.Refusal.{Refusal}
 use Rattle.driver_core.specs.declared.refusal.Refusal.TheVariants.{UnknownPublication, UnknownCounter, Denied, Full}
 use Rattle.driver_core.specs.declared.replies.Reply.{Reply}
@@ -7,30 +7,38 @@ use Rattle.driver_core.specs.Closing.{keep_alive}
 use Rattle.driver_core.specs.Commands.{at_request, body_change, heard, keeps_pairs, requested}
 use Rattle.driver_core.specs.Counting.{add_counter, counted, counter_decision, has_room_for_counter, set_counter, valued, remove_counter, uncounted}
 use Rattle.driver_core.specs.Deciding.{decision_by}
+use Rattle.driver_core.specs.Directing.{add_destination, directed, directed_as, directing_by, directing_of, directing_on, has_room_for_sole, recalled, recalled_as, recalling_by, recalling_of, recalling_on, remove_destination, log_with, own_log, target_address, target_at, target_of, target_on}
+use Rattle.driver_core.specs.declared.directing.Directed.{Directed}
+use Rattle.driver_core.specs.declared.directing.Target.{Target}
 use Rattle.driver_core.specs.Draft.{Draft, refused, replied, told}
+use Rattle.driver_core.specs.LogRequests.{registration_at}
 use Rattle.driver_core.specs.Pairs.{is_within_pairs}
 use Rattle.driver_core.specs.declared.publishing.Granted.{Granted}
 use Rattle.driver_core.specs.declared.refused.Refused.{Refused}
 use Rattle.driver_core.specs.Publishing.{granting_of, has_place, has_room_for_publication, publication_decision, publishing_by, publishing_of, with_publication}
-use Rattle.driver_core.specs.Refusing.{denied}
+use Rattle.driver_core.specs.Refusing.{decisions_by, denied}
 use Rattle.driver_core.specs.State.{State, at_moment, has_number}
 use Rattle.driver_core.specs.Subscribing.{has_room_for_subscription, subscribing_of, with_subscription}
 use Rattle.driver_core.specs.Told.{told_of}
 use Rattle.driver_core.specs.Unpublishing.{remove_publication, unpublished}
 use Rattle.driver_core.proofs.PairLemmas.{pairs_by, principal_heard}
-use Rattle.channel_uri.specs.Channel.{Shape}
+use Rattle.channel_uri.specs.declared.address.Address.{Address}
+use Rattle.channel_uri.specs.declared.error.UriError.{UriError}
+use Rattle.channel_uri.specs.Channel.{Shape, denotes}
 use Rattle.client_registry.specs.declared.client.Client.{Client}
 use Rattle.client_registry.specs.Clients.{touched}
 use Rattle.command_codec.specs.declared.add_counter.AddCounter.{AddCounter}
 use Rattle.command_codec.specs.declared.command.Body.{Body}
-use Rattle.command_codec.specs.declared.command.Body.TheVariants.{AddPublication as Publishes, AddExclusivePublication as PublishesExclusively, RemovePublication as Unpublishes, AddSubscription as Adds, RemoveSubscription as Removes, ClientKeepalive as Keeps, AddCounter as AddsCounter, RemoveCounter as RemovesCounter, ClientClose as Closes, TerminateDriver as Terminates, SetCounter as Sets}
+use Rattle.command_codec.specs.declared.command.Body.TheVariants.{AddPublication as Publishes, AddExclusivePublication as PublishesExclusively, RemovePublication as Unpublishes, AddSubscription as Adds, RemoveSubscription as Removes, ClientKeepalive as Keeps, AddDestination as Directs, RemoveDestination as Recalls, AddCounter as AddsCounter, RemoveCounter as RemovesCounter, ClientClose as Closes, TerminateDriver as Terminates, SetCounter as Sets}
 use Rattle.command_codec.specs.declared.command.Command.{Command}
+use Rattle.command_codec.specs.declared.destination.Destination.{Destination}
 use Rattle.command_codec.specs.declared.removal.Removal.{Removal}
 use Rattle.command_codec.specs.declared.set_counter.SetCounter.{SetCounter}
 use Rattle.counters.specs.Counters.{has}
 use Rattle.policy_core.specs.declared.decision.Decision.{Decision}
 use Rattle.stream_registry.specs.declared.fault.StreamFault.{StreamFault}
 use Rattle.stream_registry.specs.declared.pairs.Pair.{Pair}
+use Rattle.stream_registry.specs.declared.row.Registration.{Registration}
 use Rattle.stream_registry.specs.declared.wanted.Adding.{Adding}
 use Rattle.stream_registry.specs.declared.wanted.Adding.TheVariants.{Join, Make}
 use Rattle.stream_registry.specs.declared.wanted.Wanted.{Wanted}
@@ -55,6 +63,89 @@ replied_same : (s t : State) (decisions : List Decision) (client : ℕ) (reply :
     TellTheSame (replied s decisions client reply) (replied t decisions client reply)
 unfolding replied told
 replied_same s t decisions client reply = refl
+
+-- ---- destinations
+
+log_same : (s : State) (now handle : ℕ) (found : Option Registration) →
+    log_with (at_request s now handle) found ≡ log_with s found
+unfolding heard at_moment
+log_same s now handle None = refl
+log_same s now handle (Some registration) = refl
+
+own_log_same : (s : State) (now handle client number : ℕ) →
+    own_log (at_request s now handle) client number ≡ own_log s client number
+unfolding own_log heard at_moment
+own_log_same s now handle client number = log_same s now handle (registration_at s.streams.registrations client number)
+
+target_at_same : (s : State) (now handle client number : ℕ) (address : Option Address) →
+    target_at (at_request s now handle) client number address ≡ target_at s client number address
+target_at_same s now handle client number None = refl
+target_at_same s now handle client number (Some address) = ap (target_on address) (own_log_same s now handle client number)
+
+-- the target is the same before the client was heard of
+pub target_asked : (s : State) (now handle client number : ℕ) (channel : Shape) →
+    target_of (at_request s now handle) client number channel ≡ target_of s client number channel
+unfolding target_of
+target_asked s now handle client number channel = target_at_same s now handle client number (target_address channel)
+
+directing_by_same : (s : State) (now handle : ℕ) (client : Client) (channel : Shape) (found : Result Target Refused) →
+    directing_by (at_request s now handle) client channel found ≡ directing_by s client channel found
+unfolding decision_by heard at_moment
+directing_by_same s now handle client channel (Ok target) = refl
+directing_by_same s now handle client channel (Err why) = refl
+
+directing_on_same : (s : State) (now handle : ℕ) (client : Client) (number : ℕ) (channel : Result Shape UriError) →
+    directing_on (at_request s now handle) client number channel ≡ directing_on s client number channel
+directing_on_same s now handle client number (Ok channel) =
+    ap (directing_by (at_request s now handle) client channel) (target_asked s now handle client.number number channel)
+    ∙ directing_by_same s now handle client channel (target_of s client.number number channel)
+directing_on_same s now handle client number (Err why) = refl
+
+directed_same : (s : State) (now handle : ℕ) (client : Client) (correlation : ℕ) (found : Result Directed Refused) →
+    TellTheSame (directed_as (at_request s now handle) client correlation found) (directed_as s client correlation found)
+unfolding directed replied told
+directed_same s now handle client correlation (Ok granted) = refl
+directed_same s now handle client correlation (Err why) =
+    refused_same (at_request s now handle) s (decisions_by why.decision) client.number correlation why.refusal
+
+destination_added : (s : State) (now handle : ℕ) (client : Client) (correlation : ℕ) (fields : Destination) →
+    TellTheSame (add_destination (at_request s now handle) client correlation fields)
+    (add_destination s client correlation fields)
+unfolding add_destination directing_of
+destination_added s now handle client correlation fields =
+    ap (λ (found : Result Directed Refused). told_of (directed_as (at_request s now handle) client correlation found))
+    (directing_on_same s now handle client fields.registration (denotes fields.channel))
+    ∙ directed_same s now handle client correlation (directing_on s client fields.registration (denotes fields.channel))
+
+recalling_by_same : (s : State) (now handle : ℕ) (found : Result Target Refused) →
+    recalling_by (at_request s now handle) found ≡ recalling_by s found
+unfolding heard at_moment
+recalling_by_same s now handle (Ok target) = refl
+recalling_by_same s now handle (Err why) = refl
+
+recalling_on_same : (s : State) (now handle client number : ℕ) (channel : Result Shape UriError) →
+    recalling_on (at_request s now handle) client number channel ≡ recalling_on s client number channel
+recalling_on_same s now handle client number (Ok channel) =
+    ap (recalling_by (at_request s now handle)) (target_asked s now handle client number channel)
+    ∙ recalling_by_same s now handle (target_of s client number channel)
+recalling_on_same s now handle client number (Err why) = refl
+
+recalled_same : (s : State) (now handle : ℕ) (client : Client) (correlation : ℕ) (found : Result Target Refused) →
+    TellTheSame (recalled_as (at_request s now handle) client correlation found) (recalled_as s client correlation found)
+unfolding recalled replied told
+recalled_same s now handle client correlation (Ok target) = refl
+recalled_same s now handle client correlation (Err why) =
+    refused_same (at_request s now handle) s (decisions_by why.decision) client.number correlation why.refusal
+
+destination_removed : (s : State) (now handle : ℕ) (client : Client) (correlation : ℕ) (fields : Destination) →
+    TellTheSame (remove_destination (at_request s now handle) client correlation fields)
+    (remove_destination s client correlation fields)
+unfolding remove_destination recalling_of
+destination_removed s now handle client correlation fields =
+    ap (λ (found : Result Target Refused). told_of (recalled_as (at_request s now handle) client correlation found))
+    (recalling_on_same s now handle client.number fields.registration (denotes fields.channel))
+    ∙ recalled_same s now handle client correlation
+    (recalling_on s client.number fields.registration (denotes fields.channel))
 
 -- ---- counters
 
@@ -119,6 +210,8 @@ body_same : (s : State) (now handle : ℕ) (client : Client) (correlation : ℕ)
     TellTheSame (body_change (at_request s now handle) client correlation body) (body_change s client correlation body)
 body_same s now handle client correlation (Unpublishes fields) keeps = publication_removed s now handle client correlation fields
 body_same s now handle client correlation Keeps keeps = kept_alive (at_request s now handle) s
+body_same s now handle client correlation (Directs fields) keeps = destination_added s now handle client correlation fields
+body_same s now handle client correlation (Recalls fields) keeps = destination_removed s now handle client correlation fields
 body_same s now handle client correlation (AddsCounter fields) keeps = counter_added s now handle client correlation fields
 body_same s now handle client correlation (RemovesCounter fields) keeps = counter_removed s now handle client correlation fields
 body_same s now handle client correlation (Sets fields) keeps = counter_set s now handle client correlation fields
@@ -152,12 +245,20 @@ unfolding subscribing_of decision_by heard at_moment
 subscribing_same s now handle client channel stream =
     rw (room_for_subscription s now handle client.number channel stream) refl
 
+pub sole_same : (s : State) (now handle : ℕ) (wanted : Wanted) (adding : Adding) →
+    has_room_for_sole (at_request s now handle) wanted adding ≡ has_room_for_sole s wanted adding
+unfolding has_room_for_sole heard at_moment
+sole_same s now handle wanted (Join source session) = refl
+sole_same s now handle wanted (Make session) = refl
+
 room_for_publication : (s : State) (now handle client : ℕ) (wanted : Wanted) (adding : Adding) →
     has_room_for_publication (at_request s now handle) client wanted adding
     ≡ has_room_for_publication s client wanted adding
 unfolding has_number is_within_pairs with_publication heard at_moment touched
 room_for_publication s now handle client wanted adding =
-    ap (λ (pairs : List Pair). has_number s && nat_le (length pairs) 4096)
+    ap (λ (b : Bool). (has_number s && b) && is_within_pairs (with_publication (at_request s now handle) client wanted adding))
+    (sole_same s now handle wanted adding)
+    ∙ ap (λ (pairs : List Pair). (has_number s && has_room_for_sole s wanted adding) && nat_le (length pairs) 4096)
     (pairs_by (with_publication (at_request s now handle) client wanted adding) (with_publication s client wanted adding)
     refl refl refl (principal_heard s.clients.rows handle (max s.moment now)))
 

@@ -1,5 +1,5 @@
 -- What holds of the draft that each case of an event makes holds of the event's.
-use Rattle.std.proofs.Common.{◌≡◌, ℕ, ℤ, pos, ◌==◌, Bool, true, false, not, List, [], ◌∷◌, Option, Some, None, Result, Ok, Err, if◌then◌else◌, inl, inr, refl, ap, ◌∙◌}
+use Rattle.std.proofs.Common.{◌≡◌, ℕ, ℤ, pos, ◌==◌, Bool, true, false, not, ◌&&◌, List, [], ◌∷◌, Option, Some, None, Result, Ok, Err, if◌then◌else◌, inl, inr, refl, sym, ap, ◌∙◌}
 use Rattle.std.proofs.lemmas.Bool.{eqb-true, cond_both, not-true, not-false}
 use Rattle.driver_core.specs.Draft.{Draft}
 use Rattle.driver_core.specs.declared.event.Event.TheVariants.{Command}
@@ -8,18 +8,27 @@ use Rattle.driver_core.specs.declared.outcome.Response.TheVariants as response
 use Rattle.driver_core.specs.declared.setup_fault.SetupFault.{SetupFault}
 use Rattle.driver_core.specs.declared.setup_fault.SetupFault.TheVariants.{BadSetup}
 use Rattle.driver_core.specs.declared.refusal.Refusal.{Refusal}
-use Rattle.driver_core.specs.declared.refusal.Refusal.TheVariants.{WrongClient, InvalidChannel, UnknownSubscription, UnknownPublication, UnknownCounter, Denied, Full, NoRoom}
+use Rattle.driver_core.specs.declared.refusal.Refusal.TheVariants.{WrongClient, InvalidChannel, UnknownSubscription, UnknownPublication, UnknownCounter, Denied, Conflict, Full, NoRoom}
 use Rattle.client_registry.specs.declared.client.Client.{Client}
 use Rattle.driver_core.specs.Attaching.{attach, attached}
 use Rattle.driver_core.specs.Draft.{answered, refused}
 use Rattle.driver_core.specs.Closing.{keep_alive, close}
 use Rattle.driver_core.specs.Counting.{add_counter, counted, counter_decision, has_room_for_counter, set_counter, valued, remove_counter, uncounted}
 use Rattle.driver_core.specs.Deciding.{decision_by, question_by}
+use Rattle.driver_core.specs.declared.directing.Directed.{Directed}
+use Rattle.driver_core.specs.declared.directing.Target.{Target}
+use Rattle.driver_core.specs.declared.refused.Refused.{Refused}
+use Rattle.driver_core.specs.Directing.{add_destination, added_on, destination_decision, directed, directed_as, directing_by, directing_of, directing_on, log_with, own_log, recalled, recalled_as, recalling_by, recalling_of, recalling_on, refused_by_destinations, remove_destination, target_address, target_at, target_of, target_on}
+use Rattle.driver_core.specs.LogRequests.{registration_at}
+use Rattle.driver_core.specs.Refusing.{plainly}
 use Rattle.client_registry.specs.Clients.{client_at, has_room}
 use Rattle.counters.specs.Counters.{has}
+use Rattle.destinations.specs.declared.fault.DestinationFault.{DestinationFault}
+use Rattle.destinations.specs.declared.fault.DestinationFault.TheVariants as destination_fault
+use Rattle.destinations.specs.Destinations.{adding as naming, has as has_destination}
 use Rattle.driver_core.specs.Commands.{heard, requested, asked, asked_by, command, command_from, body_change, refusal_for}
 use Rattle.driver_core.specs.Conduct.{drafted}
-use Rattle.driver_core.specs.Requests.{is_heard, Asks, PublicationRequest, AsksToPublish, wanted_by, SubscriptionRequest, AsksToSubscribe, RemovalRequest, AsksToRemove, IsAsked}
+use Rattle.driver_core.specs.Requests.{is_heard, Asks, PublicationRequest, AsksToPublish, wanted_by, SubscriptionRequest, AsksToSubscribe, RemovalRequest, AsksToRemove, DestinationRequest, AsksToDirect, IsAsked}
 use Rattle.driver_core.specs.Publishing.{is_publishable, add_publication, publication_decision, publish, publish_by, publish_on, publish_under, published, publishing_act, refused_by_streams, has_place, has_room_for_publication}
 use Rattle.driver_core.specs.Reloading.{reload, reloaded, has_room_for_policy}
 use Rattle.driver_core.specs.SettingUp.{image_made, set_by, set_up, set_up_by, setting_of, wanted_by as image_wanted_by}
@@ -34,11 +43,12 @@ use Rattle.channel_uri.specs.Channel.{Shape, denotes, counter_shape, ipc_shape}
 use Rattle.command_codec.specs.declared.add_publication.AddPublication.{AddPublication}
 use Rattle.command_codec.specs.declared.add_subscription.AddSubscription.{AddSubscription}
 use Rattle.command_codec.specs.declared.command.Body.{Body}
-use Rattle.command_codec.specs.declared.command.Body.TheVariants.{AddPublication as Publishes, AddExclusivePublication as PublishesExclusively, RemovePublication as Unpublishes, AddSubscription as Adds, RemoveSubscription as Removes, ClientKeepalive as Keeps, AddCounter as AddsCounter, RemoveCounter as RemovesCounter, ClientClose as Closes, TerminateDriver as Terminates, SetCounter as Sets}
+use Rattle.command_codec.specs.declared.command.Body.TheVariants.{AddPublication as Publishes, AddExclusivePublication as PublishesExclusively, RemovePublication as Unpublishes, AddSubscription as Adds, RemoveSubscription as Removes, ClientKeepalive as Keeps, AddDestination as Directs, RemoveDestination as Recalls, AddCounter as AddsCounter, RemoveCounter as RemovesCounter, ClientClose as Closes, TerminateDriver as Terminates, SetCounter as Sets}
 use Rattle.command_codec.specs.declared.command.Command.{Command as Read}
 use Rattle.command_codec.specs.declared.fault.CommandFault.{CommandFault}
 use Rattle.command_codec.specs.declared.fault.CommandFault.TheVariants.{Unknown, Malformed, NoMemory}
 use Rattle.command_codec.specs.declared.add_counter.AddCounter.{AddCounter}
+use Rattle.command_codec.specs.declared.destination.Destination.{Destination}
 use Rattle.command_codec.specs.declared.removal.Removal.{Removal}
 use Rattle.command_codec.specs.declared.set_counter.SetCounter.{SetCounter}
 use Rattle.command_codec.specs.declared.terminate_driver.TerminateDriver.{TerminateDriver}
@@ -47,11 +57,13 @@ use Rattle.frame_codec.specs.declared.join.Join.{Join}
 use Rattle.frame_codec.specs.declared.setup.Setup.{Setup}
 use Rattle.frame_codec.specs.Join.{join_of}
 use Rattle.policy_core.specs.declared.act.Act.{Act}
-use Rattle.policy_core.specs.declared.act.Act.TheVariants.{Counter as MakeCounter, Terminate}
+use Rattle.policy_core.specs.declared.act.Act.TheVariants.{Counter as MakeCounter, Destination as Direct, Terminate}
 use Rattle.policy_core.specs.declared.decision.Decision.{Decision}
 use Rattle.policy_core.specs.RuleList.{Rules}
 use Rattle.stream_registry.specs.declared.fault.StreamFault.{StreamFault}
 use Rattle.stream_registry.specs.declared.fault.StreamFault.TheVariants as fault
+use Rattle.stream_registry.specs.declared.row.Registration.{Registration}
+use Rattle.stream_registry.specs.declared.row.Source.{Source}
 use Rattle.stream_registry.specs.declared.wanted.Adding.{Adding}
 use Rattle.stream_registry.specs.declared.wanted.ImageWanted.{ImageWanted}
 use Rattle.stream_registry.specs.declared.wanted.Wanted.{Wanted}
@@ -98,6 +110,20 @@ pub record Cases (P : Draft → Type 0) (s : State) (handle : ℕ) (bytes : List
       (request : RemovalRequest) → is_heard s handle bytes ≡ true → AsksToRemove s handle bytes request →
       P (unsubscribed (heard s handle) request.client request.correlation request.fields.registration)
   pub keepalive : is_heard s handle bytes ≡ true → P (keep_alive (heard s handle))
+  pub destination :
+      (request : DestinationRequest) (number : ℕ) → is_heard s handle bytes ≡ true → AsksToDirect s handle bytes request →
+      (destination_decision (heard s handle) request.client request.channel request.target).verdict.allow ≡ true →
+      request.target.manual ≡ true →
+      naming (heard s handle).destinations request.target.source request.target.address ≡ Ok number →
+      P (directed (heard s handle) request.client request.correlation (record {
+        decision = destination_decision (heard s handle) request.client request.channel request.target;
+        target = request.target;
+      }))
+  pub destination_removal :
+      (client : Client) (correlation : ℕ) (fields : Destination) (target : Target) → is_heard s handle bytes ≡ true →
+      Asks s handle bytes client correlation (Recalls fields) →
+      recalling_of (heard s handle) client.number fields ≡ Ok target →
+      P (recalled (heard s handle) client correlation target)
   pub counter :
       (client : Client) (correlation : ℕ) (fields : AddCounter) → is_heard s handle bytes ≡ true →
       Asks s handle bytes client correlation (AddsCounter fields) →
@@ -302,7 +328,7 @@ published_cases P s handle bytes request cases known asks =
     publish_cases P (heard s handle) request.client request.correlation (wanted_by request) (record {
       denied = cases.denial request.client request.correlation (publishing_act request.exclusive) request.channel
           request.fields.stream known asks.asks.attached
-          (inr (inr (inr (record { request = request; asks = asks; correlation_is = refl; question_is = refl }))));
+          (inr (inr (inr (inl (record { request = request; asks = asks; correlation_is = refl; question_is = refl })))));
       refused_by = λ why allows is.
           cases.refusal _ request.client request.correlation (refused_by_streams why) (plain_refusal why) known;
       full = λ adding allows is full. cases.refusal _ request.client request.correlation Full tt known;
@@ -340,6 +366,147 @@ counter_cases P s handle bytes client correlation fields cases known asks =
     (cases.denial client correlation MakeCounter counter_shape fields.type_id known asks.attached
     (inr (inl (record { client = client; fields = fields; asks = asks; question_is = refl }))))
 
+-- ---- a destination
+
+-- a target that is refused is so for a reason of its own, and one that is named is the same before the client was heard of
+by_log : (Q : Result Target Refused → Type 0) (address : Address) (found : Option Source) →
+    ((refusal : Refusal) → IsPlain refusal → Q (Err (plainly refusal))) →
+    ((target : Target) → target_on address found ≡ Ok target → Q (Ok target)) → Q (target_on address found)
+by_log Q address None refused named = refused UnknownPublication tt
+by_log Q address (Some log) refused named = named _ refl
+
+by_address : (Q : Result Target Refused → Type 0) (s : State) (client number : ℕ) (address : Option Address) →
+    ((refusal : Refusal) → IsPlain refusal → Q (Err (plainly refusal))) →
+    ((target : Target) → target_at s client number address ≡ Ok target → Q (Ok target)) →
+    Q (target_at s client number address)
+by_address Q s client number None refused named = refused InvalidChannel tt
+by_address Q s client number (Some address) refused named = by_log Q address (own_log s client number) refused named
+
+pub target_cases : (Q : Result Target Refused → Type 0) (s : State) (client number : ℕ) (channel : Shape) →
+    ((refusal : Refusal) → IsPlain refusal → Q (Err (plainly refusal))) →
+    ((target : Target) → target_of s client number channel ≡ Ok target → Q (Ok target)) →
+    Q (target_of s client number channel)
+unfolding target_of
+target_cases Q s client number channel refused named = by_address Q s client number (target_address channel) refused named
+
+log_heard : (s : State) (handle : ℕ) (found : Option Registration) → log_with (heard s handle) found ≡ log_with s found
+unfolding heard
+log_heard s handle None = refl
+log_heard s handle (Some registration) = refl
+
+own_log_heard : (s : State) (handle client number : ℕ) → own_log (heard s handle) client number ≡ own_log s client number
+unfolding own_log heard
+own_log_heard s handle client number = log_heard s handle (registration_at s.streams.registrations client number)
+
+target_at_heard : (s : State) (handle client number : ℕ) (address : Option Address) →
+    target_at (heard s handle) client number address ≡ target_at s client number address
+target_at_heard s handle client number None = refl
+target_at_heard s handle client number (Some address) = ap (target_on address) (own_log_heard s handle client number)
+
+pub target_heard : (s : State) (handle client number : ℕ) (channel : Shape) →
+    target_of (heard s handle) client number channel ≡ target_of s client number channel
+unfolding target_of
+target_heard s handle client number channel = target_at_heard s handle client number (target_address channel)
+
+fault_plain : (why : DestinationFault) → IsPlain (refused_by_destinations why)
+fault_plain destination_fault.Conflict = tt
+fault_plain destination_fault.Full = tt
+
+-- named by hand, and then taken or not
+taken_cases : (P : Draft → Type 0) (s : State) (handle : ℕ) (bytes : List ℕ) (request : DestinationRequest) →
+    Cases P s handle bytes → is_heard s handle bytes ≡ true → AsksToDirect s handle bytes request →
+    (destination_decision (heard s handle) request.client request.channel request.target).verdict.allow ≡ true →
+    request.target.manual ≡ true → (found : Result ℕ DestinationFault) →
+    naming (heard s handle).destinations request.target.source request.target.address ≡ found →
+    P (directed_as (heard s handle) request.client request.correlation
+    (added_on (destination_decision (heard s handle) request.client request.channel request.target) request.target found))
+taken_cases P s handle bytes request cases known asks allows manual (Ok number) is =
+    cases.destination request number known asks allows manual is
+taken_cases P s handle bytes request cases known asks allows manual (Err why) is =
+    cases.refusal _ request.client request.correlation (refused_by_destinations why) (fault_plain why) known
+
+-- denied, or not
+direct_cases : (P : Draft → Type 0) (s : State) (handle : ℕ) (bytes : List ℕ) (request : DestinationRequest) →
+    Cases P s handle bytes → is_heard s handle bytes ≡ true → AsksToDirect s handle bytes request →
+    P (directed_as (heard s handle) request.client request.correlation
+    (directing_by (heard s handle) request.client request.channel (Ok request.target)))
+direct_cases P s handle bytes request cases known asks =
+    let decision : Decision = destination_decision (heard s handle) request.client request.channel request.target in
+    let allow : Bool = decision.verdict.allow in
+    let told : Result Directed Refused → Type 0 =
+    λ found. P (directed_as (heard s handle) request.client request.correlation found) in
+    cond_both (not allow) _ _ told
+    (λ e.
+    cases.denial request.client request.correlation Direct request.channel request.target.stream known asks.asks.attached
+    (inr (inr (inr (inr (record { request = request; asks = asks; correlation_is = refl; question_is = refl })))))
+    (not-true allow e))
+    (λ e.
+    cond_both request.target.manual _ _ told
+    (λ manual. taken_cases P s handle bytes request cases known asks (not-false allow e) manual _ refl)
+    (λ other. cases.refusal _ request.client request.correlation Conflict tt known))
+
+directing_cases : (P : Draft → Type 0) (s : State) (handle : ℕ) (bytes : List ℕ) (client : Client) (correlation : ℕ)
+    (fields : Destination) → Cases P s handle bytes → is_heard s handle bytes ≡ true →
+    Asks s handle bytes client correlation (Directs fields) → (channel : Result Shape UriError) →
+    denotes fields.channel ≡ channel →
+    P (directed_as (heard s handle) client correlation (directing_on (heard s handle) client fields.registration channel))
+directing_cases P s handle bytes client correlation fields cases known asks (Err fault) denoted =
+    cases.refusal [] client correlation InvalidChannel tt known
+directing_cases P s handle bytes client correlation fields cases known asks (Ok channel) denoted =
+    target_cases (λ found.
+    P (directed_as (heard s handle) client correlation (directing_by (heard s handle) client channel found)))
+    (heard s handle) client.number fields.registration channel
+    (λ refusal plain. cases.refusal [] client correlation refusal plain known)
+    (λ target named.
+    direct_cases P s handle bytes (record {
+      client = client;
+      correlation = correlation;
+      fields = fields;
+      channel = channel;
+      target = target;
+    }) cases known (record {
+      asks = asks;
+      denotes_channel = denoted;
+      names_target = sym (target_heard s handle client.number fields.registration channel) ∙ named;
+    }))
+
+-- what is decided on an address that is taken back
+recall_cases : (P : Draft → Type 0) (s : State) (handle : ℕ) (bytes : List ℕ) (client : Client) (correlation : ℕ) →
+    Cases P s handle bytes → is_heard s handle bytes ≡ true → (target : Target) →
+    (recalling_by (heard s handle) (Ok target) ≡ Ok target → P (recalled (heard s handle) client correlation target)) →
+    P (recalled_as (heard s handle) client correlation (recalling_by (heard s handle) (Ok target)))
+recall_cases P s handle bytes client correlation cases known target done =
+    let there : Bool = target.manual && has_destination (heard s handle).destinations.rows target.source target.address in
+    cond_both there _ _ (λ found. P (recalled_as (heard s handle) client correlation found))
+    (λ e. done (rw e refl)) (λ other. cases.refusal [] client correlation Conflict tt known)
+
+recalling_cases : (P : Draft → Type 0) (s : State) (handle : ℕ) (bytes : List ℕ) (client : Client) (correlation : ℕ)
+    (fields : Destination) → Cases P s handle bytes → is_heard s handle bytes ≡ true →
+    ((target : Target) → recalling_of (heard s handle) client.number fields ≡ Ok target →
+    P (recalled (heard s handle) client correlation target)) → (channel : Result Shape UriError) →
+    denotes fields.channel ≡ channel →
+    P (recalled_as (heard s handle) client correlation
+    (recalling_on (heard s handle) client.number fields.registration channel))
+unfolding recalling_of
+recalling_cases P s handle bytes client correlation fields cases known done (Err fault) denoted =
+    cases.refusal [] client correlation InvalidChannel tt known
+recalling_cases P s handle bytes client correlation fields cases known done (Ok channel) denoted =
+    target_cases (λ found. P (recalled_as (heard s handle) client correlation (recalling_by (heard s handle) found)))
+    (heard s handle) client.number fields.registration channel
+    (λ refusal plain. cases.refusal [] client correlation refusal plain known)
+    (λ target named.
+    recall_cases P s handle bytes client correlation cases known target
+    (λ there. done target (rw (denoted, named) there)))
+
+recall_fields : (P : Draft → Type 0) (s : State) (handle : ℕ) (bytes : List ℕ) (client : Client) (correlation : ℕ)
+    (fields : Destination) → Cases P s handle bytes → is_heard s handle bytes ≡ true →
+    Asks s handle bytes client correlation (Recalls fields) →
+    P (recalled_as (heard s handle) client correlation (recalling_of (heard s handle) client.number fields))
+unfolding recalling_of
+recall_fields P s handle bytes client correlation fields cases known asks =
+    recalling_cases P s handle bytes client correlation fields cases known
+    (λ target is. cases.destination_removal client correlation fields target known asks is) (denotes fields.channel) refl
+
 termination_cases : (P : Draft → Type 0) (s : State) (handle : ℕ) (bytes : List ℕ) (client : Client) (correlation : ℕ)
     (fields : TerminateDriver) → Cases P s handle bytes → is_heard s handle bytes ≡ true →
     Asks s handle bytes client correlation (Terminates fields) → P (terminate (heard s handle) client correlation)
@@ -360,7 +527,7 @@ body_cases : (P : Draft → Type 0) (s : State) (handle : ℕ) (bytes : List ℕ
     Cases P s handle bytes → is_heard s handle bytes ≡ true → command_of bytes ≡ Ok read → read.client ≡ handle →
     client_at s.clients.rows handle ≡ Some client → (body : Body) → read.body ≡ body →
     P (body_change (heard s handle) client read.correlation body)
-unfolding add_subscription add_publication
+unfolding add_subscription add_publication add_destination directing_of remove_destination
 body_cases P s handle bytes client read cases known is own found (Publishes fields) same =
     publication_cases P s handle bytes client read.correlation fields false cases known
     (asks_for s handle bytes client read (Publishes fields) is own found same) (denotes fields.channel) refl
@@ -382,6 +549,12 @@ body_cases P s handle bytes client read cases known is own found (Removes fields
     (record { command = is ∙ ap Ok (whole read handle (Removes fields) own same); attached = found }))
     (λ unknown. cases.refusal [] client read.correlation UnknownSubscription tt known)
 body_cases P s handle bytes client read cases known is own found Keeps same = cases.keepalive known
+body_cases P s handle bytes client read cases known is own found (Directs fields) same =
+    directing_cases P s handle bytes client read.correlation fields cases known
+    (asks_for s handle bytes client read (Directs fields) is own found same) (denotes fields.channel) refl
+body_cases P s handle bytes client read cases known is own found (Recalls fields) same =
+    recall_fields P s handle bytes client read.correlation fields cases known
+    (asks_for s handle bytes client read (Recalls fields) is own found same)
 body_cases P s handle bytes client read cases known is own found (AddsCounter fields) same =
     counter_cases P s handle bytes client read.correlation fields cases known
     (asks_for s handle bytes client read (AddsCounter fields) is own found same)

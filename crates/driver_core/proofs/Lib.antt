@@ -14,6 +14,7 @@ pub mod LogListLemmas
 pub mod OpeningLemmas
 pub mod PairLemmas
 pub mod PublishLemmas
+pub mod RecallLemmas
 pub mod ReloadingLemmas
 pub mod SearchLemmas
 pub mod SettingLemmas

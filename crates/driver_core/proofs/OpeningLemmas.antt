@@ -8,9 +8,10 @@ use Rattle.std.specs.Prelude.{unwrap_or}
 use Rattle.driver_core.specs.declared.event.End.{End}
 use Rattle.driver_core.specs.declared.event.Inputs.{Inputs}
 use Rattle.driver_core.specs.Commands.{at_request, heard}
+use Rattle.driver_core.specs.Directing.{has_room_for_sole}
 use Rattle.driver_core.specs.Draft.{Draft, replied, replied_opening, told}
 use Rattle.driver_core.specs.Pairs.{is_within_pairs, lacking, pairs_of}
-use Rattle.driver_core.specs.Publishing.{has_room_for_publication, new_log, opening_of, place_of_new, publication_decision, published, ready_for, with_publication}
+use Rattle.driver_core.specs.Publishing.{has_room_for_publication, new_log, opening_of, place_of_new, publication_decision, published, ready_for, with_directed_publication, with_publication}
 use Rattle.driver_core.specs.Renewal.{available_for, available_from, available_to, decided_from, decided_on, decided_to, images_decided, images_told, outcome_by, outcome_kept, outcome_opening, source_at, reading, renewed, subscription_at}
 use Rattle.driver_core.specs.State.{State, at_moment, has_number}
 use Rattle.driver_core.specs.Told.{tells_reply, told_of}
@@ -18,6 +19,7 @@ use Rattle.driver_core.proofs.ComingLemmas.{decided_alike, found_last}
 use Rattle.driver_core.proofs.PairLemmas.{kept, pairs_by, pairs_heard, principal_heard}
 use Rattle.client_registry.specs.declared.client.Client.{Client}
 use Rattle.client_registry.specs.Clients.{principal_at, touched}
+use Rattle.destinations.specs.Destinations.{DestinationList}
 use Rattle.log_readers.specs.Numbering.{AreInOrder, Rises, number_of, source_of}
 use Rattle.log_readers.proofs.RisingLemmas.{all_above}
 use Rattle.log_readers.proofs.TurnoverLemmas.{made_turnover}
@@ -119,6 +121,17 @@ opens s now handle inputs client wanted session order =
           (principal_heard s.clients.rows handle (max s.moment now) (get_or rows k d).client)));
     }
 
+-- where publications are directed is nothing to the pairs
+directed_opens : (s after : State) (destinations : DestinationList) (inputs : Inputs) (log : Source) →
+    Opens s after inputs log → Opens s (record after { destinations = destinations }) inputs log
+unfolding pairs_of available_for decided_on
+directed_opens s after destinations inputs log opens = record {
+  gone = opens.gone;
+  come = opens.come;
+  available = opens.available;
+  decided = opens.decided;
+}
+
 pub by_parts : (s : State) (inputs : Inputs) (draft : Draft) (log : Source) → draft.later ≡ [] →
     Opens s draft.after inputs log → outcome_by s inputs draft ≡ outcome_opening s inputs (told_of draft) log
 unfolding renewed images_told images_decided
@@ -132,17 +145,19 @@ pub made_is : (s : State) (now handle : ℕ) (inputs : Inputs) (client : Client)
     (record (tells_reply (publication_decision (at_request s now handle) client wanted ∷ []) client.number
     (ready_for wanted correlation (s.last_number + 1) session)) { opens = Some (place_of (new_log s wanted session)) })
     (new_log s wanted session)
-unfolding published opening_of with_publication heard at_moment replied_opening replied told
+unfolding published opening_of with_directed_publication with_publication heard at_moment replied_opening replied told
 made_is s now handle inputs client correlation wanted adding session order is =
     ap (λ (one : Adding). outcome_by s inputs (published (at_request s now handle) client correlation wanted one)) is
     ∙ by_parts s inputs (published (at_request s now handle) client correlation wanted (Make session)) (new_log s wanted session)
-    refl (opens s now handle inputs client.number wanted session order)
+    refl
+    (directed_opens s (with_publication (at_request s now handle) client.number wanted (Make session)) _ inputs
+    (new_log s wanted session) (opens s now handle inputs client.number wanted session order))
 
 -- ---- a log that is joined
 
-joined_keeps : (s : State) (client : ℕ) (wanted : Wanted) (source : ℕ) (session : ℤ) →
-    pairs_of (with_publication s client wanted (Join source session)) ≡ pairs_of s
-unfolding with_publication pairs_of pairs_on
+joined_keeps : (s : State) (client : Client) (wanted : Wanted) (source : ℕ) (session : ℤ) →
+    pairs_of (with_directed_publication s client wanted (Join source session)) ≡ pairs_of s
+unfolding with_directed_publication with_publication pairs_of pairs_on
 joined_keeps s client wanted source session = refl
 
 pub joined_is : (s : State) (now handle : ℕ) (inputs : Inputs) (client : Client) (correlation : ℕ) (wanted : Wanted)
@@ -154,7 +169,7 @@ unfolding published opening_of heard at_moment replied_opening replied told
 joined_is s now handle inputs client correlation wanted adding source session is =
     ap (λ (one : Adding). outcome_by s inputs (published (at_request s now handle) client correlation wanted one)) is
     ∙ kept s inputs (published (at_request s now handle) client correlation wanted (Join source session))
-    (joined_keeps (at_request s now handle) client.number wanted source session ∙ pairs_heard s now handle)
+    (joined_keeps (at_request s now handle) client wanted source session ∙ pairs_heard s now handle)
 
 -- ---- its number
 
@@ -167,4 +182,7 @@ pub numbered_before : (s : State) (now handle client : ℕ) (wanted : Wanted) (a
     has_room_for_publication (at_request s now handle) client wanted adding ≡ true → has_number s ≡ true
 unfolding has_number heard at_moment
 numbered_before s now handle client wanted adding room =
-    first_of (has_number s) (is_within_pairs (with_publication (at_request s now handle) client wanted adding)) room
+    let before : State = at_request s now handle in
+    first_of (has_number s) (has_room_for_sole before wanted adding)
+    (first_of (has_number s && has_room_for_sole before wanted adding)
+    (is_within_pairs (with_publication before client wanted adding)) room)

@@ -1,5 +1,5 @@
 -- Events that change no pair.
-use Rattle.std.proofs.Common.{◌≡◌, ℕ, ◌==◌, ◌&&◌, max, Bool, true, false, cond, List, [], ◌∷◌, ◌++◌, map, filter, not, Option, Some, if◌then◌else◌, refl, sym, subst, ap, ◌∙◌}
+use Rattle.std.proofs.Common.{◌≡◌, ℕ, ◌==◌, ◌&&◌, max, Bool, true, false, cond, List, [], ◌∷◌, ◌++◌, map, filter, not, Option, Some, Result, Ok, Err, if◌then◌else◌, refl, sym, subst, ap, ◌∙◌}
 use Rattle.std.proofs.lemmas.Bool.{eq-eqb, or_left, or_right}
 use Rattle.std.proofs.lemmas.List.{append-nil, append_assoc}
 use Rattle.std.specs.List.{flat_map, list_any}
@@ -11,6 +11,10 @@ use Rattle.driver_core.specs.declared.refused.Refused.{Refused}
 use Rattle.driver_core.specs.declared.told.Told.{Told}
 use Rattle.driver_core.specs.Closing.{keep_alive}
 use Rattle.driver_core.specs.Commands.{at_request, body_change, heard, keeps_pairs, requested}
+use Rattle.driver_core.specs.Directing.{add_destination, directed, directed_as, directing_of, recalled, recalled_as, recalling_of, remove_destination, with_destination, without_destination}
+use Rattle.driver_core.specs.declared.directing.Directed.{Directed}
+use Rattle.driver_core.specs.declared.directing.Target.{Target}
+use Rattle.command_codec.specs.declared.destination.Destination.{Destination}
 use Rattle.driver_core.specs.Counting.{add_counter, counted, counter_decision, has_room_for_counter, set_counter, valued, remove_counter, uncounted, with_counter}
 use Rattle.driver_core.specs.Draft.{Draft, refused, replied, told}
 use Rattle.driver_core.specs.Leaving.{all_left}
@@ -18,14 +22,14 @@ use Rattle.driver_core.specs.Pairs.{pairs_of, lacking, is_same_pair}
 use Rattle.driver_core.specs.Refusing.{decisions_by, refused_by}
 use Rattle.driver_core.specs.Renewal.{renewed, images_told, images_decided, outcome_by, outcome_kept}
 use Rattle.driver_core.specs.State.{State, at_moment}
-use Rattle.driver_core.specs.Ticking.{late, tick, ticked, timeout_of}
+use Rattle.driver_core.specs.Ticking.{closed_past, late, tick, ticked, timeout_of}
 use Rattle.driver_core.specs.Told.{tells_refusal, told_of}
 use Rattle.driver_core.specs.Unpublishing.{remove_publication, unpublished}
 use Rattle.client_registry.specs.declared.client.Client.{Client}
 use Rattle.client_registry.specs.Clients.{client_at, heard_one, principal_at, touched}
 use Rattle.command_codec.specs.declared.add_counter.AddCounter.{AddCounter}
 use Rattle.command_codec.specs.declared.command.Body.{Body}
-use Rattle.command_codec.specs.declared.command.Body.TheVariants.{AddPublication as Publishes, AddExclusivePublication as PublishesExclusively, RemovePublication as Unpublishes, AddSubscription as Adds, RemoveSubscription as Removes, ClientKeepalive as Keeps, AddCounter as AddsCounter, RemoveCounter as RemovesCounter, ClientClose as Closes, TerminateDriver as Terminates, SetCounter as Sets}
+use Rattle.command_codec.specs.declared.command.Body.TheVariants.{AddPublication as Publishes, AddExclusivePublication as PublishesExclusively, RemovePublication as Unpublishes, AddSubscription as Adds, RemoveSubscription as Removes, ClientKeepalive as Keeps, AddDestination as Directs, RemoveDestination as Recalls, AddCounter as AddsCounter, RemoveCounter as RemovesCounter, ClientClose as Closes, TerminateDriver as Terminates, SetCounter as Sets}
 use Rattle.command_codec.specs.declared.command.Command.{Command}
 use Rattle.command_codec.specs.declared.removal.Removal.{Removal}
 use Rattle.command_codec.specs.declared.set_counter.SetCounter.{SetCounter}
@@ -146,6 +150,31 @@ unfolding refused replied told
 asking_refused s now handle inputs client correlation why =
     kept s inputs (refused_by (at_request s now handle) client correlation why) (pairs_heard s now handle)
 
+directed_keeps : (s : State) (client : Client) (correlation : ℕ) (found : Result Directed Refused) →
+    pairs_of (directed_as s client correlation found).after ≡ pairs_of s
+unfolding directed with_destination replied told pairs_of
+directed_keeps s client correlation (Ok granted) = refl
+directed_keeps s client correlation (Err why) =
+    refused_keeps s (decisions_by why.decision) client.number correlation why.refusal
+
+destination_added : (s : State) (client : Client) (correlation : ℕ) (fields : Destination) →
+    pairs_of (add_destination s client correlation fields).after ≡ pairs_of s
+unfolding add_destination
+destination_added s client correlation fields = directed_keeps s client correlation (directing_of s client fields)
+
+recalled_keeps : (s : State) (client : Client) (correlation : ℕ) (found : Result Target Refused) →
+    pairs_of (recalled_as s client correlation found).after ≡ pairs_of s
+unfolding recalled without_destination replied told pairs_of
+recalled_keeps s client correlation (Ok target) = refl
+recalled_keeps s client correlation (Err why) =
+    refused_keeps s (decisions_by why.decision) client.number correlation why.refusal
+
+destination_removed : (s : State) (client : Client) (correlation : ℕ) (fields : Destination) →
+    pairs_of (remove_destination s client correlation fields).after ≡ pairs_of s
+unfolding remove_destination
+destination_removed s client correlation fields =
+    recalled_keeps s client correlation (recalling_of s client.number fields)
+
 counted_keeps : (s : State) (client : Client) (correlation : ℕ) (fields : AddCounter) →
     pairs_of (counted s client correlation fields).after ≡ pairs_of s
 unfolding counted with_counter replied told pairs_of
@@ -211,6 +240,8 @@ kept_alive s = refl
 body_keeps : (s : State) (client : Client) (correlation : ℕ) (body : Body) → keeps_pairs body ≡ true →
     pairs_of (body_change s client correlation body).after ≡ pairs_of s
 body_keeps s client correlation Keeps keeps = kept_alive s
+body_keeps s client correlation (Directs fields) keeps = destination_added s client correlation fields
+body_keeps s client correlation (Recalls fields) keeps = destination_removed s client correlation fields
 body_keeps s client correlation (AddsCounter fields) keeps = counter_added s client correlation fields
 body_keeps s client correlation (RemovesCounter fields) keeps = counter_removed s client correlation fields
 body_keeps s client correlation (Sets fields) keeps = counter_set s client correlation fields
@@ -259,7 +290,7 @@ all_stay now silent (log ∷ logs) none =
 ticked_keeps : (s : State) (clients silent : List ℕ) → clients ≡ [] →
     (ticked (all_left s clients) clients silent).closes ≡ [] →
     pairs_of (ticked (all_left s clients) clients silent).after ≡ pairs_of s
-unfolding ticked closed closing_of pairs_of pairs_on
+unfolding ticked closed_past closed closing_of pairs_of pairs_on
 ticked_keeps s [] silent none closes =
     ap (λ (logs : List Source). flat_map (pairs_at s.clients.rows s.policy s.epoch s.streams.subscriptions) logs)
     (all_stay s.moment silent s.streams.sources closes)

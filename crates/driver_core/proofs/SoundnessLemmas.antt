@@ -19,11 +19,15 @@ use Rattle.driver_core.specs.Attaching.{attached}
 use Rattle.driver_core.specs.Closing.{keep_alive, close}
 use Rattle.driver_core.specs.Commands.{heard, at_request}
 use Rattle.driver_core.specs.Conduct.{conduct, drafted, state_after, state_of}
+use Rattle.driver_core.specs.Directing.{directed, recalled, with_destination, without_destination}
+use Rattle.driver_core.specs.declared.directing.Directed.{Directed}
+use Rattle.driver_core.specs.declared.directing.Target.{Target}
+use Rattle.destinations.specs.Destinations.{DestinationList}
 use Rattle.driver_core.specs.Counting.{counted, with_counter, valued, uncounted}
 use Rattle.driver_core.specs.Draft.{answered, told, replied, replied_opening, refused}
 use Rattle.driver_core.specs.Leaving.{left, all_left}
 use Rattle.driver_core.specs.Pairs.{pairs_of}
-use Rattle.driver_core.specs.Publishing.{has_place, opening_of, place_of_new, published, with_publication}
+use Rattle.driver_core.specs.Publishing.{has_place, opening_of, place_of_new, published, with_directed_publication, with_publication}
 use Rattle.driver_core.specs.Reloading.{in_force, reloaded}
 use Rattle.driver_core.specs.Renewal.{renewed}
 use Rattle.driver_core.specs.Requests.{RemovalRequest, SubscriptionRequest, wanted_by}
@@ -32,7 +36,7 @@ use Rattle.driver_core.specs.Soundness.{AreSettings, AreSizes, BeginsSoundly, Is
 use Rattle.driver_core.specs.State.{State, at_moment, has_number, opened}
 use Rattle.driver_core.specs.Subscribing.{has_room_for_subscription, subscribed, with_subscription}
 use Rattle.driver_core.specs.Terminating.{stopped_for_good, terminated}
-use Rattle.driver_core.specs.Ticking.{late, tick, ticked}
+use Rattle.driver_core.specs.Ticking.{closed_past, late, tick, ticked}
 use Rattle.driver_core.specs.Unpublishing.{unpublished}
 use Rattle.driver_core.specs.Unread.{closed_from, dropping, is_closed, without_unread}
 use Rattle.driver_core.specs.Unsubscribing.{unsubscribed}
@@ -171,6 +175,18 @@ counter_removal_moves : (s : State) (client : Client) (correlation number : ℕ)
     Moves s (uncounted s client correlation number)
 unfolding uncounted told
 counter_removal_moves s client correlation number sound =
+    keeps_moves s _ sound (same_streams s _ sound refl refl (omega arith)) refl refl
+
+destination_moves : (s : State) (client : Client) (correlation : ℕ) (granted : Directed) → IsSound s →
+    Moves s (directed s client correlation granted)
+unfolding directed with_destination replied told
+destination_moves s client correlation granted sound =
+    keeps_moves s _ sound (same_streams s _ sound refl refl (omega arith)) refl refl
+
+destination_removal_moves : (s : State) (client : Client) (correlation : ℕ) (target : Target) → IsSound s →
+    Moves s (recalled s client correlation target)
+unfolding recalled without_destination replied told
+destination_removal_moves s client correlation target sound =
     keeps_moves s _ sound (same_streams s _ sound refl refl (omega arith)) refl refl
 
 -- ---- subscriptions
@@ -314,6 +330,29 @@ added_sound s client wanted session place sound found =
       subscriptions = sound.subscriptions;
     }
 
+-- where publications are directed is nothing to the logs
+directed_sound : (s : State) (destinations : DestinationList) → IsSound s →
+    IsSound (record s { destinations = destinations })
+directed_sound s destinations sound = record {
+  defaults = sound.defaults;
+  sizes = sound.sizes;
+  numbered = sound.numbered;
+  begins = sound.begins;
+  laid_out = sound.laid_out;
+  subscriptions = sound.subscriptions;
+}
+
+directed_keeps : (s after : State) (destinations : DestinationList) → Keeps s after →
+    Keeps s (record after { destinations = destinations })
+directed_keeps s after destinations keeps = record {
+  settings = keeps.settings;
+  defaults = keeps.defaults;
+  logs = keeps.logs;
+  numbers = keeps.numbers;
+  laid_out = keeps.laid_out;
+  subscriptions = keeps.subscriptions;
+}
+
 -- the log that is made, at the place for it
 abbrev log_made : State → Wanted → ℤ → Source
 log_made s wanted session =
@@ -339,15 +378,18 @@ made_logs s client wanted session = map-append log_of s.streams.sources (log_mad
 
 publication_moves : (s : State) (client : Client) (correlation : ℕ) (wanted : Wanted) (adding : Adding) → IsSound s →
     has_place s wanted adding ≡ true → Moves s (published s client correlation wanted adding)
-unfolding published replied_opening replied told has_place opening_of
+unfolding published with_directed_publication replied_opening replied told has_place opening_of
 publication_moves s client correlation wanted (Join source session) sound placed =
-    keeps_moves s _ sound (joined_keeps s client.number wanted source session sound) refl refl
+    keeps_moves s _ sound
+    (directed_keeps s (with_publication s client.number wanted (Join source session)) _
+    (joined_keeps s client.number wanted source session sound)) refl refl
 publication_moves s client correlation wanted (Make session) sound placed =
     let place : ℕ = unwrap_or (place_of_new s wanted) 0 in
     let found : place_of_new s wanted ≡ Some place = found_place (place_of_new s wanted) placed in
     let log : Source = log_made s wanted session in
     record {
-      sound = made_sound s client.number wanted session sound found;
+      sound = directed_sound (with_publication s client.number wanted (Make session)) _
+          (made_sound s client.number wanted session sound found);
       settings = made_settings s client.number wanted session;
       opened = log ∷ [];
       opens = (
@@ -434,16 +476,15 @@ image_moves s local from setup join place sound is set =
 
 -- ---- time goes on
 
-closed_sound : (s : State) (now : ℕ) (silent : List ℕ) → IsSound s →
-    IsSound (record s { streams = closed s.streams now silent })
-unfolding closed
-closed_sound s now silent sound = record {
+closed_sound : (s : State) (silent : List ℕ) → IsSound s → IsSound (closed_past s silent)
+unfolding closed_past closed
+closed_sound s silent sound = record {
   defaults = sound.defaults;
-  sizes = All-filter (stays_live now silent) (λ (log : Source). AreSizes log.measures) s.streams.sources
+  sizes = All-filter (stays_live s.moment silent) (λ (log : Source). AreSizes log.measures) s.streams.sources
       sound.sizes;
-  numbered = kept_ascend (stays_live now silent) 0 s.last_number s.streams.sources sound.numbered;
-  begins = All-filter (stays_live now silent) BeginsSoundly s.streams.sources sound.begins;
-  laid_out = (share_nothing s.settings.arena_pages).closed s.streams now silent sound.laid_out;
+  numbered = kept_ascend (stays_live s.moment silent) 0 s.last_number s.streams.sources sound.numbered;
+  begins = All-filter (stays_live s.moment silent) BeginsSoundly s.streams.sources sound.begins;
+  laid_out = (share_nothing s.settings.arena_pages).closed s.streams s.moment silent sound.laid_out;
   subscriptions = sound.subscriptions;
 }
 
@@ -455,12 +496,12 @@ ticked_logs s now silent sound = closed_logs (is_closing now silent) 0 s.last_nu
 
 ticked_moves : (s between : State) (clients silent : List ℕ) → IsSound s → Keeps s between →
     Moves s (ticked between clients silent)
-unfolding ticked
+unfolding ticked closed_past
 ticked_moves s between clients silent sound keeps =
     let left_sound : IsSound between = keeps_sound s between sound keeps in
     let closes : List LogPlace = closing_of between.streams between.moment silent in
     record {
-      sound = closed_sound between between.moment silent left_sound;
+      sound = closed_sound between silent left_sound;
       settings = keeps.settings;
       opened = [];
       opens = refl;
@@ -589,6 +630,10 @@ command_moves s now handle bytes sound =
           by _ (publication_removal_moves at client correlation fields.registration is_sound);
       removal = λ request was_heard asks. by _ (removal_moves at request is_sound);
       keepalive = λ was_heard. by _ (keepalive_moves at is_sound);
+      destination = λ request number was_heard asks allows manual is.
+          by _ (destination_moves at request.client request.correlation _ is_sound);
+      destination_removal = λ client correlation fields target was_heard asks is.
+          by _ (destination_removal_moves at client correlation target is_sound);
       counter = λ client correlation fields was_heard asks allows room.
           by _ (counter_moves at client correlation fields is_sound);
       value = λ client correlation fields was_heard asks. by _ (value_moves at client correlation fields is_sound);

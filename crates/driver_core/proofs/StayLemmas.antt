@@ -12,10 +12,13 @@ use Rattle.driver_core.specs.Attaching.{attached}
 use Rattle.driver_core.specs.Closing.{keep_alive, close}
 use Rattle.driver_core.specs.Commands.{heard, at_request}
 use Rattle.driver_core.specs.Conduct.{conduct, drafted, state_after}
+use Rattle.driver_core.specs.Directing.{directed, recalled, with_destination, without_destination}
+use Rattle.driver_core.specs.declared.directing.Directed.{Directed}
+use Rattle.driver_core.specs.declared.directing.Target.{Target}
 use Rattle.driver_core.specs.Counting.{counted, with_counter, valued, uncounted}
 use Rattle.driver_core.specs.Draft.{answered, told, replied, replied_opening, refused}
 use Rattle.driver_core.specs.Leaving.{left, all_left}
-use Rattle.driver_core.specs.Publishing.{published, with_publication}
+use Rattle.driver_core.specs.Publishing.{published, with_directed_publication, with_publication}
 use Rattle.driver_core.specs.Reloading.{in_force, reloaded}
 use Rattle.driver_core.specs.Renewal.{renewed}
 use Rattle.driver_core.specs.Requests.{RemovalRequest, SubscriptionRequest, wanted_by}
@@ -23,7 +26,7 @@ use Rattle.driver_core.specs.SettingUp.{image_made, with_image}
 use Rattle.driver_core.specs.State.{State, at_moment}
 use Rattle.driver_core.specs.Subscribing.{subscribed, with_subscription}
 use Rattle.driver_core.specs.Terminating.{stopped_for_good, terminated}
-use Rattle.driver_core.specs.Ticking.{late, tick, ticked}
+use Rattle.driver_core.specs.Ticking.{closed_past, late, tick, ticked}
 use Rattle.driver_core.specs.Unpublishing.{unpublished}
 use Rattle.driver_core.specs.Unread.{dropping, without_unread}
 use Rattle.driver_core.specs.Unsubscribing.{unsubscribed}
@@ -160,6 +163,16 @@ counter_removal_stays : (s : State) (client : Client) (correlation number : ℕ)
 unfolding uncounted told
 counter_removal_stays s client correlation number = same_streams s _ refl (omega arith) (inl (refl, refl))
 
+destination_stays : (s : State) (client : Client) (correlation : ℕ) (granted : Directed) →
+    Stays s (directed s client correlation granted).after
+unfolding directed with_destination replied told
+destination_stays s client correlation granted = same_streams s _ refl (omega arith) (inl (refl, refl))
+
+destination_removal_stays : (s : State) (client : Client) (correlation : ℕ) (target : Target) →
+    Stays s (recalled s client correlation target).after
+unfolding recalled without_destination replied told
+destination_removal_stays s client correlation target = same_streams s _ refl (omega arith) (inl (refl, refl))
+
 -- ---- what comes
 
 subscription_stays : (s : State) (request : SubscriptionRequest) →
@@ -176,7 +189,7 @@ subscription_stays s request = record {
 
 publication_stays : (s : State) (client : Client) (correlation : ℕ) (wanted : Wanted) (adding : Adding) →
     Stays s (published s client correlation wanted adding).after
-unfolding published with_publication replied_opening replied told
+unfolding published with_directed_publication with_publication replied_opening replied told
 publication_stays s client correlation wanted (Join source session) = record {
   last = omega arith;
   policy = inl (refl, refl);
@@ -304,7 +317,7 @@ all_left_stays s (client ∷ clients) =
 -- ---- time goes on, and ends
 
 ticked_stays : (s : State) (clients silent : List ℕ) → Stays s (ticked s clients silent).after
-unfolding ticked closed
+unfolding ticked closed_past closed
 ticked_stays s clients silent = record {
   last = omega arith;
   policy = inl (refl, refl);
@@ -386,6 +399,10 @@ command_stays s now handle bytes =
           by _ (publication_removal_stays at client correlation fields.registration);
       removal = λ request was_heard asks. by _ (removal_stays at request);
       keepalive = λ was_heard. by _ (keepalive_stays at);
+      destination = λ request number was_heard asks allows manual is.
+          by _ (destination_stays at request.client request.correlation _);
+      destination_removal = λ client correlation fields target was_heard asks is.
+          by _ (destination_removal_stays at client correlation target);
       counter = λ client correlation fields was_heard asks allows room.
           by _ (counter_stays at client correlation fields);
       value = λ client correlation fields was_heard asks. by _ (value_stays at client correlation fields);

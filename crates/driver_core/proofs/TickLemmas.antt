@@ -10,7 +10,7 @@ use Rattle.driver_core.specs.Leaving.{all_left, left}
 use Rattle.driver_core.specs.Pairs.{pairs_of}
 use Rattle.driver_core.specs.Renewal.{decided_on, outcome_by, outcome_gone, source_at, subscription_at, unavailable_beside, unavailable_for, unavailable_to}
 use Rattle.driver_core.specs.State.{State, at_moment}
-use Rattle.driver_core.specs.Ticking.{late, tick, ticked}
+use Rattle.driver_core.specs.Ticking.{closed_past, late, tick, ticked}
 use Rattle.driver_core.specs.Told.{told_of}
 use Rattle.driver_core.proofs.GoneLemmas.{either_way, found_in_part, gone_outcome, log_not_decided, none_of_part, not_decided}
 use Rattle.driver_core.proofs.LeaveLemmas.{left_at}
@@ -162,7 +162,7 @@ behind silent between = record between { streams = closed between.streams betwee
 tick_at : (s : State) (silent : List ℕ) (last : ℕ) (pair : Pair) → AreInOrder s.streams s.clients.rows last →
     subscription_at (tick s silent).after.streams.subscriptions pair.subscription
     ≡ cond (is_of_any s.streams (late s) pair) None (subscription_at s.streams.subscriptions pair.subscription)
-unfolding tick ticked closed
+unfolding tick ticked closed_past closed
 tick_at s silent last pair order =
     ap (λ (t : State). subscription_at t.streams.subscriptions pair.subscription) (all_left_is s (late s))
     ∙ all_left_at s.streams (late s) s.moment last pair order.numbers
@@ -170,7 +170,7 @@ tick_at s silent last pair order =
 -- and its log
 tick_log : (s : State) (silent : List ℕ) (last : ℕ) (pair : Pair) → AreInOrder s.streams s.clients.rows last →
     is_of_closing (tick s silent).closes pair ≡ true → source_at (tick s silent).after.streams.sources pair.source ≡ None
-unfolding tick ticked
+unfolding tick ticked closed_past
 tick_log s silent last pair order closes =
     let between : Streams = all_left_in s.streams (late s) s.moment in
     let is = all_left_is s (late s) in
@@ -184,7 +184,7 @@ tick_log s silent last pair order closes =
 tick_turnover : (s : State) (silent : List ℕ) (last : ℕ) → AreInOrder s.streams s.clients.rows last →
     IsTurnover (pairs_of s) (pairs_of (tick s silent).after)
     (filter (is_going s.streams (late s) (tick s silent).closes) (pairs_of s)) []
-unfolding tick ticked pairs_of
+unfolding tick ticked closed_past pairs_of
 tick_turnover s silent last order =
     subst (λ (t : State).
     IsTurnover (pairs_of s) (pairs_of (behind silent t))

@@ -7,6 +7,7 @@ use Rattle.driver_core.specs.declared.refusal.Refusal.TheVariants.{UnknownComman
 use Rattle.driver_core.specs.Draft.{refused}
 use Rattle.driver_core.specs.Closing.{keep_alive, close}
 use Rattle.driver_core.specs.Counting.{add_counter, set_counter, remove_counter}
+use Rattle.driver_core.specs.Directing.{add_destination, remove_destination}
 use Rattle.driver_core.specs.Publishing.{add_publication}
 use Rattle.driver_core.specs.State.{State, at_moment}
 use Rattle.driver_core.specs.Subscribing.{add_subscription}
@@ -17,7 +18,7 @@ use Rattle.client_registry.specs.declared.client.Client.{Client}
 use Rattle.client_registry.specs.Clients.{client_at, touched}
 use Rattle.command_codec.specs.declared.command.Command.{Command}
 use Rattle.command_codec.specs.declared.command.Body.{Body}
-use Rattle.command_codec.specs.declared.command.Body.TheVariants.{AddPublication, AddExclusivePublication, RemovePublication, AddSubscription, RemoveSubscription, ClientKeepalive, AddCounter, RemoveCounter, ClientClose, TerminateDriver, SetCounter}
+use Rattle.command_codec.specs.declared.command.Body.TheVariants.{AddPublication, AddExclusivePublication, RemovePublication, AddSubscription, RemoveSubscription, ClientKeepalive, AddDestination, RemoveDestination, AddCounter, RemoveCounter, ClientClose, TerminateDriver, SetCounter}
 use Rattle.command_codec.specs.declared.fault.CommandFault.{CommandFault}
 use Rattle.command_codec.specs.declared.fault.CommandFault.TheVariants.{Unknown}
 use Rattle.command_codec.specs.Command.{command_of, correlation_of}
@@ -38,6 +39,8 @@ at_asking s asking = at_request s asking.now asking.handle
 abbrev pub keeps_pairs : Body → Bool
 keeps_pairs (RemovePublication fields) = true
 keeps_pairs ClientKeepalive = true
+keeps_pairs (AddDestination fields) = true
+keeps_pairs (RemoveDestination fields) = true
 keeps_pairs (AddCounter fields) = true
 keeps_pairs (RemoveCounter fields) = true
 keeps_pairs (SetCounter fields) = true
@@ -51,6 +54,8 @@ body_change s client correlation (AddExclusivePublication fields) = add_publicat
 body_change s client correlation (AddSubscription fields) = add_subscription s client correlation fields
 body_change s client correlation (RemoveSubscription fields) = remove_subscription s client correlation fields
 body_change s client correlation ClientKeepalive = keep_alive s
+body_change s client correlation (AddDestination fields) = add_destination s client correlation fields
+body_change s client correlation (RemoveDestination fields) = remove_destination s client correlation fields
 body_change s client correlation (AddCounter fields) = add_counter s client correlation fields
 body_change s client correlation (RemoveCounter fields) = remove_counter s client correlation fields
 body_change s client correlation ClientClose = close s client correlation

@@ -6,6 +6,7 @@ pub mod Commands
 pub mod Conduct
 pub mod Counting
 pub mod Deciding
+pub mod Directing
 pub mod Draft
 pub mod ImageRequests
 pub mod Kept

@@ -6,6 +6,7 @@ use Rattle.driver_core.specs.declared.refusal.Refusal.TheVariants.{InvalidChanne
 use Rattle.driver_core.specs.declared.replies.Reply.{Reply}
 use Rattle.driver_core.specs.declared.replies.Reply.TheVariants.{PublicationReady, ExclusivePublicationReady}
 use Rattle.driver_core.specs.Deciding.{decision_by}
+use Rattle.driver_core.specs.Directing.{has_room_for_sole, with_sole}
 use Rattle.driver_core.specs.Draft.{replied_opening, refused}
 use Rattle.driver_core.specs.Pairs.{is_within_pairs}
 use Rattle.driver_core.specs.declared.publishing.Granted.{Granted}
@@ -64,6 +65,12 @@ with_publication s client wanted adding = record s {
   last_number = s.last_number + 1;
 }
 
+-- and its one destination, where it makes a log that has one, named for the client's principal
+unfoldable pub with_directed_publication : State → Client → Wanted → Adding → State
+with_directed_publication s client wanted adding = record (with_publication s client.number wanted adding) {
+  destinations = with_sole s client.principal wanted adding;
+}
+
 -- the log that opens
 unfoldable pub opening_of : State → Wanted → Adding → Option LogPlace
 opening_of s wanted (Join source session) = None
@@ -82,17 +89,17 @@ ready_for wanted correlation number session =
 
 unfoldable pub published : State → Client → ℕ → Wanted → Adding → Draft
 published s client correlation wanted adding =
-    replied_opening (with_publication s client.number wanted adding) (publication_decision s client wanted ∷ [])
+    replied_opening (with_directed_publication s client wanted adding) (publication_decision s client wanted ∷ [])
     client.number
     (ready_for wanted correlation (s.last_number + 1) (session_of adding))
     (opening_of s wanted adding)
 
 -- ---- in which order it is refused
 
--- no number is used again, and there are at most 4,096 pairs
+-- no number is used again, neither of a log nor of its destination, and there are at most 4,096 pairs
 abbrev pub has_room_for_publication : State → ℕ → Wanted → Adding → Bool
 has_room_for_publication s client wanted adding =
-    has_number s && is_within_pairs (with_publication s client wanted adding)
+    (has_number s && has_room_for_sole s wanted adding) && is_within_pairs (with_publication s client wanted adding)
 
 abbrev pub refused_by_streams : StreamFault → Refusal
 refused_by_streams fault.Conflict = Conflict

@@ -4,15 +4,17 @@ use Rattle.channel_uri.specs.Channel.{Shape, denotes}
 use Rattle.channel_uri.specs.declared.error.UriError.{UriError}
 use Rattle.channel_uri.specs.declared.error.UriError.TheVariants.{NoScheme}
 use Rattle.command_codec.specs.declared.command.Body.{Body}
-use Rattle.command_codec.specs.declared.command.Body.TheVariants.{AddPublication, AddExclusivePublication, AddSubscription}
+use Rattle.command_codec.specs.declared.command.Body.TheVariants.{AddPublication, AddExclusivePublication, AddSubscription, AddDestination, RemoveDestination}
 use Rattle.command_codec.specs.declared.command.Command.{Command}
 use Rattle.command_codec.specs.declared.fault.CommandFault.{CommandFault}
 
--- the channel of what is published or subscribed to; what names none has what the empty text denotes
+-- the channel of what is published or subscribed to, or of a destination; what names none has what the empty text denotes
 abbrev pub channel_named : Body → Result Shape UriError
 channel_named (AddPublication fields) = denotes fields.channel
 channel_named (AddExclusivePublication fields) = denotes fields.channel
 channel_named (AddSubscription fields) = denotes fields.channel
+channel_named (AddDestination fields) = denotes fields.channel
+channel_named (RemoveDestination fields) = denotes fields.channel
 channel_named other = Err NoScheme
 
 unfoldable pub channel_in : Result Command CommandFault → Result Shape UriError

@@ -1,6 +1,8 @@
 -- Well-formed requests of clients, and what the policy is asked about them.
 use Rattle.std.specs.Prelude.{◌≡◌, ℕ, ◌==◌, pos, Bool, true, false, ◌&&◌, List, Some, is_some, Result, Ok, Err, ◌⊎◌, if◌then◌else◌}
 use Rattle.driver_core.specs.Deciding.{question_by}
+use Rattle.driver_core.specs.declared.directing.Target.{Target}
+use Rattle.driver_core.specs.Directing.{target_of}
 use Rattle.driver_core.specs.Publishing.{is_publishable, publishing_act, wanted_of}
 use Rattle.driver_core.specs.State.{State}
 use Rattle.driver_core.specs.Subscribing.{is_subscribable, act_of}
@@ -11,13 +13,14 @@ use Rattle.command_codec.specs.declared.add_counter.AddCounter.{AddCounter}
 use Rattle.command_codec.specs.declared.add_publication.AddPublication.{AddPublication}
 use Rattle.command_codec.specs.declared.add_subscription.AddSubscription.{AddSubscription}
 use Rattle.command_codec.specs.declared.command.Body.{Body}
-use Rattle.command_codec.specs.declared.command.Body.TheVariants.{AddPublication as Publishes, AddExclusivePublication as PublishesExclusively, AddSubscription as Adds, RemoveSubscription as Removes, AddCounter as AddsCounter, TerminateDriver as Terminates}
+use Rattle.command_codec.specs.declared.command.Body.TheVariants.{AddPublication as Publishes, AddExclusivePublication as PublishesExclusively, AddSubscription as Adds, RemoveSubscription as Removes, AddDestination as Directs, AddCounter as AddsCounter, TerminateDriver as Terminates}
 use Rattle.command_codec.specs.declared.command.Command.{Command as Read}
+use Rattle.command_codec.specs.declared.destination.Destination.{Destination}
 use Rattle.command_codec.specs.declared.fault.CommandFault.{CommandFault}
 use Rattle.command_codec.specs.declared.removal.Removal.{Removal}
 use Rattle.command_codec.specs.declared.terminate_driver.TerminateDriver.{TerminateDriver}
 use Rattle.command_codec.specs.Command.{command_of}
-use Rattle.policy_core.specs.declared.act.Act.TheVariants.{Counter as MakeCounter, Terminate}
+use Rattle.policy_core.specs.declared.act.Act.TheVariants.{Counter as MakeCounter, Destination as Direct, Terminate}
 use Rattle.policy_core.specs.Question.{Question}
 use Rattle.stream_registry.specs.declared.wanted.Wanted.{Wanted}
 
@@ -91,6 +94,25 @@ pub record AsksToRemove (s : State) (handle : ℕ) (bytes : List ℕ) (request :
   pub command : command_of bytes ≡ Ok (record { client = handle; correlation = request.correlation; body = Removes request.fields })
   pub attached : client_at s.clients.rows handle ≡ Some request.client
 
+-- ---- a destination
+
+-- who asks, under which correlation id, with which fields, on which channel, and which address of which log that names
+pub record DestinationRequest : Type 0 where
+  pub client : Client
+  pub correlation : ℕ
+  pub fields : Destination
+  pub channel : Shape
+  pub target : Target
+
+-- the bytes are this request, and their text is the channel of a destination, for a publication of the client's own
+pub record AsksToDirect (s : State) (handle : ℕ) (bytes : List ℕ) (request : DestinationRequest) : Type 0 where
+  pub asks : Asks s handle bytes request.client request.correlation (Directs request.fields)
+  pub denotes_channel : denotes request.fields.channel ≡ Ok request.channel
+  pub names_target : target_of s request.client.number request.fields.registration request.channel ≡ Ok request.target
+
+abbrev pub destination_question : DestinationRequest → Question
+destination_question request = question_by request.client Direct request.channel request.target.stream
+
 -- ---- a counter, and the end of the driver
 
 abbrev pub counter_question : Client → AddCounter → Question
@@ -113,6 +135,12 @@ pub record IsPublicationQuestion (s : State) (handle : ℕ) (bytes : List ℕ) (
   pub correlation_is : correlation ≡ request.correlation
   pub question_is : question ≡ publication_question request
 
+pub record IsDestinationQuestion (s : State) (handle : ℕ) (bytes : List ℕ) (correlation : ℕ) (question : Question) : Type 0 where
+  pub request : DestinationRequest
+  pub asks : AsksToDirect s handle bytes request
+  pub correlation_is : correlation ≡ request.correlation
+  pub question_is : question ≡ destination_question request
+
 pub record IsCounterQuestion (s : State) (handle : ℕ) (bytes : List ℕ) (correlation : ℕ) (question : Question) : Type 0 where
   pub client : Client
   pub fields : AddCounter
@@ -131,4 +159,5 @@ IsAsked s handle bytes correlation question =
     IsSubscriptionQuestion s handle bytes correlation question
     ⊎ (IsCounterQuestion s handle bytes correlation question
     ⊎ (IsTerminationQuestion s handle bytes correlation question
-    ⊎ IsPublicationQuestion s handle bytes correlation question))
+    ⊎ (IsPublicationQuestion s handle bytes correlation question
+    ⊎ IsDestinationQuestion s handle bytes correlation question)))

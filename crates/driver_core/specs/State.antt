@@ -4,12 +4,14 @@ use Rattle.driver_core.specs.declared.peer.Peer.{Peer}
 use Rattle.driver_core.specs.declared.settings.Settings.{Settings}
 use Rattle.client_registry.specs.Clients.{ClientList, opened as nobody}
 use Rattle.counters.specs.declared.counter.Counter.{Counter}
+use Rattle.destinations.specs.Destinations.{DestinationList, none as nothing_named}
 use Rattle.policy_core.specs.RuleList.{Rules}
 use Rattle.stream_registry.specs.declared.measures.Measures.{Measures}
 use Rattle.stream_registry.specs.Streams.{Streams, opened as nothing_published}
 
--- the policy in force with its number, the greatest moment seen, the clients, what they publish and subscribe to, their
--- counters in the order in which they came, the number that was drawn last, and whether the driver was stopped
+-- the policy in force with its number, the greatest moment seen, the clients, what they publish and subscribe to, where
+-- their publications are directed, their counters in the order in which they came, the number that was drawn last, and
+-- whether the driver was stopped
 pub record State : Type 0 where
   pub settings : Settings
   pub peers : List Peer
@@ -18,6 +20,7 @@ pub record State : Type 0 where
   pub moment : ℕ
   pub clients : ClientList
   pub streams : Streams
+  pub destinations : DestinationList
   pub counters : List Counter
   pub last_number : ℕ
   pub stopped : Bool
@@ -37,6 +40,7 @@ opened settings policy peers = record {
   moment = 0;
   clients = nobody settings.client_liveness;
   streams = nothing_published (measures_in settings) settings.first_session;
+  destinations = nothing_named;
   counters = [];
   last_number = 0;
   stopped = false;

@@ -12,6 +12,7 @@ use Rattle.driver_core.specs.State.{State}
 use Rattle.channel_uri.specs.Channel.{ipc_shape}
 use Rattle.client_registry.specs.declared.client.Client.{Client}
 use Rattle.client_registry.specs.Clients.{cleared}
+use Rattle.destinations.specs.Destinations.{cleared as all_recalled}
 use Rattle.policy_core.specs.declared.act.Act.TheVariants.{Terminate}
 use Rattle.policy_core.specs.declared.decision.Decision.{Decision}
 use Rattle.stream_registry.specs.Lingering.{place_of}
@@ -23,8 +24,13 @@ termination_decision s client = decision_by s client Terminate ipc_shape (pos 0)
 
 -- all clients go, with all that they registered, and nobody comes any more
 unfoldable pub stopped_for_good : State → State
-stopped_for_good s =
-    record s { clients = cleared s.clients; streams = all_closed s.streams; counters = []; stopped = true }
+stopped_for_good s = record s {
+  clients = cleared s.clients;
+  streams = all_closed s.streams;
+  destinations = all_recalled s.destinations;
+  counters = [];
+  stopped = true;
+}
 
 -- all logs close at once, and who asked is told
 unfoldable pub terminated : State → Client → ℕ → Draft

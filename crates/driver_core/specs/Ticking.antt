@@ -1,6 +1,6 @@
 -- Time goes on: clients of which nothing was heard for too long go, and publications that linger for too long close, as do
 -- images of which nothing was heard.
-use Rattle.std.specs.Prelude.{ℕ, List, [], map, None}
+use Rattle.std.specs.Prelude.{ℕ, List, [], map, filter, None}
 use Rattle.driver_core.specs.Draft.{Draft}
 use Rattle.driver_core.specs.declared.outcome.Response.TheVariants.{Nothing}
 use Rattle.driver_core.specs.declared.replies.Message.{Message}
@@ -8,7 +8,9 @@ use Rattle.driver_core.specs.declared.replies.Reply.TheVariants.{ClientTimeout}
 use Rattle.driver_core.specs.Leaving.{all_left}
 use Rattle.driver_core.specs.State.{State}
 use Rattle.client_registry.specs.Clients.{expired_of}
-use Rattle.stream_registry.specs.Lingering.{closed, closing_of}
+use Rattle.destinations.specs.Destinations.{without_sources}
+use Rattle.stream_registry.specs.declared.row.Source.{Source}
+use Rattle.stream_registry.specs.Lingering.{closed, closing_of, is_closing}
 
 -- the clients of which nothing was heard for longer than the liveness, by their ids
 abbrev pub late : State → List ℕ
@@ -18,10 +20,21 @@ late s = expired_of s.clients s.moment
 abbrev pub timeout_of : ℕ → Message
 timeout_of client = record { client = client; reply = ClientTimeout client }
 
--- the logs close that linger for too long, and these images, which are silent; and these clients are told that they are gone
+-- the numbers of the logs that close
+abbrev pub numbers_of_closing : ℕ → List ℕ → List Source → List ℕ
+numbers_of_closing now silent logs = map (λ log. log.number) (filter (is_closing now silent) logs)
+
+-- the logs close that linger for too long, with their destinations, and these images, which are silent
+unfoldable pub closed_past : State → List ℕ → State
+closed_past s silent = record s {
+  streams = closed s.streams s.moment silent;
+  destinations = without_sources s.destinations (numbers_of_closing s.moment silent s.streams.sources);
+}
+
+-- they close, and these clients are told that they are gone
 unfoldable pub ticked : State → List ℕ → List ℕ → Draft
 ticked s clients silent = record {
-  after = record s { streams = closed s.streams s.moment silent };
+  after = closed_past s silent;
   response = Nothing;
   replies = [];
   later = map timeout_of clients;

@@ -60,14 +60,22 @@ impl Registry {
         alloc: Global,
         client: Client,
         command: &Command,
+        channel: &Result<Channel, UriError>,
     ) -> Result<Told, AllocError>
-        requires { keeps_pairs command.now.body ≡ true }
+        requires quiet { keeps_pairs command.now.body ≡ true }
+        requires named { channel.now ≡ channel_named command.now.body }
         ensures { IfOk result (λ told. told ≡ told_of (requested self.now client command.now)) }
     {
         let correlation = command.correlation;
         match &command.body {
             Body::RemovePublication(fields) => {
                 self.tell_remove_publication(alloc, client, correlation, *fields)
+            }
+            Body::AddDestination(fields) => {
+                self.tell_add_destination(alloc, client, correlation, fields, channel)
+            }
+            Body::RemoveDestination(fields) => {
+                self.tell_remove_destination(alloc, client, correlation, fields, channel)
             }
             Body::AddCounter(fields) => self.tell_add_counter(alloc, client, correlation, fields),
             Body::RemoveCounter(fields) => {
@@ -79,11 +87,18 @@ impl Registry {
     }
 
     /// What such a command tells, once the client was heard of.
-    fn tell_at(&self, alloc: Global, asking: Asking, command: &Command) -> Result<Told, AllocError>
-        requires { keeps_pairs command.now.body ≡ true }
+    fn tell_at(
+        &self,
+        alloc: Global,
+        asking: Asking,
+        command: &Command,
+        channel: &Result<Channel, UriError>,
+    ) -> Result<Told, AllocError>
+        requires quiet { keeps_pairs command.now.body ≡ true }
+        requires named { channel.now ≡ channel_named command.now.body }
         ensures { IfOk result (λ told. told ≡ told_of (requested (at_asking self.now asking) asking.client command.now)) }
     {
-        self.tell_quiet(alloc, asking.client, command)
+        self.tell_quiet(alloc, asking.client, command, channel)
     }
 
     /// What the command of a client that is there tells where it changes no pair, and does outside the registry.
@@ -92,11 +107,13 @@ impl Registry {
         alloc: Global,
         asking: Asking,
         command: &Command,
+        channel: &Result<Channel, UriError>,
     ) -> Result<Outcome, AllocError>
-        requires { keeps_pairs command.now.body ≡ true }
+        requires quiet { keeps_pairs command.now.body ≡ true }
+        requires named { channel.now ≡ channel_named command.now.body }
         ensures { (inputs : InputsSpec) → IfOk result (λ outcome. outcome ≡ outcome_by self.now inputs (requested (at_asking self.now asking) asking.client command.now)) }
     {
-        let told = self.tell_at(alloc, asking, command)?;
+        let told = self.tell_at(alloc, asking, command, channel)?;
         renewal::keep_pairs(alloc, told)
     }
 
@@ -129,7 +146,7 @@ impl Registry {
             }
             Body::ClientClose => self.outcome_of_close(alloc, asking, inputs),
             Body::TerminateDriver(_) => self.outcome_of_terminate(alloc, asking, inputs),
-            _ => self.outcome_of_quiet(alloc, asking, command),
+            _ => self.outcome_of_quiet(alloc, asking, command, channel),
         }
     }
 
@@ -237,6 +254,8 @@ impl Registry {
             Body::AddSubscription(fields) => self.do_add_subscription(client, fields, channel),
             Body::RemoveSubscription(fields) => self.do_remove_subscription(client, *fields),
             Body::ClientKeepalive => self.do_keep_alive(),
+            Body::AddDestination(fields) => self.do_add_destination(client, fields, channel),
+            Body::RemoveDestination(fields) => self.do_remove_destination(client, fields, channel),
             Body::AddCounter(fields) => self.do_add_counter(client, fields),
             Body::RemoveCounter(fields) => self.do_remove_counter(client, *fields),
             Body::ClientClose => self.do_close(client),

@@ -19,6 +19,7 @@ mod coming;
 mod commands;
 mod counting;
 mod deciding;
+mod directing;
 mod entry;
 mod event;
 mod finding;

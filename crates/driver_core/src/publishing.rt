@@ -1,4 +1,4 @@
-ghost use Rattle.driver_core.specs.Publishing.{add_publication, granting_of, has_place, has_room_for_publication, is_publishable, new_log, publication_decision, publish, published, publishing_act, publishing_of, ready_for, refused_by_streams, session_of, with_publication};
+ghost use Rattle.driver_core.specs.Publishing.{add_publication, granting_of, has_place, has_room_for_publication, is_publishable, new_log, publication_decision, publish, published, publishing_act, publishing_of, ready_for, refused_by_streams, session_of, with_directed_publication, with_publication};
 ghost use Rattle.channel_uri.specs.Channel.{denotes};
 ghost use Rattle.driver_core.specs.Commands.{at_asking};
 ghost use Rattle.driver_core.specs.Renewal.{outcome_by, outcome_opening};
@@ -149,12 +149,14 @@ impl Registry {
         )
     }
 
-    /// Whether there is a number for the publication, and room for its pairs. It takes no memory.
+    /// Whether there are numbers for the publication and its destination, and room for its pairs. It takes no memory.
     #[tactic(auto, unfolding(crate::specs::Pairs::is_within_pairs))]
     fn has_room_for_publication(&self, client: u64, wanted: &Wanted, adding: Adding) -> bool
         ensures { result ≡ has_room_for_publication self.now client wanted.now adding }
     {
-        self.has_number() && self.pairs_with_publication(client, wanted, adding) <= PAIRS
+        self.has_number()
+            && self.has_room_for_sole(wanted, adding)
+            && self.pairs_with_publication(client, wanted, adding) <= PAIRS
     }
 
     /// What the policy in force decides.
@@ -343,13 +345,29 @@ impl Registry {
         self.last_number = number;
     }
 
+    /// The client is registered under the next number, and a log that is made has its one destination, if its channel
+    /// names one.
+    #[tactic(auto, unfolding(crate::specs::Publishing::with_directed_publication, crate::specs::Publishing::with_publication, crate::specs::Directing::with_sole))]
+    fn put_directed_publication(&mut self, client: Client, wanted: &Wanted, adding: Adding)
+        requires room { has_room_for_publication self.old client.number wanted.now adding ≡ true }
+        requires taken { adding_of self.old.streams wanted.now ≡ Ok adding }
+        ensures { self.new ≡ with_directed_publication self.old client wanted.now adding }
+    {
+        let number = self.next_number();
+        self.put_publication(client.number, wanted, adding);
+        match adding {
+            Adding::Join { .. } => {}
+            Adding::Make { .. } => self.put_sole(number, client.principal, &wanted.channel),
+        }
+    }
+
     /// A publication on a channel that such a command takes.
     #[tactic(auto, unfolding(crate::specs::Publishing::publish, crate::specs::Publishing::publish_under, crate::specs::Publishing::published, crate::specs::Publishing::publishing_of, crate::specs::Draft::replied_opening, crate::specs::Draft::refused, crate::specs::Draft::replied, crate::specs::Draft::told))]
     fn do_publish(&mut self, client: Client, wanted: &Wanted)
         ensures { (correlation : ℕ) → self.new ≡ (publish self.old client correlation wanted.now).after }
     {
         match self.publishing(client, wanted) {
-            Ok(granted) => self.put_publication(client.number, wanted, granted.adding),
+            Ok(granted) => self.put_directed_publication(client, wanted, granted.adding),
             Err(_) => {}
         }
     }

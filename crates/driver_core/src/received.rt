@@ -48,6 +48,8 @@ fn named(body: &Body) -> Result<Channel, UriError>
         Body::AddPublication(fields) => parsed(fields.channel.as_str()),
         Body::AddExclusivePublication(fields) => parsed(fields.channel.as_str()),
         Body::AddSubscription(fields) => parsed(fields.channel.as_str()),
+        Body::AddDestination(fields) => parsed(fields.channel.as_str()),
+        Body::RemoveDestination(fields) => parsed(fields.channel.as_str()),
         _ => Err(UriError::NoScheme),
     }
 }

@@ -8,14 +8,15 @@ use crate::settings::Settings;
 use client_registry::Clients;
 use compiled_policy::Compiled;
 use counters::Counters;
+use destinations::Destinations;
 use log_readers::Readers;
 use policy_core::Policy;
 use std::alloc::{AllocError, Global};
 use std::marker::Model;
 use stream_registry::{Measures, Streams};
 
-/// What the conductor knows: its settings, the policy in force, the clients, what they publish and subscribe to, and
-/// their counters.
+/// What the conductor knows: its settings, the policy in force, the clients, what they publish and subscribe to, where
+/// their publications are directed, and their counters.
 #[derive(Drop)]
 pub struct Registry {
     pub(crate) settings: Settings,
@@ -27,6 +28,8 @@ pub struct Registry {
     pub(crate) streams: Streams,
     /// Which subscriptions read each log.
     pub(crate) readers: Readers,
+    /// Where the datagrams of each log go.
+    pub(crate) destinations: Destinations,
     pub(crate) counters: Counters,
     pub(crate) last_number: u64,
     pub(crate) stopped: bool,
@@ -46,6 +49,7 @@ impl Model for Registry {
       moment = registry.moment;
       clients = registry.clients;
       streams = registry.streams;
+      destinations = registry.destinations;
       counters = registry.counters;
       last_number = registry.last_number;
       stopped = registry.stopped;
@@ -85,6 +89,7 @@ impl Registry {
             clients: Clients::new(alloc, settings.client_liveness)?,
             streams: Streams::new(alloc, measures, settings.first_session)?,
             readers: Readers::new(alloc)?,
+            destinations: Destinations::new(alloc)?,
             counters: Counters::new(alloc)?,
             last_number: 0,
             stopped: false,
@@ -103,6 +108,7 @@ impl Registry {
             clients: self.clients.copy(alloc)?,
             streams: self.streams.copy(alloc)?,
             readers: self.readers.copy(alloc)?,
+            destinations: self.destinations.copy(alloc)?,
             counters: self.counters.copy(alloc)?,
             last_number: self.last_number,
             stopped: self.stopped,

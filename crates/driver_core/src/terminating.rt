@@ -105,6 +105,7 @@ impl Registry {
         self.clients.clear();
         self.streams.close_all();
         self.readers.close_all();
+        self.destinations.clear();
         self.counters.clear();
         self.stopped = true;
     }

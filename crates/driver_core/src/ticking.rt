@@ -2,13 +2,14 @@ ghost use Rattle.driver_core.specs.Leaving.{all_left};
 ghost use Rattle.driver_core.specs.Pairs.{pairs_of};
 ghost use Rattle.driver_core.specs.Renewal.{outcome_by, unavailable_beside};
 ghost use Rattle.driver_core.specs.State.{at_moment};
-ghost use Rattle.driver_core.specs.Ticking.{late, timeout_of, tick};
+ghost use Rattle.driver_core.specs.Ticking.{closed_past, late, numbers_of_closing, timeout_of, tick};
 ghost use Rattle.driver_core.specs.Told.{told_of};
+ghost use Rattle.destinations.specs.Destinations.{without_sources};
 ghost use Rattle.log_readers.specs.Numbering.{AreInOrder};
 ghost use Rattle.log_readers.specs.Turnover.{is_going};
 ghost use Rattle.std.specs.List.{flat_map};
 ghost use Rattle.std.specs.Prelude.{◌≡◌, ◌++◌, ℕ, List, filter, map, IfOk, OnOk};
-ghost use Rattle.stream_registry.specs.Lingering.{closed, closing_of};
+ghost use Rattle.stream_registry.specs.Lingering.{closing_of};
 
 use crate::event::Inputs;
 use crate::outcome::{Outcome, Response};
@@ -17,9 +18,10 @@ use crate::renewal::{self, tell_unavailable};
 use crate::replies::{Message, Reply};
 use crate::told::Told;
 use byte_strings::Items;
+use destinations::Destinations;
 use log_readers::is_of_any;
 use std::alloc::{AllocError, Global};
-use stream_registry::{LogPlace, Pair};
+use stream_registry::{LogPlace, Pair, Source, is_closing};
 
 /// What the clients are told that are late, each over its own handle.
 fn timeouts(alloc: Global, clients: &[u64]) -> Result<Items<Message>, AllocError>
@@ -33,6 +35,17 @@ fn timeouts(alloc: Global, clients: &[u64]) -> Result<Items<Message>, AllocError
         })?;
     }
     Ok(replies)
+}
+
+/// The destinations go of those of these logs that close at this moment. No destination is looked at where none closes.
+fn recall_of_closing(destinations: &mut Destinations, logs: &[Source], now: u64, silent: &[u64])
+    ensures { destinations.new ≡ without_sources destinations.old (numbers_of_closing now silent.now logs.now) }
+{
+    for log in logs {
+        if is_closing(log, now, silent) {
+            destinations.remove_of_sources(&[log.number]);
+        }
+    }
 }
 
 impl Registry {
@@ -139,11 +152,13 @@ impl Registry {
         self.leave_all(late.as_slice());
     }
 
-    /// The logs close that linger for too long, and these images, which are silent.
+    /// The logs close that linger for too long, with their destinations, and these images, which are silent.
+    #[tactic(auto, unfolding(crate::specs::Ticking::closed_past))]
     fn close_past(&mut self, silent: &[u64])
-        ensures { self.new ≡ record self.old { streams = closed self.old.streams self.old.moment silent.now } }
+        ensures { self.new ≡ closed_past self.old silent.now }
     {
         let now = self.moment;
+        recall_of_closing(&mut self.destinations, self.streams.sources(), now, silent);
         self.readers.close(&self.streams, now, silent);
         self.streams.close(now, silent);
     }

@@ -2,6 +2,7 @@
 use Rattle.std.proofs.Common.{◌≡◌, ℕ, ◌<◌, ◌==◌, Bool, true, false, cond, List, [], ◌∷◌, max, inl, inr, refl, sym, ap, ◌∙◌, ◌⊎◌, ⊎_elim, arith}
 use Rattle.std.specs.List.{Contains}
 use Rattle.std.proofs.lemmas.List.Elements.{Contains-push_cases}
+use Rattle.driver_core.specs.Directing.{directed, recalled, with_destination, without_destination}
 use Rattle.driver_core.specs.declared.event.Event.{Event}
 use Rattle.driver_core.specs.declared.event.Event.TheVariants.{Attach, Command, Reload, Setup, Tick}
 use Rattle.driver_core.specs.declared.event.Inputs.{Inputs}
@@ -12,14 +13,14 @@ use Rattle.driver_core.specs.Conduct.{conduct, drafted, state_after}
 use Rattle.driver_core.specs.Counting.{counted, uncounted, valued, with_counter}
 use Rattle.driver_core.specs.Draft.{Draft, answered, refused, replied, replied_opening, told}
 use Rattle.driver_core.specs.Leaving.{all_left, left}
-use Rattle.driver_core.specs.Publishing.{published, with_publication}
+use Rattle.driver_core.specs.Publishing.{published, with_directed_publication, with_publication}
 use Rattle.driver_core.specs.Reloading.{in_force, reloaded}
 use Rattle.driver_core.specs.Renewal.{renewed}
 use Rattle.driver_core.specs.SettingUp.{image_made, with_image}
 use Rattle.driver_core.specs.State.{State, at_moment}
 use Rattle.driver_core.specs.Subscribing.{subscribed, with_subscription}
 use Rattle.driver_core.specs.Terminating.{stopped_for_good, terminated}
-use Rattle.driver_core.specs.Ticking.{late, tick, ticked}
+use Rattle.driver_core.specs.Ticking.{closed_past, late, tick, ticked}
 use Rattle.driver_core.specs.Unpublishing.{unpublished}
 use Rattle.driver_core.specs.Unread.{dropping, without_unread}
 use Rattle.driver_core.specs.Unsubscribing.{unsubscribed}
@@ -79,7 +80,7 @@ all_left_come s between (client ∷ clients) come =
     all_left_come s (left between client) clients (fewer_left s between client come)
 
 command_comes : (s : State) (now handle : ℕ) (bytes : List ℕ) → Cases (Comes s) (at_moment s now) handle bytes
-unfolding at_moment heard refused replied told subscribed with_subscription published with_publication replied_opening unpublished unsubscribed keep_alive counted with_counter valued uncounted close terminated stopped_for_good
+unfolding at_moment heard refused replied told subscribed with_subscription published with_directed_publication with_publication replied_opening unpublished unsubscribed keep_alive counted with_counter valued uncounted directed with_destination recalled without_destination close terminated stopped_for_good
 command_comes s now handle bytes =
     let heard' : AllCome s (touched s.clients handle (max s.moment now)).rows = all_heard s handle (max s.moment now) in
     record {
@@ -91,6 +92,10 @@ command_comes s now handle bytes =
       publication_removal = λ client correlation fields was_heard asks. heard';
       removal = λ request was_heard asks. heard';
       keepalive = λ was_heard. heard';
+      destination = λ request number was_heard asks allows manual is.
+          heard';
+      destination_removal = λ client correlation fields target was_heard asks is.
+          heard';
       counter = λ client correlation fields was_heard asks allows room. heard';
       value = λ client correlation fields was_heard asks. heard';
       counter_removal = λ client correlation fields was_heard asks. heard';
@@ -100,7 +105,7 @@ command_comes s now handle bytes =
 
 ticked_comes : (s between : State) (clients silent : List ℕ) → AllCome s between.clients.rows →
     Comes s (ticked between clients silent)
-unfolding ticked
+unfolding ticked closed_past
 ticked_comes s between clients silent come = come
 
 draft_comes : (s : State) (event : Event) (inputs : Inputs) → Comes s (drafted s event inputs)

@@ -3,6 +3,7 @@ use Rattle.std.proofs.Common.{◌≡◌, ℕ, ◌+◌, ◌≤◌, ◌==◌, ◌|
 use Rattle.std.specs.List.{Contains, list_any}
 use Rattle.std.proofs.lemmas.Bool.{cases_Bool, eqb-true, eq-eqb}
 use Rattle.std.proofs.lemmas.List.Elements.{All-contains, Contains-append_left, Contains-append_right, Contains-push, filter_passes}
+use Rattle.driver_core.specs.Directing.{directed, recalled, with_destination, without_destination}
 use Rattle.driver_core.specs.declared.event.Event.{Event}
 use Rattle.driver_core.specs.declared.event.Inputs.{Inputs}
 use Rattle.driver_core.specs.declared.event.Event.TheVariants.{Attach, Command, Reload, Setup, Tick}
@@ -13,14 +14,14 @@ use Rattle.driver_core.specs.Conduct.{conduct, drafted}
 use Rattle.driver_core.specs.Counting.{counted, uncounted, valued, with_counter}
 use Rattle.driver_core.specs.Draft.{Draft, answered, refused, replied, replied_opening, told}
 use Rattle.driver_core.specs.Leaving.{all_left, left}
-use Rattle.driver_core.specs.Publishing.{published, with_publication}
+use Rattle.driver_core.specs.Publishing.{published, with_directed_publication, with_publication}
 use Rattle.driver_core.specs.Reloading.{in_force, reloaded}
 use Rattle.driver_core.specs.Renewal.{renewed}
 use Rattle.driver_core.specs.Requests.{wanted_by}
 use Rattle.driver_core.specs.State.{State, at_moment}
 use Rattle.driver_core.specs.Subscribing.{subscribed, with_subscription}
 use Rattle.driver_core.specs.Terminating.{stopped_for_good, terminated}
-use Rattle.driver_core.specs.Ticking.{late, tick, ticked}
+use Rattle.driver_core.specs.Ticking.{closed_past, late, tick, ticked}
 use Rattle.driver_core.specs.Unpublishing.{unpublished}
 use Rattle.driver_core.specs.Unsubscribing.{unsubscribed}
 use Rattle.driver_core.specs.SettingUp.{image_made, with_image}
@@ -227,7 +228,7 @@ ClosesGone s draft =
     ≡ map place_of (filter (λ (log : Source). lacks_source draft.after.streams.sources log.number) s.streams.sources)
 
 command_closes : (s : State) (now handle : ℕ) (bytes : List ℕ) → Cases (ClosesGone s) (at_moment s now) handle bytes
-unfolding at_moment heard refused replied told subscribed with_subscription subscribed_in published with_publication replied_opening unpublished unregistered unsubscribed unsubscribed_in keep_alive counted with_counter valued uncounted close left left_in settled terminated stopped_for_good
+unfolding at_moment heard refused replied told subscribed with_subscription subscribed_in published with_directed_publication with_publication replied_opening unpublished unregistered unsubscribed unsubscribed_in keep_alive counted with_counter valued uncounted directed with_destination recalled without_destination close left left_in settled terminated stopped_for_good
 command_closes s now handle bytes =
     let logs : List Source = s.streams.sources in
     let same = nothing_goes logs logs (as_they_are logs) in
@@ -243,6 +244,10 @@ command_closes s now handle bytes =
           nothing_goes logs _ (stay_settled _ (max s.moment now) logs);
       removal = λ request was_heard asks. same;
       keepalive = λ was_heard. same;
+      destination = λ request number was_heard asks allows manual is.
+          same;
+      destination_removal = λ client correlation fields target was_heard asks is.
+          same;
       counter = λ client correlation fields was_heard asks allows room. same;
       value = λ client correlation fields was_heard asks. same;
       counter_removal = λ client correlation fields was_heard asks. same;
@@ -252,7 +257,7 @@ command_closes s now handle bytes =
 
 ticked_closes : (s between : State) (clients silent : List ℕ) → AreRising between →
     SamePlaces between.streams.sources s.streams.sources → ClosesGone s (ticked between clients silent)
-unfolding ticked closed closing_of
+unfolding ticked closed_past closed closing_of
 ticked_closes s between clients silent rises same =
     let logs : List Source = between.streams.sources in
     let left' : List Source = filter (stays_live between.moment silent) logs in

@@ -14,7 +14,7 @@ use Rattle.driver_core.specs.Renewal.{renewed}
 use Rattle.driver_core.specs.Soundness.{MovesLogs, log_of}
 use Rattle.driver_core.specs.State.{State, at_moment, opened}
 use Rattle.driver_core.specs.Terminating.{terminated}
-use Rattle.driver_core.specs.Ticking.{late, tick, ticked}
+use Rattle.driver_core.specs.Ticking.{closed_past, late, tick, ticked}
 use Rattle.driver_core.specs.Pairs.{pairs_of}
 use Rattle.driver_core.specs.Unread.{dropping, is_closed}
 use Rattle.driver_laws.specs.ClosingLaws.{Closes, IsClosed, IsPastBy, IsSameLog, IsSilentBy, LogsCloseExactly}
@@ -55,7 +55,7 @@ ticked_closes s between now silent log leaves has closes =
 
 tick_closes : (s : State) (now : ℕ) (inputs : Inputs) (log : Source) → Contains s.streams.sources log →
     is_closing (max s.moment now) inputs.silent log ≡ true → Contains (drafted s (Tick now) inputs).closes (place_of log)
-unfolding drafted tick ticked
+unfolding drafted tick ticked closed_past
 tick_closes s now inputs log has closes =
     let start = at_moment s now in
     let between = all_left start (late start) in

@@ -2,6 +2,10 @@
 use Rattle.std.proofs.Common.{◌≡◌, ℕ, ℤ, false, List, [], ◌∷◌, Option, Some, None, Result, Ok, Err, inl, inr, refl, sym, ap, ◌∙◌, ⊎_elim}
 use Rattle.std.proofs.lemmas.Bool.{cond_both}
 use Rattle.std.specs.List.{AllByRecursion}
+use Rattle.driver_core.specs.declared.directing.Directed.{Directed}
+use Rattle.driver_core.specs.declared.directing.Target.{Target}
+use Rattle.driver_core.specs.Directing.{directed, recalled, target_of, with_destination, without_destination}
+use Rattle.driver_core.proofs.AskingLemmas.{target_asked}
 use Rattle.driver_core.specs.declared.event.Event.{Event}
 use Rattle.driver_core.specs.declared.event.Event.TheVariants.{Attach, Command, Reload, Setup, Tick}
 use Rattle.driver_core.specs.declared.event.Inputs.{Inputs}
@@ -18,13 +22,13 @@ use Rattle.driver_core.specs.Conduct.{conduct, drafted, outcome_of}
 use Rattle.driver_core.specs.Counting.{counted, valued, uncounted}
 use Rattle.driver_core.specs.Deciding.{decision_by, question_by}
 use Rattle.driver_core.specs.Draft.{Draft, answered, told, replied, replied_opening, refused}
-use Rattle.driver_core.specs.Publishing.{published, ready_for}
+use Rattle.driver_core.specs.Publishing.{published, ready_for, with_directed_publication}
 use Rattle.driver_core.specs.Reloading.{reloaded}
 use Rattle.driver_core.specs.Requests.{PublicationRequest, SubscriptionRequest, RemovalRequest, IsAsked, wanted_by}
 use Rattle.driver_core.specs.State.{State, at_moment}
 use Rattle.driver_core.specs.Subscribing.{subscribed}
 use Rattle.driver_core.specs.Terminating.{terminated}
-use Rattle.driver_core.specs.Ticking.{tick, ticked, late}
+use Rattle.driver_core.specs.Ticking.{closed_past, tick, ticked, late}
 use Rattle.driver_core.specs.Unpublishing.{unpublished}
 use Rattle.driver_core.specs.Unsubscribing.{unsubscribed}
 use Rattle.driver_core.specs.Verdicts.{verdict_on}
@@ -53,7 +57,7 @@ use Rattle.stream_registry.specs.Pairs.{image_question}
 use Rattle.frame_codec.specs.declared.join.Join.{Join}
 use Rattle.frame_codec.specs.declared.setup.Setup.{Setup as SetupFrame}
 use Rattle.frame_codec.specs.Join.{join_of}
-use Rattle.driver_core.proofs.EventCases.{Cases, IsPlain, attach_cases, command_cases, reload_cases}
+use Rattle.driver_core.proofs.EventCases.{target_heard, Cases, IsPlain, attach_cases, command_cases, reload_cases}
 use Rattle.driver_core.proofs.VerdictLemmas.{by_policy}
 use Rattle.driver_laws.proofs.DenialTextLemmas.{epoch_of, denial_words, denial_is_named}
 use Rattle.driver_laws.proofs.SettingUpLemmas.{denied_is, denied_to}
@@ -124,7 +128,7 @@ ready_is_named s event client wanted correlation number session =
 
 publication_names : (s : State) (event : Event) (left : State) (request : PublicationRequest) (adding : Adding) →
     Names s event (published left request.client request.correlation (wanted_by request) adding)
-unfolding published replied_opening replied told
+unfolding published with_directed_publication replied_opening replied told
 publication_names s event left request adding =
     record { replies = (ready_is_named s event request.client.number (wanted_by request) _ _ _, tt); later = tt; response = tt }
 
@@ -147,6 +151,16 @@ value_names : (s : State) (event : Event) (left : State) (client : Client) (corr
 unfolding valued replied told
 value_names s event left client correlation fields = record { replies = (tt, tt); later = tt; response = tt }
 
+destination_names : (s : State) (event : Event) (left : State) (client : Client) (correlation : ℕ) (granted : Directed) →
+    Names s event (directed left client correlation granted)
+unfolding directed with_destination replied told
+destination_names s event left client correlation granted = record { replies = (tt, tt); later = tt; response = tt }
+
+destination_removal_names : (s : State) (event : Event) (left : State) (client : Client) (correlation : ℕ) (target : Target) →
+    Names s event (recalled left client correlation target)
+unfolding recalled without_destination replied told
+destination_removal_names s event left client correlation target = record { replies = (tt, tt); later = tt; response = tt }
+
 counter_removal_names : (s : State) (event : Event) (left : State) (client : Client) (correlation number : ℕ) →
     Names s event (uncounted left client correlation number)
 unfolding uncounted told
@@ -158,6 +172,13 @@ unfolding terminated
 termination_names s event left client correlation = record { replies = (tt, tt); later = tt; response = tt }
 
 -- ---- a denial
+
+-- a destination's target is the same at that moment
+target_before : (s : State) (now handle client number : ℕ) (channel : Shape) →
+    target_of s client number channel ≡ target_of (at_moment s now) client number channel
+target_before s now handle client number channel =
+    sym (target_asked s now handle client number channel)
+    ∙ target_heard (at_moment s now) handle client number channel
 
 pub asked_before : (s : State) (now handle : ℕ) (bytes : List ℕ) (correlation : ℕ) (question : Question) →
     IsAsked (at_moment s now) handle bytes correlation question → IsAsked s handle bytes correlation question
@@ -189,8 +210,10 @@ asked_before s now handle bytes correlation question asked =
       asks = record { command = by.asks.command; attached = by.asks.attached };
       question_is = by.question_is;
     }))))
+    (λ rest.
+    ⊎_elim
     (λ by.
-    inr (inr (inr (record {
+    inr (inr (inr (inl (record {
       request = by.request;
       asks = record {
         asks = record { command = by.asks.asks.command; attached = by.asks.asks.attached };
@@ -199,7 +222,21 @@ asked_before s now handle bytes correlation question asked =
       };
       correlation_is = by.correlation_is;
       question_is = by.question_is;
-    }))))
+    })))))
+    (λ by.
+    inr (inr (inr (inr (record {
+      request = by.request;
+      asks = record {
+        asks = record { command = by.asks.asks.command; attached = by.asks.asks.attached };
+        denotes_channel = by.asks.denotes_channel;
+        names_target =
+            target_before s now handle by.request.client.number by.request.fields.registration by.request.channel
+            ∙ by.asks.names_target;
+      };
+      correlation_is = by.correlation_is;
+      question_is = by.question_is;
+    })))))
+    rest)
     further)
     others)
     asked
@@ -266,6 +303,10 @@ command_names s now handle bytes =
           unpublished_names s event left client correlation fields.registration;
       removal = λ request was_heard asks. removal_names s event left request;
       keepalive = λ was_heard. keepalive_names s event left;
+      destination = λ request number was_heard asks allows manual is.
+          destination_names s event left request.client request.correlation _;
+      destination_removal = λ client correlation fields target was_heard asks is.
+          destination_removal_names s event left client correlation target;
       counter = λ client correlation fields was_heard asks allows room.
           counter_names s event left client correlation fields;
       value = λ client correlation fields was_heard asks. value_names s event left client correlation fields;
@@ -286,7 +327,7 @@ attach_names s now principal inputs =
     (answer_names s (Attach now principal) _ _ tt)
 
 tick_names : (s : State) (now : ℕ) (inputs : Inputs) → Names s (Tick now) (drafted s (Tick now) inputs)
-unfolding drafted tick ticked
+unfolding drafted tick ticked closed_past
 tick_names s now inputs = record { replies = tt; later = all_timeouts _ (λ client. tt) (late (at_moment s now)); response = tt }
 
 reload_names : (s : State) (now : ℕ) (policy : Rules) (inputs : Inputs) →

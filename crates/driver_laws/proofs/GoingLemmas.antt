@@ -4,6 +4,9 @@ use Rattle.std.specs.List.{Contains, list_any}
 use Rattle.std.proofs.lemmas.Bool.{and_parts, cases_Bool, eqb-true, not-false, not_from_false, or_left}
 use Rattle.std.proofs.lemmas.List.Elements.{All-contains, Contains-append_left, Contains-push_cases, filter_passes}
 use Rattle.std.proofs.lemmas.List.Folds.{list_any-append}
+use Rattle.driver_core.specs.declared.directing.Directed.{Directed}
+use Rattle.driver_core.specs.declared.directing.Target.{Target}
+use Rattle.driver_core.specs.Directing.{directed, recalled, with_destination, without_destination}
 use Rattle.driver_core.specs.declared.event.Event.{Event}
 use Rattle.driver_core.specs.declared.event.Event.TheVariants.{Attach, Command, Reload, Setup, Tick}
 use Rattle.driver_core.specs.declared.event.Inputs.{Inputs}
@@ -16,14 +19,14 @@ use Rattle.driver_core.specs.Conduct.{conduct, drafted, state_after}
 use Rattle.driver_core.specs.Counting.{counted, has_room_for_counter, uncounted, valued, with_counter}
 use Rattle.driver_core.specs.Draft.{Draft, answered, refused, replied, replied_opening, told}
 use Rattle.driver_core.specs.Leaving.{all_left, left}
-use Rattle.driver_core.specs.Publishing.{published, with_publication}
+use Rattle.driver_core.specs.Publishing.{published, with_directed_publication, with_publication}
 use Rattle.driver_core.specs.Reloading.{in_force, reloaded}
 use Rattle.driver_core.specs.Renewal.{renewed}
 use Rattle.driver_core.specs.Requests.{Asks, PublicationRequest, RemovalRequest, SubscriptionRequest, counter_question, termination_question, wanted_by}
 use Rattle.driver_core.specs.State.{State, at_moment}
 use Rattle.driver_core.specs.Subscribing.{subscribed, with_subscription}
 use Rattle.driver_core.specs.Terminating.{stopped_for_good, terminated}
-use Rattle.driver_core.specs.Ticking.{late, tick, ticked}
+use Rattle.driver_core.specs.Ticking.{closed_past, late, tick, ticked}
 use Rattle.driver_core.specs.Unpublishing.{unpublished}
 use Rattle.driver_core.specs.Unsubscribing.{unsubscribed}
 use Rattle.driver_core.specs.Verdicts.{verdict_on}
@@ -235,6 +238,28 @@ module _ (inputs : Inputs) where
         logs = same.logs;
       }) refl
 
+  destination_stays : (s : State) (event : Event) (left' : State) (client : Client) (correlation : ℕ) (granted : Directed) →
+      IsSame s left' → Leaves s event (directed left' client correlation granted)
+  unfolding directed with_destination replied told
+  destination_stays s event left' client correlation granted same =
+      all_stay s event _ (record {
+        clients = same.clients;
+        registrations = same.registrations;
+        counters = same.counters;
+        logs = same.logs;
+      }) refl
+
+  destination_removal_stays : (s : State) (event : Event) (left' : State) (client : Client) (correlation : ℕ)
+      (target : Target) → IsSame s left' → Leaves s event (recalled left' client correlation target)
+  unfolding recalled without_destination replied told
+  destination_removal_stays s event left' client correlation target same =
+      all_stay s event _ (record {
+        clients = same.clients;
+        registrations = same.registrations;
+        counters = same.counters;
+        logs = same.logs;
+      }) refl
+
   -- ---- a client that comes
 
   attached_stays : (s : State) (event : Event) (left' : State) (principal : ℕ) → IsSame s left' →
@@ -291,7 +316,7 @@ module _ (inputs : Inputs) where
 
   publication_stays : (s : State) (event : Event) (left' : State) (request : PublicationRequest) (adding : Adding) →
       IsSame s left' → Leaves s event (published left' request.client request.correlation (wanted_by request) adding)
-  unfolding published with_publication replied_opening replied told
+  unfolding published with_directed_publication with_publication replied_opening replied told
   publication_stays s event left' request adding same =
       let after = (published left' request.client request.correlation (wanted_by request) adding).after in
       record {
@@ -619,7 +644,7 @@ module _ (inputs : Inputs) where
   ticked_stays : (s between : State) (now : ℕ) (clients : List ℕ) → Behind s (Tick now) between →
       Left (max s.moment now) (at_moment s now) between (Contains clients) →
       Leaves s (Tick now) (ticked between clients inputs.silent)
-  unfolding ticked
+  unfolding ticked closed_past
   ticked_stays s between now clients rows leaves = record {
     clients = rows.clients;
     registrations = closed_registrations s between (Tick now) rows;
@@ -693,6 +718,10 @@ module _ (inputs : Inputs) where
             (before client correlation (Unpublishes fields) asks) same;
         removal = λ request was_heard asks. removal_stays s event after request same;
         keepalive = λ was_heard. keepalive_stays s event after same;
+        destination = λ request number was_heard asks allows manual is.
+            destination_stays s event after request.client request.correlation _ same;
+        destination_removal = λ client correlation fields target was_heard asks is.
+            destination_removal_stays s event after client correlation target same;
         counter = λ client correlation fields was_heard asks allows room.
             let word = ap (λ (v : Verdict). v.allow) (counter_verdict s now handle client fields) in
             counter_stays s now handle bytes client correlation fields

@@ -17,7 +17,7 @@ use Rattle.driver_core.specs.Renewal.{renewed}
 use Rattle.driver_core.specs.Requests.{termination_question}
 use Rattle.driver_core.specs.State.{State, at_moment}
 use Rattle.driver_core.specs.Terminating.{stopped_for_good, terminate, terminated, termination_decision}
-use Rattle.driver_core.specs.Ticking.{late, tick, ticked}
+use Rattle.driver_core.specs.Ticking.{closed_past, late, tick, ticked}
 use Rattle.driver_core.specs.Unread.{dropping, without_unread}
 use Rattle.driver_core.specs.Verdicts.{verdict_on}
 use Rattle.driver_laws.specs.LeavingLaws.{HasNothing, IsClosedBy, IsGoneBy, IsTerminatedBy, IsTimedOutBy, is_there}
@@ -116,7 +116,7 @@ all_gone s (first ∷ clients) client has =
 
 tick_takes : (s : State) (now client : ℕ) (inputs : Inputs) →
     IsGone (all_left (at_moment s now) (late (at_moment s now))) client → IsGone (drafted s (Tick now) inputs).after client
-unfolding drafted tick ticked closed
+unfolding drafted tick ticked closed_past closed
 tick_takes s now client inputs gone = record {
   absent = gone.absent;
   nothing = record {

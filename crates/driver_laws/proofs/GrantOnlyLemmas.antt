@@ -2,6 +2,9 @@
 use Rattle.std.proofs.Common.{◌≡◌, ℕ, ℤ, ◌+◌, Bool, true, false, cond, List, [], ◌∷◌, map, ◌⊎◌, inl, inr, refl, sym, ap, ◌∙◌, ⊎_elim}
 use Rattle.std.specs.List.{Contains}
 use Rattle.std.proofs.lemmas.List.Elements.{All-map, All-weaker, All-contains, All-contains_itself, Contains-push_cases}
+use Rattle.driver_core.specs.declared.directing.Directed.{Directed}
+use Rattle.driver_core.specs.declared.directing.Target.{Target}
+use Rattle.driver_core.specs.Directing.{directed, recalled, with_destination, without_destination}
 use Rattle.driver_core.specs.declared.event.Event.{Event}
 use Rattle.driver_core.specs.declared.event.Event.TheVariants.{Attach, Command, Reload, Setup, Tick}
 use Rattle.driver_core.specs.declared.event.Inputs.{Inputs}
@@ -14,14 +17,14 @@ use Rattle.driver_core.specs.Conduct.{conduct, drafted}
 use Rattle.driver_core.specs.Counting.{counted, with_counter, valued, uncounted, has_room_for_counter}
 use Rattle.driver_core.specs.Draft.{Draft, answered, told, replied, replied_opening, refused}
 use Rattle.driver_core.specs.Leaving.{left, all_left}
-use Rattle.driver_core.specs.Publishing.{published, with_publication}
+use Rattle.driver_core.specs.Publishing.{published, with_directed_publication, with_publication}
 use Rattle.driver_core.specs.Reloading.{in_force, reloaded}
 use Rattle.driver_core.specs.Renewal.{renewed}
 use Rattle.driver_core.specs.Requests.{Asks, PublicationRequest, SubscriptionRequest, RemovalRequest, counter_question, termination_question, wanted_by}
 use Rattle.driver_core.specs.State.{State, at_moment}
 use Rattle.driver_core.specs.Subscribing.{subscribed, with_subscription}
 use Rattle.driver_core.specs.Terminating.{terminated, stopped_for_good}
-use Rattle.driver_core.specs.Ticking.{tick, ticked, late}
+use Rattle.driver_core.specs.Ticking.{closed_past, tick, ticked, late}
 use Rattle.driver_core.specs.Unpublishing.{unpublished}
 use Rattle.driver_core.specs.Unsubscribing.{unsubscribed}
 use Rattle.driver_core.specs.Verdicts.{verdict_on}
@@ -117,7 +120,7 @@ subscription_only s event left' request same =
 
 publication_only : (s : State) (event : Event) (left' : State) (request : PublicationRequest) (adding : Adding) → IsSame s left' →
     DraftsOnly s event (published left' request.client request.correlation (wanted_by request) adding)
-unfolding published with_publication replied_opening replied told
+unfolding published with_directed_publication with_publication replied_opening replied told
 publication_only s event left' request adding same =
     same_only s event _ (record { counters = same.counters; stopped = same.stopped })
 
@@ -179,7 +182,7 @@ left_stopped s [] = refl
 left_stopped s (client ∷ clients) = left_stopped (left s client) clients ∙ one_left_stopped s client
 
 tick_only : (s : State) (now : ℕ) (inputs : Inputs) → DraftsOnly s (Tick now) (drafted s (Tick now) inputs)
-unfolding drafted tick ticked at_moment
+unfolding drafted tick ticked closed_past at_moment
 tick_only s now inputs = record {
   counters = λ counter has.
       inl (stood s counter (left_was_counted (at_moment s now) (late (at_moment s now)) counter has));
@@ -214,6 +217,18 @@ value_only s event left' client correlation fields same =
           has);
       ends = λ is. inl (rw same.stopped at is);
     }
+
+destination_only : (s : State) (event : Event) (left' : State) (client : Client) (correlation : ℕ) (granted : Directed) →
+    IsSame s left' → DraftsOnly s event (directed left' client correlation granted)
+unfolding directed with_destination replied told
+destination_only s event left' client correlation granted same =
+    same_only s event _ (record { counters = same.counters; stopped = same.stopped })
+
+destination_removal_only : (s : State) (event : Event) (left' : State) (client : Client) (correlation : ℕ) (target : Target) →
+    IsSame s left' → DraftsOnly s event (recalled left' client correlation target)
+unfolding recalled without_destination replied told
+destination_removal_only s event left' client correlation target same =
+    same_only s event _ (record { counters = same.counters; stopped = same.stopped })
 
 -- ---- a counter that comes
 
@@ -298,6 +313,10 @@ command_only s now handle bytes =
           publication_removal_only s event after client correlation fields.registration same;
       removal = λ request was_heard asks. removal_only s event after request same;
       keepalive = λ was_heard. keepalive_only s event after same;
+      destination = λ request number was_heard asks allows manual is.
+          destination_only s event after request.client request.correlation _ same;
+      destination_removal = λ client correlation fields target was_heard asks is.
+          destination_removal_only s event after client correlation target same;
       counter = λ client correlation fields was_heard asks allows room.
           let word = ap (λ (v : Verdict). v.allow) (counter_verdict s now handle client fields) in
           counter_only s now handle bytes client correlation fields

@@ -5,6 +5,7 @@ use Rattle.std.specs.Prelude.{find, is_some}
 use Rattle.std.proofs.lemmas.Bool.{eqb-true, eq-eqb}
 use Rattle.std.proofs.lemmas.List.{append-nil}
 use Rattle.std.proofs.lemmas.List.Elements.{Contains-append_cases, Contains-append_left, Contains-append_right, Contains-push, filter-append}
+use Rattle.driver_core.specs.Directing.{directed, recalled}
 use Rattle.driver_core.specs.declared.event.End.{End}
 use Rattle.driver_core.specs.declared.event.Event.{Event}
 use Rattle.driver_core.specs.declared.event.Event.TheVariants.{Attach, Command, Reload, Setup, Tick}
@@ -20,14 +21,14 @@ use Rattle.driver_core.specs.Counting.{counted, uncounted, valued}
 use Rattle.driver_core.specs.Draft.{Draft, answered, refused, replied, replied_opening, told}
 use Rattle.driver_core.specs.Leaving.{all_left}
 use Rattle.driver_core.specs.Pairs.{is_lacked_by, pairs_of}
-use Rattle.driver_core.specs.Publishing.{published, ready_for}
+use Rattle.driver_core.specs.Publishing.{published, ready_for, with_directed_publication}
 use Rattle.driver_core.specs.Reloading.{reloaded}
 use Rattle.driver_core.specs.Renewal.{available_for, available_to, come_to, gone_from, images_told, position_at, position_by, source_at, renewed, subscription_at, unavailable_for, unavailable_to}
 use Rattle.driver_core.specs.Requests.{wanted_by}
 use Rattle.driver_core.specs.State.{State, at_moment}
 use Rattle.driver_core.specs.Subscribing.{subscribed}
 use Rattle.driver_core.specs.Terminating.{terminated}
-use Rattle.driver_core.specs.Ticking.{late, tick, ticked, timeout_of}
+use Rattle.driver_core.specs.Ticking.{closed_past, late, tick, ticked, timeout_of}
 use Rattle.driver_core.specs.Unpublishing.{unpublished}
 use Rattle.driver_core.specs.Unsubscribing.{unsubscribed}
 use Rattle.driver_core.specs.Commands.{at_request}
@@ -108,7 +109,7 @@ ready_unavailable wanted correlation number session = by wanted.exclusive
 
 publication_tells_none : (s : State) (client : Client) (correlation : ℕ) (wanted : Wanted) (adding : Adding) →
     TellsNone (published s client correlation wanted adding)
-unfolding published replied_opening replied told
+unfolding published with_directed_publication replied_opening replied told
 publication_tells_none s client correlation wanted adding = record {
   available = rw (ready_available wanted correlation _ _) refl;
   unavailable = rw (ready_unavailable wanted correlation _ _) refl;
@@ -141,7 +142,7 @@ timeouts_unavailable [] = refl
 timeouts_unavailable (client ∷ clients) = timeouts_unavailable clients
 
 ticked_tells_none : (s : State) (clients silent : List ℕ) → TellsNone (ticked s clients silent)
-unfolding ticked
+unfolding ticked closed_past
 ticked_tells_none s clients silent = record {
   available = refl;
   unavailable = refl;
@@ -150,7 +151,7 @@ ticked_tells_none s clients silent = record {
 }
 
 command_tells_none : (s : State) (now handle : ℕ) (bytes : List ℕ) → Cases TellsNone (at_moment s now) handle bytes
-unfolding subscribed unpublished unsubscribed counted valued close
+unfolding subscribed unpublished unsubscribed directed recalled counted valued close
 command_tells_none s now handle bytes = record {
   unheard = λ correlation refusal plain not_heard. refusal_tells_none _ [] handle correlation refusal;
   refusal = λ decisions client correlation refusal plain was_heard.
@@ -163,6 +164,10 @@ command_tells_none s now handle bytes = record {
   publication_removal = λ client correlation fields was_heard asks. reply_tells_none _ [] client.number _ refl refl;
   removal = λ request was_heard asks. reply_tells_none _ [] request.client.number _ refl refl;
   keepalive = λ was_heard. keepalive_tells_none (at_request s now handle);
+  destination = λ request number was_heard asks allows manual is.
+      reply_tells_none _ _ request.client.number _ refl refl;
+  destination_removal = λ client correlation fields target was_heard asks is.
+      reply_tells_none _ [] client.number _ refl refl;
   counter = λ client correlation fields was_heard asks allows room.
       reply_tells_none _ _ client.number _ refl refl;
   value = λ client correlation fields was_heard asks. reply_tells_none _ [] client.number _ refl refl;

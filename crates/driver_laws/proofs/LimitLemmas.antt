@@ -3,6 +3,9 @@ use Rattle.std.proofs.Common.{◌≡◌, ℕ, ◌+◌, ◌<◌, ◌≤◌, Bool,
 use Rattle.std.proofs.lemmas.Bool.{and_parts, cond_both, leb-true, ltb-true}
 use Rattle.std.proofs.lemmas.List.{length-append, length-map}
 use Rattle.std.proofs.lemmas.List.Filters.{length-filter_both}
+use Rattle.driver_core.specs.declared.directing.Directed.{Directed}
+use Rattle.driver_core.specs.declared.directing.Target.{Target}
+use Rattle.driver_core.specs.Directing.{directed, recalled, with_destination, without_destination}
 use Rattle.driver_core.specs.declared.event.Event.{Event}
 use Rattle.driver_core.specs.declared.event.Event.TheVariants.{Attach, Command, Reload, Setup, Tick}
 use Rattle.driver_core.specs.declared.event.Inputs.{Inputs}
@@ -18,14 +21,14 @@ use Rattle.driver_core.specs.Counting.{counted, has_room_for_counter, uncounted,
 use Rattle.driver_core.specs.Draft.{Draft, answered, refused, replied, replied_opening, told}
 use Rattle.driver_core.specs.Leaving.{all_left, left}
 use Rattle.driver_core.specs.Pairs.{is_within_pairs, pairs_of}
-use Rattle.driver_core.specs.Publishing.{has_room_for_publication, published, with_publication}
+use Rattle.driver_core.specs.Publishing.{has_room_for_publication, published, with_directed_publication, with_publication}
 use Rattle.driver_core.specs.Reloading.{has_room_for_policy, in_force, reloaded}
 use Rattle.driver_core.specs.Renewal.{renewed}
 use Rattle.driver_core.specs.Requests.{RemovalRequest, SubscriptionRequest, wanted_by}
 use Rattle.driver_core.specs.State.{State, at_moment, opened}
 use Rattle.driver_core.specs.Subscribing.{has_room_for_subscription, subscribed, with_subscription}
 use Rattle.driver_core.specs.Terminating.{stopped_for_good, terminated}
-use Rattle.driver_core.specs.Ticking.{late, tick, ticked}
+use Rattle.driver_core.specs.Ticking.{closed_past, late, tick, ticked}
 use Rattle.driver_core.specs.Unpublishing.{unpublished}
 use Rattle.driver_core.specs.Unsubscribing.{unsubscribed}
 use Rattle.driver_core.specs.SettingUp.{image_made, setting_of, with_image}
@@ -135,7 +138,7 @@ subscription_within s request room within =
 publication_within : (s : State) (client : Client) (correlation : ℕ) (wanted : Wanted) (adding : Adding) →
     adding_of s.streams wanted ≡ Ok adding → has_room_for_publication s client.number wanted adding ≡ true → IsWithin s →
     IsWithin (published s client correlation wanted adding).after
-unfolding published with_publication replied_opening replied told
+unfolding published with_directed_publication with_publication replied_opening replied told
 publication_within s client correlation wanted adding is room within =
     let parts = and_parts _ _ room in
     record {
@@ -174,6 +177,26 @@ value_within s client correlation fields within = record {
   clients = within.clients;
   streams = within.streams;
   counters = as_many (set_one client.number fields.registration fields.value) s.counters 1024 within.counters;
+  pairs = within.pairs;
+}
+
+destination_within : (s : State) (client : Client) (correlation : ℕ) (granted : Directed) → IsWithin s →
+    IsWithin (directed s client correlation granted).after
+unfolding directed with_destination replied told pairs_of
+destination_within s client correlation granted within = record {
+  clients = within.clients;
+  streams = within.streams;
+  counters = within.counters;
+  pairs = within.pairs;
+}
+
+destination_removal_within : (s : State) (client : Client) (correlation : ℕ) (target : Target) → IsWithin s →
+    IsWithin (recalled s client correlation target).after
+unfolding recalled without_destination replied told pairs_of
+destination_removal_within s client correlation target within = record {
+  clients = within.clients;
+  streams = within.streams;
+  counters = within.counters;
   pairs = within.pairs;
 }
 
@@ -226,7 +249,7 @@ all_left_within s [] within = within
 all_left_within s (client ∷ clients) within = all_left_within (left s client) clients (one_left_within s client within)
 
 ticked_within : (s : State) (clients silent : List ℕ) → IsWithin s → IsWithin (ticked s clients silent).after
-unfolding ticked
+unfolding ticked closed_past
 ticked_within s clients silent within = record {
   clients = within.clients;
   streams = stays_within_limits.closed s.streams s.moment silent within.streams;
@@ -327,6 +350,10 @@ command_within s now handle bytes was_within =
           publication_removal_within at client correlation fields.registration within;
       removal = λ request was_heard asks. removal_within at request within;
       keepalive = λ was_heard. keepalive_within at within;
+      destination = λ request number was_heard asks allows manual is.
+          destination_within at request.client request.correlation _ within;
+      destination_removal = λ client correlation fields target was_heard asks is.
+          destination_removal_within at client correlation target within;
       counter = λ client correlation fields was_heard asks allows room.
           counter_within at client correlation fields room within;
       value = λ client correlation fields was_heard asks. value_within at client correlation fields within;

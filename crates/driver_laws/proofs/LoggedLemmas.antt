@@ -4,6 +4,7 @@ use Rattle.std.specs.Prelude.{find, is_none}
 use Rattle.std.specs.List.{Contains}
 use Rattle.std.proofs.lemmas.Bool.{and_parts, eq-eqb}
 use Rattle.std.proofs.lemmas.List.Elements.{Contains-append_left, Contains-append_right, Contains-push, Contains-push_cases}
+use Rattle.driver_core.specs.Directing.{directed, recalled, with_destination, without_destination}
 use Rattle.driver_core.specs.declared.event.Event.{Event}
 use Rattle.driver_core.specs.declared.event.Event.TheVariants.{Attach, Command, Reload, Setup, Tick}
 use Rattle.driver_core.specs.declared.event.Inputs.{Inputs}
@@ -16,14 +17,14 @@ use Rattle.driver_core.specs.Conduct.{conduct, drafted, state_after}
 use Rattle.driver_core.specs.Counting.{counted, uncounted, valued, with_counter}
 use Rattle.driver_core.specs.Draft.{Draft, answered, refused, replied, replied_opening, told}
 use Rattle.driver_core.specs.Leaving.{all_left, left}
-use Rattle.driver_core.specs.Publishing.{published, with_publication}
+use Rattle.driver_core.specs.Publishing.{published, with_directed_publication, with_publication}
 use Rattle.driver_core.specs.Reloading.{in_force, reloaded}
 use Rattle.driver_core.specs.Renewal.{renewed}
 use Rattle.driver_core.specs.Requests.{wanted_by}
 use Rattle.driver_core.specs.State.{State, at_moment, opened}
 use Rattle.driver_core.specs.Subscribing.{subscribed, with_subscription}
 use Rattle.driver_core.specs.Terminating.{stopped_for_good, terminated}
-use Rattle.driver_core.specs.Ticking.{late, tick, ticked}
+use Rattle.driver_core.specs.Ticking.{closed_past, late, tick, ticked}
 use Rattle.driver_core.specs.Unpublishing.{unpublished}
 use Rattle.driver_core.specs.Unsubscribing.{unsubscribed}
 use Rattle.driver_core.specs.SettingUp.{image_made, with_image}
@@ -260,7 +261,7 @@ all_left_logged s (client ∷ clients) logged =
 
 command_logged : (s : State) (now handle : ℕ) (bytes : List ℕ) → HaveTheirLogs s.streams →
     Cases (Keeps s) (at_moment s now) handle bytes
-unfolding at_moment heard refused replied told subscribed with_subscription subscribed_in published with_publication replied_opening unpublished unsubscribed unsubscribed_in keep_alive counted with_counter valued uncounted close left terminated stopped_for_good
+unfolding at_moment heard refused replied told subscribed with_subscription subscribed_in published with_directed_publication with_publication replied_opening unpublished unsubscribed unsubscribed_in keep_alive counted with_counter valued uncounted directed with_destination recalled without_destination close left terminated stopped_for_good
 command_logged s now handle bytes logged = record {
   unheard = λ correlation refusal plain not_heard. logged;
   refusal = λ decisions client correlation refusal plain was_heard. logged;
@@ -273,6 +274,10 @@ command_logged s now handle bytes logged = record {
       unregistered_logged s.streams client.number fields.registration (max s.moment now) logged;
   removal = λ request was_heard asks. logged;
   keepalive = λ was_heard. logged;
+  destination = λ request number was_heard asks allows manual is.
+      logged;
+  destination_removal = λ client correlation fields target was_heard asks is.
+      logged;
   counter = λ client correlation fields was_heard asks allows room. logged;
   value = λ client correlation fields was_heard asks. logged;
   counter_removal = λ client correlation fields was_heard asks. logged;
@@ -282,7 +287,7 @@ command_logged s now handle bytes logged = record {
 }
 
 ticked_logged : (s : State) (clients silent : List ℕ) → HaveTheirLogs s.streams → Keeps s (ticked s clients silent)
-unfolding ticked
+unfolding ticked closed_past
 ticked_logged s clients silent logged = closed_logged s.streams s.moment silent logged
 
 image_logged : (s : State) (wanted : ImageWanted) (place : ℕ) → HaveTheirLogs s.streams → Keeps s (image_made s wanted place)

@@ -1,5 +1,8 @@
 -- Each event keeps the numbers rising, and draws the next ones alone.
 use Rattle.std.proofs.Common.{◌≡◌, ℕ, ◌+◌, ◌==◌, ℤ, Bool, true, false, cond, List, [], ◌∷◌, refl, ◌∙◌, arith}
+use Rattle.driver_core.specs.declared.directing.Directed.{Directed}
+use Rattle.driver_core.specs.declared.directing.Target.{Target}
+use Rattle.driver_core.specs.Directing.{directed, recalled, with_destination, without_destination}
 use Rattle.driver_core.specs.declared.event.Event.{Event}
 use Rattle.driver_core.specs.declared.event.Event.TheVariants.{Attach, Command, Reload, Setup, Tick}
 use Rattle.driver_core.specs.declared.event.Inputs.{Inputs}
@@ -14,14 +17,14 @@ use Rattle.driver_core.specs.Conduct.{conduct, drafted, state_after}
 use Rattle.driver_core.specs.Counting.{counted, uncounted, valued, with_counter}
 use Rattle.driver_core.specs.Draft.{Draft, answered, refused, replied, replied_opening, told}
 use Rattle.driver_core.specs.Leaving.{all_left, left}
-use Rattle.driver_core.specs.Publishing.{published, with_publication}
+use Rattle.driver_core.specs.Publishing.{published, with_directed_publication, with_publication}
 use Rattle.driver_core.specs.Reloading.{in_force, reloaded}
 use Rattle.driver_core.specs.Renewal.{renewed}
 use Rattle.driver_core.specs.Requests.{RemovalRequest, SubscriptionRequest, wanted_by}
 use Rattle.driver_core.specs.State.{State, at_moment, opened}
 use Rattle.driver_core.specs.Subscribing.{subscribed, with_subscription}
 use Rattle.driver_core.specs.Terminating.{stopped_for_good, terminated}
-use Rattle.driver_core.specs.Ticking.{late, tick, ticked}
+use Rattle.driver_core.specs.Ticking.{closed_past, late, tick, ticked}
 use Rattle.driver_core.specs.Unpublishing.{unpublished}
 use Rattle.driver_core.specs.Unsubscribing.{unsubscribed}
 use Rattle.driver_core.specs.SettingUp.{image_made, with_image}
@@ -184,7 +187,7 @@ counter_rises s client correlation fields rises =
 
 publication_rises : (s : State) (client : Client) (correlation : ℕ) (wanted : Wanted) (adding : Adding) → AreRising s →
     Rising s (published s client correlation wanted adding).after
-unfolding published with_publication replied_opening replied told
+unfolding published with_directed_publication with_publication replied_opening replied told
 publication_rises s client correlation wanted (Join source session) rises =
     let last = s.last_number in
     record {
@@ -246,6 +249,30 @@ value_rises s client correlation fields rises =
       counters = rises_mapped counter_number (set_one client.number fields.registration fields.value) 0 s.last_number
           s.counters (λ counter. set_number (is_own client.number fields.registration counter) fields.value counter)
           rises.counters;
+    })
+
+destination_rises : (s : State) (client : Client) (correlation : ℕ) (granted : Directed) → AreRising s →
+    Rising s (directed s client correlation granted).after
+unfolding directed with_destination replied told
+destination_rises s client correlation granted rises =
+    none_drawn s _ (record { last = refl; last_client = refl; epoch = refl }) (record {
+      clients = rises.clients;
+      sources = rises.sources;
+      registrations = rises.registrations;
+      subscriptions = rises.subscriptions;
+      counters = rises.counters;
+    })
+
+destination_removal_rises : (s : State) (client : Client) (correlation : ℕ) (target : Target) → AreRising s →
+    Rising s (recalled s client correlation target).after
+unfolding recalled without_destination replied told
+destination_removal_rises s client correlation target rises =
+    none_drawn s _ (record { last = refl; last_client = refl; epoch = refl }) (record {
+      clients = rises.clients;
+      sources = rises.sources;
+      registrations = rises.registrations;
+      subscriptions = rises.subscriptions;
+      counters = rises.counters;
     })
 
 counter_removal_rises : (s : State) (client : Client) (correlation number : ℕ) → AreRising s →
@@ -330,7 +357,7 @@ all_left_rises s (client ∷ clients) rises = all_left_rises (left s client) cli
 
 ticked_rises : (s between : State) (clients silent : List ℕ) → SameLast s between → AreRising between →
     Rising s (ticked between clients silent).after
-unfolding ticked closed
+unfolding ticked closed_past closed
 ticked_rises s between clients silent same rises =
     none_drawn s _ (record { last = same.last; last_client = same.last_client; epoch = same.epoch }) (record {
       clients = rises.clients;
@@ -419,6 +446,10 @@ command_rises s now handle bytes rising =
           by _ (publication_removal_rises at client correlation fields.registration rises);
       removal = λ request was_heard asks. by _ (removal_rises at request rises);
       keepalive = λ was_heard. by _ (keepalive_rises at rises);
+      destination = λ request number was_heard asks allows manual is.
+          by _ (destination_rises at request.client request.correlation _ rises);
+      destination_removal = λ client correlation fields target was_heard asks is.
+          by _ (destination_removal_rises at client correlation target rises);
       counter = λ client correlation fields was_heard asks allows room.
           by _ (counter_rises at client correlation fields rises);
       value = λ client correlation fields was_heard asks. by _ (value_rises at client correlation fields rises);

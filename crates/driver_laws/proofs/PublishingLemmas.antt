@@ -10,9 +10,11 @@ use Rattle.driver_core.specs.declared.replies.Message.{Message}
 use Rattle.driver_core.specs.Commands.{heard, requested, asked, command, body_change, at_request}
 use Rattle.driver_core.specs.Conduct.{conduct, drafted}
 use Rattle.driver_core.specs.Deciding.{decision_by}
+use Rattle.driver_core.specs.Directing.{has_room_for_sole}
+use Rattle.driver_core.proofs.AskingLemmas.{sole_same}
 use Rattle.driver_core.specs.Draft.{replied, replied_opening, refused, told}
 use Rattle.driver_core.specs.Pairs.{is_within_pairs}
-use Rattle.driver_core.specs.Publishing.{add_publication, has_place, has_room_for_publication, is_publishable, opening_of, publication_decision, publish, publish_by, publish_under, published, ready_for, refused_by_streams, session_of, with_publication}
+use Rattle.driver_core.specs.Publishing.{add_publication, has_place, has_room_for_publication, is_publishable, opening_of, publication_decision, publish, publish_by, publish_under, published, ready_for, refused_by_streams, session_of, with_directed_publication, with_publication}
 use Rattle.driver_core.specs.Renewal.{renewed}
 use Rattle.driver_core.specs.Requests.{PublicationRequest, AsksToPublish, publication_question, wanted_by}
 use Rattle.driver_core.specs.State.{State, at_moment, has_number}
@@ -129,7 +131,9 @@ pub room_is : (s : State) (now handle client : ℕ) (wanted : Wanted) (adding : 
     ≡ has_room_for_publication s client wanted adding
 unfolding has_number is_within_pairs with_publication heard at_moment touched
 room_is s now handle client wanted adding =
-    ap (λ (pairs : List Pair). has_number s && nat_le (length pairs) 4096)
+    ap (λ (b : Bool). (has_number s && b) && is_within_pairs (with_publication (at_request s now handle) client wanted adding))
+    (sole_same s now handle wanted adding)
+    ∙ ap (λ (pairs : List Pair). (has_number s && has_room_for_sole s wanted adding) && nat_le (length pairs) 4096)
     (pairs_by (with_publication (at_request s now handle) client wanted adding) (with_publication s client wanted adding)
     refl refl refl (principal_heard s.clients.rows handle (max s.moment now)))
 
@@ -169,9 +173,9 @@ published_change : (s : State) (now handle : ℕ) (inputs : Inputs) (request : P
     IsPublished s now handle inputs request adding (
     renewed s inputs (
     published (at_request s now handle) request.client request.correlation (wanted_by request) adding))
-unfolding renewed published replied_opening replied told with_publication decision_by heard at_moment
+unfolding renewed published replied_opening replied told decision_by heard at_moment
 published_change s now handle inputs request adding own = record {
-  after_is = rw own refl;
+  after_is = refl;
   told = rw own
       (ap (λ (images : List Message).
       record {

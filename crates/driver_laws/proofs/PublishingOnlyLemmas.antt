@@ -2,6 +2,7 @@
 use Rattle.std.proofs.Common.{◌≡◌, ℕ, ◌+◌, ℤ, Bool, true, false, cond, List, [], ◌∷◌, ◌++◌, map, Some, Ok, ◌⊎◌, inl, inr, refl, sym, ap, ◌∙◌, ⊎_elim}
 use Rattle.std.specs.List.{AllByRecursion, Contains}
 use Rattle.std.proofs.lemmas.List.Elements.{All-contains, All-contains_itself, All-map, All-weaker, Contains-push, Contains-push_cases}
+use Rattle.driver_core.specs.Directing.{directed, recalled, with_destination, without_destination}
 use Rattle.driver_core.specs.declared.event.Event.{Event}
 use Rattle.driver_core.specs.declared.event.Event.TheVariants.{Attach, Command, Reload, Setup, Tick}
 use Rattle.driver_core.specs.declared.event.Inputs.{Inputs}
@@ -14,13 +15,13 @@ use Rattle.driver_core.specs.Conduct.{conduct, drafted}
 use Rattle.driver_core.specs.Counting.{counted, with_counter, valued, uncounted}
 use Rattle.driver_core.specs.Draft.{Draft, answered, refused, replied, replied_opening, told}
 use Rattle.driver_core.specs.Leaving.{left, all_left}
-use Rattle.driver_core.specs.Publishing.{has_place, has_room_for_publication, published, ready_for, session_of, wanted_of, with_publication}
+use Rattle.driver_core.specs.Publishing.{has_place, has_room_for_publication, published, ready_for, session_of, wanted_of, with_directed_publication, with_publication}
 use Rattle.driver_core.specs.Reloading.{in_force, reloaded}
 use Rattle.driver_core.specs.Requests.{PublicationRequest, AsksToPublish, publication_question, wanted_by}
 use Rattle.driver_core.specs.State.{State, at_moment}
 use Rattle.driver_core.specs.Subscribing.{subscribed, with_subscription}
 use Rattle.driver_core.specs.Terminating.{stopped_for_good, terminated}
-use Rattle.driver_core.specs.Ticking.{late, tick, ticked}
+use Rattle.driver_core.specs.Ticking.{closed_past, late, tick, ticked}
 use Rattle.driver_core.specs.Unpublishing.{unpublished}
 use Rattle.driver_core.specs.Unsubscribing.{unsubscribed}
 use Rattle.driver_core.specs.Change.{Change}
@@ -164,7 +165,7 @@ publication_only : (s : State) (now handle : ℕ) (bytes : List ℕ) (request : 
     has_place s (wanted_by request) adding ≡ true →
     DraftsOnly s (Command now handle bytes) (
     published (at_request s now handle) request.client request.correlation (wanted_by request) adding)
-unfolding registered_by published replied_opening replied told with_publication heard at_moment
+unfolding registered_by published replied_opening replied told with_directed_publication with_publication heard at_moment
 publication_only s now handle bytes request adding asks allows is room placed =
     let event : Event = Command now handle bytes in
     let wanted : Wanted = wanted_by request in
@@ -284,7 +285,7 @@ answer_only s event after response same =
 
 command_only : (s : State) (now handle : ℕ) (bytes : List ℕ) →
     Cases (DraftsOnly s (Command now handle bytes)) (at_moment s now) handle bytes
-unfolding replied told subscribed with_subscription subscribed_in unsubscribed unsubscribed_in keep_alive counted with_counter valued uncounted terminated stopped_for_good heard at_moment
+unfolding replied told subscribed with_subscription subscribed_in unsubscribed unsubscribed_in keep_alive counted with_counter valued uncounted directed with_destination recalled without_destination terminated stopped_for_good heard at_moment
 command_only s now handle bytes =
     let event : Event = Command now handle bytes in
     let left : State = at_request s now handle in
@@ -306,6 +307,10 @@ command_only s now handle bytes =
           removal_only s event now handle client correlation fields.registration;
       removal = λ request was_heard asks. same_only s event _ refl refl (tt, tt) tt;
       keepalive = λ was_heard. same_only s event _ refl refl tt tt;
+      destination = λ request number was_heard asks allows manual is.
+          same_only s event _ refl refl (tt, tt) tt;
+      destination_removal = λ client correlation fields target was_heard asks is.
+          same_only s event _ refl refl (tt, tt) tt;
       counter = λ client correlation fields was_heard asks allows room. same_only s event _ refl refl (tt, tt) tt;
       value = λ client correlation fields was_heard asks. same_only s event _ refl refl (tt, tt) tt;
       counter_removal = λ client correlation fields was_heard asks. same_only s event _ refl refl (tt, tt) (tt, tt);
@@ -335,7 +340,7 @@ reload_only s now policy inputs =
     (λ full. answer_only s (Reload now policy) _ _ refl)
 
 tick_only : (s : State) (now : ℕ) (inputs : Inputs) → DraftsOnly s (Tick now) (drafted s (Tick now) inputs)
-unfolding drafted tick ticked closed at_moment
+unfolding drafted tick ticked closed_past closed at_moment
 tick_only s now inputs =
     let clients : List ℕ = late (at_moment s now) in
     record {

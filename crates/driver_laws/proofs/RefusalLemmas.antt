@@ -2,6 +2,9 @@
 use Rattle.std.proofs.Common.{◌≡◌, ℕ, ◌==◌, ◌||◌, not, Bool, true, false, if◌then◌else◌, List, [], ◌∷◌, ◌++◌, map, refl, sym, ap, ◌∙◌, ⊎_elim}
 use Rattle.std.proofs.lemmas.Bool.{cases_Bool, eq-eqb}
 use Rattle.std.specs.List.{AllByRecursion, Contains, filter, list_any}
+use Rattle.driver_core.specs.declared.directing.Directed.{Directed}
+use Rattle.driver_core.specs.declared.directing.Target.{Target}
+use Rattle.driver_core.specs.Directing.{directed, recalled, with_destination, without_destination}
 use Rattle.driver_core.specs.declared.event.Event.{Event}
 use Rattle.driver_core.specs.declared.event.Event.TheVariants.{Attach, Command, Reload, Setup, Tick}
 use Rattle.driver_core.specs.declared.event.Inputs.{Inputs}
@@ -16,14 +19,14 @@ use Rattle.driver_core.specs.Conduct.{conduct, drafted, outcome_of, state_after}
 use Rattle.driver_core.specs.Counting.{counted, valued, uncounted}
 use Rattle.driver_core.specs.Draft.{Draft, answered, told, replied, replied_opening, refused}
 use Rattle.driver_core.specs.Leaving.{all_left}
-use Rattle.driver_core.specs.Publishing.{published}
+use Rattle.driver_core.specs.Publishing.{published, with_directed_publication}
 use Rattle.driver_core.specs.Reloading.{reloaded}
 use Rattle.driver_core.specs.Renewal.{renewed}
 use Rattle.driver_core.specs.Requests.{is_heard, PublicationRequest, SubscriptionRequest, RemovalRequest, wanted_by}
 use Rattle.driver_core.specs.State.{State, at_moment}
 use Rattle.driver_core.specs.Subscribing.{subscribed}
 use Rattle.driver_core.specs.Terminating.{terminated}
-use Rattle.driver_core.specs.Ticking.{tick, ticked, late}
+use Rattle.driver_core.specs.Ticking.{closed_past, tick, ticked, late}
 use Rattle.driver_core.specs.Unpublishing.{unpublished}
 use Rattle.driver_core.specs.Unsubscribing.{unsubscribed}
 use Rattle.driver_core.specs.Pairs.{pairs_of}
@@ -134,7 +137,7 @@ ready_is_grant false ready other first second refuses = second refuses
 
 publication_leaves : (after s : State) (request : PublicationRequest) (adding : Adding) →
     Leaves after (published s request.client request.correlation (wanted_by request) adding)
-unfolding published replied_opening replied told
+unfolding published with_directed_publication replied_opening replied told
 publication_leaves after s request adding =
     record {
       on = λ nothing.
@@ -183,6 +186,16 @@ value_leaves : (after left : State) (client : Client) (correlation : ℕ) (field
 unfolding valued replied told
 value_leaves after left client correlation fields = record { on = λ nothing. absurd nothing.replies.0 }
 
+destination_leaves : (after left : State) (client : Client) (correlation : ℕ) (granted : Directed) →
+    Leaves after (directed left client correlation granted)
+unfolding directed with_destination replied told
+destination_leaves after left client correlation granted = record { on = λ nothing. absurd nothing.replies.0 }
+
+destination_removal_leaves : (after left : State) (client : Client) (correlation : ℕ) (target : Target) →
+    Leaves after (recalled left client correlation target)
+unfolding recalled without_destination replied told
+destination_removal_leaves after left client correlation target = record { on = λ nothing. absurd nothing.replies.0 }
+
 counter_removal_leaves : (after left : State) (client : Client) (correlation number : ℕ) →
     Leaves after (uncounted left client correlation number)
 unfolding uncounted told
@@ -210,6 +223,10 @@ command_leaves s now handle bytes =
           publication_removal_leaves _ left client correlation fields.registration;
       removal = λ request was_heard asks. removal_leaves _ left request;
       keepalive = λ was_heard. keepalive_leaves _ left (heard_leaves s now handle bytes was_heard);
+      destination = λ request number was_heard asks allows manual is.
+          destination_leaves _ left request.client request.correlation _;
+      destination_removal = λ client correlation fields target was_heard asks is.
+          destination_removal_leaves _ left client correlation target;
       counter = λ client correlation fields was_heard asks allows room. counter_leaves _ left client correlation fields;
       value = λ client correlation fields was_heard asks. value_leaves _ left client correlation fields;
       counter_removal = λ client correlation fields was_heard asks.
@@ -241,7 +258,7 @@ attach_leaves s now principal inputs =
 
 -- a tick that tells nobody takes nobody away, and no log
 ticked_leaves : (s : State) (clients silent : List ℕ) → Leaves s (ticked (all_left s clients) clients silent)
-unfolding ticked
+unfolding ticked closed_past
 ticked_leaves s [] silent = record { on = λ nothing. rw (none_closed s.streams s.moment silent nothing.stays) refl }
 ticked_leaves s (client ∷ clients) silent = record { on = λ nothing. absurd nothing.later.0 }
 

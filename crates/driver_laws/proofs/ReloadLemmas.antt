@@ -2,6 +2,9 @@
 use Rattle.std.proofs.Common.{◌≡◌, ℕ, ◌+◌, true, false, List, [], map, filter, refl, sym, ap, ◌∙◌}
 use Rattle.std.proofs.lemmas.Bool.{cond_both}
 use Rattle.std.proofs.lemmas.List.{append-nil}
+use Rattle.driver_core.specs.declared.directing.Directed.{Directed}
+use Rattle.driver_core.specs.declared.directing.Target.{Target}
+use Rattle.driver_core.specs.Directing.{directed, recalled, with_destination, without_destination}
 use Rattle.driver_core.specs.declared.event.Event.{Event}
 use Rattle.driver_core.specs.declared.event.Event.TheVariants.{Attach, Command, Reload, Setup, Tick}
 use Rattle.driver_core.specs.declared.event.Inputs.{Inputs}
@@ -15,14 +18,14 @@ use Rattle.driver_core.specs.Conduct.{conduct, drafted, state_after}
 use Rattle.driver_core.specs.Counting.{counted, with_counter, valued, uncounted}
 use Rattle.driver_core.specs.Draft.{Draft, answered, told, replied, replied_opening, refused}
 use Rattle.driver_core.specs.Pairs.{pairs_of, is_within_pairs, lacking}
-use Rattle.driver_core.specs.Publishing.{published, with_publication}
+use Rattle.driver_core.specs.Publishing.{published, with_directed_publication, with_publication}
 use Rattle.driver_core.specs.Reloading.{in_force, reloaded, has_room_for_policy, reload}
 use Rattle.driver_core.specs.Renewal.{renewed}
 use Rattle.driver_core.specs.Requests.{PublicationRequest, SubscriptionRequest, RemovalRequest, wanted_by}
 use Rattle.driver_core.specs.State.{State, at_moment}
 use Rattle.driver_core.specs.Subscribing.{subscribed, with_subscription}
 use Rattle.driver_core.specs.Terminating.{terminated, stopped_for_good}
-use Rattle.driver_core.specs.Ticking.{tick, ticked, late}
+use Rattle.driver_core.specs.Ticking.{closed_past, tick, ticked, late}
 use Rattle.driver_core.specs.Unpublishing.{unpublished}
 use Rattle.driver_core.specs.Unsubscribing.{unsubscribed}
 use Rattle.driver_core.specs.SettingUp.{image_made, with_image}
@@ -161,7 +164,7 @@ grant_keeps s left request same = record { same = same }
 
 publication_keeps : (s left : State) (request : PublicationRequest) (adding : Adding) → in_force_at left ≡ in_force_at s →
     Keeps s (published left request.client request.correlation (wanted_by request) adding)
-unfolding published with_publication replied_opening replied told
+unfolding published with_directed_publication with_publication replied_opening replied told
 publication_keeps s left request adding same = record { same = same }
 
 publication_removal_keeps : (s left : State) (client : Client) (correlation number : ℕ) →
@@ -192,6 +195,16 @@ value_keeps : (s left : State) (client : Client) (correlation : ℕ) (fields : S
     in_force_at left ≡ in_force_at s → Keeps s (valued left client correlation fields)
 unfolding valued replied told
 value_keeps s left client correlation fields same = record { same = same }
+
+destination_keeps : (s left : State) (client : Client) (correlation : ℕ) (granted : Directed) →
+    in_force_at left ≡ in_force_at s → Keeps s (directed left client correlation granted)
+unfolding directed with_destination replied told
+destination_keeps s left client correlation granted same = record { same = same }
+
+destination_removal_keeps : (s left : State) (client : Client) (correlation : ℕ) (target : Target) →
+    in_force_at left ≡ in_force_at s → Keeps s (recalled left client correlation target)
+unfolding recalled without_destination replied told
+destination_removal_keeps s left client correlation target same = record { same = same }
 
 counter_removal_keeps : (s left : State) (client : Client) (correlation number : ℕ) →
     in_force_at left ≡ in_force_at s → Keeps s (uncounted left client correlation number)
@@ -228,6 +241,10 @@ command_keeps s now handle bytes =
           publication_removal_keeps s left client correlation fields.registration same;
       removal = λ request was_heard asks. removal_keeps s left request same;
       keepalive = λ was_heard. keepalive_keeps s left same;
+      destination = λ request number was_heard asks allows manual is.
+          destination_keeps s left request.client request.correlation _ same;
+      destination_removal = λ client correlation fields target was_heard asks is.
+          destination_removal_keeps s left client correlation target same;
       counter = λ client correlation fields was_heard asks allows room. counter_keeps s left client correlation fields same;
       value = λ client correlation fields was_heard asks. value_keeps s left client correlation fields same;
       counter_removal = λ client correlation fields was_heard asks.
@@ -237,7 +254,7 @@ command_keeps s now handle bytes =
     }
 
 tick_keeps : (s : State) (now : ℕ) (silent : List ℕ) → Keeps s (tick (at_moment s now) silent)
-unfolding tick ticked
+unfolding tick ticked closed_past
 tick_keeps s now silent =
     record { same = left_in_force (at_moment s now) (late (at_moment s now)) ∙ moment_keeps s now }
 

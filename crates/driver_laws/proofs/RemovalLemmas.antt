@@ -4,6 +4,9 @@ use Rattle.std.specs.List.{Contains}
 use Rattle.std.proofs.lemmas.Bool.{eqb-true, eq-eqb, and_parts, cases_Bool, not_from_false}
 use Rattle.std.proofs.lemmas.List.{append-nil}
 use Rattle.std.proofs.lemmas.List.Elements.{Contains-append_left}
+use Rattle.driver_core.specs.declared.directing.Directed.{Directed}
+use Rattle.driver_core.specs.declared.directing.Target.{Target}
+use Rattle.driver_core.specs.Directing.{directed, recalled, with_destination, without_destination}
 use Rattle.driver_core.specs.declared.event.Event.{Event}
 use Rattle.driver_core.specs.declared.event.Event.TheVariants.{Attach, Command, Reload, Setup, Tick}
 use Rattle.driver_core.specs.declared.event.Inputs.{Inputs}
@@ -19,14 +22,14 @@ use Rattle.driver_core.specs.Conduct.{conduct, drafted, state_after}
 use Rattle.driver_core.specs.Counting.{counted, with_counter, valued, uncounted}
 use Rattle.driver_core.specs.Deciding.{decision_by}
 use Rattle.driver_core.specs.Draft.{Draft, answered, told, replied, replied_opening, refused}
-use Rattle.driver_core.specs.Publishing.{published, with_publication}
+use Rattle.driver_core.specs.Publishing.{published, with_directed_publication, with_publication}
 use Rattle.driver_core.specs.Reloading.{in_force, reloaded}
 use Rattle.driver_core.specs.Renewal.{renewed, images_decided, images_told}
 use Rattle.driver_core.specs.Requests.{Asks, PublicationRequest, SubscriptionRequest, RemovalRequest, AsksToRemove, termination_question, wanted_by}
 use Rattle.driver_core.specs.State.{State, at_moment}
 use Rattle.driver_core.specs.Subscribing.{subscribed, with_subscription}
 use Rattle.driver_core.specs.Terminating.{terminated, termination_decision}
-use Rattle.driver_core.specs.Ticking.{tick, ticked, late}
+use Rattle.driver_core.specs.Ticking.{closed_past, tick, ticked, late}
 use Rattle.driver_core.specs.Unpublishing.{unpublished}
 use Rattle.driver_core.specs.Unsubscribing.{remove_subscription, unsubscribed}
 use Rattle.driver_core.specs.Verdicts.{verdict_on}
@@ -227,7 +230,7 @@ added_same t number client wanted place (Make session) = refl
 publication_stays : (s : State) (event : Event) (left : State) (request : PublicationRequest) (adding : Adding) →
     left.streams.subscriptions ≡ s.streams.subscriptions →
     Leaves s event (published left request.client request.correlation (wanted_by request) adding)
-unfolding published with_publication replied_opening replied told
+unfolding published with_directed_publication with_publication replied_opening replied told
 publication_stays s event left request adding same =
     all_stay s event _ (added_same left.streams _ request.client.number (wanted_by request) _ adding ∙ same)
 
@@ -301,6 +304,16 @@ value_stays : (s : State) (event : Event) (left : State) (client : Client) (corr
     left.streams.subscriptions ≡ s.streams.subscriptions → Leaves s event (valued left client correlation fields)
 unfolding valued replied told
 value_stays s event left client correlation fields same = all_stay s event _ same
+
+destination_stays : (s : State) (event : Event) (left : State) (client : Client) (correlation : ℕ) (granted : Directed) →
+    left.streams.subscriptions ≡ s.streams.subscriptions → Leaves s event (directed left client correlation granted)
+unfolding directed with_destination replied told
+destination_stays s event left client correlation granted same = all_stay s event _ same
+
+destination_removal_stays : (s : State) (event : Event) (left : State) (client : Client) (correlation : ℕ) (target : Target) →
+    left.streams.subscriptions ≡ s.streams.subscriptions → Leaves s event (recalled left client correlation target)
+unfolding recalled without_destination replied told
+destination_removal_stays s event left client correlation target same = all_stay s event _ same
 
 counter_removal_stays : (s : State) (event : Event) (left : State) (client : Client) (correlation number : ℕ) →
     left.streams.subscriptions ≡ s.streams.subscriptions → Leaves s event (uncounted left client correlation number)
@@ -387,6 +400,10 @@ command_stays s now handle bytes =
       removal = λ request was_heard asks.
           stays_or_goes s now handle bytes request (asks_before s now handle bytes request asks) left same;
       keepalive = λ was_heard. keepalive_stays s event left same;
+      destination = λ request number was_heard asks allows manual is.
+          destination_stays s event left request.client request.correlation _ same;
+      destination_removal = λ client correlation fields target was_heard asks is.
+          destination_removal_stays s event left client correlation target same;
       counter = λ client correlation fields was_heard asks allows room.
           counter_stays s event left client correlation fields same;
       value = λ client correlation fields was_heard asks. value_stays s event left client correlation fields same;
@@ -410,7 +427,7 @@ attach_stays s now principal inputs =
     (answer_stays s (Attach now principal) (at_moment s now) _ (moment_same s now))
 
 tick_stays : (s : State) (now : ℕ) (inputs : Inputs) → Leaves s (Tick now) (drafted s (Tick now) inputs)
-unfolding drafted tick ticked closed at_moment
+unfolding drafted tick ticked closed_past closed at_moment
 tick_stays s now inputs =
     record {
       on = λ subscription has.

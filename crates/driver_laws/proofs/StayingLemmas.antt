@@ -13,7 +13,7 @@ use Rattle.driver_core.specs.Conduct.{conduct, drafted, state_after}
 use Rattle.driver_core.specs.Counting.{add_counter, counted, remove_counter, set_counter, uncounted, valued, with_counter}
 use Rattle.driver_core.specs.Draft.{Draft, refused, replied, replied_opening, told}
 use Rattle.driver_core.specs.Pairs.{pairs_of}
-use Rattle.driver_core.specs.Publishing.{publish, published, with_publication}
+use Rattle.driver_core.specs.Publishing.{publish, published, with_directed_publication, with_publication}
 use Rattle.driver_core.specs.Renewal.{renewed}
 use Rattle.driver_core.specs.State.{State, at_moment, opened}
 use Rattle.driver_core.specs.Subscribing.{subscribe, subscribed, with_subscription}
@@ -312,7 +312,7 @@ published_kept pairs t client wanted adding kept = added_kept pairs t.streams _ 
 
 published_drops : (s : State) (now handle : ℕ) (client : Client) (correlation : ℕ) (wanted : Wanted) (adding : Adding) →
     AreRead s → DropsNothing s (published (at_request s now handle) client correlation wanted adding)
-unfolding published replied_opening replied told heard
+unfolding published with_directed_publication replied_opening replied told heard
 published_drops s now handle client correlation wanted adding read =
     let at : State = at_request s now handle in
     let after : State = with_publication at client.number wanted adding in

@@ -3,6 +3,9 @@ use Rattle.std.proofs.Common.{◌≡◌, ℕ, ℤ, ◌+◌, Bool, true, false, c
 use Rattle.std.proofs.lemmas.List.Elements.{Contains-push, Contains-push_cases}
 use Rattle.std.specs.List.{AllByRecursion, Contains}
 use Rattle.std.specs.Prelude.{◌⊎◌}
+use Rattle.driver_core.specs.declared.directing.Directed.{Directed}
+use Rattle.driver_core.specs.declared.directing.Target.{Target}
+use Rattle.driver_core.specs.Directing.{directed, recalled, with_destination, without_destination}
 use Rattle.driver_core.specs.declared.event.Event.{Event}
 use Rattle.driver_core.specs.declared.event.Event.TheVariants.{Attach, Command, Reload, Setup, Tick}
 use Rattle.driver_core.specs.declared.event.Inputs.{Inputs}
@@ -18,14 +21,14 @@ use Rattle.driver_core.specs.Commands.{heard, at_request}
 use Rattle.driver_core.specs.Conduct.{conduct, drafted}
 use Rattle.driver_core.specs.Counting.{counted, with_counter, valued, uncounted}
 use Rattle.driver_core.specs.Draft.{Draft, answered, told, replied, replied_opening, refused}
-use Rattle.driver_core.specs.Publishing.{published, session_of, with_publication}
+use Rattle.driver_core.specs.Publishing.{published, session_of, with_directed_publication, with_publication}
 use Rattle.driver_core.specs.Reloading.{in_force, reloaded}
 use Rattle.driver_core.specs.Renewal.{renewed}
 use Rattle.driver_core.specs.Requests.{SubscriptionRequest, AsksToSubscribe, RemovalRequest, wanted_by, question_of}
 use Rattle.driver_core.specs.State.{State, at_moment}
 use Rattle.driver_core.specs.Subscribing.{subscribed, with_subscription}
 use Rattle.driver_core.specs.Terminating.{terminated, stopped_for_good}
-use Rattle.driver_core.specs.Ticking.{tick, ticked, late}
+use Rattle.driver_core.specs.Ticking.{closed_past, tick, ticked, late}
 use Rattle.driver_core.specs.Unpublishing.{unpublished}
 use Rattle.driver_core.specs.Unsubscribing.{unsubscribed}
 use Rattle.driver_core.specs.Verdicts.{verdict_on}
@@ -151,6 +154,18 @@ unfolding valued replied told
 value_grants_only s event before client correlation fields same =
     record { replies = (tt, tt); later = tt; stands = λ subscription stands. inl (rw same at stands) }
 
+destination_grants_only : (s : State) (event : Event) (before : State) (client : Client) (correlation : ℕ) (granted : Directed) →
+    before.streams ≡ s.streams → DraftGrantsOnly s event (directed before client correlation granted)
+unfolding directed with_destination replied told
+destination_grants_only s event before client correlation granted same =
+    record { replies = (tt, tt); later = tt; stands = λ subscription stands. inl (rw same at stands) }
+
+destination_removal_grants_only : (s : State) (event : Event) (before : State) (client : Client) (correlation : ℕ) (target : Target) →
+    before.streams ≡ s.streams → DraftGrantsOnly s event (recalled before client correlation target)
+unfolding recalled without_destination replied told
+destination_removal_grants_only s event before client correlation target same =
+    record { replies = (tt, tt); later = tt; stands = λ subscription stands. inl (rw same at stands) }
+
 counter_removal_grants_only : (s : State) (event : Event) (before : State) (client : Client) (correlation number : ℕ) →
     before.streams ≡ s.streams → DraftGrantsOnly s event (uncounted before client correlation number)
 unfolding uncounted told
@@ -195,7 +210,7 @@ ready_grants_none false s event after client correlation number session stream =
 publication_grants_only : (s : State) (event : Event) (before : State) (client : Client) (correlation : ℕ) (wanted : Wanted)
     (adding : Adding) → before.streams ≡ s.streams →
     DraftGrantsOnly s event (published before client correlation wanted adding)
-unfolding published with_publication replied_opening replied told
+unfolding published with_directed_publication with_publication replied_opening replied told
 publication_grants_only s event before client correlation wanted adding same =
     let after : State = with_publication before client.number wanted adding in
     let grants_none = ready_grants_none wanted.exclusive s event after client.number correlation (before.last_number + 1)
@@ -229,7 +244,7 @@ termination_grants_only s event before client correlation = record {
 }
 
 tick_grants_only : (s : State) (now : ℕ) (inputs : Inputs) → DraftGrantsOnly s (Tick now) (drafted s (Tick now) inputs)
-unfolding drafted tick ticked closed at_moment
+unfolding drafted tick ticked closed_past closed at_moment
 tick_grants_only s now inputs = record {
   replies = tt;
   later = all_timeouts _ (λ client. tt) (late (at_moment s now));
@@ -294,6 +309,10 @@ command_grants_only s now handle bytes =
           unpublished_grants_only s event before client correlation fields.registration refl;
       removal = λ request was_heard asks. removal_grants_only s event before request refl;
       keepalive = λ was_heard. keepalive_grants_only s event before refl;
+      destination = λ request number was_heard asks allows manual is.
+          destination_grants_only s event before request.client request.correlation _ refl;
+      destination_removal = λ client correlation fields target was_heard asks is.
+          destination_removal_grants_only s event before client correlation target refl;
       counter = λ client correlation fields was_heard asks allows room.
           counter_grants_only s event before client correlation fields refl;
       value = λ client correlation fields was_heard asks. value_grants_only s event before client correlation fields refl;

@@ -10,7 +10,7 @@ use Rattle.driver_core.specs.declared.replies.Reply.{Reply}
 use Rattle.driver_core.specs.declared.replies.Reply.TheVariants.{PublicationReady, ExclusivePublicationReady}
 use Rattle.driver_core.specs.Commands.{heard}
 use Rattle.driver_core.specs.Conduct.{conduct, state_after}
-use Rattle.driver_core.specs.Publishing.{has_place, has_room_for_publication, opening_of, place_of_new, ready_for, refused_by_streams, session_of, with_publication}
+use Rattle.driver_core.specs.Publishing.{has_place, has_room_for_publication, opening_of, place_of_new, ready_for, refused_by_streams, session_of, with_directed_publication}
 use Rattle.driver_core.specs.Renewal.{images_told, images_decided}
 use Rattle.driver_core.specs.Requests.{PublicationRequest, AsksToPublish, publication_question, wanted_by}
 use Rattle.driver_core.specs.SettingUp.{new_image, setting_of, wanted_by as image_wanted_by}
@@ -36,11 +36,11 @@ use Rattle.stream_registry.specs.Streams.{Streams}
 abbrev pub IsAllowed : State → PublicationRequest → Type 0
 IsAllowed s request = (verdict_on s (publication_question request)).allow ≡ true
 
--- the client is registered under the next number with the log that it joins or that is made for it; its own reply names
--- the two, before those of the images that come by it
+-- the client is registered under the next number with the log that it joins or that is made for it, which has its one
+-- destination if its channel names one; its own reply names the two, before those of the images that come by it
 pub record IsPublished (s : State) (now handle : ℕ) (inputs : Inputs) (request : PublicationRequest) (adding : Adding) (change : Change) : Type 0 where
   pub after_is :
-      change.after ≡ with_publication (heard (at_moment s now) handle) handle (wanted_by request) adding
+      change.after ≡ with_directed_publication (heard (at_moment s now) handle) request.client (wanted_by request) adding
   pub told :
       change.outcome.replies
       ≡ record {

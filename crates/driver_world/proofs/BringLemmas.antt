@@ -4,6 +4,9 @@ use Rattle.std.specs.List.{All}
 use Rattle.std.specs.Prelude.{IfSome}
 use Rattle.std.proofs.lemmas.Bool.{eqb-true}
 use Rattle.std.proofs.lemmas.List.Elements.{All-cons, All-filter, All-head, All-nil, All-push, All-tail}
+use Rattle.driver_core.specs.declared.directing.Directed.{Directed}
+use Rattle.driver_core.specs.declared.directing.Target.{Target}
+use Rattle.driver_core.specs.Directing.{directed, recalled, with_destination, without_destination}
 use Rattle.driver_core.specs.Draft.{Draft}
 use Rattle.driver_core.specs.declared.event.Event.{Event}
 use Rattle.driver_core.specs.declared.event.Event.TheVariants.{Attach, Command, Reload, Setup, Tick}
@@ -16,7 +19,7 @@ use Rattle.driver_core.specs.Commands.{heard, at_request}
 use Rattle.driver_core.specs.Conduct.{conduct, drafted}
 use Rattle.driver_core.specs.Counting.{counted, valued, uncounted}
 use Rattle.driver_core.specs.Draft.{answered, told, replied, replied_opening, refused}
-use Rattle.driver_core.specs.Publishing.{opening_of, published, with_publication}
+use Rattle.driver_core.specs.Publishing.{opening_of, published, with_directed_publication, with_publication}
 use Rattle.driver_core.specs.Reloading.{reloaded}
 use Rattle.driver_core.specs.Renewal.{renewed, source_at}
 use Rattle.driver_core.specs.Requests.{wanted_by}
@@ -25,7 +28,7 @@ use Rattle.driver_core.specs.Soundness.{Ascend, IsSound}
 use Rattle.driver_core.specs.State.{State, at_moment}
 use Rattle.driver_core.specs.Subscribing.{subscribed}
 use Rattle.driver_core.specs.Terminating.{terminated}
-use Rattle.driver_core.specs.Ticking.{tick, ticked}
+use Rattle.driver_core.specs.Ticking.{closed_past, tick, ticked}
 use Rattle.driver_core.specs.Unpublishing.{unpublished}
 use Rattle.driver_core.specs.Unread.{dropping, without_unread}
 use Rattle.driver_core.specs.Unsubscribing.{unsubscribed}
@@ -129,6 +132,16 @@ value_brings : (event : Event) (s : State) (client : Client) (correlation : ℕ)
 unfolding valued replied told
 value_brings event s client correlation fields = tt
 
+destination_brings : (event : Event) (s : State) (client : Client) (correlation : ℕ) (granted : Directed) →
+    Brought event (directed s client correlation granted)
+unfolding directed with_destination replied told
+destination_brings event s client correlation granted = tt
+
+destination_removal_brings : (event : Event) (s : State) (client : Client) (correlation : ℕ) (target : Target) →
+    Brought event (recalled s client correlation target)
+unfolding recalled without_destination replied told
+destination_removal_brings event s client correlation target = tt
+
 counter_removal_brings : (event : Event) (s : State) (client : Client) (correlation number : ℕ) →
     Brought event (uncounted s client correlation number)
 unfolding uncounted told
@@ -158,7 +171,7 @@ unfolding terminated replied told
 termination_brings event s client correlation = tt
 
 tick_brings : (event : Event) (s : State) (silent : List ℕ) → Brought event (tick s silent)
-unfolding tick ticked
+unfolding tick ticked closed_past
 tick_brings event s silent = tt
 
 -- ---- drafts that open a log
@@ -166,7 +179,7 @@ tick_brings event s silent = tt
 publication_brings : (event : Event) (s : State) (client : Client) (correlation : ℕ) (wanted : Wanted) (adding : Adding) →
     terms_brought event ≡ None → Ascend 0 s.last_number s.streams.sources →
     Brought event (published s client correlation wanted adding)
-unfolding published replied_opening replied told opening_of with_publication
+unfolding published replied_opening replied told opening_of with_directed_publication with_publication
 publication_brings event s client correlation wanted (Join source session) none up = tt
 publication_brings event s client correlation wanted (Make session) none up =
     All-push (IsBrought event (s.last_number + 1)) s.streams.sources _ (none_next event 0 s.last_number s.streams.sources up)
@@ -213,6 +226,10 @@ command_brings event s now handle bytes none up =
       removal = λ request was_heard asks.
           removal_brings event at request.client request.correlation request.fields.registration;
       keepalive = λ was_heard. keepalive_brings event at;
+      destination = λ request number was_heard asks allows manual is.
+          destination_brings event at request.client request.correlation _;
+      destination_removal = λ client correlation fields target was_heard asks is.
+          destination_removal_brings event at client correlation target;
       counter = λ client correlation fields was_heard asks allows room. counter_brings event at client correlation fields;
       value = λ client correlation fields was_heard asks. value_brings event at client correlation fields;
       counter_removal = λ client correlation fields was_heard asks.

@@ -3,6 +3,9 @@ use Rattle.std.proofs.Common.{◌≡◌, ℕ, ℤ, ◌+◌, ◌≤◌, Bool, tru
 use Rattle.std.specs.List.{All}
 use Rattle.std.proofs.lemmas.Bool.{and_parts}
 use Rattle.std.proofs.lemmas.List.Elements.{All-filter, All-map, All-nil, All-push, All-weaker}
+use Rattle.driver_core.specs.declared.directing.Directed.{Directed}
+use Rattle.driver_core.specs.declared.directing.Target.{Target}
+use Rattle.driver_core.specs.Directing.{directed, recalled, with_destination, without_destination}
 use Rattle.driver_core.specs.Draft.{Draft}
 use Rattle.driver_core.specs.declared.event.Event.{Event}
 use Rattle.driver_core.specs.declared.event.Event.TheVariants.{Attach, Command, Reload, Setup, Tick}
@@ -16,7 +19,7 @@ use Rattle.driver_core.specs.Conduct.{conduct, drafted, state_after}
 use Rattle.driver_core.specs.Counting.{counted, with_counter, valued, uncounted}
 use Rattle.driver_core.specs.Draft.{answered, told, replied, replied_opening, refused}
 use Rattle.driver_core.specs.Leaving.{left, all_left}
-use Rattle.driver_core.specs.Publishing.{published, with_publication}
+use Rattle.driver_core.specs.Publishing.{published, with_directed_publication, with_publication}
 use Rattle.driver_core.specs.Reloading.{in_force, reloaded}
 use Rattle.driver_core.specs.Renewal.{renewed}
 use Rattle.driver_core.specs.Requests.{wanted_by}
@@ -25,7 +28,7 @@ use Rattle.driver_core.specs.Soundness.{Ascend, IsSound}
 use Rattle.driver_core.specs.State.{State, at_moment}
 use Rattle.driver_core.specs.Subscribing.{subscribed, with_subscription}
 use Rattle.driver_core.specs.Terminating.{stopped_for_good, terminated}
-use Rattle.driver_core.specs.Ticking.{late, tick, ticked}
+use Rattle.driver_core.specs.Ticking.{closed_past, late, tick, ticked}
 use Rattle.driver_core.specs.Unpublishing.{unpublished}
 use Rattle.driver_core.specs.Unread.{dropping, without_unread}
 use Rattle.driver_core.specs.Unsubscribing.{unsubscribed}
@@ -232,6 +235,16 @@ value_registers : (s : State) (client : Client) (correlation : ℕ) (fields : Se
 unfolding valued replied told
 value_registers s client correlation fields registered = registered
 
+destination_registers : (s : State) (client : Client) (correlation : ℕ) (granted : Directed) → AreRegistered s →
+    Registers (directed s client correlation granted)
+unfolding directed with_destination replied told
+destination_registers s client correlation granted registered = registered
+
+destination_removal_registers : (s : State) (client : Client) (correlation : ℕ) (target : Target) → AreRegistered s →
+    Registers (recalled s client correlation target)
+unfolding recalled without_destination replied told
+destination_removal_registers s client correlation target registered = registered
+
 counter_removal_registers : (s : State) (client : Client) (correlation number : ℕ) → AreRegistered s →
     Registers (uncounted s client correlation number)
 unfolding uncounted told
@@ -277,7 +290,7 @@ unfolding terminated stopped_for_good
 termination_registers s client correlation = All-nil _
 
 tick_registers : (s : State) (silent : List ℕ) → AreRegistered s → Registers (tick s silent)
-unfolding tick ticked closed
+unfolding tick ticked closed_past closed
 tick_registers s silent registered =
     let after : State = all_left s (late s) in
     kept_move after.last_number (stays_live after.moment silent) after.streams.sources after.streams.registrations
@@ -286,7 +299,7 @@ tick_registers s silent registered =
 publication_registers : (s : State) (client : Client) (correlation : ℕ) (wanted : Wanted) (adding : Adding) →
     IsJoined s.last_number s.streams.sources adding → Ascend 0 s.last_number s.streams.sources → AreRegistered s →
     Registers (published s client correlation wanted adding)
-unfolding published replied_opening replied told with_publication
+unfolding published replied_opening replied told with_directed_publication with_publication
 publication_registers s client correlation wanted (Join source session) is up registered =
     All-push (IsWith (s.last_number + 1) s.streams.sources) s.streams.registrations _
     (drawn_registers s.last_number s.streams.sources s.streams.registrations registered)
@@ -345,6 +358,10 @@ command_registers s now handle bytes up registered =
       removal = λ request was_heard asks.
           removal_registers at request.client request.correlation request.fields.registration there;
       keepalive = λ was_heard. keepalive_registers at there;
+      destination = λ request number was_heard asks allows manual is.
+          destination_registers at request.client request.correlation _ there;
+      destination_removal = λ client correlation fields target was_heard asks is.
+          destination_removal_registers at client correlation target there;
       counter = λ client correlation fields was_heard asks allows room.
           counter_registers at client correlation fields there;
       value = λ client correlation fields was_heard asks. value_registers at client correlation fields there;

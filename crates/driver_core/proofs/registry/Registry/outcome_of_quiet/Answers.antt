@@ -7,4 +7,4 @@ pub returns : goal.returns
 returns c =
     λ inputs.
     rw (request_kept c.args.self.now c.args.asking.now c.args.asking.handle inputs c.args.asking.client c.args.command.now
-    c.requires) (search rules)
+    c.requires.quiet) (search rules)
