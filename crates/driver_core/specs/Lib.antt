@@ -23,6 +23,7 @@ pub mod Reloading
 pub mod Renewal
 pub mod Replies
 pub mod Requests
+pub mod SendRequests
 pub mod SettingUp
 pub mod Settings
 pub mod Soundness

@@ -8,7 +8,7 @@
 //!
 //! `Registry::list` and `Registry::value` show a client counters, `Registry::offering` and `Registry::receiving` say what it
 //! asks of a log, `Registry::image_for` which image a datagram is for, `Registry::publication_for` and `Registry::resending`
-//! which publication, and who may have frames of it again. None of them changes anything.
+//! which publication, and who may have frames of it again, and `Registry::outlets` where the datagrams of one go. None of them changes anything.
 #![tactic(auto)]
 
 mod asking;
@@ -40,6 +40,7 @@ mod registry;
 mod reloading;
 mod renewal;
 mod replies;
+mod send_request;
 mod setting_up;
 mod settings;
 mod setup_fault;
@@ -65,6 +66,7 @@ pub use received::Received;
 pub use refusal::Refusal;
 pub use registry::Registry;
 pub use replies::{Message, Reply};
+pub use send_request::Outlet;
 pub use settings::Settings;
 pub use setup_fault::SetupFault;
 pub use view::View;

@@ -45,7 +45,7 @@ fn principal_at(peers: &[Peer], address: &Address) -> u32
 
 impl Registry {
     /// What the policy in force decides on an act of a principal on the log of this number.
-    fn log_decision(
+    pub(crate) fn log_decision(
         &self,
         principal: u32,
         act: Act,

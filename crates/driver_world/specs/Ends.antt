@@ -25,7 +25,7 @@ use Rattle.driver_world.specs.declared.answer.Offered.TheVariants.{Closed}
 use Rattle.driver_world.specs.declared.cause.Cause.{Cause}
 use Rattle.driver_world.specs.declared.cause.Cause.TheVariants.{Astray as IsAstray, Unread}
 use Rattle.driver_world.specs.declared.step.Step.{Step}
-use Rattle.driver_world.specs.declared.step.Step.TheVariants.{Conductor, Packet, Offer, Poll, Image, List as Lists, Value}
+use Rattle.driver_world.specs.declared.step.Step.TheVariants.{Conductor, Packet, Offer, Poll, Send, Image, List as Lists, Value}
 use Rattle.driver_world.specs.Answers.{answer_of, answer_listed, answer_shown}
 use Rattle.driver_core.specs.Readers.{readers_of}
 use Rattle.driver_world.specs.Held.{is_closed}
@@ -35,6 +35,7 @@ use Rattle.driver_world.specs.Receiving.{beat_move, receive_move, unheard}
 use Rattle.driver_world.specs.Recovery.{recovering}
 use Rattle.driver_world.specs.Hearing.{nak_move, status_move}
 use Rattle.driver_world.specs.Reporting.{report_move}
+use Rattle.driver_world.specs.Sending.{send_move}
 use Rattle.channel_uri.specs.declared.address.Address.{Address}
 use Rattle.frame_codec.specs.declared.fault.BadPacket.{BadPacket}
 use Rattle.frame_codec.specs.declared.header.TermPlace.{TermPlace}
@@ -204,6 +205,7 @@ moved e (Offer now client registration message) =
     on_offered e now client registration message (offering_of e.registry client registration)
 moved e (Poll now client subscription source limit) =
     on_log e source (poll_move e.registry client subscription limit) IsGone
+moved e (Send now source) = on_log e source (send_move e.registry now) IsGone
 moved e (Image now source) = on_report e now source (publisher_of e.registry source)
 moved e (Lists now client) = record { after = e; answer = answer_listed (list e.registry client) }
 moved e (Value now client number) = record { after = e; answer = answer_shown (value e.registry client number) }

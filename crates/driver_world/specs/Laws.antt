@@ -24,7 +24,7 @@ use Rattle.driver_world.specs.declared.answer.Answer.{Answer}
 use Rattle.driver_world.specs.declared.answer.Answer.TheVariants.{NoMemory, Offered as OfferedAs, Polled, Gone as IsGone, Denied}
 use Rattle.driver_world.specs.declared.answer.Offered.TheVariants.{At, Closed, TooLong, NotConnected}
 use Rattle.driver_world.specs.declared.step.Step.{Step}
-use Rattle.driver_world.specs.declared.step.Step.TheVariants.{Conductor, Packet, Offer, Poll, Image, List as Lists, Value}
+use Rattle.driver_world.specs.declared.step.Step.TheVariants.{Conductor, Packet, Offer, Poll, Send, Image, List as Lists, Value}
 use Rattle.driver_world.specs.Answers.{answer_of, answer_listed, answer_shown, offered_as}
 use Rattle.driver_world.specs.Ends.{RunEnd, Moved, opening_end, inputs_of, log_at, with_log, moved, after, IsAnswer, AreAnswers, end_of}
 use Rattle.driver_core.specs.Readers.{readers_of}
@@ -76,6 +76,7 @@ event_of e (Conductor event) = event_at e event
 event_of e (Packet now local from bytes) = event_in e now local from (packet_of bytes)
 event_of e (Offer now client registration message) = []
 event_of e (Poll now client subscription source limit) = []
+event_of e (Send now source) = []
 event_of e (Image now source) = []
 event_of e (Lists now client) = []
 event_of e (Value now client number) = []

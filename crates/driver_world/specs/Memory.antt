@@ -2,9 +2,9 @@
 use Rattle.std.specs.Prelude.{◌≡◌, ℕ, Bool, true, false, List, [], ◌∷◌, Option, Some, None, Result, Ok}
 use Rattle.any_log.specs.Reporting.{are_some}
 use Rattle.driver_world.specs.declared.answer.Answer.{Answer}
-use Rattle.driver_world.specs.declared.answer.Answer.TheVariants.{NoMemory, Polled, Received, Reported, Resent}
+use Rattle.driver_world.specs.declared.answer.Answer.TheVariants.{NoMemory, Polled, Received, Reported, Resent, Sent}
 use Rattle.driver_world.specs.declared.step.Step.{Step}
-use Rattle.driver_world.specs.declared.step.Step.TheVariants.{Conductor, Packet, Offer, Poll, Image, List as Lists, Value}
+use Rattle.driver_world.specs.declared.step.Step.TheVariants.{Conductor, Packet, Offer, Poll, Send, Image, List as Lists, Value}
 use Rattle.driver_world.specs.Ends.{RunEnd, moved, on_packet, after}
 use Rattle.driver_world.specs.Held.{HeldLog, HeldLogs, held_at}
 use Rattle.driver_world.specs.Moves.{WholeLog, Move, StandsForLog}
@@ -16,6 +16,7 @@ abbrev pub is_listed : Answer → Bool
 is_listed (Polled fragments) = true
 is_listed (Received words) = true
 is_listed (Resent to datagrams) = true
+is_listed (Sent bytes outlets) = true
 is_listed (Reported to datagrams) = are_some datagrams
 is_listed answer = false
 
@@ -25,13 +26,15 @@ packet_takes answer (Ok (setup fields)) = true
 packet_takes answer read = is_listed answer
 
 -- an event, a look at all counters, a poll that is neither gone nor denied, data that comes to its image, a NAK by which
--- frames are sent again, and a turn of the receiver in which something is due; an offer and a look at one counter take none
+-- frames are sent again, and a turn of the sender or the receiver in which something is due; an offer and a look at one
+-- counter take none
 abbrev pub takes_memory : RunEnd → Step → Bool
 takes_memory e (Conductor event) = true
 takes_memory e (Packet now local from bytes) =
     packet_takes (on_packet e now local from (packet_of bytes)).answer (packet_of bytes)
 takes_memory e (Offer now client registration message) = false
 takes_memory e (Poll now client subscription source limit) = is_listed (moved e (Poll now client subscription source limit)).answer
+takes_memory e (Send now source) = is_listed (moved e (Send now source)).answer
 takes_memory e (Image now source) = is_listed (moved e (Image now source)).answer
 takes_memory e (Lists now client) = true
 takes_memory e (Value now client number) = false

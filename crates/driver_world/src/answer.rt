@@ -4,7 +4,7 @@ ghost use Rattle.std.specs.Prelude.{◌≡◌};
 use crate::cause::Cause;
 use any_log::Fragment;
 use byte_strings::{Bytes, Items};
-use driver_core::{Address, Listed, ListedCounter, Message, Outcome, Response, Shown};
+use driver_core::{Address, Listed, ListedCounter, Message, Outcome, Outlet, Response, Shown};
 use image_log::Insert;
 use policy_core::Verdict;
 use term_log::Offer;
@@ -33,7 +33,7 @@ pub enum Offered {
 pub enum Answer {
     /// There was no memory for the step, and it changed nothing. Only an event, a look at all counters, a poll that is
     /// neither gone nor denied, a datagram of data that came to its image, a NAK by which frames are sent again and a turn of
-    /// the receiver in which something is due are answered so.
+    /// the sender or the receiver in which something is due are answered so.
     NoMemory,
     /// A client is attached, under this id.
     Attached(u64),
@@ -64,6 +64,14 @@ pub enum Answer {
     Limited(u64),
     /// A status message came to its publication and asks for a SETUP.
     Elicited,
+    /// No datagram of the publication is due.
+    Idle,
+    /// The sender cut a datagram.
+    Sent {
+        bytes: Bytes,
+        /// The destinations of the publication, in the order in which they were named, and whether it goes there.
+        outlets: Items<Outlet>,
+    },
     /// Frames are sent again on a NAK.
     Resent {
         /// Where they go: to who asks, and to nobody else.
@@ -86,7 +94,8 @@ pub enum Answer {
     Offered(Offered),
     /// The fragments that were polled, in their order.
     Polled(Items<Fragment>),
-    /// The client's subscription does not read that log; or there is no image of that number.
+    /// The client's subscription does not read that log; or there is no publication
+    /// over datagrams, or no image, of that number.
     Gone,
     /// The counters that the client may see, by their numbers. One that it may not see is not told from one that is not
     /// there.

@@ -23,6 +23,7 @@ mod receiving;
 mod recovery;
 mod reporting;
 mod resending;
+mod sending;
 mod step;
 mod world;
 
@@ -37,5 +38,6 @@ pub use laws::{
 pub use offering::offer_step;
 pub use open_log::OpenLog;
 pub use polling::poll_step;
+pub use sending::send_step;
 pub use step::Step;
 pub use world::World;

@@ -13,6 +13,7 @@ ghost use Rattle.driver_world.specs.Moves.{MovesFirst, offer_move, poll_move};
 ghost use Rattle.driver_world.specs.Plots.{IsLeastVacant, taken_pages};
 ghost use Rattle.driver_world.specs.Receiving.{beat_move, receive_move, unheard};
 ghost use Rattle.driver_world.specs.Reporting.{report_move};
+ghost use Rattle.driver_world.specs.Sending.{send_move};
 ghost use Rattle.frame_codec.specs.Frames.{frames_left};
 ghost use Rattle.image_log.specs.Rebuilt.{opened};
 ghost use Rattle.log_arena.specs.Pages.{holes_of};
@@ -31,6 +32,7 @@ use crate::receiving::{beat_step, receive_step};
 use crate::recovery::Recovery;
 use crate::reporting::report_step;
 use crate::resending::nak_step;
+use crate::sending::send_step;
 use any_log::AnyLog;
 use driver_core::{Address, Astray, Registry, View};
 use frame_codec::{Frames, Nak, StatusMessage, TermPlace};
@@ -321,6 +323,24 @@ impl OpenLogs {
             return Ok(Answer::Dropped(Cause::Astray(Astray::NoStream)));
         };
         nak_step(&mut self.logs[at], alloc, now, from, nak, decision)
+    }
+
+    /// The sender has a turn with the first log of that source, as [`send_step`] says.
+    pub(crate) fn send<V: View>(
+        &mut self,
+        view: &V,
+        alloc: Global,
+        source: u64,
+        now: u64,
+    ) -> Result<Answer, AllocError>
+        ensures moved { IfOk result (λ answer. MovesFirst source (send_move (V.shows view.now) now) Gone self.old self.new answer) }
+        ensures err { OnErr result (self.new ≡ self.old) }
+        ensures without_memory { OnErr result (GivesFirst source (send_move (V.shows view.now) now) self.old) }
+    {
+        let Some(at) = place_of(self.logs.as_slice(), source) else {
+            return Ok(Answer::Gone);
+        };
+        send_step(view, &mut self.logs[at], alloc, now)
     }
 
     /// The receiver of that id has a turn with the first log of that source, as [`report_step`] says.

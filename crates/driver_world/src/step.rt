@@ -35,6 +35,12 @@ pub enum Step {
         /// How many fragments it takes at most.
         limit: u32,
     },
+    /// The sender has a turn with a publication: it sends one datagram, if one is due.
+    Send {
+        now: u64,
+        /// The source number of the publication.
+        source: u64,
+    },
     /// The receiver has a turn with an image: it tells the image's publisher what is due.
     Image {
         now: u64,

@@ -99,7 +99,7 @@ impl World {
     ghost use Rattle.driver_world.specs.Ends.{on_asked, on_frames, on_stream, on_told, opening_end};
     ghost use Rattle.driver_world.specs.Receiving.{beat_move};
     ghost use Rattle.driver_world.specs.Standing.{StandsForEnd, Serves, ServesAs, Takes, Runs, Continues, pages_of_logs};
-    ghost use Rattle.driver_world.specs.declared.step.Step.TheVariants.{Conductor, Packet as Packets, Offer, Poll, Image, List as Lists, Value};
+    ghost use Rattle.driver_world.specs.declared.step.Step.TheVariants.{Conductor, Packet as Packets, Offer, Poll, Send, Image, List as Lists, Value};
     ghost use Rattle.log_arena.specs.Pages.{holes_of};
 
     /// A world in which nothing happened yet.
@@ -217,6 +217,16 @@ impl World {
             .logs
             .nak(alloc, request.source, now, from, nak, &request.decision)
         {
+            Ok(answer) => answer,
+            Err(_) => Answer::NoMemory,
+        }
+    }
+
+    /// The sender has a turn with a publication.
+    fn send(&mut self, alloc: Global, now: u64, source: u64) -> Answer
+        ensures { Serves self.old self.new (Send now source) result }
+    {
+        match self.logs.send(&self.registry, alloc, source, now) {
             Ok(answer) => answer,
             Err(_) => Answer::NoMemory,
         }
@@ -346,6 +356,7 @@ impl World {
                 source,
                 limit,
             } => self.poll(alloc, *now, *client, *subscription, *source, *limit),
+            Step::Send { now, source } => self.send(alloc, *now, *source),
             Step::Image { now, source } => self.report(alloc, *now, *source),
             Step::List { now, client } => self.list(alloc, *now, *client),
             Step::Value {

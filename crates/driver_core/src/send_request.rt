@@ -1,0 +1,96 @@
+ghost use Rattle.destinations.specs.Destinations.{of};
+ghost use Rattle.driver_core.specs.PublicationRequests.{log_decision};
+ghost use Rattle.driver_core.specs.SendRequests.{outlet_of, outlets_of, sending_of};
+ghost use Rattle.policy_core.specs.declared.act.Act.TheVariants.{Send};
+ghost use Rattle.std.specs.Prelude.{◌≡◌, IfOk, map};
+
+use crate::registry::Registry;
+use byte_strings::Items;
+use channel_uri::{Address, Channel, Media, Place};
+use destinations::Destination;
+use policy_core::{Act, Decision};
+use std::alloc::{AllocError, Global};
+use stream_registry::Source;
+
+/// Where a datagram of a publication goes, and whether it may.
+#[derive(Clone, Copy, Debug, PartialEq, Eq)]
+pub struct Outlet {
+    pub to: Address,
+    /// What the policy in force says of sending there, on the destination of that number.
+    pub decision: Decision,
+}
+
+impl Registry {
+    /// Whether the publication over datagrams of this number lingers. `None` where there is no such publication. It takes no
+    /// memory.
+    #[tactic(auto, unfolding(crate::specs::SendRequests::sending_of))]
+    pub fn sending(&self, source: u64) -> Option<bool>
+        ensures { result ≡ sending_of self.now source }
+    {
+        let log = self.source(source)?;
+        if log.is_published() && log.channel.media() == Media::Udp {
+            Some(log.lingering_since().is_some())
+        } else {
+            None
+        }
+    }
+
+    /// What the policy in force says of sending a datagram of the log to a destination of that channel.
+    fn send_decision(&self, log: &Source, destination: &Destination, channel: &Channel) -> Decision
+        ensures { result ≡ log_decision self.now destination.now.principal Send destination.now.number channel.now log.now.stream }
+    {
+        self.log_decision(
+            destination.principal,
+            Act::Send,
+            destination.number,
+            channel,
+            log.stream,
+        )
+    }
+
+    /// What the policy in force says of sending a datagram of the log to that destination: of an address that was named by
+    /// hand its channel is asked, else the log's own.
+    #[tactic(auto, unfolding(stream_registry::specs::Places::is_manual))]
+    fn outlet(&self, log: &Source, destination: &Destination) -> Outlet
+        ensures { result ≡ outlet_of self.now log.now destination.now }
+    {
+        let decision = if let Some(Place::Manual) = log.channel.place() {
+            let channel = Channel::at_endpoint(&destination.address);
+            self.send_decision(log, destination, &channel)
+        } else {
+            self.send_decision(log, destination, &log.channel)
+        };
+        Outlet {
+            to: destination.address,
+            decision,
+        }
+    }
+
+    /// That for each destination of the log.
+    fn outlets_to(&self, alloc: Global, log: &Source) -> Result<Items<Outlet>, AllocError>
+        ensures { IfOk result (λ outlets. outlets ≡ map (outlet_of self.now log.now) (of self.now.destinations.rows log.now.number)) }
+    {
+        let mut outlets = Items::new(alloc);
+        for destination in self.destinations.rows() {
+            if destination.source == log.number {
+                outlets.push(self.outlet(log, destination))?;
+            }
+        }
+        Ok(outlets)
+    }
+
+    /// Where the datagrams of the publication of this number go, in the order in which its destinations were named, and
+    /// whether they may.
+    ///
+    /// # Errors
+    /// Where there is no memory for the list.
+    #[tactic(auto, unfolding(crate::specs::SendRequests::outlets_of))]
+    pub fn outlets(&self, alloc: Global, source: u64) -> Result<Items<Outlet>, AllocError>
+        ensures { IfOk result (λ outlets. outlets ≡ outlets_of self.now source) }
+    {
+        match self.source(source) {
+            Some(log) => self.outlets_to(alloc, log),
+            None => Ok(Items::new(alloc)),
+        }
+    }
+}
