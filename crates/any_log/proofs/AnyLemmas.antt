@@ -12,6 +12,7 @@ use Rattle.image_log.specs.Log.{Log as ImageLog}
 use Rattle.image_log.specs.Polling.{polled, polled_from}
 use Rattle.image_log.specs.Rebuilt.{Rebuilt, contiguous_of, is_silent, settled, rejoined as image_rejoined}
 use Rattle.image_receiver.specs.Receiving.{after_beat, after_data, after_frame, after_frames}
+use Rattle.image_receiver.specs.Receiver.{Receiving, after_status, log_after}
 use Rattle.image_receiver.proofs.ReceivingLemmas.{ident_stays}
 use Rattle.log_pairs.specs.Pairs.{moved_one, position_of}
 use Rattle.log_pairs.specs.declared.pair.Pair.{Pair}
@@ -42,6 +43,14 @@ data_ident r now frames = frames_ident r frames
 pub beat_ident : (r : Rebuilt) (now : ℕ) (place : TermPlace) → (after_beat r now place).ident ≡ r.ident
 unfolding after_beat
 beat_ident r now place = refl
+
+status_ident : (b : Bool) (r s : Rebuilt) → s.ident ≡ r.ident → (cond b s r).ident ≡ r.ident
+status_ident true r s same = same
+status_ident false r s same = refl
+
+pub report_ident : (receiver : Receiving) (r : Rebuilt) (now : ℕ) → (log_after receiver r now).ident ≡ r.ident
+unfolding after_status
+report_ident receiver r now = status_ident _ r _ refl
 
 -- ---- a log whose stream is left lies where it lay
 

@@ -13,6 +13,7 @@ use Rattle.any_log.specs.declared.any_log.AnyLog.{AnyLog}
 use Rattle.any_log.specs.Held.{Lies, rejoined_held as rejoined_any}
 use Rattle.any_log.proofs.AnyLemmas.{rejoined_lies}
 use Rattle.driver_world.proofs.MoveLemmas.{held_lies}
+use Rattle.driver_world.specs.Recovery.{Recovering}
 use Rattle.driver_world.specs.Held.{HeldLog, LiesAsBefore, plot_of, plots_of}
 use Rattle.driver_world.specs.Plots.{Plot, has_page, is_taken, IsVacant, IsLeastVacant, LiesIn, ShareNoPage, AreHoused}
 use Rattle.log_arena.specs.Homes.{Home}
@@ -157,10 +158,10 @@ housed_set region logs at log alike housed =
     subst (AreHoused region) (sym (map-set_same plot_of logs at log log (alike log).plot_is)) housed
 
 -- others read it now
-pub readers_lie : (source : ℕ) (subscriptions : List ℕ) (old new : AnyLog) → new ≡ rejoined_any subscriptions old
-    → LiesAsBefore (record { source = source; log = old }) (record { source = source; log = new })
-readers_lie source subscriptions old new is =
-    held_lies source old new (subst (λ (l : AnyLog). Lies old l) (sym is) (rejoined_lies subscriptions old))
+pub readers_lie : (source : ℕ) (kept : Recovering) (subscriptions : List ℕ) (old new : AnyLog) → new ≡ rejoined_any subscriptions old
+    → LiesAsBefore (record { source = source; log = old; recovery = kept }) (record { source = source; log = new; recovery = kept })
+readers_lie source kept subscriptions old new is =
+    held_lies source kept kept old new (subst (λ (l : AnyLog). Lies old l) (sym is) (rejoined_lies subscriptions old))
 
 -- ---- a log closes
 

@@ -17,6 +17,7 @@ use Rattle.frame_codec.specs.Join.{join_of}
 use Rattle.driver_core.specs.Renewal.{source_at}
 use Rattle.driver_core.specs.Soundness.{AreSizes, Ascend, BeginsSoundly, MovesLogs, Opens, log_of}
 use Rattle.driver_core.specs.State.{State}
+use Rattle.driver_world.specs.Recovery.{Recovering, recovering}
 use Rattle.driver_world.specs.Held.{HeldLog, HeldLogs, IsOpening, OpensFor, is_closed, is_kept, plot_on, plots_of, rejoined_held}
 use Rattle.driver_world.specs.Idents.{begins_by, begins_of, made_by, made_of}
 use Rattle.driver_world.specs.Bringing.{Brings, BringsAt, image_terms, image_terms_by, terms_brought, terms_by}
@@ -228,11 +229,11 @@ adds_none settings old new opened new_is none = record {
   rows = sym (ap (map (row_for settings)) none);
 }
 
-row_is : (settings : Settings) (place : ℕ) (found log : Source) (l : AnyLog) → log_of found ≡ log → place ≡ log.place
+row_is : (settings : Settings) (place : ℕ) (found log : Source) (l : AnyLog) (kept : Recovering) → log_of found ≡ log → place ≡ log.place
     → made_held l ≡ made_of settings found → (place_held l).place ≡ 4096 * place
     → (place_held l).term_length ≡ found.measures.term_length
-    → row_held (record { source = found.number; log = l }) ≡ row_for settings log
-row_is settings place found log l same place_is made at terms =
+    → row_held (record { source = found.number; log = l; recovery = kept }) ≡ row_for settings log
+row_is settings place found log l kept same place_is made at terms =
     let there : (place_held l).place ≡ 4096 * log.place = at ∙ ap (λ n. 4096 * n) place_is in
     ap₂ (λ (p t : ℕ). let row : LogRow = record { source = found.number; place = p; term_length = t; made = made_held l } in row) there terms
     ∙ ap (λ (m : Made). let row : LogRow = record { source = found.number; place = 4096 * log.place; term_length = found.measures.term_length; made = m } in row)
@@ -251,10 +252,10 @@ adds_one after old new place (Some found) log opened is place_is one opens =
     let made : made_for (begins_of settings after.moment found) ≡ made_of settings found =
     begins_made settings after.moment found found.origin in
     record {
-      logs = record { source = found.number; log = opens.log } ∷ [];
+      logs = record { source = found.number; log = opens.log; recovery = recovering settings } ∷ [];
       new_is = opens.new_is;
       rows = ap (λ (row : LogRow). row ∷ [])
-          (row_is settings place found log opens.log same place_is
+          (row_is settings place found log opens.log (recovering settings) same place_is
           (made_stands opens.log (begins_of settings after.moment found) opens.stands ∙ made) opens.place_is
           (opens.terms_are ∙ ap terms_of made ∙ made_terms settings found found.origin))
           ∙ sym (ap (map (row_for settings)) one);

@@ -11,10 +11,10 @@ use Rattle.driver_core.specs.declared.replies.Message.{Message}
 use Rattle.driver_core.specs.LogRequests.{offering_of, receiving_of}
 use Rattle.driver_core.specs.State.{State}
 use Rattle.driver_world.specs.declared.answer.Answer.{Answer}
-use Rattle.driver_world.specs.declared.answer.Answer.TheVariants.{NoMemory, Attached, Full, Stopped, PolicyInForce, PolicyFull, Imaged, Dropped, Replies, Offered as OfferedAs, Polled, Gone as IsGone, Counters, Value as ValueIs, Denied, UnknownCounter, WrongClient, Received, Heard}
+use Rattle.driver_world.specs.declared.answer.Answer.TheVariants.{NoMemory, Attached, Full, Stopped, PolicyInForce, PolicyFull, Imaged, Dropped, Replies, Offered as OfferedAs, Polled, Gone as IsGone, Counters, Value as ValueIs, Denied, UnknownCounter, WrongClient, Received, Heard, Limited, Elicited, Resent, Reported}
 use Rattle.driver_world.specs.declared.answer.Offered.TheVariants.{Closed}
 use Rattle.driver_world.specs.declared.step.Step.{Step}
-use Rattle.driver_world.specs.declared.step.Step.TheVariants.{Conductor, Packet, Offer, Poll}
+use Rattle.driver_world.specs.declared.step.Step.TheVariants.{Conductor, Packet, Offer, Poll, Image}
 use Rattle.driver_world.specs.declared.cause.Cause.{Cause}
 use Rattle.driver_world.specs.declared.cause.Cause.TheVariants.{Astray as IsAstray, Unread}
 use Rattle.driver_core.specs.declared.event.Event.TheVariants.{Setup as SetUp}
@@ -24,7 +24,6 @@ use Rattle.driver_core.specs.ImageRequests.{image_for}
 use Rattle.driver_world.specs.Receiving.{beat_move, receive_move, unheard}
 use Rattle.channel_uri.specs.declared.address.Address.{Address}
 use Rattle.frame_codec.specs.declared.fault.BadPacket.{BadPacket}
-use Rattle.frame_codec.specs.declared.fault.BadPacket.TheVariants.{OtherType}
 use Rattle.frame_codec.specs.declared.header.Header.{Header}
 use Rattle.frame_codec.specs.declared.header.TermPlace.{TermPlace}
 use Rattle.frame_codec.specs.declared.nak.Nak.{Nak}
@@ -32,8 +31,15 @@ use Rattle.frame_codec.specs.declared.setup.Setup.{Setup}
 use Rattle.frame_codec.specs.declared.status_message.StatusMessage.{StatusMessage}
 use Rattle.frame_codec.specs.Datagram.{frames, beat, nak, status, setup, packet_of}
 use Rattle.frame_codec.specs.Frame.{Sent}
+use Rattle.any_log.specs.declared.asking.NakReply.{NakReply}
+use Rattle.any_log.specs.declared.asking.NakReply.TheVariants as replies
+use Rattle.driver_core.specs.PublicationRequests.{publication_for, resending_of}
+use Rattle.driver_world.specs.Hearing.{answer_asked, answer_heard}
+use Rattle.driver_world.specs.Reporting.{answer_reported}
+use Rattle.publication_sender.specs.declared.hearing.StatusAnswer.{StatusAnswer}
+use Rattle.publication_sender.specs.declared.hearing.StatusAnswer.TheVariants as statuses
 use Rattle.driver_world.specs.Answers.{answered_by, answer_of}
-use Rattle.driver_world.specs.Ends.{RunEnd, Moved, IsAnswerOf, AreAnswers, after, after_by, dropped, end_of, moved, moved_on, on_frames, on_log, on_stream, log_at, conducted}
+use Rattle.driver_world.specs.Ends.{RunEnd, Moved, IsAnswerOf, AreAnswers, after, after_by, dropped, end_of, moved, moved_on, on_asked, on_frames, on_log, on_stream, on_told, log_at, conducted}
 use Rattle.driver_world.specs.Held.{HeldLogs}
 use Rattle.driver_world.specs.Memory.{GivesFirst, HasMemoryBy, HaveMemory, is_listed, takes_memory}
 use Rattle.driver_world.specs.Moves.{WholeLog, Move, MovesFirst, offer_move, offer_to, offer_under, poll_move, poll_under}
@@ -55,6 +61,10 @@ IsTold PolicyFull = Unit {0}
 IsTold (Imaged number messages) = Unit {0}
 IsTold (Received words) = Unit {0}
 IsTold Heard = Unit {0}
+IsTold (Limited position) = Unit {0}
+IsTold Elicited = Unit {0}
+IsTold (Resent to datagrams) = Unit {0}
+IsTold (Reported to datagrams) = Unit {0}
 IsTold (Dropped fault) = Unit {0}
 IsTold (Replies messages) = Unit {0}
 IsTold (OfferedAs offered) = Unit {0}
@@ -78,6 +88,10 @@ told e what PolicyFull is_told is = (is, refl)
 told e what (Imaged number messages) is_told is = (is, refl)
 told e what (Received words) is_told is = (is, refl)
 told e what Heard is_told is = (is, refl)
+told e what (Limited position) is_told is = (is, refl)
+told e what Elicited is_told is = (is, refl)
+told e what (Resent to datagrams) is_told is = (is, refl)
+told e what (Reported to datagrams) is_told is = (is, refl)
 told e what (Dropped fault) is_told is = (is, refl)
 told e what (Replies messages) is_told is = (is, refl)
 told e what (OfferedAs offered) is_told is = (is, refl)
@@ -100,6 +114,10 @@ told_has takes PolicyFull is_told = tt
 told_has takes (Imaged number messages) is_told = tt
 told_has takes (Received words) is_told = tt
 told_has takes Heard is_told = tt
+told_has takes (Limited position) is_told = tt
+told_has takes Elicited is_told = tt
+told_has takes (Resent to datagrams) is_told = tt
+told_has takes (Reported to datagrams) is_told = tt
 told_has takes (Dropped fault) is_told = tt
 told_has takes (Replies messages) is_told = tt
 told_has takes (OfferedAs offered) is_told = tt
@@ -328,17 +346,86 @@ fault_served held now local from bytes fault is =
     served held held (Packet now local from bytes) (Dropped (Unread fault))
     (λ e stands. rw is (drop_stands held e (Unread fault) stands))
 
-pub nak_served : (held : Held) (now : ℕ) (local from : Address) (bytes : List ℕ) (fields : Nak) →
-    packet_of bytes ≡ Ok (nak fields) → Serves held held (Packet now local from bytes) (Dropped (Unread OtherType))
-nak_served held now local from bytes fields is =
-    served held held (Packet now local from bytes) (Dropped (Unread OtherType))
-    (λ e stands. rw is (drop_stands held e (Unread OtherType) stands))
+pub nak_served : (old new : Held) (now : ℕ) (local from : Address) (bytes : List ℕ) (fields : Nak) (answer : Answer) →
+    packet_of bytes ≡ Ok (nak fields) →
+    ServesAs old new (λ e. on_asked e now from fields (resending_of e.registry from fields.session_id fields.stream_id)) answer →
+    Serves old new (Packet now local from bytes) answer
+nak_served old new now local from bytes fields answer is serves = record {
+  on = λ e stands. rw is (serves.on e stands);
+  without_memory = λ e stands. rw is (serves.without_memory e stands);
+}
 
-pub status_served : (held : Held) (now : ℕ) (local from : Address) (bytes : List ℕ) (fields : StatusMessage) →
-    packet_of bytes ≡ Ok (status fields) → Serves held held (Packet now local from bytes) (Dropped (Unread OtherType))
-status_served held now local from bytes fields is =
-    served held held (Packet now local from bytes) (Dropped (Unread OtherType))
-    (λ e stands. rw is (drop_stands held e (Unread OtherType) stands))
+pub status_served : (old new : Held) (now : ℕ) (local from : Address) (bytes : List ℕ) (fields : StatusMessage) (answer : Answer) →
+    packet_of bytes ≡ Ok (status fields) →
+    ServesAs old new (λ e. on_told e now fields (publication_for e.registry fields.session_id fields.stream_id)) answer →
+    Serves old new (Packet now local from bytes) answer
+status_served old new now local from bytes fields answer is serves = record {
+  on = λ e stands. rw is (serves.on e stands);
+  without_memory = λ e stands. rw is (serves.without_memory e stands);
+}
+
+-- ---- what goes to the first log of a source, which the registry names
+
+-- for each end of that registry the step moves that log
+abbrev GoesTo : State → (RunEnd → Moved) → ℕ → (WholeLog → Move) → Answer → Type 0
+GoesTo registry what source move absent = (e : RunEnd) → registry ≡ e.registry → what e ≡ on_log e source move absent
+
+pub first_served : (registry : State) (old new : HeldLogs) (what : RunEnd → Moved) (source : ℕ) (move : WholeLog → Move)
+    (absent answer : Answer) → GoesTo registry what source move absent → IsTold absent →
+    ((log : WholeLog) → IsTold (move log).answer) → MovesFirst source move absent old new answer →
+    ServesAs (record { registry = registry; logs = old.logs }) (record { registry = registry; logs = new.logs }) what answer
+unfolding on_log
+first_served registry old new what source move absent answer goes none some moves =
+    served_as (record { registry = registry; logs = old.logs }) (record { registry = registry; logs = new.logs }) what answer
+    (λ e stands.
+    let made = moves_first e source move absent answer old new stands.logs moves in
+    let is_told : IsTold answer = rw made.0 (moved_told e source move absent (log_at e.logs source) none some) in
+    rw (goes e stands.registry)
+    (record { is_told = is_told; given = made.0; stands = record { registry = rw made.2 stands.registry; logs = made.1 } }))
+
+pub first_refused : (registry : State) (old new : HeldLogs) (what : RunEnd → Moved) (source : ℕ) (move : WholeLog → Move)
+    (absent : Answer) → GoesTo registry what source move absent → new ≡ old → GivesFirst source move old →
+    ServesAs (record { registry = registry; logs = old.logs }) (record { registry = registry; logs = new.logs }) what NoMemory
+unfolding on_log
+first_refused registry old new what source move absent goes same gives = record {
+  on = λ e stands. (tt, rw same stands);
+  without_memory = λ e stands. rw (goes e stands.registry) (gives_first e source move absent old.logs stands.logs gives);
+}
+
+-- a step of its own that does so
+pub step_served : (old new : Held) (step : Step) (answer : Answer) →
+    ((e : RunEnd) → takes_memory e step ≡ is_listed (moved e step).answer) →
+    ServesAs old new (λ e. moved e step) answer → Serves old new step answer
+step_served old new step answer takes serves = record {
+  on = λ e stands. serves.on e stands;
+  without_memory = λ e stands. rw (takes e) (serves.without_memory e stands);
+}
+
+-- nothing is there to which it could go
+pub absent_served : (held : Held) (what : RunEnd → Moved) (absent : Answer) → IsTold absent →
+    ((e : RunEnd) → held.registry ≡ e.registry → what e ≡ record { after = e; answer = absent }) → ServesAs held held what absent
+absent_served held what absent none is =
+    served_as held held what absent (λ e stands.
+    rw (is e stands.registry) (record { is_told = none; given = refl; stands = stands }))
+
+pub heard_told : (heard : Option StatusAnswer) → IsTold (answer_heard heard)
+heard_told None = tt
+heard_told (Some statuses.Elicited) = tt
+heard_told (Some (statuses.Limit position)) = tt
+heard_told (Some statuses.OutOfWindow) = tt
+
+pub asked_told : (from : Address) (reply : Option NakReply) → IsTold (answer_asked from reply)
+asked_told from None = tt
+asked_told from (Some (replies.Denied verdict)) = tt
+asked_told from (Some replies.Empty) = tt
+asked_told from (Some replies.OutOfWindow) = tt
+asked_told from (Some replies.Lingering) = tt
+asked_told from (Some replies.Busy) = tt
+asked_told from (Some (replies.Resent datagrams)) = tt
+
+pub reported_told : (to : Address) (report : Option (List (List ℕ))) → IsTold (answer_reported to report)
+reported_told to None = tt
+reported_told to (Some datagrams) = tt
 
 -- ---- one of a stream
 

@@ -14,6 +14,7 @@ use Rattle.driver_core.specs.Conduct.{conduct, outcome_of, state_after}
 use Rattle.driver_core.specs.Pairs.{pairs_of}
 use Rattle.driver_core.specs.Renewal.{source_at}
 use Rattle.driver_core.specs.State.{State}
+use Rattle.driver_world.specs.Recovery.{recovering}
 use Rattle.driver_world.specs.Ends.{RunEnd, begun, conducted, end_of_log, inputs_of, is_silent_at, silent_of, logs_after, opened_for, rejoined_log, stays_open}
 use Rattle.driver_core.specs.Readers.{readers_of}
 use Rattle.driver_world.specs.Held.{HeldLog, HeldLogs, OpensFor, end_held, inputs_held, is_closed, is_kept, is_silent_at as is_silent_held_at, rejoined_held, silent_held}
@@ -110,6 +111,7 @@ rejoined_stands pairs held log stands = record {
   source_is = stands.source_is;
   whole = subst (λ (source : ℕ). StandsFor (rejoined_any (readers_of pairs held.source) held.log) (rejoined (readers_of pairs source) log.whole))
       stands.source_is (any_rejoined (readers_of pairs held.source) held.log log.whole stands.whole);
+  recovery_is = stands.recovery_is;
 }
 
 pub stand_rejoin : (pairs : List Pair) (held : List HeldLog) (logs : List WholeLog) → StandAll held logs
@@ -131,8 +133,8 @@ begun_stands : (after : State) (old new : HeldLogs) (place : ℕ) (found : Optio
 begun_stands after old new place None logs is stand = stand_same old new logs is stand
 begun_stands after old new place (Some log) logs is stand =
     subst (λ (h : HeldLogs). StandAll h.logs (logs ++ begun after (Some log))) (sym is.new_is)
-    (stand_append old.logs (record { source = log.number; log = is.log } ∷ []) logs (begun after (Some log)) stand
-    (record { source_is = refl; whole = is.stands }, tt))
+    (stand_append old.logs (record { source = log.number; log = is.log; recovery = recovering after.settings } ∷ []) logs (begun after (Some log)) stand
+    (record { source_is = refl; whole = is.stands; recovery_is = refl }, tt))
 
 opened_stand : (after : State) (old new : HeldLogs) (opens : Option LogPlace) (logs : List WholeLog) → OpensNext old new after opens
     → StandAll old.logs logs → StandAll new.logs (logs ++ opened_for after opens)

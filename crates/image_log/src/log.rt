@@ -128,6 +128,7 @@ impl ImageLog {
     /// Which stream it is of: the one that each frame names which is kept.
     pub fn ident(&self) -> Ident
         ensures value { result ≡ self.now.rebuilt.ident }
+        ensures terms { (65536 ≤ result.term_length) × (result.term_length ≤ 16777216) }
         ensures named { AreFor self.now.rebuilt.ident self.now.rebuilt.frames }
     {
         self.ident

@@ -11,8 +11,8 @@ use Rattle.driver_world.proofs.polling.poll_step.Goals as goal
 
 pub returns : goal.returns
 returns over c =
-    let held : HeldLog = record { source = c.log.inside.source; log = c.log.inside.log } in
-    let after : HeldLog = record { source = c.log.inside.source; log = c.poll.new.self } in
+    let held : HeldLog = record { source = c.log.inside.source; log = c.log.inside.log; recovery = c.log.inside.recovery } in
+    let after : HeldLog = record { source = c.log.inside.source; log = c.poll.new.self; recovery = c.log.inside.recovery } in
     let asked : receiving_of (over.V.View.shows c.args.view.now) c.args.client c.args.subscription held.source ≡ Some c.in-Some.request = search rules in
     let there : ¬ (position_held held.log c.args.subscription ≡ None) = search rules in
     let at = some_position (position_held held.log c.args.subscription) there in
@@ -20,15 +20,15 @@ returns over c =
     let copies : Fetches held.log c.args.subscription c.args.limit c.in_ok-fragments.fragments = search rules in
     rw (← c.log.view_is) record {
       does = poll_given (over.V.View.shows c.args.view.now) c.args.client c.args.subscription c.args.limit held after
-          c.in-Some.request at.0 c.in_ok-fragments.fragments asked at.1 allowed copies refl c.poll.ensures.whole;
-      lies = held_lies c.log.inside.source c.log.inside.log c.poll.new.self c.poll.ensures.lies;
+          c.in-Some.request at.0 c.in_ok-fragments.fragments asked at.1 allowed copies refl refl c.poll.ensures.whole;
+      lies = held_lies c.log.inside.source c.log.inside.recovery c.log.inside.recovery c.log.inside.log c.poll.new.self c.poll.ensures.lies;
       err = tt;
       without_memory = tt;
     }
 
 pub returns-in_err-fragments-clause-without_memory : goal.returns-in_err-fragments-clause-without_memory
 returns-in_err-fragments-clause-without_memory over c =
-    let held : HeldLog = record { source = c.log.inside.source; log = c.log.inside.log } in
+    let held : HeldLog = record { source = c.log.inside.source; log = c.log.inside.log; recovery = c.log.inside.recovery } in
     let asked : receiving_of (over.V.View.shows c.args.view.now) c.args.client c.args.subscription held.source ≡ Some c.in-Some.request = search rules in
     let there : ¬ (position_held held.log c.args.subscription ≡ None) = search rules in
     let at = some_position (position_held held.log c.args.subscription) there in

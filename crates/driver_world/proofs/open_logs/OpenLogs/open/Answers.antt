@@ -21,8 +21,8 @@ pub invariant_of-self : goal.invariant_of-self
 invariant_of-self c =
     let log : Log = c.open_in-log.result in
     let logs : List HeldLog = c.self.inside.logs.items in
-    let more : c.push_reserved.new.self.items ≡ logs ++ record { source = c.args.source; log = Term log } ∷ [] = search rules in
-    let held : HeldLog = record { source = c.args.source; log = Term log } in
+    let more : c.push_reserved.new.self.items ≡ logs ++ record { source = c.args.source; log = Term log; recovery = c.args.recovery } ∷ [] = search rules in
+    let held : HeldLog = record { source = c.args.source; log = Term log; recovery = c.args.recovery } in
     let is : log.kept ≡ opened c.in-Ok.lease c.args.ident = ap (λ (l : Log). l.kept) c.open_in-log.ensures.opened in
     let terms : log.kept.buffers.term_length ≡ c.args.ident.term_length = ap (λ (k : Kept). k.buffers.term_length) is in
     let of : IsLeaseOf (plot_of held) c.in-Ok.lease = record {
@@ -48,7 +48,7 @@ returns c =
     least_is c.self.inside.arena (plots_of logs) (pages_of c.args.ident.term_length) c.args.place (lease_place c.in-Ok.lease / 4096) some
     c.self.invariant vacant c.in-Ok.ensures.least in
     let at : log.kept.buffers.place ≡ lease_place c.in-Ok.lease = ap (λ (l : Log). l.kept.buffers.place) c.open_in-log.ensures.opened in
-    let more : c.push_reserved.new.self.items ≡ logs ++ record { source = c.args.source; log = Term log } ∷ [] = search rules in
+    let more : c.push_reserved.new.self.items ≡ logs ++ record { source = c.args.source; log = Term log; recovery = c.args.recovery } ∷ [] = search rules in
     let pages : c.lease.new.self.home.pages ≡ c.self.inside.arena.home.pages = ap (λ (r : Region). r.home.pages) c.in-Ok.ensures.taken in
     record {
       log = Term log;
@@ -57,7 +57,7 @@ returns c =
       terms_are = ap (λ (l : Log). l.kept.buffers.term_length) c.open_in-log.ensures.opened;
       new_is =
           ap₂ (λ p l. let h : HeldLogs = record { pages = p; logs = l; room = vec_capacity c.push_reserved.new.self } in h) pages more
-          ∙ ap (λ r. let h : HeldLogs = record { pages = c.self.inside.arena.home.pages; logs = logs ++ record { source = c.args.source; log = Term log } ∷ []; room = r } in h)
+          ∙ ap (λ r. let h : HeldLogs = record { pages = c.self.inside.arena.home.pages; logs = logs ++ record { source = c.args.source; log = Term log; recovery = c.args.recovery } ∷ []; room = r } in h)
           c.push_reserved.ensures.capacity
-          ∙ ap (λ (h : HeldLogs). let g : HeldLogs = record h { logs = h.logs ++ record { source = c.args.source; log = Term log } ∷ [] } in g) c.self.view_is;
+          ∙ ap (λ (h : HeldLogs). let g : HeldLogs = record h { logs = h.logs ++ record { source = c.args.source; log = Term log; recovery = c.args.recovery } ∷ [] } in g) c.self.view_is;
     }

@@ -23,8 +23,8 @@ pub invariant_of-self : goal.invariant_of-self
 invariant_of-self c =
     let log : Log = c.heard.new.self in
     let logs : List HeldLog = c.self.inside.logs.items in
-    let more : c.push_reserved.new.self.items ≡ logs ++ record { source = c.args.source; log = Image log } ∷ [] = search rules in
-    let held : HeldLog = record { source = c.args.source; log = Image log } in
+    let more : c.push_reserved.new.self.items ≡ logs ++ record { source = c.args.source; log = Image log; recovery = c.args.recovery } ∷ [] = search rules in
+    let held : HeldLog = record { source = c.args.source; log = Image log; recovery = c.args.recovery } in
     let is : log ≡ record { held = held_of c.in-Ok.lease; rebuilt = heard_at c.args.now (opened c.args.ident c.args.join) } =
     c.heard.ensures ∙ ap (λ (l : Log). let h : Log = record l { rebuilt = heard_at c.args.now l.rebuilt } in h) c.open_in-log.ensures in
     let terms : log.rebuilt.ident.term_length ≡ c.args.ident.term_length = ap (λ (l : Log). l.rebuilt.ident.term_length) is in
@@ -53,7 +53,7 @@ returns c =
     least_is c.self.inside.arena (plots_of logs) (pages_of c.args.ident.term_length) c.args.place (lease_place c.in-Ok.lease / 4096) some
     c.self.invariant vacant c.in-Ok.ensures.least in
     let at : log.held.place ≡ lease_place c.in-Ok.lease = ap (λ (l : Log). l.held.place) is in
-    let more : c.push_reserved.new.self.items ≡ logs ++ record { source = c.args.source; log = Image log } ∷ [] = search rules in
+    let more : c.push_reserved.new.self.items ≡ logs ++ record { source = c.args.source; log = Image log; recovery = c.args.recovery } ∷ [] = search rules in
     let pages : c.lease.new.self.home.pages ≡ c.self.inside.arena.home.pages = ap (λ (r : Region). r.home.pages) c.in-Ok.ensures.taken in
     record {
       log = Image log;
@@ -62,7 +62,7 @@ returns c =
       terms_are = ap (λ (l : Log). l.rebuilt.ident.term_length) is;
       new_is =
           ap₂ (λ p l. let h : HeldLogs = record { pages = p; logs = l; room = vec_capacity c.push_reserved.new.self } in h) pages more
-          ∙ ap (λ r. let h : HeldLogs = record { pages = c.self.inside.arena.home.pages; logs = logs ++ record { source = c.args.source; log = Image log } ∷ []; room = r } in h)
+          ∙ ap (λ r. let h : HeldLogs = record { pages = c.self.inside.arena.home.pages; logs = logs ++ record { source = c.args.source; log = Image log; recovery = c.args.recovery } ∷ []; room = r } in h)
           c.push_reserved.ensures.capacity
-          ∙ ap (λ (h : HeldLogs). let g : HeldLogs = record h { logs = h.logs ++ record { source = c.args.source; log = Image log } ∷ [] } in g) c.self.view_is;
+          ∙ ap (λ (h : HeldLogs). let g : HeldLogs = record h { logs = h.logs ++ record { source = c.args.source; log = Image log; recovery = c.args.recovery } ∷ [] } in g) c.self.view_is;
     }
