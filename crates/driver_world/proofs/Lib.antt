@@ -16,6 +16,7 @@ pub mod ReaderLemmas
 pub mod RegisteredLemmas
 mod RegisteringLemmas
 pub mod RunLemmas
+pub mod SendLemmas
 mod SourceLemmas
 pub mod StandLemmas
 pub mod TakeLemmas

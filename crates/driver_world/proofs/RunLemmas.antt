@@ -11,7 +11,7 @@ use Rattle.driver_core.specs.declared.replies.Message.{Message}
 use Rattle.driver_core.specs.LogRequests.{offering_of, receiving_of}
 use Rattle.driver_core.specs.State.{State}
 use Rattle.driver_world.specs.declared.answer.Answer.{Answer}
-use Rattle.driver_world.specs.declared.answer.Answer.TheVariants.{NoMemory, Attached, Full, Stopped, PolicyInForce, PolicyFull, Imaged, Dropped, Replies, Offered as OfferedAs, Polled, Gone as IsGone, Counters, Value as ValueIs, Denied, UnknownCounter, WrongClient, Received, Heard, Limited, Elicited, Resent, Reported}
+use Rattle.driver_world.specs.declared.answer.Answer.TheVariants.{NoMemory, Attached, Full, Stopped, PolicyInForce, PolicyFull, Imaged, Dropped, Replies, Offered as OfferedAs, Polled, Gone as IsGone, Counters, Value as ValueIs, Denied, UnknownCounter, WrongClient, Received, Heard, Limited, Elicited, Idle, Sent, Resent, Reported}
 use Rattle.driver_world.specs.declared.answer.Offered.TheVariants.{Closed}
 use Rattle.driver_world.specs.declared.step.Step.{Step}
 use Rattle.driver_world.specs.declared.step.Step.TheVariants.{Conductor, Packet, Offer, Poll, Image}
@@ -36,6 +36,10 @@ use Rattle.any_log.specs.declared.asking.NakReply.TheVariants as replies
 use Rattle.driver_core.specs.PublicationRequests.{publication_for, resending_of}
 use Rattle.driver_world.specs.Hearing.{answer_asked, answer_heard}
 use Rattle.driver_world.specs.Reporting.{answer_reported}
+use Rattle.driver_world.specs.Sending.{answer_sent, pace_of, send_by}
+use Rattle.any_log.specs.Sending.{turn_of}
+use Rattle.driver_core.specs.declared.send_request.Outlet.{Outlet}
+use Rattle.driver_core.specs.SendRequests.{outlets_of}
 use Rattle.publication_sender.specs.declared.hearing.StatusAnswer.{StatusAnswer}
 use Rattle.publication_sender.specs.declared.hearing.StatusAnswer.TheVariants as statuses
 use Rattle.driver_world.specs.Answers.{answered_by, answer_of}
@@ -63,6 +67,8 @@ IsTold (Received words) = Unit {0}
 IsTold Heard = Unit {0}
 IsTold (Limited position) = Unit {0}
 IsTold Elicited = Unit {0}
+IsTold Idle = Unit {0}
+IsTold (Sent bytes outlets) = Unit {0}
 IsTold (Resent to datagrams) = Unit {0}
 IsTold (Reported to datagrams) = Unit {0}
 IsTold (Dropped fault) = Unit {0}
@@ -90,6 +96,8 @@ told e what (Received words) is_told is = (is, refl)
 told e what Heard is_told is = (is, refl)
 told e what (Limited position) is_told is = (is, refl)
 told e what Elicited is_told is = (is, refl)
+told e what Idle is_told is = (is, refl)
+told e what (Sent bytes outlets) is_told is = (is, refl)
 told e what (Resent to datagrams) is_told is = (is, refl)
 told e what (Reported to datagrams) is_told is = (is, refl)
 told e what (Dropped fault) is_told is = (is, refl)
@@ -116,6 +124,8 @@ told_has takes (Received words) is_told = tt
 told_has takes Heard is_told = tt
 told_has takes (Limited position) is_told = tt
 told_has takes Elicited is_told = tt
+told_has takes Idle is_told = tt
+told_has takes (Sent bytes outlets) is_told = tt
 told_has takes (Resent to datagrams) is_told = tt
 told_has takes (Reported to datagrams) is_told = tt
 told_has takes (Dropped fault) is_told = tt
@@ -426,6 +436,15 @@ asked_told from (Some (replies.Resent datagrams)) = tt
 pub reported_told : (to : Address) (report : Option (List (List ℕ))) → IsTold (answer_reported to report)
 reported_told to None = tt
 reported_told to (Some datagrams) = tt
+
+pub sent_told : (outlets : List Outlet) (turn : Option (Option (List ℕ))) → IsTold (answer_sent outlets turn)
+sent_told outlets None = tt
+sent_told outlets (Some None) = tt
+sent_told outlets (Some (Some bytes)) = tt
+
+pub send_told : (s : State) (now : ℕ) (log : WholeLog) (lingers : Option Bool) → IsTold (send_by s now log lingers).answer
+send_told s now log None = tt
+send_told s now log (Some lingers) = sent_told (outlets_of s log.source) (turn_of (pace_of s.settings) now lingers log.whole)
 
 -- ---- one of a stream
 
