@@ -1,7 +1,7 @@
 use Rattle.std.proofs.Common.{◌≡◌, map, take}
 use Rattle.destinations.specs.Destinations.{of}
 use Rattle.driver_core.specs.SendRequests.{outlet_of}
-use Rattle.driver_core.proofs.send_request.Registry.outlets_to.Given as goal
+use Rattle.driver_core.proofs.registry.Registry.outlets_to.Given as goal
 
 -- those of the destinations so far
 abbrev pub invariant-loop-destination : goal.invariant-loop-destination
