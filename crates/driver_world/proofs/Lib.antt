@@ -17,6 +17,7 @@ pub mod RegisteredLemmas
 mod RegisteringLemmas
 pub mod RunLemmas
 pub mod SendLemmas
+pub mod SendLawLemmas
 mod SourceLemmas
 pub mod StandLemmas
 pub mod TakeLemmas

@@ -46,11 +46,14 @@ send_unsent s now held lingers is dues = record {
       let due : due_in (pace_of s.settings) now log.whole ≡ None = sym (dues.on log.whole stands.whole) in
       let turn = unsent_turn (pace_of s.settings) now lingers log.whole due in
       let same = unsent_stays (pace_of s.settings) now log.whole due in
-      rw (let_by s now held log lingers is stands, turn) (refl, record {
-        source_is = stands.source_is;
-        whole = rw same stands.whole;
-        recovery_is = stands.recovery_is;
-      });
+      rw (let_by s now held log lingers is stands, turn) (
+        refl,
+        record {
+          source_is = stands.source_is;
+          whole = rw same stands.whole;
+          recovery_is = stands.recovery_is;
+        },
+      );
 }
 
 -- nothing is due
@@ -61,11 +64,14 @@ send_idle s now held lingers is dues = record {
       let due : due_in (pace_of s.settings) now log.whole ≡ Some None = sym (dues.on log.whole stands.whole) in
       let turn = idle_turn (pace_of s.settings) now lingers log.whole due in
       let same = idle_stays (pace_of s.settings) now log.whole due in
-      rw (let_by s now held log lingers is stands, turn) (refl, record {
-        source_is = stands.source_is;
-        whole = rw same stands.whole;
-        recovery_is = stands.recovery_is;
-      });
+      rw (let_by s now held log lingers is stands, turn) (
+        refl,
+        record {
+          source_is = stands.source_is;
+          whole = rw same stands.whole;
+          recovery_is = stands.recovery_is;
+        },
+      );
 }
 
 -- the log has its turn
@@ -77,7 +83,7 @@ send_done s now held after lingers outlets turn is goes turns carries stays kept
   on = λ log stands.
       rw (let_by s now held log lingers is stands) (
         ap (λ (o : List Outlet). answer_sent o turn) (goes ∙ ap (outlets_of s) stands.source_is)
-        ∙ ap (answer_sent (outlets_of s log.source)) (turns.on log.whole stands.whole),
+            ∙ ap (answer_sent (outlets_of s log.source)) (turns.on log.whole stands.whole),
         record {
           source_is = stays ∙ stands.source_is;
           whole = carries.on log.whole stands.whole;

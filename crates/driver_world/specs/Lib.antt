@@ -14,5 +14,6 @@ pub mod Receiving
 pub mod Recovery
 pub mod Registered
 pub mod Reporting
+pub mod SendLaws
 pub mod Sending
 pub mod Standing

@@ -2,6 +2,7 @@
 
 ghost use Rattle.driver_world.specs.CarryingLaws.{PayloadsComeFromTheirPublisher};
 ghost use Rattle.driver_world.specs.Laws.{BytesComeFromTheLiveLog, LogsFollowTheRegistry, OffersAreGrantedExactly, PollsAreGrantedExactly, RunsTakeEvents};
+ghost use Rattle.driver_world.specs.SendLaws.{SendsAreGrantedExactly};
 
 /// A run leaves the registry that its events leave, those apart that were refused memory: so what is said of all lists of
 /// events holds of runs. Whatever comes next is answered by that registry, unless it is refused memory: an event by its
@@ -29,6 +30,15 @@ pub fn offers_are_granted_exactly()
 /// the subscription does not read the log, or is another client's, it changes nothing.
 pub fn polls_are_granted_exactly()
     ensures { PollsAreGrantedExactly }
+{}
+
+/// A turn of the sender with a publication over datagrams cuts the one datagram that is due of all frames ever appended, if
+/// one is, and tells it for each destination of the publication, in the order in which they were named: it goes there exactly
+/// where the first rule that matches allows the destination's maker to send there, or where none matches and the default
+/// does; else that verdict is told. The log moves on by what was cut, whoever gets it. Where there is no such publication,
+/// nothing is changed.
+pub fn sends_are_granted_exactly()
+    ensures { SendsAreGrantedExactly }
 {}
 
 /// What a poll gives is what the next frames carry of the log that was asked for, which is open: from where the subscription

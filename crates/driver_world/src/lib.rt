@@ -34,6 +34,7 @@ pub use image_log::Insert;
 pub use laws::{
     bytes_come_from_the_live_log, logs_follow_the_registry, offers_are_granted_exactly,
     payloads_come_from_their_publisher, polls_are_granted_exactly, runs_take_events,
+    sends_are_granted_exactly,
 };
 pub use offering::offer_step;
 pub use open_log::OpenLog;
