@@ -24,7 +24,7 @@ pub returns-in_default : goal.returns-in_default
 returns-in_default c =
     let nak = c.args.nak.now in
     let held : Held = record { registry = c.self.inside.registry; logs = c.self.inside.logs.logs } in
-    let is : resending_of held.registry c.args.from.now nak.session_id nak.stream_id ≡ None = sym c.resending.ensures ∙ c.in_default.is in
+    let is : resending_of held.registry c.args.from.now nak.session_id nak.stream_id ≡ None = sym c.asked_by.ensures ∙ c.in_default.is in
     rw (← c.self.view_is)
     (absent_served held (λ e. on_asked e c.args.now c.args.from.now nak (resending_of e.registry c.args.from.now nak.session_id nak.stream_id)) unheard tt
     (λ e same. rw (← same, is) refl))
@@ -37,7 +37,7 @@ returns-after-nak c =
     let source = c.in-Some.request.source in
     let move : WholeLog → Move = nak_move c.args.now from c.in-Some.request.decision nak in
     let what : RunEnd → Moved = λ e. on_asked e c.args.now from nak (resending_of e.registry from nak.session_id nak.stream_id) in
-    let is : resending_of s from nak.session_id nak.stream_id ≡ Some c.in-Some.request = sym c.resending.ensures ∙ c.in-Some.is in
+    let is : resending_of s from nak.session_id nak.stream_id ≡ Some c.in-Some.request = sym c.asked_by.ensures ∙ c.in-Some.is in
     rw (← c.self.view_is)
     (elim c.match-nak.branch [
       | in-Ok-nak w ↦
