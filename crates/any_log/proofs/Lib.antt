@@ -1,1 +1,2 @@
 pub mod AnyLemmas
+pub mod StillLemmas
