@@ -14,14 +14,18 @@ use Rattle.driver_core.specs.declared.peer.Peer.{Peer}
 use Rattle.driver_core.specs.declared.settings.Settings.{Settings}
 use Rattle.driver_core.specs.ImageRequests.{image_for}
 use Rattle.driver_core.specs.LogRequests.{offering_of, receiving_of}
+use Rattle.driver_core.specs.PublicationRequests.{publication_for, publisher_of, resending_of}
 use Rattle.driver_core.specs.Readers.{readers_of}
 use Rattle.driver_core.specs.State.{State}
+use Rattle.any_log.proofs.StillLemmas.{IsStill}
+use Rattle.driver_world.proofs.PacketLemmas.{asked_cases, told_cases}
+use Rattle.driver_world.proofs.QuietLemmas.{IsQuiet, report_cases, still_holds}
 use Rattle.driver_world.proofs.LiveLemmas.{IsKept, event_keeps, found_log, log_keeps, poll_gives, step_either}
 use Rattle.driver_world.specs.declared.answer.Answer.{Answer}
 use Rattle.driver_world.specs.declared.answer.Answer.TheVariants.{NoMemory, Offered as OfferedAs, Polled, Gone as IsGone, Received}
 use Rattle.driver_world.specs.declared.answer.Offered.TheVariants.{Closed}
 use Rattle.driver_world.specs.declared.step.Step.{Step}
-use Rattle.driver_world.specs.declared.step.Step.TheVariants.{Conductor, Packet, Offer as Offers, Poll as Polls, List as Lists, Value}
+use Rattle.driver_world.specs.declared.step.Step.TheVariants.{Conductor, Packet, Offer as Offers, Poll as Polls, Image, List as Lists, Value}
 use Rattle.driver_world.specs.CarryingLaws.{carried_for, carried_on, carried_by, carried_in, IsCarried, PayloadsComeFromTheirPublisher}
 use Rattle.driver_world.specs.Ends.{RunEnd, opening_end, log_at, moved_on, on_image, on_log, on_offered, on_packet, moved, after, IsAnswer, AreAnswers, end_of}
 use Rattle.driver_world.specs.Idents.{begins_by}
@@ -227,6 +231,22 @@ beat_holds more e now place (Ok image) holds =
     log_keeps (Holds more) e image (beat_move now place) unheard
     (λ log found there. beaten_holds (more log.source) now place log.whole there.holds) holds
 
+-- what leaves the frames of a log
+still_carried : (carried : List (List ℕ)) (w v : AnyWhole) → IsStill w v → HoldsCarried carried w → HoldsCarried carried v
+still_carried carried (whole w) (whole v) still holds = tt
+still_carried carried (whole w) (rebuilt s) still holds = absurd still
+still_carried carried (rebuilt r) (whole v) still holds = tt
+still_carried carried (rebuilt r) (rebuilt s) still holds = subst (AreCarried carried) (sym still.frames) holds
+
+quiet_holds : (carried : ℕ → List (List ℕ)) (e : RunEnd) (source : ℕ) (move : WholeLog → Move) (absent : Answer) →
+    IsQuiet move → All (Holds carried) e.logs → All (Holds carried) (on_log e source move absent).after.logs
+quiet_holds carried e source move absent quiet holds =
+    log_keeps (Holds carried) e source move absent
+    (λ log found there.
+    still_holds (λ n w. HoldsCarried (carried n) w) log (move log).after (quiet log)
+    (still_carried (carried log.source) log.whole) there.holds)
+    holds
+
 packet_holds : (more : ℕ → List (List ℕ)) (e : RunEnd) (now : ℕ) (local from : Address) (read : Result Content BadPacket) →
     IsCarriedFor more (λ source. carried_on e source local from read) (on_packet e now local from read).answer →
     All (Holds more) e.logs → All (Holds more) (on_packet e now local from read).after.logs
@@ -240,8 +260,14 @@ packet_holds more e now local from (Ok (beat header)) comes holds =
     (image_for e.registry local from header.place.session_id header.place.stream_id) holds
 packet_holds more e now local from (Ok (setup fields)) comes holds =
     event_keeps (Holds more) e (SetUp now local from fields) (holds_kept more) holds
-packet_holds more e now local from (Ok (nak fields)) comes holds = holds
-packet_holds more e now local from (Ok (status fields)) comes holds = holds
+packet_holds more e now local from (Ok (nak fields)) comes holds =
+    asked_cases (λ what. All (Holds more) what.after.logs) e now from fields
+    (λ source move quiet. quiet_holds more e source move unheard quiet holds) (λ cause. holds)
+    (resending_of e.registry from fields.session_id fields.stream_id)
+packet_holds more e now local from (Ok (status fields)) comes holds =
+    told_cases (λ what. All (Holds more) what.after.logs) e now fields
+    (λ source move quiet. quiet_holds more e source move unheard quiet holds) (λ cause. holds)
+    (publication_for e.registry fields.session_id fields.stream_id)
 
 offer_holds : (more : ℕ → List (List ℕ)) (e : RunEnd) (now client registration : ℕ) (message : List ℕ)
     (o : Option LogRequest) → All (Holds more) e.logs →
@@ -290,6 +316,11 @@ moved_holds carried e (Offers now client registration message) holds =
 moved_holds carried e (Polls now client subscription source limit) holds =
     let step : Step = Polls now client subscription source limit in
     poll_holds (carried_with carried e step (moved e step).answer) e client subscription source limit holds
+moved_holds carried e (Image now source) holds =
+    let step : Step = Image now source in
+    let more : ℕ → List (List ℕ) = carried_with carried e step (moved e step).answer in
+    report_cases (λ what. All (Holds more) what.after.logs) e now source holds
+    (λ move quiet. quiet_holds more e source move IsGone quiet holds) (publisher_of e.registry source)
 moved_holds carried e (Lists now client) holds = holds
 moved_holds carried e (Value now client number) holds = holds
 

@@ -10,19 +10,24 @@ use Rattle.driver_core.specs.declared.image_request.Astray.{Astray}
 use Rattle.driver_core.specs.ImageRequests.{image_for}
 use Rattle.driver_core.specs.Listing.{list, value}
 use Rattle.driver_core.specs.LogRequests.{offering_of}
+use Rattle.driver_core.specs.PublicationRequests.{publication_for, publisher_of, resending_of}
 use Rattle.driver_core.specs.State.{State, opened}
 use Rattle.driver_world.specs.declared.answer.Answer.{Answer}
-use Rattle.driver_world.specs.declared.answer.Answer.TheVariants.{NoMemory, Attached, Full, Stopped, PolicyInForce, PolicyFull, Imaged, Dropped, Replies, Offered as OfferedAs, Polled, Gone as IsGone, Counters, Value as ValueIs, Denied, UnknownCounter, WrongClient, Received, Heard}
+use Rattle.driver_world.specs.declared.answer.Answer.TheVariants.{NoMemory, Offered as OfferedAs, Gone as IsGone}
 use Rattle.driver_world.specs.declared.answer.Offered.TheVariants.{Closed}
 use Rattle.driver_world.specs.declared.step.Step.{Step}
-use Rattle.driver_world.specs.declared.step.Step.TheVariants.{Conductor, Packet, Offer, Poll, List as Lists, Value}
+use Rattle.driver_world.specs.declared.step.Step.TheVariants.{Conductor, Packet, Offer, Poll, Image, List as Lists, Value}
 use Rattle.driver_world.specs.Answers.{answer_of, answer_listed, answer_shown}
-use Rattle.driver_world.specs.Ends.{RunEnd, opening_end, inputs_of, log_at, moved_on, on_image, on_log, on_offered, on_packet, conducted, moved, after, IsAnswer, end_of}
+use Rattle.driver_world.specs.Ends.{RunEnd, opening_end, inputs_of, log_at, moved_on, on_asked, on_image, on_log, on_offered, on_packet, on_report, on_told, conducted, moved, after, IsAnswer, end_of}
+use Rattle.driver_world.specs.Hearing.{nak_move, status_move}
 use Rattle.driver_world.specs.Laws.{event_in, event_of, taken_by, taken_from, registry_of, IsTold, TakesEvents, RunsTakeEvents}
 use Rattle.driver_world.specs.Moves.{WholeLog, Move, offer_move, poll_move}
 use Rattle.driver_world.specs.Receiving.{beat_move, receive_move, unheard}
+use Rattle.driver_world.specs.Reporting.{report_move}
 use Rattle.channel_uri.specs.declared.address.Address.{Address}
 use Rattle.frame_codec.specs.declared.fault.BadPacket.{BadPacket}
+use Rattle.frame_codec.specs.declared.nak.Nak.{Nak}
+use Rattle.frame_codec.specs.declared.status_message.StatusMessage.{StatusMessage}
 use Rattle.frame_codec.specs.Datagram.{Content, frames, beat, nak, status, setup, packet_of}
 use Rattle.policy_core.specs.RuleList.{Rules}
 
@@ -32,24 +37,7 @@ use Rattle.policy_core.specs.RuleList.{Rules}
 pub after_both : (P : RunEnd → Type 0) (e : RunEnd) (step : Step) (answer : Answer) → P e → P (moved e step).after →
     P (after e step answer)
 after_both P e step NoMemory same moves = same
-after_both P e step (Attached number) same moves = moves
-after_both P e step Full same moves = moves
-after_both P e step Stopped same moves = moves
-after_both P e step (PolicyInForce epoch replies) same moves = moves
-after_both P e step PolicyFull same moves = moves
-after_both P e step (Imaged number replies) same moves = moves
-after_both P e step (Received words) same moves = moves
-after_both P e step Heard same moves = moves
-after_both P e step (Dropped fault) same moves = moves
-after_both P e step (Replies replies) same moves = moves
-after_both P e step (OfferedAs offered) same moves = moves
-after_both P e step (Polled fragments) same moves = moves
-after_both P e step IsGone same moves = moves
-after_both P e step (Counters rows) same moves = moves
-after_both P e step (ValueIs number) same moves = moves
-after_both P e step (Denied verdict) same moves = moves
-after_both P e step UnknownCounter same moves = moves
-after_both P e step WrongClient same moves = moves
+after_both P e step answer same moves = moves
 
 -- what each step keeps, each run keeps
 pub run_keeps : (P : RunEnd → Type 0) → ((e : RunEnd) (step : Step) → P e → P (moved e step).after) →
@@ -93,6 +81,23 @@ image_keeps_registry : (e : RunEnd) (move : WholeLog → Move) (found : Result �
 image_keeps_registry e move (Ok source) = log_keeps_registry e source move unheard
 image_keeps_registry e move (Err why) = refl
 
+asked_keeps_registry : (e : RunEnd) (now : ℕ) (from : Address) (fields : Nak) (request : Option LogRequest) →
+    (on_asked e now from fields request).after.registry ≡ e.registry
+asked_keeps_registry e now from fields None = refl
+asked_keeps_registry e now from fields (Some request) =
+    log_keeps_registry e request.source (nak_move now from request.decision fields) unheard
+
+told_keeps_registry : (e : RunEnd) (now : ℕ) (fields : StatusMessage) (source : Option ℕ) →
+    (on_told e now fields source).after.registry ≡ e.registry
+told_keeps_registry e now fields None = refl
+told_keeps_registry e now fields (Some source) = log_keeps_registry e source (status_move now fields) unheard
+
+pub report_keeps_registry : (e : RunEnd) (now source : ℕ) (to : Option Address) →
+    (on_report e now source to).after.registry ≡ e.registry
+report_keeps_registry e now source None = refl
+report_keeps_registry e now source (Some to) =
+    log_keeps_registry e source (report_move now e.registry.settings.receiver_id to) IsGone
+
 -- of datagrams, SETUPs alone are events
 packet_takes_event : (e : RunEnd) (now : ℕ) (local from : Address) (read : Result Content BadPacket) →
     (on_packet e now local from read).after.registry ≡ state_of e.registry (event_in e now local from read)
@@ -106,8 +111,10 @@ packet_takes_event e now local from (Ok (beat header)) =
     image_keeps_registry e (beat_move now header.place)
     (image_for e.registry local from header.place.session_id header.place.stream_id)
 packet_takes_event e now local from (Ok (setup fields)) = refl
-packet_takes_event e now local from (Ok (nak fields)) = refl
-packet_takes_event e now local from (Ok (status fields)) = refl
+packet_takes_event e now local from (Ok (nak fields)) =
+    asked_keeps_registry e now from fields (resending_of e.registry from fields.session_id fields.stream_id)
+packet_takes_event e now local from (Ok (status fields)) =
+    told_keeps_registry e now fields (publication_for e.registry fields.session_id fields.stream_id)
 
 -- any step leaves the registry that its events leave
 moved_takes : (e : RunEnd) (step : Step) → (moved e step).after.registry ≡ state_of e.registry (event_of e step)
@@ -118,30 +125,14 @@ moved_takes e (Offer now client registration message) =
     offer_keeps_registry e now client registration message (offering_of e.registry client registration)
 moved_takes e (Poll now client subscription source limit) =
     poll_keeps_registry e client subscription source limit
+moved_takes e (Image now source) = report_keeps_registry e now source (publisher_of e.registry source)
 moved_takes e (Lists now client) = refl
 moved_takes e (Value now client number) = refl
 
 step_takes : (e : RunEnd) (step : Step) (answer : Answer) →
     (after e step answer).registry ≡ state_of e.registry (taken_by e step answer)
 step_takes e step NoMemory = refl
-step_takes e step (Attached number) = moved_takes e step
-step_takes e step Full = moved_takes e step
-step_takes e step Stopped = moved_takes e step
-step_takes e step (PolicyInForce epoch replies) = moved_takes e step
-step_takes e step PolicyFull = moved_takes e step
-step_takes e step (Imaged number replies) = moved_takes e step
-step_takes e step (Received words) = moved_takes e step
-step_takes e step Heard = moved_takes e step
-step_takes e step (Dropped fault) = moved_takes e step
-step_takes e step (Replies replies) = moved_takes e step
-step_takes e step (OfferedAs offered) = moved_takes e step
-step_takes e step (Polled fragments) = moved_takes e step
-step_takes e step IsGone = moved_takes e step
-step_takes e step (Counters rows) = moved_takes e step
-step_takes e step (ValueIs number) = moved_takes e step
-step_takes e step (Denied verdict) = moved_takes e step
-step_takes e step UnknownCounter = moved_takes e step
-step_takes e step WrongClient = moved_takes e step
+step_takes e step answer = moved_takes e step
 
 -- ---- the registry that a run leaves
 
@@ -165,24 +156,7 @@ run_takes e (step ∷ steps) (answer ∷ answers) =
 answered_told : (e : RunEnd) (step : Step) (answer : Answer) → IsAnswer e step answer →
     IsTold answer (moved e step).answer
 answered_told e step NoMemory is = tt
-answered_told e step (Attached number) is = is
-answered_told e step Full is = is
-answered_told e step Stopped is = is
-answered_told e step (PolicyInForce epoch replies) is = is
-answered_told e step PolicyFull is = is
-answered_told e step (Imaged number replies) is = is
-answered_told e step (Received words) is = is
-answered_told e step Heard is = is
-answered_told e step (Dropped fault) is = is
-answered_told e step (Replies replies) is = is
-answered_told e step (OfferedAs offered) is = is
-answered_told e step (Polled fragments) is = is
-answered_told e step IsGone is = is
-answered_told e step (Counters rows) is = is
-answered_told e step (ValueIs number) is = is
-answered_told e step (Denied verdict) is = is
-answered_told e step UnknownCounter is = is
-answered_told e step WrongClient is = is
+answered_told e step answer is = is
 
 end_takes : (e : RunEnd) (s : State) → e.registry ≡ s → TakesEvents e s
 unfolding conducted

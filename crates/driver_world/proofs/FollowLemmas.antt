@@ -16,11 +16,14 @@ use Rattle.driver_core.specs.declared.settings.Settings.{Settings}
 use Rattle.driver_core.specs.Conduct.{conduct}
 use Rattle.driver_core.specs.LogRequests.{offering_of, receiving_of}
 use Rattle.driver_core.specs.Pairs.{pairs_of}
+use Rattle.driver_core.specs.PublicationRequests.{publisher_of}
 use Rattle.driver_core.specs.Renewal.{source_at}
 use Rattle.driver_core.specs.Soundness.{AreSettings, IsSound, MovesLogs, Opens, log_of}
 use Rattle.driver_core.specs.State.{State, opened}
 use Rattle.driver_core.proofs.SoundnessLemmas.{moves_logs, registries_sound}
 use Rattle.driver_world.specs.Receiving.{beat_move, receive_move, unheard}
+use Rattle.any_log.proofs.StillLemmas.{still_made, still_readers}
+use Rattle.driver_world.proofs.QuietLemmas.{IsQuiet, report_cases}
 use Rattle.driver_world.proofs.PacketLemmas.{beaten_made, beaten_readers, packet_cases, received_made, received_readers}
 use Rattle.frame_codec.specs.declared.header.TermPlace.{TermPlace}
 use Rattle.frame_codec.specs.Datagram.{packet_of}
@@ -31,7 +34,7 @@ use Rattle.driver_world.specs.declared.answer.Answer.{Answer}
 use Rattle.driver_world.specs.declared.answer.Answer.TheVariants.{Offered as OfferedAs, Gone as IsGone}
 use Rattle.driver_world.specs.declared.answer.Offered.TheVariants.{Closed}
 use Rattle.driver_world.specs.declared.step.Step.{Step}
-use Rattle.driver_world.specs.declared.step.Step.TheVariants.{Conductor, Packet, Offer, Poll, List as Lists, Value}
+use Rattle.driver_world.specs.declared.step.Step.TheVariants.{Conductor, Packet, Offer, Poll, Image, List as Lists, Value}
 use Rattle.driver_world.specs.Ends.{RunEnd, opening_end, inputs_of, begun, opened_for, stays_open, rejoined_log, logs_after, log_at, with_log, moved_on, on_log, on_offered, conducted, moved}
 use Rattle.driver_core.specs.Readers.{readers_of}
 use Rattle.driver_world.specs.Held.{is_closed}
@@ -281,6 +284,12 @@ beat_alike now place log = record {
   readers = beaten_readers now place log.whole;
 }
 
+quiet_alike : (move : WholeLog → Move) → IsQuiet move → (log : WholeLog) → IsAlike log (move log).after
+quiet_alike move quiet log = record {
+  made = ap₂ (λ (n : ℕ) (made : Made). (n, made)) (quiet log).source (still_made log.whole (move log).after.whole (quiet log).whole);
+  readers = still_readers log.whole (move log).after.whole (quiet log).whole;
+}
+
 -- ---- runs
 
 taken_follows : (e : RunEnd) (event : Event) → Follows e → Follows (conducted e event).after
@@ -298,12 +307,16 @@ step_follows e (Packet now local from bytes) follows =
       receives = λ source sent.
           log_follows e source (receive_move now sent) unheard (receive_alike now sent) follows;
       hears = λ source place. log_follows e source (beat_move now place) unheard (beat_alike now place) follows;
+      asks = λ source move quiet. log_follows e source move unheard (quiet_alike move quiet) follows;
       sets_up = λ fields. taken_follows e (SetUp now local from fields) follows;
     }) (packet_of bytes)
 step_follows e (Offer now client registration message) follows =
     offer_follows e now client registration message (offering_of e.registry client registration) follows
 step_follows e (Poll now client subscription source limit) follows =
     poll_follows e client subscription source limit follows
+step_follows e (Image now source) follows =
+    report_cases (λ what. Follows what.after) e now source follows
+    (λ move quiet. log_follows e source move IsGone (quiet_alike move quiet) follows) (publisher_of e.registry source)
 step_follows e (Lists now client) follows = follows
 step_follows e (Value now client number) follows = follows
 

@@ -12,6 +12,7 @@ pub mod LiveLemmas
 pub mod MatchLemmas
 pub mod MoveLemmas
 pub mod PacketLemmas
+pub mod QuietLemmas
 pub mod ReaderLemmas
 pub mod RegisteredLemmas
 mod RegisteringLemmas

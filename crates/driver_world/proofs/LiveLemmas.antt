@@ -10,33 +10,37 @@ use Rattle.any_log.specs.declared.fragment.Fragment.{Fragment}
 use Rattle.any_log.specs.Fragments.{fragment_of}
 use Rattle.any_log.specs.Whole.{AnyWhole, whole, rebuilt, beaten, polled as any_polled, position_in, received, rejoined}
 use Rattle.any_log.proofs.AnyLemmas.{moved_there}
+use Rattle.any_log.proofs.StillLemmas.{IsStill}
 use Rattle.driver_core.specs.Change.{Change}
 use Rattle.driver_core.specs.declared.log_request.LogRequest.{LogRequest}
 use Rattle.driver_core.specs.declared.peer.Peer.{Peer}
 use Rattle.driver_core.specs.declared.settings.Settings.{Settings}
 use Rattle.driver_core.specs.Conduct.{conduct}
 use Rattle.driver_core.specs.LogRequests.{offering_of, receiving_of}
+use Rattle.driver_core.specs.PublicationRequests.{publisher_of}
 use Rattle.driver_core.specs.Pairs.{pairs_of}
 use Rattle.driver_core.specs.Renewal.{source_at}
 use Rattle.driver_core.specs.State.{State}
 use Rattle.driver_core.proofs.ListLemmas.{contains_none, only_one}
 use Rattle.driver_world.specs.Receiving.{beat_move, receive_move, unheard}
 use Rattle.driver_world.proofs.PacketLemmas.{packet_cases}
+use Rattle.driver_world.proofs.QuietLemmas.{IsQuiet, report_cases, still_holds}
 use Rattle.frame_codec.specs.declared.header.TermPlace.{TermPlace}
 use Rattle.frame_codec.specs.Datagram.{packet_of}
 use Rattle.frame_codec.specs.Frame.{Sent}
 use Rattle.driver_core.specs.declared.event.Event.{Event}
 use Rattle.driver_core.specs.declared.event.Event.TheVariants.{Setup as SetUp}
 use Rattle.driver_world.specs.declared.answer.Answer.{Answer}
-use Rattle.driver_world.specs.declared.answer.Answer.TheVariants.{NoMemory, Attached, Full, Stopped, PolicyInForce, PolicyFull, Imaged, Dropped, Replies, Offered as OfferedAs, Polled, Gone as IsGone, Counters, Value as ValueIs, Denied, UnknownCounter, WrongClient, Received, Heard}
+use Rattle.driver_world.specs.declared.answer.Answer.TheVariants.{NoMemory, Offered as OfferedAs, Polled, Gone as IsGone}
 use Rattle.driver_world.specs.declared.answer.Offered.TheVariants.{At as PutAt, Closed}
 use Rattle.driver_world.specs.declared.step.Step.{Step}
-use Rattle.driver_world.specs.declared.step.Step.TheVariants.{Conductor, Packet, Offer as Offers, Poll as Polls, List as Lists, Value}
+use Rattle.driver_world.specs.declared.step.Step.TheVariants.{Conductor, Packet, Offer as Offers, Poll as Polls, Image, List as Lists, Value}
 use Rattle.driver_world.specs.Answers.{offered_as}
 use Rattle.driver_world.specs.Ends.{RunEnd, opening_end, inputs_of, begun, opened_for, stays_open, rejoined_log, logs_after, log_at, with_log, Moved, moved_on, on_log, on_offered, conducted, moved, after_by, after, IsAnswerOf, IsAnswer, AreAnswers, end_of}
 use Rattle.driver_core.specs.Readers.{readers_of}
 use Rattle.driver_world.specs.Idents.{begins_by, begins_of}
 use Rattle.driver_world.specs.Laws.{frames_for, put_into, granted_by, granted_in, AreNext, AreNextWhole, AreNextIn, ComeFromLog, BytesComeFromTheLiveLog}
+use Rattle.driver_world.specs.Recovery.{recovering}
 use Rattle.driver_world.specs.Moves.{WholeLog, Move, answered, taken, offer_to, offer_under, offer_move, given, poll_under, poll_move}
 use Rattle.frame_codec.specs.declared.flags.Flags.{Flags}
 use Rattle.image_log.specs.Polling.{Poll as ImagePoll, polled as image_polled, polled_frame, polled_from as image_polled_from, whole_from}
@@ -304,13 +308,15 @@ poll_under_owns granted subscription limit log (Some request) (Some at) owns =
 -- what holds of each log that begins, and goes on to hold whoever reads it, is kept by events
 pub record IsKept (P : WholeLog → Type 0) : Type 0 where
   pub begins :
-      (settings : Settings) (now : ℕ) (log : Source) → P (record { source = log.number; whole = begins_of settings now log })
+      (settings : Settings) (now : ℕ) (log : Source) →
+      P (record { source = log.number; whole = begins_of settings now log; recovery = recovering settings })
   pub rejoins : (pairs : List Pair) (log : WholeLog) → P log → P (rejoined_log pairs log)
 
 begun_keeps : (P : WholeLog → Type 0) (s : State) (o : Option Source) → IsKept P → All P (begun s o)
 begun_keeps P s None kept = All-nil P
 begun_keeps P s (Some log) kept =
-    let begins : WholeLog = record { source = log.number; whole = begins_of s.settings s.moment log } in
+    let begins : WholeLog =
+    record { source = log.number; whole = begins_of s.settings s.moment log; recovery = recovering s.settings } in
     All-cons P begins [] (kept.begins s.settings s.moment log) (All-nil P)
 
 opened_keeps : (P : WholeLog → Type 0) (s : State) (o : Option LogPlace) → IsKept P → All P (opened_for s o)
@@ -503,6 +509,29 @@ beat_owns granted e source now place owned =
     log_keeps (Owns granted) e source (beat_move now place) unheard
     (λ log found there. beaten_owns (granted log.source) now place log.whole there.holds) owned
 
+-- what leaves the frames and the readers of a log leaves who put them there
+still_any : (granted : List Frame) (w v : AnyWhole) → IsStill w v → OwnsAny granted w → OwnsAny granted v
+still_any granted (whole w) (whole v) still owns = record {
+  read =
+      subst (λ (i : Ident). AreStarts i.start v.frames v.pairs) (sym still.ident)
+      (subst (λ (fs : List Frame). AreStarts w.ident.start fs v.pairs) (sym still.frames)
+      (subst (AreStarts w.ident.start w.frames) (sym still.pairs) owns.read));
+  owned = λ flags payload has.
+      owns.owned flags payload (subst (λ (fs : List Frame). Contains fs (fragment flags payload)) still.frames has);
+}
+still_any granted (whole w) (rebuilt s) still owns = absurd still
+still_any granted (rebuilt r) (whole v) still owns = absurd still
+still_any granted (rebuilt r) (rebuilt s) still owns = tt
+
+quiet_owns : (granted : ℕ → List Frame) (e : RunEnd) (source : ℕ) (move : WholeLog → Move) (absent : Answer) → IsQuiet move →
+    All (Owns granted) e.logs → All (Owns granted) (on_log e source move absent).after.logs
+quiet_owns granted e source move absent quiet owned =
+    log_keeps (Owns granted) e source move absent
+    (λ log found there.
+    still_holds (λ n w. OwnsAny (granted n) w) log (move log).after (quiet log)
+    (still_any (granted log.source) log.whole) there.holds)
+    owned
+
 moved_owns : (granted : ℕ → List Frame) (e : RunEnd) (step : Step) → All (Owns granted) e.logs →
     All (Owns (granted_with granted e step (moved e step).answer)) (moved e step).after.logs
 moved_owns granted e (Packet now local from bytes) owned =
@@ -512,6 +541,7 @@ moved_owns granted e (Packet now local from bytes) owned =
       drops = λ cause. owned;
       receives = λ source sent. receive_owns granted e source now sent owned;
       hears = λ source place. beat_owns granted e source now place owned;
+      asks = λ source move quiet. quiet_owns granted e source move unheard quiet owned;
       sets_up = λ fields. event_keeps (Owns granted) e (SetUp now local from fields) (owns_kept granted) owned;
     }) (packet_of bytes))
 moved_owns granted e (Conductor event) owned =
@@ -531,6 +561,11 @@ moved_owns granted e (Polls now client subscription source limit) owned =
     let step : Step = Polls now client subscription source limit in
     still_owns granted e step (moved e step).answer (moved e step).after.logs
     (poll_owns granted e client subscription source limit owned)
+moved_owns granted e (Image now source) owned =
+    let step : Step = Image now source in
+    still_owns granted e step (moved e step).answer (moved e step).after.logs
+    (report_cases (λ what. All (Owns granted) what.after.logs) e now source owned
+    (λ move quiet. quiet_owns granted e source move IsGone quiet owned) (publisher_of e.registry source))
 moved_owns granted e (Lists now client) owned =
     let step : Step = Lists now client in
     still_owns granted e step (moved e step).answer e.logs owned
@@ -547,24 +582,7 @@ told_either P what answer is holds = subst (λ (a : Answer). P a what.after) (sy
 pub step_either : (P : Answer → RunEnd → Type 0) (e : RunEnd) (what : Moved) (answer : Answer) → IsAnswerOf what answer →
     P NoMemory e → P what.answer what.after → P answer (after_by e what answer)
 step_either P e what NoMemory is stays moves = stays
-step_either P e what (Attached number) is stays moves = told_either P what _ is moves
-step_either P e what Full is stays moves = told_either P what _ is moves
-step_either P e what Stopped is stays moves = told_either P what _ is moves
-step_either P e what (PolicyInForce epoch replies) is stays moves = told_either P what _ is moves
-step_either P e what PolicyFull is stays moves = told_either P what _ is moves
-step_either P e what (Imaged number replies) is stays moves = told_either P what _ is moves
-step_either P e what (Received words) is stays moves = told_either P what _ is moves
-step_either P e what Heard is stays moves = told_either P what _ is moves
-step_either P e what (Dropped fault) is stays moves = told_either P what _ is moves
-step_either P e what (Replies replies) is stays moves = told_either P what _ is moves
-step_either P e what (OfferedAs offered') is stays moves = told_either P what _ is moves
-step_either P e what (Polled fragments) is stays moves = told_either P what _ is moves
-step_either P e what IsGone is stays moves = told_either P what _ is moves
-step_either P e what (Counters rows) is stays moves = told_either P what _ is moves
-step_either P e what (ValueIs number) is stays moves = told_either P what _ is moves
-step_either P e what (Denied verdict) is stays moves = told_either P what _ is moves
-step_either P e what UnknownCounter is stays moves = told_either P what _ is moves
-step_either P e what WrongClient is stays moves = told_either P what _ is moves
+step_either P e what answer is stays moves = told_either P what answer is moves
 
 step_owns : (granted : ℕ → List Frame) (e : RunEnd) (step : Step) (answer : Answer) → IsAnswer e step answer →
     All (Owns granted) e.logs → All (Owns (granted_with granted e step answer)) (after e step answer).logs

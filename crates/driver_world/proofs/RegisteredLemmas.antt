@@ -9,18 +9,19 @@ use Rattle.driver_core.specs.declared.event.Inputs.{Inputs}
 use Rattle.driver_core.specs.declared.peer.Peer.{Peer}
 use Rattle.driver_core.specs.declared.settings.Settings.{Settings}
 use Rattle.driver_core.specs.LogRequests.{offering_of, registration_at}
+use Rattle.driver_core.specs.PublicationRequests.{publisher_of}
 use Rattle.driver_core.specs.Renewal.{source_at}
 use Rattle.driver_core.specs.Soundness.{AreSettings, IsSound}
 use Rattle.driver_core.specs.State.{State, opened}
 use Rattle.driver_core.proofs.SoundnessLemmas.{moves_logs, registries_sound}
 use Rattle.driver_world.specs.declared.step.Step.{Step}
-use Rattle.driver_world.specs.declared.step.Step.TheVariants.{Conductor, Packet, Offer, Poll, List as Lists, Value}
+use Rattle.driver_world.specs.declared.step.Step.TheVariants.{Conductor, Packet, Offer, Poll, Image, List as Lists, Value}
 use Rattle.driver_world.specs.Ends.{RunEnd, conducted, inputs_of, moved, opening_end}
 use Rattle.driver_world.specs.Laws.{AtEachEnd}
 use Rattle.driver_world.specs.Receiving.{beat_move, receive_move, unheard}
 use Rattle.frame_codec.specs.Datagram.{packet_of}
 use Rattle.driver_world.specs.Registered.{AreRegistered, IsPublishedBy, IsWith}
-use Rattle.driver_world.proofs.EndLemmas.{log_keeps_registry, offer_keeps_registry, poll_keeps_registry, run_keeps}
+use Rattle.driver_world.proofs.EndLemmas.{log_keeps_registry, offer_keeps_registry, poll_keeps_registry, report_keeps_registry, run_keeps}
 use Rattle.driver_world.proofs.PacketLemmas.{packet_cases}
 use Rattle.driver_world.proofs.RegisteringLemmas.{registered_after}
 use Rattle.policy_core.specs.RuleList.{Rules}
@@ -51,12 +52,14 @@ step_keeps e (Packet now local from bytes) keeps =
       drops = λ cause. keeps;
       receives = λ source sent. rw (log_keeps_registry e source (receive_move now sent) unheard) keeps;
       hears = λ source place. rw (log_keeps_registry e source (beat_move now place) unheard) keeps;
+      asks = λ source move quiet. rw (log_keeps_registry e source move unheard) keeps;
       sets_up = λ fields. event_keeps e (SetUp now local from fields) keeps;
     }) (packet_of bytes)
 step_keeps e (Offer now client registration message) keeps =
     rw (offer_keeps_registry e now client registration message (offering_of e.registry client registration)) keeps
 step_keeps e (Poll now client subscription source limit) keeps =
     rw (poll_keeps_registry e client subscription source limit) keeps
+step_keeps e (Image now source) keeps = rw (report_keeps_registry e now source (publisher_of e.registry source)) keeps
 step_keeps e (Lists now client) keeps = keeps
 step_keeps e (Value now client number) keeps = keeps
 
