@@ -19,13 +19,14 @@ use Rattle.driver_core.specs.Readers.{readers_of}
 use Rattle.driver_core.specs.State.{State}
 use Rattle.any_log.proofs.StillLemmas.{IsStill}
 use Rattle.driver_world.proofs.PacketLemmas.{asked_cases, told_cases}
-use Rattle.driver_world.proofs.QuietLemmas.{IsQuiet, report_cases, still_holds}
+use Rattle.driver_world.proofs.QuietLemmas.{IsQuiet, report_cases, send_quiet, still_holds}
 use Rattle.driver_world.proofs.LiveLemmas.{IsKept, event_keeps, found_log, log_keeps, poll_gives, step_either}
+use Rattle.driver_world.specs.Sending.{send_move}
 use Rattle.driver_world.specs.declared.answer.Answer.{Answer}
 use Rattle.driver_world.specs.declared.answer.Answer.TheVariants.{NoMemory, Offered as OfferedAs, Polled, Gone as IsGone, Received}
 use Rattle.driver_world.specs.declared.answer.Offered.TheVariants.{Closed}
 use Rattle.driver_world.specs.declared.step.Step.{Step}
-use Rattle.driver_world.specs.declared.step.Step.TheVariants.{Conductor, Packet, Offer as Offers, Poll as Polls, Image, List as Lists, Value}
+use Rattle.driver_world.specs.declared.step.Step.TheVariants.{Conductor, Packet, Offer as Offers, Poll as Polls, Image, List as Lists, Send, Value}
 use Rattle.driver_world.specs.CarryingLaws.{carried_for, carried_on, carried_by, carried_in, IsCarried, PayloadsComeFromTheirPublisher}
 use Rattle.driver_world.specs.Ends.{RunEnd, opening_end, log_at, moved_on, on_image, on_log, on_offered, on_packet, moved, after, IsAnswer, AreAnswers, end_of}
 use Rattle.driver_world.specs.Idents.{begins_by}
@@ -316,6 +317,10 @@ moved_holds carried e (Offers now client registration message) holds =
 moved_holds carried e (Polls now client subscription source limit) holds =
     let step : Step = Polls now client subscription source limit in
     poll_holds (carried_with carried e step (moved e step).answer) e client subscription source limit holds
+moved_holds carried e (Send now source) holds =
+    let step : Step = Send now source in
+    quiet_holds (carried_with carried e step (moved e step).answer) e source (send_move e.registry now) IsGone
+    (send_quiet e.registry now) holds
 moved_holds carried e (Image now source) holds =
     let step : Step = Image now source in
     let more : ℕ → List (List ℕ) = carried_with carried e step (moved e step).answer in

@@ -12,11 +12,12 @@ use Rattle.driver_core.specs.Listing.{list, value}
 use Rattle.driver_core.specs.LogRequests.{offering_of}
 use Rattle.driver_core.specs.PublicationRequests.{publication_for, publisher_of, resending_of}
 use Rattle.driver_core.specs.State.{State, opened}
+use Rattle.driver_world.specs.Sending.{send_move}
 use Rattle.driver_world.specs.declared.answer.Answer.{Answer}
 use Rattle.driver_world.specs.declared.answer.Answer.TheVariants.{NoMemory, Offered as OfferedAs, Gone as IsGone}
 use Rattle.driver_world.specs.declared.answer.Offered.TheVariants.{Closed}
 use Rattle.driver_world.specs.declared.step.Step.{Step}
-use Rattle.driver_world.specs.declared.step.Step.TheVariants.{Conductor, Packet, Offer, Poll, Image, List as Lists, Value}
+use Rattle.driver_world.specs.declared.step.Step.TheVariants.{Conductor, Packet, Offer, Poll, Image, List as Lists, Send, Value}
 use Rattle.driver_world.specs.Answers.{answer_of, answer_listed, answer_shown}
 use Rattle.driver_world.specs.Ends.{RunEnd, opening_end, inputs_of, log_at, moved_on, on_asked, on_image, on_log, on_offered, on_packet, on_report, on_told, conducted, moved, after, IsAnswer, end_of}
 use Rattle.driver_world.specs.Hearing.{nak_move, status_move}
@@ -125,6 +126,7 @@ moved_takes e (Offer now client registration message) =
     offer_keeps_registry e now client registration message (offering_of e.registry client registration)
 moved_takes e (Poll now client subscription source limit) =
     poll_keeps_registry e client subscription source limit
+moved_takes e (Send now source) = log_keeps_registry e source (send_move e.registry now) IsGone
 moved_takes e (Image now source) = report_keeps_registry e now source (publisher_of e.registry source)
 moved_takes e (Lists now client) = refl
 moved_takes e (Value now client number) = refl

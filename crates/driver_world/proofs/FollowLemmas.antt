@@ -21,9 +21,10 @@ use Rattle.driver_core.specs.Renewal.{source_at}
 use Rattle.driver_core.specs.Soundness.{AreSettings, IsSound, MovesLogs, Opens, log_of}
 use Rattle.driver_core.specs.State.{State, opened}
 use Rattle.driver_core.proofs.SoundnessLemmas.{moves_logs, registries_sound}
+use Rattle.driver_world.specs.Sending.{send_move}
 use Rattle.driver_world.specs.Receiving.{beat_move, receive_move, unheard}
 use Rattle.any_log.proofs.StillLemmas.{still_made, still_readers}
-use Rattle.driver_world.proofs.QuietLemmas.{IsQuiet, report_cases}
+use Rattle.driver_world.proofs.QuietLemmas.{IsQuiet, report_cases, send_quiet}
 use Rattle.driver_world.proofs.PacketLemmas.{beaten_made, beaten_readers, packet_cases, received_made, received_readers}
 use Rattle.frame_codec.specs.declared.header.TermPlace.{TermPlace}
 use Rattle.frame_codec.specs.Datagram.{packet_of}
@@ -34,7 +35,7 @@ use Rattle.driver_world.specs.declared.answer.Answer.{Answer}
 use Rattle.driver_world.specs.declared.answer.Answer.TheVariants.{Offered as OfferedAs, Gone as IsGone}
 use Rattle.driver_world.specs.declared.answer.Offered.TheVariants.{Closed}
 use Rattle.driver_world.specs.declared.step.Step.{Step}
-use Rattle.driver_world.specs.declared.step.Step.TheVariants.{Conductor, Packet, Offer, Poll, Image, List as Lists, Value}
+use Rattle.driver_world.specs.declared.step.Step.TheVariants.{Conductor, Packet, Offer, Poll, Image, List as Lists, Send, Value}
 use Rattle.driver_world.specs.Ends.{RunEnd, opening_end, inputs_of, begun, opened_for, stays_open, rejoined_log, logs_after, log_at, with_log, moved_on, on_log, on_offered, conducted, moved}
 use Rattle.driver_core.specs.Readers.{readers_of}
 use Rattle.driver_world.specs.Held.{is_closed}
@@ -314,6 +315,8 @@ step_follows e (Offer now client registration message) follows =
     offer_follows e now client registration message (offering_of e.registry client registration) follows
 step_follows e (Poll now client subscription source limit) follows =
     poll_follows e client subscription source limit follows
+step_follows e (Send now source) follows =
+    log_follows e source (send_move e.registry now) IsGone (quiet_alike (send_move e.registry now) (send_quiet e.registry now)) follows
 step_follows e (Image now source) follows =
     report_cases (λ what. Follows what.after) e now source follows
     (λ move quiet. log_follows e source move IsGone (quiet_alike move quiet) follows) (publisher_of e.registry source)

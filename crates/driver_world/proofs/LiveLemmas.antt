@@ -22,9 +22,10 @@ use Rattle.driver_core.specs.Pairs.{pairs_of}
 use Rattle.driver_core.specs.Renewal.{source_at}
 use Rattle.driver_core.specs.State.{State}
 use Rattle.driver_core.proofs.ListLemmas.{contains_none, only_one}
+use Rattle.driver_world.specs.Sending.{send_move}
 use Rattle.driver_world.specs.Receiving.{beat_move, receive_move, unheard}
 use Rattle.driver_world.proofs.PacketLemmas.{packet_cases}
-use Rattle.driver_world.proofs.QuietLemmas.{IsQuiet, report_cases, still_holds}
+use Rattle.driver_world.proofs.QuietLemmas.{IsQuiet, report_cases, send_quiet, still_holds}
 use Rattle.frame_codec.specs.declared.header.TermPlace.{TermPlace}
 use Rattle.frame_codec.specs.Datagram.{packet_of}
 use Rattle.frame_codec.specs.Frame.{Sent}
@@ -34,7 +35,7 @@ use Rattle.driver_world.specs.declared.answer.Answer.{Answer}
 use Rattle.driver_world.specs.declared.answer.Answer.TheVariants.{NoMemory, Offered as OfferedAs, Polled, Gone as IsGone}
 use Rattle.driver_world.specs.declared.answer.Offered.TheVariants.{At as PutAt, Closed}
 use Rattle.driver_world.specs.declared.step.Step.{Step}
-use Rattle.driver_world.specs.declared.step.Step.TheVariants.{Conductor, Packet, Offer as Offers, Poll as Polls, Image, List as Lists, Value}
+use Rattle.driver_world.specs.declared.step.Step.TheVariants.{Conductor, Packet, Offer as Offers, Poll as Polls, Image, List as Lists, Send, Value}
 use Rattle.driver_world.specs.Answers.{offered_as}
 use Rattle.driver_world.specs.Ends.{RunEnd, opening_end, inputs_of, begun, opened_for, stays_open, rejoined_log, logs_after, log_at, with_log, Moved, moved_on, on_log, on_offered, conducted, moved, after_by, after, IsAnswerOf, IsAnswer, AreAnswers, end_of}
 use Rattle.driver_core.specs.Readers.{readers_of}
@@ -561,6 +562,10 @@ moved_owns granted e (Polls now client subscription source limit) owned =
     let step : Step = Polls now client subscription source limit in
     still_owns granted e step (moved e step).answer (moved e step).after.logs
     (poll_owns granted e client subscription source limit owned)
+moved_owns granted e (Send now source) owned =
+    let step : Step = Send now source in
+    still_owns granted e step (moved e step).answer (moved e step).after.logs
+    (quiet_owns granted e source (send_move e.registry now) IsGone (send_quiet e.registry now) owned)
 moved_owns granted e (Image now source) owned =
     let step : Step = Image now source in
     still_owns granted e step (moved e step).answer (moved e step).after.logs

@@ -1,13 +1,16 @@
 -- Moves that leave of a log its number, its frames, who reads it and what it is made for.
-use Rattle.std.proofs.Common.{◌≡◌, ℕ, Option, Some, None, refl, sym, subst}
-use Rattle.any_log.proofs.StillLemmas.{IsStill, hearing_still, is_still, report_still}
+use Rattle.std.proofs.Common.{◌≡◌, ℕ, Bool, Option, Some, None, refl, sym, subst}
+use Rattle.any_log.proofs.StillLemmas.{IsStill, hearing_still, is_still, report_still, turn_still}
 use Rattle.any_log.specs.Whole.{AnyWhole}
 use Rattle.channel_uri.specs.declared.address.Address.{Address}
+use Rattle.driver_core.specs.SendRequests.{sending_of}
+use Rattle.driver_core.specs.State.{State}
 use Rattle.driver_world.specs.declared.answer.Answer.TheVariants.{Gone as IsGone}
 use Rattle.driver_world.specs.Ends.{RunEnd, Moved, on_log, on_report}
 use Rattle.driver_world.specs.Hearing.{nak_move, status_move}
 use Rattle.driver_world.specs.Moves.{WholeLog, Move}
 use Rattle.driver_world.specs.Reporting.{report_move}
+use Rattle.driver_world.specs.Sending.{pace_of, send_by, send_move}
 use Rattle.frame_codec.specs.declared.nak.Nak.{Nak}
 use Rattle.frame_codec.specs.declared.status_message.StatusMessage.{StatusMessage}
 use Rattle.policy_core.specs.declared.decision.Decision.{Decision}
@@ -37,6 +40,14 @@ nak_quiet now from decision nak log = record { source = refl; whole = is_still l
 
 pub report_quiet : (now id : ℕ) (to : Address) → IsQuiet (report_move now id to)
 report_quiet now id to log = record { source = refl; whole = report_still now log.recovery.receiver log.whole }
+
+send_still : (s : State) (now : ℕ) (log : WholeLog) (lingers : Option Bool) → IsStillLog log (send_by s now log lingers).after
+send_still s now log None = record { source = refl; whole = is_still log.whole }
+send_still s now log (Some lingers) = record { source = refl; whole = turn_still (pace_of s.settings) now log.whole }
+
+pub send_quiet : (s : State) (now : ℕ) → IsQuiet (send_move s now)
+unfolding send_move
+send_quiet s now log = send_still s now log (sending_of s log.source)
 
 -- ---- a turn of the receiver
 

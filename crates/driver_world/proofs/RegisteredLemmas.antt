@@ -14,8 +14,9 @@ use Rattle.driver_core.specs.Renewal.{source_at}
 use Rattle.driver_core.specs.Soundness.{AreSettings, IsSound}
 use Rattle.driver_core.specs.State.{State, opened}
 use Rattle.driver_core.proofs.SoundnessLemmas.{moves_logs, registries_sound}
+use Rattle.driver_world.specs.Sending.{send_move}
 use Rattle.driver_world.specs.declared.step.Step.{Step}
-use Rattle.driver_world.specs.declared.step.Step.TheVariants.{Conductor, Packet, Offer, Poll, Image, List as Lists, Value}
+use Rattle.driver_world.specs.declared.step.Step.TheVariants.{Conductor, Packet, Offer, Poll, Image, List as Lists, Send, Value}
 use Rattle.driver_world.specs.Ends.{RunEnd, conducted, inputs_of, moved, opening_end}
 use Rattle.driver_world.specs.Laws.{AtEachEnd}
 use Rattle.driver_world.specs.Receiving.{beat_move, receive_move, unheard}
@@ -59,6 +60,7 @@ step_keeps e (Offer now client registration message) keeps =
     rw (offer_keeps_registry e now client registration message (offering_of e.registry client registration)) keeps
 step_keeps e (Poll now client subscription source limit) keeps =
     rw (poll_keeps_registry e client subscription source limit) keeps
+step_keeps e (Send now source) keeps = rw (log_keeps_registry e source (send_move e.registry now) IsGone) keeps
 step_keeps e (Image now source) keeps = rw (report_keeps_registry e now source (publisher_of e.registry source)) keeps
 step_keeps e (Lists now client) keeps = keeps
 step_keeps e (Value now client number) keeps = keeps
