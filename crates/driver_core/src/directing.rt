@@ -2,7 +2,7 @@ ghost use Rattle.channel_uri.specs.Channel.{denotes};
 ghost use Rattle.driver_core.specs.Directing.{add_destination, destination_decision, directed_to, directing_by, directing_of, has_room_for_sole, is_taken, own_log, recalling_of, refused_by_destinations, remove_destination, sole_address, target_address, target_of, with_destination};
 ghost use Rattle.driver_core.specs.State.{has_number};
 ghost use Rattle.driver_core.specs.Told.{told_of};
-ghost use Rattle.destinations.specs.Destinations.{adding};
+ghost use Rattle.destinations.specs.Destinations.{adding, has};
 ghost use Rattle.std.specs.Option.{option_copied};
 ghost use Rattle.stream_registry.specs.Places.{is_manual};
 ghost use Rattle.std.specs.Prelude.{◌≡◌, ℕ, IfOk, Ok, true};
@@ -262,7 +262,8 @@ impl Registry {
         channel: &Result<Channel, UriError>,
     ) -> Result<Target, Refused>
         requires { channel.now ≡ denotes fields.now.channel }
-        ensures { result ≡ recalling_of self.now client fields.now }
+        ensures decided { result ≡ recalling_of self.now client fields.now }
+        ensures known { IfOk result (λ target. has self.now.destinations.rows target.source target.address ≡ true) }
     {
         let target = match channel {
             Ok(channel) => self.target(client, fields.registration, channel)?,

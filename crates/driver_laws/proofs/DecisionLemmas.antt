@@ -1,5 +1,5 @@
 -- Each decision that an event tells is by the policy in force.
-use Rattle.std.proofs.Common.{◌≡◌, ℕ, ℤ, pos, ◌==◌, Bool, true, false, List, [], ◌∷◌, Option, Some, None, Result, Ok, Err, if◌then◌else◌, inl, inr, refl, ap, ◌∙◌, ◌⊎◌}
+use Rattle.std.proofs.Common.{◌≡◌, ℕ, ℤ, pos, ◌==◌, Bool, true, false, not, ◌&&◌, List, [], ◌∷◌, Option, Some, None, Result, Ok, Err, if◌then◌else◌, inl, inr, refl, sym, ap, ◌∙◌, ◌⊎◌}
 use Rattle.std.specs.List.{AllByRecursion, Contains, flat_map}
 use Rattle.std.proofs.lemmas.Bool.{cond_both, eqb-true}
 use Rattle.driver_core.specs.declared.event.Event.{Event}
@@ -12,6 +12,7 @@ use Rattle.driver_core.specs.Commands.{asked, asked_by, at_request, body_change,
 use Rattle.driver_core.specs.Conduct.{conduct, drafted}
 use Rattle.driver_core.specs.Counting.{add_counter, counted, remove_counter, set_counter, uncounted, valued}
 use Rattle.driver_core.specs.Deciding.{decision_by, question_by}
+use Rattle.driver_core.specs.Directing.{add_destination, added_on, destination_decision, directed, directed_as, directing_by, directing_of, directing_on, recalled, recalled_as, recalling_by, recalling_of, recalling_on, remove_destination}
 use Rattle.driver_core.specs.Draft.{Draft, answered, refused, replied, replied_opening, told}
 use Rattle.driver_core.specs.Publishing.{add_publication, is_publishable, publish_on, published, publishing_act}
 use Rattle.driver_core.specs.Reloading.{reloaded}
@@ -34,15 +35,18 @@ use Rattle.command_codec.specs.declared.add_counter.AddCounter.{AddCounter}
 use Rattle.command_codec.specs.declared.add_publication.AddPublication.{AddPublication}
 use Rattle.command_codec.specs.declared.add_subscription.AddSubscription.{AddSubscription}
 use Rattle.command_codec.specs.declared.command.Body.{Body}
-use Rattle.command_codec.specs.declared.command.Body.TheVariants.{AddPublication as Publishes, AddExclusivePublication as PublishesExclusively, RemovePublication as Unpublishes, AddSubscription as Adds, RemoveSubscription as Removes, ClientKeepalive as Keeps, AddCounter as AddsCounter, RemoveCounter as RemovesCounter, ClientClose as Closes, TerminateDriver as Terminates, SetCounter as Sets}
+use Rattle.command_codec.specs.declared.command.Body.TheVariants.{AddPublication as Publishes, AddExclusivePublication as PublishesExclusively, RemovePublication as Unpublishes, AddSubscription as Adds, RemoveSubscription as Removes, ClientKeepalive as Keeps, AddDestination as Directs, RemoveDestination as Recalls, AddCounter as AddsCounter, RemoveCounter as RemovesCounter, ClientClose as Closes, TerminateDriver as Terminates, SetCounter as Sets}
 use Rattle.command_codec.specs.declared.command.Command.{Command as Read}
+use Rattle.command_codec.specs.declared.destination.Destination.{Destination}
 use Rattle.command_codec.specs.declared.fault.CommandFault.{CommandFault}
 use Rattle.command_codec.specs.declared.terminate_driver.TerminateDriver.{TerminateDriver}
 use Rattle.command_codec.specs.Command.{command_of}
 use Rattle.counters.specs.Counters.{has}
+use Rattle.destinations.specs.declared.fault.DestinationFault.{DestinationFault}
+use Rattle.destinations.specs.Destinations.{adding as naming, has as has_destination}
 use Rattle.log_readers.specs.Unread.{without_unread as without_unread_in}
 use Rattle.policy_core.specs.declared.act.Act.{Act}
-use Rattle.policy_core.specs.declared.act.Act.TheVariants.{Counter as MakeCounter, Terminate}
+use Rattle.policy_core.specs.declared.act.Act.TheVariants.{Counter as MakeCounter, Destination as Direct, Terminate}
 use Rattle.policy_core.specs.declared.decision.Decision.{Decision}
 use Rattle.stream_registry.specs.declared.pairs.Pair.{Pair}
 use Rattle.stream_registry.specs.declared.row.Source.{Source}
@@ -50,7 +54,7 @@ use Rattle.stream_registry.specs.declared.row.Subscription.{Subscription}
 use Rattle.stream_registry.specs.Leaving.{has_registration}
 use Rattle.stream_registry.specs.Pairs.{image_question}
 use Rattle.driver_core.proofs.CacheLemmas.{found_in}
-use Rattle.driver_core.proofs.EventCases.{add_counter_cases, attach_cases, publish_cases, reload_cases, remove_cases, set_up_cases, subscribe_cases, terminate_cases}
+use Rattle.driver_core.proofs.EventCases.{add_counter_cases, attach_cases, publish_cases, reload_cases, remove_cases, set_up_cases, subscribe_cases, target_cases, target_heard, terminate_cases}
 use Rattle.driver_core.proofs.VerdictLemmas.{by_policy}
 use Rattle.driver_laws.proofs.DenialLemmas.{asked_before}
 use Rattle.driver_laws.proofs.DroppingLemmas.{all_weaker, first_there, later_there}
@@ -137,12 +141,12 @@ module _ (s : State) (now handle : ℕ) (bytes : List ℕ) where
       (λ takes.
       let request : PublicationRequest =
       record { client = client; correlation = correlation; fields = fields; channel = channel; exclusive = exclusive } in
-      let one = one_decided client correlation (publishing_act exclusive) channel fields.stream (inr (inr (inr (record {
+      let one = one_decided client correlation (publishing_act exclusive) channel fields.stream (inr (inr (inr (inl (record {
         request = request;
         asks = record { asks = asks; denotes_channel = denoted; takes_channel = takes };
         correlation_is = refl;
         question_is = refl;
-      })))) in
+      }))))) in
       publish_cases (Decides s event) left client correlation (wanted_by request) (record {
         denied = λ denies. refused_decides s event left _ _ _ _ one;
         refused_by = λ why allows is. refused_decides s event left _ _ _ _ one;
@@ -151,6 +155,68 @@ module _ (s : State) (now handle : ℕ) (bytes : List ℕ) where
         granted = λ adding allows is room placed. one;
       }))
       (λ other. plain left _ _ _)
+
+  -- named by hand, and then taken or not
+  taken_decides : (client : Client) (correlation : ℕ) (channel : Shape) (target : _) →
+      AreOnRequest s event (destination_decision left client channel target ∷ []) → (found : Result ℕ DestinationFault) →
+      Decides s event (directed_as left client correlation
+      (added_on (destination_decision left client channel target) target found))
+  unfolding directed replied told
+  taken_decides client correlation channel target one (Ok number) = one
+  taken_decides client correlation channel target one (Err why) = refused_decides s event left _ _ _ _ one
+
+  target_decides : (client : Client) (correlation : ℕ) (channel : Shape) (target : _) →
+      AreOnRequest s event (destination_decision left client channel target ∷ []) →
+      Decides s event (directed_as left client correlation (directing_by left client channel (Ok target)))
+  target_decides client correlation channel target one =
+      let allow : Bool = (destination_decision left client channel target).verdict.allow in
+      cond_both (not allow) _ _ (λ found. Decides s event (directed_as left client correlation found))
+      (λ denies. refused_decides s event left _ _ _ _ one)
+      (λ allows.
+      cond_both target.manual _ _ (λ found. Decides s event (directed_as left client correlation found))
+      (λ manual.
+      taken_decides client correlation channel target one (naming left.destinations target.source target.address))
+      (λ other. refused_decides s event left _ _ _ _ one))
+
+  destination_decides : (client : Client) (correlation : ℕ) (fields : Destination) →
+      Asks at handle bytes client correlation (Directs fields) → (channel : Result Shape UriError) →
+      denotes fields.channel ≡ channel →
+      Decides s event (directed_as left client correlation (directing_on left client fields.registration channel))
+  destination_decides client correlation fields asks (Err fault) denoted = plain left _ _ _
+  destination_decides client correlation fields asks (Ok channel) denoted =
+      target_cases (λ found. Decides s event (directed_as left client correlation (directing_by left client channel found)))
+      left client.number fields.registration channel
+      (λ refusal plain'. plain left _ _ _)
+      (λ target named.
+      target_decides client correlation channel target
+      (one_decided client correlation Direct channel target.stream (inr (inr (inr (inr (record {
+        request = record {
+          client = client;
+          correlation = correlation;
+          fields = fields;
+          channel = channel;
+          target = target;
+        };
+        asks = record {
+          asks = asks;
+          denotes_channel = denoted;
+          names_target = sym (target_heard at handle client.number fields.registration channel) ∙ named;
+        };
+        correlation_is = refl;
+        question_is = refl;
+      })))))))
+
+  recall_decides : (client : Client) (correlation : ℕ) (fields : Destination) → (channel : Result Shape UriError) →
+      Decides s event (recalled_as left client correlation (recalling_on left client.number fields.registration channel))
+  unfolding recalled replied told
+  recall_decides client correlation fields (Err fault) = plain left _ _ _
+  recall_decides client correlation fields (Ok channel) =
+      target_cases (λ found. Decides s event (recalled_as left client correlation (recalling_by left found)))
+      left client.number fields.registration channel
+      (λ refusal plain'. plain left _ _ _)
+      (λ target named.
+      cond_both (target.manual && has_destination left.destinations.rows target.source target.address) _ _
+      (λ found. Decides s event (recalled_as left client correlation found)) (λ there. tt) (λ other. plain left _ _ _))
 
   counter_decides : (client : Client) (correlation : ℕ) (fields : AddCounter) →
       Asks at handle bytes client correlation (AddsCounter fields) →
@@ -187,7 +253,7 @@ module _ (s : State) (now handle : ℕ) (bytes : List ℕ) where
   body_decides : (client : Client) (read : Read) → command_of bytes ≡ Ok read → read.client ≡ handle →
       client_at at.clients.rows handle ≡ Some client → (body : Body) → read.body ≡ body →
       Decides s event (body_change left client read.correlation body)
-  unfolding add_subscription add_publication remove_publication set_counter remove_counter unpublished unsubscribed valued uncounted keep_alive close replied told
+  unfolding add_subscription add_publication add_destination directing_of remove_destination recalling_of remove_publication set_counter remove_counter unpublished unsubscribed valued uncounted keep_alive close replied told
   body_decides client read is own found (Publishes fields) same =
       publication_decides client read.correlation fields false
       (asks_for client read (Publishes fields) is own found same) (denotes fields.channel) refl
@@ -203,6 +269,11 @@ module _ (s : State) (now handle : ℕ) (bytes : List ℕ) where
   body_decides client read is own found (Removes fields) same =
       remove_cases (Decides s event) left client read.correlation fields (λ e. tt) (λ e. plain left _ _ _)
   body_decides client read is own found Keeps same = tt
+  body_decides client read is own found (Directs fields) same =
+      destination_decides client read.correlation fields
+      (asks_for client read (Directs fields) is own found same) (denotes fields.channel) refl
+  body_decides client read is own found (Recalls fields) same =
+      recall_decides client read.correlation fields (denotes fields.channel)
   body_decides client read is own found (AddsCounter fields) same =
       counter_decides client read.correlation fields (asks_for client read (AddsCounter fields) is own found same)
   body_decides client read is own found (RemovesCounter fields) same =

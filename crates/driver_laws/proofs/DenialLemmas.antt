@@ -2,8 +2,6 @@
 use Rattle.std.proofs.Common.{◌≡◌, ℕ, ℤ, false, List, [], ◌∷◌, Option, Some, None, Result, Ok, Err, inl, inr, refl, sym, ap, ◌∙◌, ⊎_elim}
 use Rattle.std.proofs.lemmas.Bool.{cond_both}
 use Rattle.std.specs.List.{AllByRecursion}
-use Rattle.driver_core.specs.declared.directing.Directed.{Directed}
-use Rattle.driver_core.specs.declared.directing.Target.{Target}
 use Rattle.driver_core.specs.Directing.{directed, recalled, target_of, with_destination, without_destination}
 use Rattle.driver_core.proofs.AskingLemmas.{target_asked}
 use Rattle.driver_core.specs.declared.event.Event.{Event}
@@ -151,12 +149,12 @@ value_names : (s : State) (event : Event) (left : State) (client : Client) (corr
 unfolding valued replied told
 value_names s event left client correlation fields = record { replies = (tt, tt); later = tt; response = tt }
 
-destination_names : (s : State) (event : Event) (left : State) (client : Client) (correlation : ℕ) (granted : Directed) →
+destination_names : (s : State) (event : Event) (left : State) (client : Client) (correlation : ℕ) (granted : _) →
     Names s event (directed left client correlation granted)
 unfolding directed with_destination replied told
 destination_names s event left client correlation granted = record { replies = (tt, tt); later = tt; response = tt }
 
-destination_removal_names : (s : State) (event : Event) (left : State) (client : Client) (correlation : ℕ) (target : Target) →
+destination_removal_names : (s : State) (event : Event) (left : State) (client : Client) (correlation : ℕ) (target : _) →
     Names s event (recalled left client correlation target)
 unfolding recalled without_destination replied told
 destination_removal_names s event left client correlation target = record { replies = (tt, tt); later = tt; response = tt }

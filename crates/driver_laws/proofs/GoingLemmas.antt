@@ -4,8 +4,6 @@ use Rattle.std.specs.List.{Contains, list_any}
 use Rattle.std.proofs.lemmas.Bool.{and_parts, cases_Bool, eqb-true, not-false, not_from_false, or_left}
 use Rattle.std.proofs.lemmas.List.Elements.{All-contains, Contains-append_left, Contains-push_cases, filter_passes}
 use Rattle.std.proofs.lemmas.List.Folds.{list_any-append}
-use Rattle.driver_core.specs.declared.directing.Directed.{Directed}
-use Rattle.driver_core.specs.declared.directing.Target.{Target}
 use Rattle.driver_core.specs.Directing.{directed, recalled, with_destination, without_destination}
 use Rattle.driver_core.specs.declared.event.Event.{Event}
 use Rattle.driver_core.specs.declared.event.Event.TheVariants.{Attach, Command, Reload, Setup, Tick}
@@ -238,7 +236,7 @@ module _ (inputs : Inputs) where
         logs = same.logs;
       }) refl
 
-  destination_stays : (s : State) (event : Event) (left' : State) (client : Client) (correlation : ℕ) (granted : Directed) →
+  destination_stays : (s : State) (event : Event) (left' : State) (client : Client) (correlation : ℕ) (granted : _) →
       IsSame s left' → Leaves s event (directed left' client correlation granted)
   unfolding directed with_destination replied told
   destination_stays s event left' client correlation granted same =
@@ -250,7 +248,7 @@ module _ (inputs : Inputs) where
       }) refl
 
   destination_removal_stays : (s : State) (event : Event) (left' : State) (client : Client) (correlation : ℕ)
-      (target : Target) → IsSame s left' → Leaves s event (recalled left' client correlation target)
+      (target : _) → IsSame s left' → Leaves s event (recalled left' client correlation target)
   unfolding recalled without_destination replied told
   destination_removal_stays s event left' client correlation target same =
       all_stay s event _ (record {
@@ -596,8 +594,8 @@ module _ (inputs : Inputs) where
 
   ticked_logs : {Goes : ℕ → Type 0} (s between : State) (now : ℕ) →
       Left (max s.moment now) (at_moment s now) between Goes →
-      LogsStay s (Tick now) (record between { streams = closed between.streams between.moment inputs.silent })
-  unfolding closed at_moment
+      LogsStay s (Tick now) (closed_past between inputs.silent)
+  unfolding closed_past closed at_moment
   ticked_logs s between now leaves log has =
       let moment = max s.moment now in
       let there = leaves.logs log has in

@@ -28,6 +28,7 @@ use Rattle.command_codec.specs.declared.add_counter.AddCounter.{AddCounter}
 use Rattle.command_codec.specs.declared.command.Body.TheVariants.{AddCounter as AddsCounter, TerminateDriver as Terminates}
 use Rattle.command_codec.specs.declared.terminate_driver.TerminateDriver.{TerminateDriver}
 use Rattle.log_readers.specs.Unread.{without_unread as without_unread_in}
+use Rattle.destinations.specs.Destinations.{cleared as all_recalled}
 use Rattle.policy_core.specs.declared.decision.Decision.{Decision}
 use Rattle.policy_core.specs.declared.verdict.Verdict.{Verdict}
 use Rattle.policy_core.specs.Question.{Question}
@@ -261,10 +262,17 @@ none_left : (s : State) (now : ℕ) →
     without_unread (record (at_moment s now) {
       clients = cleared s.clients;
       streams = all_closed s.streams;
+      destinations = all_recalled s.destinations;
       counters = [];
       stopped = true;
     })
-    ≡ record (at_moment s now) { clients = cleared s.clients; streams = all_closed s.streams; counters = []; stopped = true }
+    ≡ record (at_moment s now) {
+      clients = cleared s.clients;
+      streams = all_closed s.streams;
+      destinations = all_recalled s.destinations;
+      counters = [];
+      stopped = true;
+    }
 unfolding without_unread without_unread_in
 none_left s now = refl
 

@@ -2,8 +2,6 @@
 use Rattle.std.proofs.Common.{◌≡◌, ℕ, ℤ, ◌+◌, Bool, true, false, cond, List, [], ◌∷◌, map, ◌⊎◌, inl, inr, refl, sym, ap, ◌∙◌, ⊎_elim}
 use Rattle.std.specs.List.{Contains}
 use Rattle.std.proofs.lemmas.List.Elements.{All-map, All-weaker, All-contains, All-contains_itself, Contains-push_cases}
-use Rattle.driver_core.specs.declared.directing.Directed.{Directed}
-use Rattle.driver_core.specs.declared.directing.Target.{Target}
 use Rattle.driver_core.specs.Directing.{directed, recalled, with_destination, without_destination}
 use Rattle.driver_core.specs.declared.event.Event.{Event}
 use Rattle.driver_core.specs.declared.event.Event.TheVariants.{Attach, Command, Reload, Setup, Tick}
@@ -218,13 +216,13 @@ value_only s event left' client correlation fields same =
       ends = λ is. inl (rw same.stopped at is);
     }
 
-destination_only : (s : State) (event : Event) (left' : State) (client : Client) (correlation : ℕ) (granted : Directed) →
+destination_only : (s : State) (event : Event) (left' : State) (client : Client) (correlation : ℕ) (granted : _) →
     IsSame s left' → DraftsOnly s event (directed left' client correlation granted)
 unfolding directed with_destination replied told
 destination_only s event left' client correlation granted same =
     same_only s event _ (record { counters = same.counters; stopped = same.stopped })
 
-destination_removal_only : (s : State) (event : Event) (left' : State) (client : Client) (correlation : ℕ) (target : Target) →
+destination_removal_only : (s : State) (event : Event) (left' : State) (client : Client) (correlation : ℕ) (target : _) →
     IsSame s left' → DraftsOnly s event (recalled left' client correlation target)
 unfolding recalled without_destination replied told
 destination_removal_only s event left' client correlation target same =

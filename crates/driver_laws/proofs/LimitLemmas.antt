@@ -3,8 +3,6 @@ use Rattle.std.proofs.Common.{◌≡◌, ℕ, ◌+◌, ◌<◌, ◌≤◌, Bool,
 use Rattle.std.proofs.lemmas.Bool.{and_parts, cond_both, leb-true, ltb-true}
 use Rattle.std.proofs.lemmas.List.{length-append, length-map}
 use Rattle.std.proofs.lemmas.List.Filters.{length-filter_both}
-use Rattle.driver_core.specs.declared.directing.Directed.{Directed}
-use Rattle.driver_core.specs.declared.directing.Target.{Target}
 use Rattle.driver_core.specs.Directing.{directed, recalled, with_destination, without_destination}
 use Rattle.driver_core.specs.declared.event.Event.{Event}
 use Rattle.driver_core.specs.declared.event.Event.TheVariants.{Attach, Command, Reload, Setup, Tick}
@@ -44,6 +42,7 @@ use Rattle.counters.specs.Counters.{is_another, is_of_another, set, set_one, wit
 use Rattle.policy_core.specs.declared.decision.Decision.{Decision}
 use Rattle.policy_core.specs.RuleList.{Rules}
 use Rattle.stream_registry.specs.declared.wanted.Adding.{Adding}
+use Rattle.stream_registry.specs.Lingering.{closed}
 use Rattle.stream_registry.specs.declared.wanted.Wanted.{Wanted}
 use Rattle.stream_registry.specs.Adding.{adding_of}
 use Rattle.stream_registry.specs.LimitLaws.{IsWithinLimits as StreamsAreWithin}
@@ -138,7 +137,7 @@ subscription_within s request room within =
 publication_within : (s : State) (client : Client) (correlation : ℕ) (wanted : Wanted) (adding : Adding) →
     adding_of s.streams wanted ≡ Ok adding → has_room_for_publication s client.number wanted adding ≡ true → IsWithin s →
     IsWithin (published s client correlation wanted adding).after
-unfolding published with_directed_publication with_publication replied_opening replied told
+unfolding published with_directed_publication with_publication replied_opening replied told pairs_of
 publication_within s client correlation wanted adding is room within =
     let parts = and_parts _ _ room in
     record {
@@ -180,7 +179,7 @@ value_within s client correlation fields within = record {
   pairs = within.pairs;
 }
 
-destination_within : (s : State) (client : Client) (correlation : ℕ) (granted : Directed) → IsWithin s →
+destination_within : (s : State) (client : Client) (correlation : ℕ) (granted : _) → IsWithin s →
     IsWithin (directed s client correlation granted).after
 unfolding directed with_destination replied told pairs_of
 destination_within s client correlation granted within = record {
@@ -190,7 +189,7 @@ destination_within s client correlation granted within = record {
   pairs = within.pairs;
 }
 
-destination_removal_within : (s : State) (client : Client) (correlation : ℕ) (target : Target) → IsWithin s →
+destination_removal_within : (s : State) (client : Client) (correlation : ℕ) (target : _) → IsWithin s →
     IsWithin (recalled s client correlation target).after
 unfolding recalled without_destination replied told pairs_of
 destination_removal_within s client correlation target within = record {
@@ -249,12 +248,12 @@ all_left_within s [] within = within
 all_left_within s (client ∷ clients) within = all_left_within (left s client) clients (one_left_within s client within)
 
 ticked_within : (s : State) (clients silent : List ℕ) → IsWithin s → IsWithin (ticked s clients silent).after
-unfolding ticked closed_past
+unfolding ticked closed_past pairs_of
 ticked_within s clients silent within = record {
   clients = within.clients;
   streams = stays_within_limits.closed s.streams s.moment silent within.streams;
   counters = within.counters;
-  pairs = no_more s _ (pairs_closed s s.moment silent) within.pairs;
+  pairs = no_more s (record s { streams = closed s.streams s.moment silent }) (pairs_closed s s.moment silent) within.pairs;
 }
 
 tick_within : (s : State) (silent : List ℕ) → IsWithin s → IsWithin (tick s silent).after

@@ -1,7 +1,5 @@
 -- Each event keeps the numbers rising, and draws the next ones alone.
 use Rattle.std.proofs.Common.{◌≡◌, ℕ, ◌+◌, ◌==◌, ℤ, Bool, true, false, cond, List, [], ◌∷◌, refl, ◌∙◌, arith}
-use Rattle.driver_core.specs.declared.directing.Directed.{Directed}
-use Rattle.driver_core.specs.declared.directing.Target.{Target}
 use Rattle.driver_core.specs.Directing.{directed, recalled, with_destination, without_destination}
 use Rattle.driver_core.specs.declared.event.Event.{Event}
 use Rattle.driver_core.specs.declared.event.Event.TheVariants.{Attach, Command, Reload, Setup, Tick}
@@ -251,7 +249,7 @@ value_rises s client correlation fields rises =
           rises.counters;
     })
 
-destination_rises : (s : State) (client : Client) (correlation : ℕ) (granted : Directed) → AreRising s →
+destination_rises : (s : State) (client : Client) (correlation : ℕ) (granted : _) → AreRising s →
     Rising s (directed s client correlation granted).after
 unfolding directed with_destination replied told
 destination_rises s client correlation granted rises =
@@ -263,7 +261,7 @@ destination_rises s client correlation granted rises =
       counters = rises.counters;
     })
 
-destination_removal_rises : (s : State) (client : Client) (correlation : ℕ) (target : Target) → AreRising s →
+destination_removal_rises : (s : State) (client : Client) (correlation : ℕ) (target : _) → AreRising s →
     Rising s (recalled s client correlation target).after
 unfolding recalled without_destination replied told
 destination_removal_rises s client correlation target rises =

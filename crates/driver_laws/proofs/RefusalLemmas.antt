@@ -1,9 +1,7 @@
 -- What grants nothing changes no more than moments.
 use Rattle.std.proofs.Common.{◌≡◌, ℕ, ◌==◌, ◌||◌, not, Bool, true, false, if◌then◌else◌, List, [], ◌∷◌, ◌++◌, map, refl, sym, ap, ◌∙◌, ⊎_elim}
-use Rattle.std.proofs.lemmas.Bool.{cases_Bool, eq-eqb}
+use Rattle.std.proofs.lemmas.Bool.{cases_Bool, eq-eqb, not-true}
 use Rattle.std.specs.List.{AllByRecursion, Contains, filter, list_any}
-use Rattle.driver_core.specs.declared.directing.Directed.{Directed}
-use Rattle.driver_core.specs.declared.directing.Target.{Target}
 use Rattle.driver_core.specs.Directing.{directed, recalled, with_destination, without_destination}
 use Rattle.driver_core.specs.declared.event.Event.{Event}
 use Rattle.driver_core.specs.declared.event.Event.TheVariants.{Attach, Command, Reload, Setup, Tick}
@@ -26,7 +24,7 @@ use Rattle.driver_core.specs.Requests.{is_heard, PublicationRequest, Subscriptio
 use Rattle.driver_core.specs.State.{State, at_moment}
 use Rattle.driver_core.specs.Subscribing.{subscribed}
 use Rattle.driver_core.specs.Terminating.{terminated}
-use Rattle.driver_core.specs.Ticking.{closed_past, tick, ticked, late}
+use Rattle.driver_core.specs.Ticking.{closed_past, late, numbers_of_closing, tick, ticked}
 use Rattle.driver_core.specs.Unpublishing.{unpublished}
 use Rattle.driver_core.specs.Unsubscribing.{unsubscribed}
 use Rattle.driver_core.specs.Pairs.{pairs_of}
@@ -46,9 +44,11 @@ use Rattle.stream_registry.specs.declared.lingering.LogPlace.{LogPlace}
 use Rattle.stream_registry.specs.declared.wanted.ImageWanted.{ImageWanted}
 use Rattle.channel_uri.specs.declared.address.Address.{Address}
 use Rattle.frame_codec.specs.declared.setup.Setup.{Setup as SetupFrame}
+use Rattle.destinations.specs.declared.destination.Destination.{Destination}
+use Rattle.destinations.specs.Destinations.{DestinationList, is_of_others, without_sources}
 use Rattle.log_readers.specs.Unread.{is_left, is_unread}
 use Rattle.driver_core.proofs.ListLemmas.{passes_are_left}
-use Rattle.driver_laws.proofs.DroppingLemmas.{AreKept, all_pass, all_stay, is_any, none_told}
+use Rattle.driver_laws.proofs.DroppingLemmas.{AreKept, all_pass, all_stay, is_any, none_pass, none_told}
 use Rattle.driver_laws.proofs.ImageLemmas.{is_mapped}
 use Rattle.driver_core.proofs.EventCases.{Cases, attach_cases, command_cases, reload_cases, set_up_cases}
 
@@ -77,6 +77,23 @@ none_closed streams now silent stays =
     ap (λ (logs : List Source). record streams { sources = logs })
     (all_pass (stays_live now silent) streams.sources
     (λ log has. live_yet streams now silent log has (stays log has)))
+
+none_closing : (streams : Streams) (now : ℕ) (silent : List ℕ) →
+    ((log : Source) → Contains streams.sources log → is_left (closing_of streams now silent) log ≡ true) →
+    numbers_of_closing now silent streams.sources ≡ []
+unfolding closing_of
+none_closing streams now silent stays =
+    ap (map (λ (log : Source). log.number))
+    (none_pass (is_closing now silent) streams.sources
+    (λ log has. not-true (is_closing now silent log) (live_yet streams now silent log has (stays log has))))
+
+none_recalled : (destinations : DestinationList) (numbers : List ℕ) → numbers ≡ [] →
+    without_sources destinations numbers ≡ destinations
+unfolding without_sources
+none_recalled destinations numbers none =
+    rw none
+    (ap (λ (rows : List Destination). record destinations { rows = rows })
+    (all_pass (is_of_others []) destinations.rows (λ destination has. refl)))
 
 -- ---- what an event's own rule makes of it
 
@@ -186,12 +203,12 @@ value_leaves : (after left : State) (client : Client) (correlation : ℕ) (field
 unfolding valued replied told
 value_leaves after left client correlation fields = record { on = λ nothing. absurd nothing.replies.0 }
 
-destination_leaves : (after left : State) (client : Client) (correlation : ℕ) (granted : Directed) →
+destination_leaves : (after left : State) (client : Client) (correlation : ℕ) (granted : _) →
     Leaves after (directed left client correlation granted)
 unfolding directed with_destination replied told
 destination_leaves after left client correlation granted = record { on = λ nothing. absurd nothing.replies.0 }
 
-destination_removal_leaves : (after left : State) (client : Client) (correlation : ℕ) (target : Target) →
+destination_removal_leaves : (after left : State) (client : Client) (correlation : ℕ) (target : _) →
     Leaves after (recalled left client correlation target)
 unfolding recalled without_destination replied told
 destination_removal_leaves after left client correlation target = record { on = λ nothing. absurd nothing.replies.0 }
@@ -259,7 +276,13 @@ attach_leaves s now principal inputs =
 -- a tick that tells nobody takes nobody away, and no log
 ticked_leaves : (s : State) (clients silent : List ℕ) → Leaves s (ticked (all_left s clients) clients silent)
 unfolding ticked closed_past
-ticked_leaves s [] silent = record { on = λ nothing. rw (none_closed s.streams s.moment silent nothing.stays) refl }
+ticked_leaves s [] silent = record {
+  on = λ nothing.
+      let streams = none_closed s.streams s.moment silent nothing.stays in
+      let destinations = none_recalled s.destinations (numbers_of_closing s.moment silent s.streams.sources)
+      (none_closing s.streams s.moment silent nothing.stays) in
+      rw (streams, destinations) refl;
+}
 ticked_leaves s (client ∷ clients) silent = record { on = λ nothing. absurd nothing.later.0 }
 
 tick_leaves : (s : State) (now : ℕ) (inputs : Inputs) → Leaves (only_moments s (Tick now)) (drafted s (Tick now) inputs)

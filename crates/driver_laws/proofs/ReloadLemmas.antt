@@ -2,8 +2,6 @@
 use Rattle.std.proofs.Common.{◌≡◌, ℕ, ◌+◌, true, false, List, [], map, filter, refl, sym, ap, ◌∙◌}
 use Rattle.std.proofs.lemmas.Bool.{cond_both}
 use Rattle.std.proofs.lemmas.List.{append-nil}
-use Rattle.driver_core.specs.declared.directing.Directed.{Directed}
-use Rattle.driver_core.specs.declared.directing.Target.{Target}
 use Rattle.driver_core.specs.Directing.{directed, recalled, with_destination, without_destination}
 use Rattle.driver_core.specs.declared.event.Event.{Event}
 use Rattle.driver_core.specs.declared.event.Event.TheVariants.{Attach, Command, Reload, Setup, Tick}
@@ -196,12 +194,12 @@ value_keeps : (s left : State) (client : Client) (correlation : ℕ) (fields : S
 unfolding valued replied told
 value_keeps s left client correlation fields same = record { same = same }
 
-destination_keeps : (s left : State) (client : Client) (correlation : ℕ) (granted : Directed) →
+destination_keeps : (s left : State) (client : Client) (correlation : ℕ) (granted : _) →
     in_force_at left ≡ in_force_at s → Keeps s (directed left client correlation granted)
 unfolding directed with_destination replied told
 destination_keeps s left client correlation granted same = record { same = same }
 
-destination_removal_keeps : (s left : State) (client : Client) (correlation : ℕ) (target : Target) →
+destination_removal_keeps : (s left : State) (client : Client) (correlation : ℕ) (target : _) →
     in_force_at left ≡ in_force_at s → Keeps s (recalled left client correlation target)
 unfolding recalled without_destination replied told
 destination_removal_keeps s left client correlation target same = record { same = same }

@@ -4,8 +4,6 @@ use Rattle.std.specs.List.{Contains}
 use Rattle.std.proofs.lemmas.Bool.{eqb-true, eq-eqb, and_parts, cases_Bool, not_from_false}
 use Rattle.std.proofs.lemmas.List.{append-nil}
 use Rattle.std.proofs.lemmas.List.Elements.{Contains-append_left}
-use Rattle.driver_core.specs.declared.directing.Directed.{Directed}
-use Rattle.driver_core.specs.declared.directing.Target.{Target}
 use Rattle.driver_core.specs.Directing.{directed, recalled, with_destination, without_destination}
 use Rattle.driver_core.specs.declared.event.Event.{Event}
 use Rattle.driver_core.specs.declared.event.Event.TheVariants.{Attach, Command, Reload, Setup, Tick}
@@ -305,12 +303,12 @@ value_stays : (s : State) (event : Event) (left : State) (client : Client) (corr
 unfolding valued replied told
 value_stays s event left client correlation fields same = all_stay s event _ same
 
-destination_stays : (s : State) (event : Event) (left : State) (client : Client) (correlation : ℕ) (granted : Directed) →
+destination_stays : (s : State) (event : Event) (left : State) (client : Client) (correlation : ℕ) (granted : _) →
     left.streams.subscriptions ≡ s.streams.subscriptions → Leaves s event (directed left client correlation granted)
 unfolding directed with_destination replied told
 destination_stays s event left client correlation granted same = all_stay s event _ same
 
-destination_removal_stays : (s : State) (event : Event) (left : State) (client : Client) (correlation : ℕ) (target : Target) →
+destination_removal_stays : (s : State) (event : Event) (left : State) (client : Client) (correlation : ℕ) (target : _) →
     left.streams.subscriptions ≡ s.streams.subscriptions → Leaves s event (recalled left client correlation target)
 unfolding recalled without_destination replied told
 destination_removal_stays s event left client correlation target same = all_stay s event _ same

@@ -312,7 +312,7 @@ published_kept pairs t client wanted adding kept = added_kept pairs t.streams _ 
 
 published_drops : (s : State) (now handle : ℕ) (client : Client) (correlation : ℕ) (wanted : Wanted) (adding : Adding) →
     AreRead s → DropsNothing s (published (at_request s now handle) client correlation wanted adding)
-unfolding published with_directed_publication replied_opening replied told heard
+unfolding published with_directed_publication with_publication replied_opening replied told heard at_moment pairs_of
 published_drops s now handle client correlation wanted adding read =
     let at : State = at_request s now handle in
     let after : State = with_publication at client.number wanted adding in

@@ -3,8 +3,6 @@ use Rattle.std.proofs.Common.{◌≡◌, ℕ, ℤ, ◌+◌, Bool, true, false, c
 use Rattle.std.proofs.lemmas.List.Elements.{Contains-push, Contains-push_cases}
 use Rattle.std.specs.List.{AllByRecursion, Contains}
 use Rattle.std.specs.Prelude.{◌⊎◌}
-use Rattle.driver_core.specs.declared.directing.Directed.{Directed}
-use Rattle.driver_core.specs.declared.directing.Target.{Target}
 use Rattle.driver_core.specs.Directing.{directed, recalled, with_destination, without_destination}
 use Rattle.driver_core.specs.declared.event.Event.{Event}
 use Rattle.driver_core.specs.declared.event.Event.TheVariants.{Attach, Command, Reload, Setup, Tick}
@@ -154,13 +152,13 @@ unfolding valued replied told
 value_grants_only s event before client correlation fields same =
     record { replies = (tt, tt); later = tt; stands = λ subscription stands. inl (rw same at stands) }
 
-destination_grants_only : (s : State) (event : Event) (before : State) (client : Client) (correlation : ℕ) (granted : Directed) →
+destination_grants_only : (s : State) (event : Event) (before : State) (client : Client) (correlation : ℕ) (granted : _) →
     before.streams ≡ s.streams → DraftGrantsOnly s event (directed before client correlation granted)
 unfolding directed with_destination replied told
 destination_grants_only s event before client correlation granted same =
     record { replies = (tt, tt); later = tt; stands = λ subscription stands. inl (rw same at stands) }
 
-destination_removal_grants_only : (s : State) (event : Event) (before : State) (client : Client) (correlation : ℕ) (target : Target) →
+destination_removal_grants_only : (s : State) (event : Event) (before : State) (client : Client) (correlation : ℕ) (target : _) →
     before.streams ≡ s.streams → DraftGrantsOnly s event (recalled before client correlation target)
 unfolding recalled without_destination replied told
 destination_removal_grants_only s event before client correlation target same =

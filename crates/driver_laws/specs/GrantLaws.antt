@@ -22,6 +22,7 @@ use Rattle.command_codec.specs.declared.command.Body.TheVariants.{AddCounter as 
 use Rattle.command_codec.specs.declared.terminate_driver.TerminateDriver.{TerminateDriver}
 use Rattle.counters.specs.declared.counter.Counter.{Counter}
 use Rattle.counters.specs.Counters.{made}
+use Rattle.destinations.specs.Destinations.{cleared as all_recalled}
 use Rattle.policy_core.specs.declared.decision.Decision.{Decision}
 use Rattle.policy_core.specs.Question.{Question}
 use Rattle.stream_registry.specs.Lingering.{place_of}
@@ -84,7 +85,13 @@ CountersAreGrantedExactly =
 pub record IsTerminated (s : State) (now handle correlation : ℕ) (client : Client) (change : Change) : Type 0 where
   pub after_is :
       change.after
-      ≡ record (at_moment s now) { clients = cleared s.clients; streams = all_closed s.streams; counters = []; stopped = true }
+      ≡ record (at_moment s now) {
+        clients = cleared s.clients;
+        streams = all_closed s.streams;
+        destinations = all_recalled s.destinations;
+        counters = [];
+        stopped = true;
+      }
   pub told : change.outcome.replies ≡ record { client = handle; reply = OperationSuccess correlation } ∷ []
   pub decided : change.outcome.decisions ≡ decided_on s (termination_question client) ∷ []
   pub closes : change.outcome.closes ≡ map place_of s.streams.sources

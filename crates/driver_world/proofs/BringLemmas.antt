@@ -4,8 +4,6 @@ use Rattle.std.specs.List.{All}
 use Rattle.std.specs.Prelude.{IfSome}
 use Rattle.std.proofs.lemmas.Bool.{eqb-true}
 use Rattle.std.proofs.lemmas.List.Elements.{All-cons, All-filter, All-head, All-nil, All-push, All-tail}
-use Rattle.driver_core.specs.declared.directing.Directed.{Directed}
-use Rattle.driver_core.specs.declared.directing.Target.{Target}
 use Rattle.driver_core.specs.Directing.{directed, recalled, with_destination, without_destination}
 use Rattle.driver_core.specs.Draft.{Draft}
 use Rattle.driver_core.specs.declared.event.Event.{Event}
@@ -132,12 +130,12 @@ value_brings : (event : Event) (s : State) (client : Client) (correlation : ℕ)
 unfolding valued replied told
 value_brings event s client correlation fields = tt
 
-destination_brings : (event : Event) (s : State) (client : Client) (correlation : ℕ) (granted : Directed) →
+destination_brings : (event : Event) (s : State) (client : Client) (correlation : ℕ) (granted : _) →
     Brought event (directed s client correlation granted)
 unfolding directed with_destination replied told
 destination_brings event s client correlation granted = tt
 
-destination_removal_brings : (event : Event) (s : State) (client : Client) (correlation : ℕ) (target : Target) →
+destination_removal_brings : (event : Event) (s : State) (client : Client) (correlation : ℕ) (target : _) →
     Brought event (recalled s client correlation target)
 unfolding recalled without_destination replied told
 destination_removal_brings event s client correlation target = tt

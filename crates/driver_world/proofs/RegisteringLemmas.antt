@@ -3,8 +3,6 @@ use Rattle.std.proofs.Common.{◌≡◌, ℕ, ℤ, ◌+◌, ◌≤◌, Bool, tru
 use Rattle.std.specs.List.{All}
 use Rattle.std.proofs.lemmas.Bool.{and_parts}
 use Rattle.std.proofs.lemmas.List.Elements.{All-filter, All-map, All-nil, All-push, All-weaker}
-use Rattle.driver_core.specs.declared.directing.Directed.{Directed}
-use Rattle.driver_core.specs.declared.directing.Target.{Target}
 use Rattle.driver_core.specs.Directing.{directed, recalled, with_destination, without_destination}
 use Rattle.driver_core.specs.Draft.{Draft}
 use Rattle.driver_core.specs.declared.event.Event.{Event}
@@ -235,12 +233,12 @@ value_registers : (s : State) (client : Client) (correlation : ℕ) (fields : Se
 unfolding valued replied told
 value_registers s client correlation fields registered = registered
 
-destination_registers : (s : State) (client : Client) (correlation : ℕ) (granted : Directed) → AreRegistered s →
+destination_registers : (s : State) (client : Client) (correlation : ℕ) (granted : _) → AreRegistered s →
     Registers (directed s client correlation granted)
 unfolding directed with_destination replied told
 destination_registers s client correlation granted registered = registered
 
-destination_removal_registers : (s : State) (client : Client) (correlation : ℕ) (target : Target) → AreRegistered s →
+destination_removal_registers : (s : State) (client : Client) (correlation : ℕ) (target : _) → AreRegistered s →
     Registers (recalled s client correlation target)
 unfolding recalled without_destination replied told
 destination_removal_registers s client correlation target registered = registered
