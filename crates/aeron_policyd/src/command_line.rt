@@ -126,6 +126,8 @@ answers the position behind the message; the poll gives that one fragment, with 
 
 Lines of a script:
   principal NAME NUMBER   before the first policy: rules may name this principal
+  peer ADDR NUMBER        before the first policy: who sends from this address is the principal of that number, and who
+                          sends from any other is nobody
   set KEY VALUE           before the first policy: the driver has this setting; durations are in nanoseconds, sizes in
                           bytes, as in `set client-liveness 5000000000` or `set term-length 131072`
   policy                  the lines up to one that is `.` are a policy, in TOML; the first one opens the driver, and
@@ -140,7 +142,10 @@ Lines of a script:
                           told `gone`
   packet NOW LOCAL FROM HEX
                           a datagram came to the address LOCAL from the address FROM, as 127.0.0.1:40123: a SETUP makes
-                          an image, data goes to it; what is for none is dropped by a word
+                          an image, data goes to it; a status message says how far a publication may be sent, a NAK has
+                          what is missing sent again to FROM; what is for none is dropped by a word
+  image NOW SOURCE        the receiver tells the publisher of image SOURCE what is due: a NAK of what is missing, and a
+                          status message
   tick NOW                time goes on: clients and images of which nothing was heard for too long are gone
   list NOW C              client C looks at the counters that the policy shows it
   value NOW C REG         client C looks at the value of counter REG

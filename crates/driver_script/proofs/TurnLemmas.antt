@@ -14,7 +14,7 @@ use Rattle.driver_script.specs.declared.script.Head.{Head}
 use Rattle.driver_script.specs.declared.script.Preface.{Preface}
 use Rattle.driver_script.specs.declared.script.Head.TheVariants as head
 use Rattle.script_lines.specs.declared.statements.Said.{Said}
-use Rattle.script_lines.specs.declared.statements.Said.TheVariants.{Principal, Set, Policy, Does, Bad}
+use Rattle.script_lines.specs.declared.statements.Said.TheVariants.{Principal, Peer, Set, Policy, Does, Bad}
 use Rattle.script_lines.specs.declared.statements.Statement.{Statement}
 use Rattle.driver_script.specs.Output.{AppendsFront}
 use Rattle.policy_core.specs.RuleList.{Rules}
@@ -107,6 +107,7 @@ turns_refused names e line text fault is =
 abbrev pub IsOutOfOrder : Said → Type 0
 IsOutOfOrder (Does step) = ⊥
 IsOutOfOrder (Principal name number) = Unit {0}
+IsOutOfOrder (Peer peer) = Unit {0}
 IsOutOfOrder (Set key value) = Unit {0}
 IsOutOfOrder (Policy text) = ⊥
 IsOutOfOrder Bad = Unit {0}
@@ -115,6 +116,7 @@ pub writes_bad : (names : Known) (e : RunEnd) (line : ℕ) (said : Said) (rest :
     Writes names e (record { line = line; said = said } ∷ rest) (BadLine line) (ended_text (BadLine line))
 writes_bad names e line (Does step) rest out = absurd out
 writes_bad names e line (Principal name number) rest out = record { told = []; run = (refl, refl); text_is = refl }
+writes_bad names e line (Peer peer) rest out = record { told = []; run = (refl, refl); text_is = refl }
 writes_bad names e line (Set key value) rest out = record { told = []; run = (refl, refl); text_is = refl }
 writes_bad names e line (Policy text) rest out = absurd out
 writes_bad names e line Bad rest out = record { told = []; run = (refl, refl); text_is = refl }
@@ -135,6 +137,8 @@ some_text_by names e line (Does step) rest (ended, text, written) = (
 )
 some_text_by names e line (Principal name number) rest later =
     (BadLine line, ended_text (BadLine line), writes_bad names e line (Principal name number) rest tt)
+some_text_by names e line (Peer peer) rest later =
+    (BadLine line, ended_text (BadLine line), writes_bad names e line (Peer peer) rest tt)
 some_text_by names e line (Set key value) rest later =
     (BadLine line, ended_text (BadLine line), writes_bad names e line (Set key value) rest tt)
 some_text_by names e line (Policy toml) rest (ended, text, written) = (
@@ -451,7 +455,7 @@ so_far_at names start all held left found before after' is so_far =
 some_opening_text : (o : Opening) → (ended : Ended) × (text : List ℕ) × IsOpeningText o ended text
 some_opening_text Ends = (Done, [], (refl, refl))
 some_opening_text (Refuses line) = (BadLine line, ended_text (BadLine line), (refl, refl))
-some_opening_text (Opens names settings policy rest) = some_text names (opening_end settings policy []) rest
+some_opening_text (Opens names settings policy rest) = some_text names (opening_end settings policy peers) rest
 
 -- nothing was written
 pub begins_any : (statements : List Statement) (written : Option (List ℕ)) → BeginsScript statements written written
@@ -466,13 +470,13 @@ head_refused Ends names left line is = cc
 head_refused (Refuses number) names left line is =
     let same : line ≡ number = cc in
     (ap BadLine same, ap (λ n. ended_text (BadLine n)) same)
-head_refused (Opens given settings policy rest) names left line is = absurd is.2
+head_refused (Opens given settings policy peers rest) names left line is = absurd is.2
 
 -- the script ended within the head
 head_ended : (o : Opening) (names : Known) (left : List Statement) → IsHead o names left head.Ended → IsOpeningText o Done []
 head_ended Ends names left is = (refl, refl)
 head_ended (Refuses line) names left is = cc
-head_ended (Opens given settings policy rest) names left is = absurd is.2
+head_ended (Opens given settings policy peers rest) names left is = absurd is.2
 
 -- the head opened a world
 head_whole : (o : Opening) (names : Known) (left : List Statement) (world : Held) (ended : Ended) (before after' : Option (List ℕ)) →
@@ -480,10 +484,10 @@ head_whole : (o : Opening) (names : Known) (left : List Statement) (world : Held
     (text : List ℕ) × IsOpeningText o ended text × Appends before after' text
 head_whole Ends names left world ended before after' is whole = cc
 head_whole (Refuses line) names left world ended before after' is whole = cc
-head_whole (Opens given settings policy rest) names left world ended before after' is whole =
-    let (text, written, appended) = whole.on (opening_end settings policy []) is.2 in
-    let P : List Statement → Type 0 = λ those. Writes names (opening_end settings policy []) those ended text in
-    let Q : Known → Type 0 = λ those. Writes those (opening_end settings policy []) rest ended text in
+head_whole (Opens given settings policy peers rest) names left world ended before after' is whole =
+    let (text, written, appended) = whole.on (opening_end settings policy peers) is.2 in
+    let P : List Statement → Type 0 = λ those. Writes names (opening_end settings policy peers) those ended text in
+    let Q : Known → Type 0 = λ those. Writes those (opening_end settings policy peers) rest ended text in
     (text, subst Q (sym is.0) (subst P (sym is.1) written), appended)
 
 head_front : (o : Opening) (names : Known) (left : List Statement) (world : Held) (before after' : Option (List ℕ)) →
@@ -491,10 +495,10 @@ head_front : (o : Opening) (names : Known) (left : List Statement) (world : Held
     (ended : Ended) × (text : List ℕ) × IsOpeningText o ended text × AppendsFront before after' text
 head_front Ends names left world before after' is front = cc
 head_front (Refuses line) names left world before after' is front = cc
-head_front (Opens given settings policy rest) names left world before after' is front =
-    let (ended, text, written, begun) = front.on (opening_end settings policy []) is.2 in
-    let P : List Statement → Type 0 = λ those. Writes names (opening_end settings policy []) those ended text in
-    let Q : Known → Type 0 = λ those. Writes those (opening_end settings policy []) rest ended text in
+head_front (Opens given settings policy peers rest) names left world before after' is front =
+    let (ended, text, written, begun) = front.on (opening_end settings policy peers) is.2 in
+    let P : List Statement → Type 0 = λ those. Writes names (opening_end settings policy peers) those ended text in
+    let Q : Known → Type 0 = λ those. Writes those (opening_end settings policy peers) rest ended text in
     (ended, text, subst Q (sym is.0) (subst P (sym is.1) written), begun)
 
 -- what follows the head makes the text of the script

@@ -3,7 +3,9 @@ use Rattle.std.specs.Prelude.{ℕ, ◌+◌, ◌/◌, ◌%◌, ℤ, List, [], ◌
 use Rattle.std.specs.Fmt.{decimal, signed_decimal}
 use Rattle.std.specs.List.{flat_map}
 use Rattle.driver_script.specs.declared.answers.AnswerLine.{AnswerLine}
-use Rattle.driver_script.specs.declared.answers.AnswerLine.TheVariants.{Attached, Full, Stopped, PolicyInForce, PolicyFull, Setup, Dropped, Beat, PolicyRefused, Reply, Offer, Poll, Fragment, Gone, List as Lists, Counter, Value, Denied, UnknownCounter, WrongClient, NoMemory, BadLine}
+use Rattle.driver_script.specs.declared.answers.AnswerLine.TheVariants.{Attached, Full, Stopped, PolicyInForce, PolicyFull, Setup, Dropped, Beat, Status, Elicit, Sent, PolicyRefused, Reply, Offer, Poll, Fragment, Gone, List as Lists, Counter, Value, Denied, UnknownCounter, WrongClient, NoMemory, BadLine}
+use Rattle.channel_uri.specs.Address.{address_text}
+use Rattle.channel_uri.specs.declared.address.Address.{Address}
 use Rattle.driver_core.specs.declared.setup_fault.SetupFault.{SetupFault}
 use Rattle.driver_core.specs.declared.setup_fault.SetupFault.TheVariants as fault
 use Rattle.driver_core.specs.declared.image_request.Astray.{Astray}
@@ -103,7 +105,7 @@ cause_text (fault.Denied verdict) = verdict_text verdict
 cause_text fault.Full = codes "full"
 cause_text fault.NoRoom = codes "no-room"
 
--- why a datagram is for no image
+-- why a datagram is for no log
 abbrev pub astray_word : Astray → List ℕ
 astray_word astray.NoStream = codes "no-stream"
 astray_word astray.Stranger = codes "stranger"
@@ -113,6 +115,11 @@ abbrev pub drop_text : Cause → List ℕ
 drop_text (cause.Unread fault) = unread_text fault
 drop_text (cause.Astray why) = astray_word why
 drop_text (cause.SetUp fault) = cause_text fault
+drop_text (cause.Denied verdict) = verdict_text verdict
+drop_text cause.Empty = codes "empty"
+drop_text cause.OutOfWindow = codes "out-of-window"
+drop_text cause.Lingering = codes "lingering"
+drop_text cause.Busy = codes "busy"
 
 abbrev pub dropped_line : Cause → List ℕ
 dropped_line why = codes "dropped " ++ (drop_text why ++ codes "\n")
@@ -137,6 +144,14 @@ data_line words = codes "data" ++ (flat_map word_behind words ++ codes "\n")
 abbrev pub setup_line : ℕ → List ℕ
 setup_line source = numbered_line (codes "setup ") source
 
+-- up to which position a publication may be sent
+abbrev pub status_line : ℕ → List ℕ
+status_line position = numbered_line (codes "status ") position
+
+-- a datagram that is sent, and where to
+abbrev pub sent_line : Address → List ℕ → List ℕ
+sent_line to bytes = codes "sent " ++ (address_text to ++ (codes " " ++ (hex_text bytes ++ codes "\n")))
+
 -- a line that is none of a script
 abbrev pub bad_line : ℕ → List ℕ
 bad_line number = codes "line " ++ (decimal number ++ codes ": bad line\n")
@@ -151,6 +166,9 @@ line_text PolicyFull = codes "policy refused: full\n"
 line_text (Setup source) = setup_line source
 line_text (Dropped why) = dropped_line why
 line_text Beat = codes "beat\n"
+line_text (Status position) = status_line position
+line_text Elicit = codes "elicit\n"
+line_text (Sent to bytes) = sent_line to bytes.now
 line_text (PolicyRefused fault) = refusal_line fault
 line_text (Reply client bytes) = reply_text client bytes.now
 line_text (Offer answer) = offer_line answer

@@ -1,14 +1,17 @@
 -- What the run of a script writes: a function of the script's bytes, and of which steps were refused memory.
-use Rattle.std.specs.Prelude.{◌≡◌, ℕ, List, [], ◌∷◌, ◌++◌, is_some, Option, Some, None, Result, Ok, Err, length, codes, if◌then◌else◌}
+use Rattle.std.specs.Prelude.{◌≡◌, ℕ, Bool, true, false, List, [], ◌∷◌, ◌++◌, is_some, Option, Some, None, Result, Ok, Err, length, nat_lt, codes, if◌then◌else◌}
 use Rattle.std.specs.Fmt.{decimal}
-use Rattle.std.specs.List.{flat_map}
+use Rattle.std.specs.List.{flat_map, list_any}
 use Rattle.driver_world.specs.declared.answer.Answer.{Answer}
-use Rattle.driver_world.specs.declared.answer.Answer.TheVariants.{NoMemory, Attached, Full, Stopped, PolicyInForce, PolicyFull, Imaged, Received, Heard, Dropped, Replies, Offered, Polled, Gone, Counters, Value, Denied, UnknownCounter, WrongClient}
+use Rattle.driver_world.specs.declared.answer.Answer.TheVariants.{NoMemory, Attached, Full, Stopped, PolicyInForce, PolicyFull, Imaged, Received, Heard, Limited, Elicited, Resent, Reported, Dropped, Replies, Offered, Polled, Gone, Counters, Value, Denied, UnknownCounter, WrongClient}
 use Rattle.driver_core.specs.declared.event.Event.TheVariants.{Reload}
 use Rattle.driver_core.specs.declared.listing.ListedCounter.{ListedCounter}
 use Rattle.driver_core.specs.declared.replies.Message.{Message}
+use Rattle.driver_core.specs.declared.peer.Peer.{Peer}
 use Rattle.driver_core.specs.declared.settings.Settings.{Settings}
 use Rattle.any_log.specs.declared.fragment.Fragment.{Fragment}
+use Rattle.channel_uri.specs.Address.{is_same}
+use Rattle.channel_uri.specs.declared.address.Address.{Address}
 use Rattle.driver_world.specs.declared.step.Step.{Step}
 use Rattle.driver_world.specs.declared.step.Step.TheVariants.{Conductor}
 use Rattle.driver_core.specs.Replies.{layout_of}
@@ -22,34 +25,43 @@ use Rattle.driver_script.specs.declared.script.Ended.{Ended}
 use Rattle.driver_script.specs.declared.script.Ended.TheVariants.{Done, BadLine}
 use Rattle.script_lines.specs.declared.statements.Said.{Said}
 use Rattle.driver_script.specs.declared.script.Preface.{Preface}
-use Rattle.script_lines.specs.declared.statements.Said.TheVariants.{Principal, Set, Policy, Does, Bad}
+use Rattle.script_lines.specs.declared.statements.Said.TheVariants.{Principal, Peer as PeerGiven, Set, Policy, Does, Bad}
 use Rattle.script_lines.specs.declared.statements.Statement.{Statement}
-use Rattle.driver_script.specs.Answers.{counter_line, data_line, denial_line, dropped_line, fragment_line, list_line, offer_line, policy_line, poll_line, refusal_line, reply_text, setup_line, value_line}
+use Rattle.driver_script.specs.Answers.{counter_line, data_line, denial_line, dropped_line, fragment_line, list_line, offer_line, policy_line, poll_line, refusal_line, reply_text, sent_line, setup_line, status_line, value_line}
 use Rattle.script_lines.specs.Settings.{Chosen, no_choices, choose}
 
--- ---- the head of a script: its principals, its settings and its policy
+-- ---- the head of a script: its principals, its peers, its settings and its policy
 
--- no name is given, and nothing is chosen
+-- no name and no peer is given, and nothing is chosen
 abbrev pub no_preface : Preface
-no_preface = record { names = []; choices = no_choices }
+no_preface = record { names = []; peers = []; choices = no_choices }
 
 -- the script ends before a policy; or it is bad at this line; or these names are given and the world opens with these
--- settings and this policy, and these statements are left
+-- settings, this policy and these peers, and these statements are left
 pub data Opening : Type 0 where
   Ends : Opening
   Refuses : ℕ → Opening
-  Opens : Known → Settings → Rules → List Statement → Opening
+  Opens : Known → Settings → Rules → List Peer → List Statement → Opening
 
 -- a text that is no policy is bad, at its first line
 abbrev pub opened_by : Preface → ℕ → List Statement → Result Rules PolicyFault → Opening
 opened_by given line rest (Err fault) = Refuses line
-opened_by given line rest (Ok policy) = Opens given.names given.choices.settings policy rest
+opened_by given line rest (Ok policy) = Opens given.names given.choices.settings policy given.peers rest
 
 -- a name is given once, and `nobody` is given from the start
 abbrev pub named : Preface → ℕ → List ℕ → ℕ → (Preface → Opening) → Opening
 named given line name number later =
     if is_some (number_of name given.names) then Refuses line
     else later (record given { names = given.names ++ (name, number) ∷ [] })
+
+-- whether a further peer may be given: its address is not, and fewer are than a driver takes
+abbrev pub may_peer : List Peer → Address → Bool
+may_peer peers address =
+    if list_any (λ peer. is_same peer.address address) peers then false else nat_lt (length peers) 256
+
+abbrev pub peered : Preface → ℕ → Peer → (Preface → Opening) → Opening
+peered given line peer later =
+    if may_peer given.peers peer.address then later (record given { peers = given.peers ++ peer ∷ [] }) else Refuses line
 
 -- a setting is chosen, where it is one and was not chosen before
 abbrev pub settled : Preface → ℕ → Option Chosen → (Preface → Opening) → Opening
@@ -58,6 +70,7 @@ settled given line (Some choices) later = later (record given { choices = choice
 
 abbrev pub opening_by : Preface → ℕ → Said → List Statement → (Preface → Opening) → Opening
 opening_by given line (Principal name number) rest later = named given line name number later
+opening_by given line (PeerGiven peer) rest later = peered given line peer later
 opening_by given line (Set key value) rest later = settled given line (choose given.choices key value) later
 opening_by given line (Policy text) rest later = opened_by given line rest (policy_of given.names text)
 opening_by given line (Does step) rest later = Refuses line
@@ -88,6 +101,7 @@ abbrev pub deed_of : Known → Said → Deed
 deed_of names (Does step) = Takes step
 deed_of names (Policy text) = deed_by (policy_of names text)
 deed_of names (Principal name number) = Stops
+deed_of names (PeerGiven peer) = Stops
 deed_of names (Set key value) = Stops
 deed_of names Bad = Stops
 
@@ -134,7 +148,11 @@ counter_text counter = counter_line counter.number counter.type_id counter.value
 abbrev pub fragment_text : Fragment → List ℕ
 fragment_text fragment = fragment_line fragment.position fragment.flags fragment.payload
 
--- an answer has its line, and a line for each reply, fragment or counter
+-- a line for each datagram that is sent there
+abbrev pub sent_text : Address → List (List ℕ) → List ℕ
+sent_text to datagrams = flat_map (sent_line to) datagrams
+
+-- an answer has its line, and a line for each reply, fragment, counter or datagram
 unfoldable pub answer_text : Answer → List ℕ
 answer_text NoMemory = codes "no memory\n"
 answer_text (Attached client) = codes "attached " ++ (decimal client ++ codes "\n")
@@ -145,6 +163,10 @@ answer_text PolicyFull = codes "policy refused: full\n"
 answer_text (Imaged source messages) = setup_line source ++ flat_map message_text messages
 answer_text (Received words) = data_line words
 answer_text Heard = codes "beat\n"
+answer_text (Limited position) = status_line position
+answer_text Elicited = codes "elicit\n"
+answer_text (Resent to datagrams) = sent_text to datagrams
+answer_text (Reported to datagrams) = sent_text to datagrams
 answer_text (Dropped why) = dropped_line why
 answer_text (Replies messages) = flat_map message_text messages
 answer_text (Offered offered) = offer_line offered
@@ -177,7 +199,7 @@ pub record Writes (names : Known) (e : RunEnd) (statements : List Statement) (en
 abbrev pub IsOpeningText : Opening → Ended → List ℕ → Type 0
 IsOpeningText Ends ended text = (ended ≡ Done) × (text ≡ [])
 IsOpeningText (Refuses line) ended text = (ended ≡ BadLine line) × (text ≡ ended_text (BadLine line))
-IsOpeningText (Opens names settings policy rest) ended text = Writes names (opening_end settings policy []) rest ended text
+IsOpeningText (Opens names settings policy peers rest) ended text = Writes names (opening_end settings policy peers) rest ended text
 
 -- the text that the run of these statements writes, and how it ends
 abbrev pub IsScriptText : List Statement → Ended → List ℕ → Type 0

@@ -2,6 +2,7 @@
 use Rattle.std.specs.Prelude.{◌≡◌, ℕ, List, [], ◌∷◌, ◌++◌, Option, Some, None}
 use Rattle.std.specs.Io.KnownBytes.{Appends}
 use Rattle.driver_world.specs.declared.answer.Answer.TheVariants.{NoMemory}
+use Rattle.driver_core.specs.declared.peer.Peer.{Peer}
 use Rattle.driver_core.specs.declared.settings.Settings.{Settings}
 use Rattle.driver_world.specs.declared.step.Step.{Step}
 use Rattle.driver_world.specs.Ends.{RunEnd, opening_end}
@@ -25,19 +26,20 @@ use Rattle.driver_script.specs.Script.{Opening, Ends, Refuses, Opens, opening_of
 
 -- ---- the head
 
--- the world stands at the opening with these settings, under that policy
-abbrev pub IsWorldOf : Settings → Rules → Head → Type 0
-IsWorldOf settings policy (head.Opened world) = StandsForEnd world (opening_end settings policy [])
-IsWorldOf settings policy (head.Refused line) = ⊥
-IsWorldOf settings policy head.Ended = ⊥
+-- the world stands at the opening with these settings and peers, under that policy
+abbrev pub IsWorldOf : Settings → Rules → List Peer → Head → Type 0
+IsWorldOf settings policy peers (head.Opened world) = StandsForEnd world (opening_end settings policy peers)
+IsWorldOf settings policy peers (head.Refused line) = ⊥
+IsWorldOf settings policy peers head.Ended = ⊥
 
 -- the head is what the statements open; these names are given, and these statements are left
 abbrev pub IsHead : Opening → Known → List Statement → Head → Type 0
 IsHead Ends names left h = h ≡ head.Ended
 IsHead (Refuses line) names left h = h ≡ head.Refused line
-IsHead (Opens given settings policy rest) names left h = (given ≡ names) × (rest ≡ left) × IsWorldOf settings policy h
+IsHead (Opens given settings policy peers rest) names left h =
+    (given ≡ names) × (rest ≡ left) × IsWorldOf settings policy peers h
 
--- one statement of the head: it adds to the names or the settings, or it decides the head
+-- one statement of the head: it adds to the names, the peers or the settings, or it decides the head
 pub record AddsOne (old new : Preface) (statement : Statement) : Type 0 where
   pub on : (rest : List Statement) → opening_of old (statement ∷ rest) ≡ opening_of new rest
 

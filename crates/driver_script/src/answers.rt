@@ -1,6 +1,6 @@
 ghost use Rattle.std.specs.Prelude.{Some};
 
-use driver_core::{Astray, SetupFault};
+use driver_core::{Address, Astray, SetupFault};
 use driver_world::{Cause, Insert, Offered};
 use frame_codec::Flags;
 use policy_core::Verdict;
@@ -149,7 +149,7 @@ impl fmt::Display for SetupCause {
     }
 }
 
-/// Why a datagram is for no image.
+/// Why a datagram is for no log.
 #[derive(Clone, Copy)]
 struct AstrayWord(Astray);
 
@@ -180,6 +180,11 @@ impl fmt::Display for Drop {
             Cause::Unread(fault) => fault.fmt(f),
             Cause::Astray(why) => AstrayWord(why).fmt(f),
             Cause::SetUp(fault) => SetupCause(fault).fmt(f),
+            Cause::Denied(verdict) => verdict.fmt(f),
+            Cause::Empty => f.write_str("empty"),
+            Cause::OutOfWindow => f.write_str("out-of-window"),
+            Cause::Lingering => f.write_str("lingering"),
+            Cause::Busy => f.write_str("busy"),
         }
     }
 }
@@ -216,6 +221,25 @@ impl fmt::Display for DroppedLine {
     fn fmt<W: fmt::Write>(&self, f: &mut fmt::Formatter<W>) -> fmt::Result {
         let why = Drop(self.0);
         writeln!(f, "dropped {why}")
+    }
+}
+
+/// The line of a datagram that is sent.
+#[derive(Clone, Copy)]
+struct SentLine<'a> {
+    to: Address,
+    bytes: &'a [u8],
+}
+
+impl fmt::Display for SentLine<'_> {
+    ghost use Rattle.driver_script.specs.Answers.{sent_line};
+
+    ghost output = { λ line. Some (sent_line line.to line.bytes.now) };
+
+    fn fmt<W: fmt::Write>(&self, f: &mut fmt::Formatter<W>) -> fmt::Result {
+        let to = self.to;
+        let bytes = Hex(self.bytes);
+        writeln!(f, "sent {to} {bytes}")
     }
 }
 
@@ -317,6 +341,15 @@ pub enum AnswerLine<'a> {
     Dropped(Cause),
     /// A heartbeat came to its image.
     Beat,
+    /// A publication may be sent up to this position.
+    Status(u64),
+    /// A SETUP is asked for.
+    Elicit,
+    /// A datagram is sent.
+    Sent {
+        to: Address,
+        bytes: &'a [u8],
+    },
     /// The text is no policy, and the one before stays in force.
     PolicyRefused(PolicyFault),
     /// This client gets a reply.
@@ -376,6 +409,9 @@ impl fmt::Display for AnswerLine<'_> {
             AnswerLine::Setup(source) => Numbered("setup ", source).fmt(f),
             AnswerLine::Dropped(why) => DroppedLine(why).fmt(f),
             AnswerLine::Beat => f.write_str("beat\n"),
+            AnswerLine::Status(position) => Numbered("status ", position).fmt(f),
+            AnswerLine::Elicit => f.write_str("elicit\n"),
+            AnswerLine::Sent { to, bytes } => SentLine { to, bytes }.fmt(f),
             AnswerLine::PolicyRefused(fault) => RefusalLine(fault).fmt(f),
             AnswerLine::Reply { client, bytes } => ReplyLine { client, bytes }.fmt(f),
             AnswerLine::Offer(offered) => OfferLine(offered).fmt(f),

@@ -1,13 +1,13 @@
 ghost use Rattle.driver_core.specs.Replies.{layout_of};
 ghost use Rattle.command_codec.specs.Reply.{reply_bytes};
-ghost use Rattle.driver_script.specs.Answers.{data_line, line_text, list_line, policy_line, poll_line, setup_line, word_behind};
+ghost use Rattle.driver_script.specs.Answers.{data_line, line_text, list_line, policy_line, poll_line, sent_line, setup_line, word_behind};
 ghost use Rattle.driver_script.specs.Ends.{OfAnswering, OfRunning};
 ghost use Rattle.driver_script.specs.Output.{AppendsFront};
-ghost use Rattle.driver_script.specs.Script.{message_text, counter_text, fragment_text, answer_text, told_text, ended_text, no_preface};
+ghost use Rattle.driver_script.specs.Script.{message_text, counter_text, fragment_text, sent_text, answer_text, told_text, ended_text, may_peer, no_preface};
 ghost use Rattle.std.specs.Io.KnownBytes.{Appends};
 ghost use Rattle.std.specs.List.{flat_map};
 ghost use Rattle.driver_script.specs.declared.script.Ended.TheVariants.{BadLine};
-ghost use Rattle.script_lines.specs.declared.statements.Said.TheVariants.{Principal, Set, Policy};
+ghost use Rattle.script_lines.specs.declared.statements.Said.TheVariants.{Principal, Peer as PeerGiven, Set, Policy};
 ghost use Rattle.driver_script.specs.declared.fault.RunFault.TheVariants.{TooLong};
 ghost use Rattle.script_lines.specs.declared.statements.TheConstants.{LIMIT};
 ghost use Rattle.script_lines.specs.Statements.{statements_of};
@@ -22,8 +22,8 @@ use crate::ends::{Source, Target};
 use crate::fault::RunFault;
 use crate::input::read_input;
 use crate::output::write_whole;
-use byte_strings::Text;
-use driver_core::{Event, ListedCounter, Message};
+use byte_strings::{Bytes, Items, Text};
+use driver_core::{Address, Event, ListedCounter, Message, Peer};
 use driver_world::{Answer, Fragment, Insert, Step, World};
 use policy_text::{Names, PolicyFault};
 use script_lines::settings::Choices;
@@ -167,6 +167,30 @@ fn text_of_data(alloc: Global, words: &[Insert]) -> Result<String, AllocError>
     Ok(text)
 }
 
+/// Appends the line of each datagram that is sent to an address.
+#[tactic(auto, unfolding(crate::specs::Answers::line_text))]
+fn push_sent(text: &mut String, to: &Address, datagrams: &[Bytes]) -> Result<(), AllocError>
+    ensures { OnOk result (string_bytes text.new ≡ string_bytes text.old ++ sent_text to.now datagrams.now) }
+{
+    for datagram in datagrams {
+        let line = AnswerLine::Sent {
+            to: *to,
+            bytes: datagram.as_slice(),
+        };
+        write!(text, "{line}")?;
+    }
+    Ok(())
+}
+
+/// The text of the datagrams that are sent to an address.
+fn text_of_sent(alloc: Global, to: &Address, datagrams: &[Bytes]) -> Result<String, AllocError>
+    ensures { IfOk result (λ text. string_bytes text ≡ sent_text to.now datagrams.now) }
+{
+    let mut text = String::new(alloc);
+    push_sent(&mut text, to, datagrams)?;
+    Ok(text)
+}
+
 /// The text of a poll and its fragments.
 #[tactic(auto, unfolding(crate::specs::Answers::line_text))]
 fn text_of_poll(alloc: Global, fragments: &[Fragment]) -> Result<String, AllocError>
@@ -204,6 +228,10 @@ fn text_of(alloc: Global, answer: &Answer) -> Result<String, AllocError>
         Answer::Imaged { source, replies } => text_of_image(alloc, *source, replies.as_slice()),
         Answer::Received(words) => text_of_data(alloc, words.as_slice()),
         Answer::Heard => text_of_line(alloc, AnswerLine::Beat),
+        Answer::Limited(position) => text_of_line(alloc, AnswerLine::Status(*position)),
+        Answer::Elicited => text_of_line(alloc, AnswerLine::Elicit),
+        Answer::Resent { to, datagrams } => text_of_sent(alloc, to, datagrams.as_slice()),
+        Answer::Reported { to, datagrams } => text_of_sent(alloc, to, datagrams.as_slice()),
         Answer::Dropped(why) => text_of_line(alloc, AnswerLine::Dropped(*why)),
         Answer::Replies(messages) => text_of_replies(alloc, messages.as_slice()),
         Answer::Offered(offered) => text_of_line(alloc, AnswerLine::Offer(*offered)),
@@ -221,18 +249,34 @@ fn text_of(alloc: Global, answer: &Answer) -> Result<String, AllocError>
 #[derive(Drop)]
 struct Preface {
     names: Names,
+    peers: Items<Peer>,
     choices: Choices,
 }
 
+/// How many peers a driver takes.
+const PEERS: usize = 256;
+
 impl Preface {
-    /// No name is given, and nothing is chosen. It takes no memory.
+    /// No name and no peer is given, and nothing is chosen. It takes no memory.
     fn new(alloc: Global) -> Preface
         ensures { result ≡ no_preface }
     {
         Preface {
             names: Names::new(alloc),
+            peers: Items::new(alloc),
             choices: Choices::new(alloc),
         }
+    }
+
+    /// Whether a further peer may be given, at this address.
+    fn may_peer(&self, address: &Address) -> bool
+        ensures { result ≡ may_peer self.now.peers address.now }
+    {
+        let peers = self.peers.as_slice();
+        if peers.iter().any(|peer| peer.address == *address) {
+            return false;
+        }
+        peers.len() < PEERS
     }
 }
 
@@ -263,6 +307,17 @@ fn take_name(
     Ok(None)
 }
 
+/// Gives a peer, unless its address is given, or as many are as a driver takes.
+fn take_peer(preface: &mut Preface, line: u64, peer: Peer) -> Result<Option<Head>, AllocError>
+    ensures { IfOk result (λ head. TakesHead preface.old preface.new (record { line = line; said = PeerGiven peer }) head) }
+{
+    if !preface.may_peer(&peer.address) {
+        return Ok(Some(Head::Refused(line)));
+    }
+    preface.peers.push(peer)?;
+    Ok(None)
+}
+
 /// Chooses a setting, where it is one and was not chosen.
 fn take_setting(
     preface: &mut Preface,
@@ -290,7 +345,12 @@ fn open_world(
 {
     match policy_text::read(alloc, text, &preface.names) {
         Ok(policy) => {
-            let world = World::new(alloc, preface.choices.settings, policy, &[])?;
+            let world = World::new(
+                alloc,
+                preface.choices.settings,
+                policy,
+                preface.peers.as_slice(),
+            )?;
             Ok(Some(Head::Opened(world)))
         }
         Err(PolicyFault::NoMemory) => Err(AllocError),
@@ -298,7 +358,7 @@ fn open_world(
     }
 }
 
-/// Takes one statement of the head: it gives a name or a setting, or it decides what the head comes to.
+/// Takes one statement of the head: it gives a name, a peer or a setting, or it decides what the head comes to.
 fn take_head(
     alloc: Global,
     preface: &mut Preface,
@@ -309,6 +369,7 @@ fn take_head(
     let Statement { line, said } = statement;
     match said {
         Said::Principal { name, number } => take_name(preface, line, name, number),
+        Said::Peer(peer) => take_peer(preface, line, peer),
         Said::Set { key, value } => take_setting(preface, line, key, value.as_str()),
         Said::Policy(text) => open_world(alloc, preface, line, text.as_str()),
         Said::Does(_) => Ok(Some(Head::Refused(line))),
@@ -474,6 +535,7 @@ fn take_step<W: Target>(
         Said::Does(step) => go_on_by_step(alloc, world, &step, writer),
         Said::Policy(text) => go_on_by_policy(alloc, names, world, text.as_str(), writer),
         Said::Principal { .. } => stop_at(alloc, line, writer),
+        Said::Peer(_) => stop_at(alloc, line, writer),
         Said::Set { .. } => stop_at(alloc, line, writer),
         Said::Bad => stop_at(alloc, line, writer),
     }

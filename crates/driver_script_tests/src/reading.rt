@@ -1,6 +1,6 @@
 use crate::ends::{Choppy, LineFeeds};
 use crate::play::is_shown;
-use driver_core::{Astray, SetupFault};
+use driver_core::{Address, Astray, SetupFault};
 use driver_script::answers::AnswerLine;
 use driver_script::output::write_whole;
 use driver_script::{MayFail, RunFault, read_input};
@@ -105,7 +105,7 @@ const BAD_HEX: [&str; 14] = [
     "cmd 10 1 +0",
 ];
 
-const BAD: [&str; 63] = [
+const BAD: [&str; 74] = [
     " ",
     ".",
     "policy ",
@@ -168,7 +168,18 @@ const BAD: [&str; 63] = [
     "poll 0 1 2 18446744073709551616 4",
     "poll 0 1 18446744073709551616 3 4",
     "Tick 0",
-    "peer 127.0.0.1:50001 1",
+    "peer",
+    "peer 127.0.0.1:50001",
+    "peer 127.0.0.1 1",
+    "peer localhost:50001 1",
+    "peer 224.0.0.1:50001 1",
+    "peer 127.0.0.1:50001 4294967296",
+    "peer 127.0.0.1:50001 1 2",
+    "image",
+    "image 0",
+    "image 0 -1",
+    "image 0 18446744073709551616",
+    "image 0 1 2",
 ];
 
 #[test]
@@ -189,7 +200,12 @@ fn are_shown(alloc: Global, rows: &[(AnswerLine<'_>, &str)]) -> bool {
     true
 }
 
-const ANSWERS: [(AnswerLine<'static>, &str); 38] = [
+const HERE: Address = Address {
+    octets: [127, 0, 0, 1],
+    port: 40_123,
+};
+
+const ANSWERS: [(AnswerLine<'static>, &str); 47] = [
     (AnswerLine::Attached(1), "attached 1\n"),
     (AnswerLine::Full, "full\n"),
     (AnswerLine::Stopped, "stopped\n"),
@@ -197,6 +213,37 @@ const ANSWERS: [(AnswerLine<'static>, &str); 38] = [
     (AnswerLine::PolicyFull, "policy refused: full\n"),
     (AnswerLine::Setup(2), "setup 2\n"),
     (AnswerLine::Beat, "beat\n"),
+    (AnswerLine::Status(32_768), "status 32768\n"),
+    (AnswerLine::Elicit, "elicit\n"),
+    (
+        AnswerLine::Sent {
+            to: HERE,
+            bytes: b"\x00\x1f\xff",
+        },
+        "sent 127.0.0.1:40123 001fff\n",
+    ),
+    (
+        AnswerLine::Sent {
+            to: HERE,
+            bytes: b"",
+        },
+        "sent 127.0.0.1:40123 -\n",
+    ),
+    (
+        AnswerLine::Dropped(Cause::Denied(Verdict {
+            allow: false,
+            rule: None,
+            epoch: 1,
+        })),
+        "dropped denied by default in policy 1\n",
+    ),
+    (AnswerLine::Dropped(Cause::Empty), "dropped empty\n"),
+    (
+        AnswerLine::Dropped(Cause::OutOfWindow),
+        "dropped out-of-window\n",
+    ),
+    (AnswerLine::Dropped(Cause::Lingering), "dropped lingering\n"),
+    (AnswerLine::Dropped(Cause::Busy), "dropped busy\n"),
     (
         AnswerLine::Dropped(Cause::Astray(Astray::NoStream)),
         "dropped no-stream\n",

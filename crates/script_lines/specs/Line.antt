@@ -6,10 +6,10 @@ use Rattle.std.specs.Option.{option_map}
 use Rattle.std.specs.Str.{bytes_eq}
 use Rattle.driver_core.specs.declared.event.Event.TheVariants.{Attach, Command, Tick}
 use Rattle.driver_world.specs.declared.step.Step.{Step}
-use Rattle.driver_world.specs.declared.step.Step.TheVariants.{Conductor, Packet, Offer, Poll, List as Lists, Value}
+use Rattle.driver_world.specs.declared.step.Step.TheVariants.{Conductor, Packet, Offer, Poll, Image, List as Lists, Value}
 use Rattle.channel_uri.specs.Address.{address_of}
 use Rattle.script_lines.specs.declared.line.Line.{Line}
-use Rattle.script_lines.specs.declared.line.Line.TheVariants.{Skipped, Principal, Set, Policy, Does, Bad}
+use Rattle.script_lines.specs.declared.line.Line.TheVariants.{Skipped, Principal, Peer, Set, Policy, Does, Bad}
 use Rattle.script_lines.specs.Hex.{◌>>=◌, hex_of}
 use Rattle.script_lines.specs.Number.{number_of, small_number_of}
 use Rattle.script_lines.specs.Pieces.{pieces}
@@ -46,6 +46,14 @@ principal_of fields =
     name_of words.0 >>= λ name.
     small_number_of words.1 >>= λ number.
     Some (Principal name number)
+
+-- `peer ADDR NUMBER`
+unfoldable pub peer_of : List (List ℕ) → Option Line
+peer_of fields =
+    two fields >>= λ words.
+    address_of words.0 >>= λ address.
+    small_number_of words.1 >>= λ principal.
+    Some (Peer (record { address = address; principal = principal }))
 
 -- `set KEY VALUE`
 abbrev pub set_of : List (List ℕ) → Option Line
@@ -104,6 +112,14 @@ poll_of fields =
     small_number_of words.4 >>= λ limit.
     Some (Poll now client subscription source limit)
 
+-- `image NOW SOURCE`
+unfoldable pub image_of : List (List ℕ) → Option Step
+image_of fields =
+    two fields >>= λ words.
+    number_of words.0 >>= λ now.
+    number_of words.1 >>= λ source.
+    Some (Image now source)
+
 -- `tick NOW`
 unfoldable pub tick_of : List (List ℕ) → Option Step
 tick_of fields = one fields >>= λ word. number_of word >>= λ now. Some (Conductor (Tick now))
@@ -131,6 +147,7 @@ plain_step_by word fields =
     if bytes_eq word (codes "attach") then attach_of fields
     else if bytes_eq word (codes "tick") then tick_of fields
     else if bytes_eq word (codes "poll") then poll_of fields
+    else if bytes_eq word (codes "image") then image_of fields
     else if bytes_eq word (codes "list") then list_of fields
     else if bytes_eq word (codes "value") then value_of fields
     else None
@@ -147,6 +164,7 @@ step_by word fields =
 unfoldable pub said_by : List ℕ → List (List ℕ) → Option Line
 said_by word fields =
     if bytes_eq word (codes "principal") then principal_of fields
+    else if bytes_eq word (codes "peer") then peer_of fields
     else if bytes_eq word (codes "set") then set_of fields
     else if bytes_eq word (codes "policy") then policy_of fields
     else option_map Does (step_by word fields)

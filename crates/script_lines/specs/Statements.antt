@@ -1,5 +1,5 @@
--- What a script says, statement by statement: first its principals and settings, then a policy, then the steps of a run
--- with further policies among them.
+-- What a script says, statement by statement: first its principals, peers and settings, then a policy, then the steps of a
+-- run with further policies among them.
 use Rattle.std.specs.Prelude.{ℕ, ◌+◌, List, [], ◌∷◌, ◌++◌, codes, if◌then◌else◌}
 use Rattle.std.specs.Str.{bytes_eq}
 use Rattle.script_lines.specs.declared.line.Line.{Line}
@@ -25,6 +25,7 @@ abbrev pub before : ℕ → Line → (Place → List Statement) → List Stateme
 before number line.Skipped later = later Before
 before number (line.Principal name principal) later =
     record { line = number; said = said.Principal name principal } ∷ later Before
+before number (line.Peer peer) later = record { line = number; said = said.Peer peer } ∷ later Before
 before number (line.Set key value) later =
     record { line = number; said = said.Set key value } ∷ later Before
 before number line.Policy later = later (Within number [])
@@ -43,6 +44,7 @@ within start text number bytes later =
 abbrev pub behind : ℕ → Line → (Place → List Statement) → List Statement
 behind number line.Skipped later = later Behind
 behind number (line.Principal name principal) later = bad number
+behind number (line.Peer peer) later = bad number
 behind number (line.Set key value) later = bad number
 behind number line.Policy later = later (Within number [])
 behind number (line.Does step) later = record { line = number; said = said.Does step } ∷ later Behind

@@ -1,4 +1,4 @@
-ghost use Rattle.script_lines.specs.Line.{is_plain, line_of, or_bad, said_by, step_by, plain_step_by, one, two, three, four, five, name_of, principal_of, set_of, policy_of, attach_of, command_of, offer_of, packet_of, tick_of, poll_of, list_of, value_of, keeps_fields};
+ghost use Rattle.script_lines.specs.Line.{is_plain, line_of, or_bad, said_by, step_by, plain_step_by, one, two, three, four, five, name_of, principal_of, peer_of, set_of, policy_of, attach_of, command_of, offer_of, packet_of, tick_of, poll_of, image_of, list_of, value_of, keeps_fields};
 ghost use Rattle.script_lines.specs.LineFault.{Gives, HasMemory};
 ghost use Rattle.script_lines.specs.Pieces.{pieces, pieces_behind};
 ghost use Rattle.script_lines.specs.declared.line.LineFault.TheVariants.{NoMemory};
@@ -10,7 +10,7 @@ use crate::number::{number, small_number};
 use crate::pieces::first_piece;
 use byte_strings::Text;
 use channel_uri::address_of;
-use driver_core::{Event, Received};
+use driver_core::{Event, Peer, Received};
 use driver_world::Step;
 use std::alloc::{AllocError, AllocFailed, Global};
 
@@ -21,6 +21,8 @@ pub enum Line {
     Skipped,
     /// `principal NAME NUMBER`: rules of the policy may name this principal.
     Principal { name: Text, number: u32 },
+    /// `peer ADDR NUMBER`: who sends from this address is this principal.
+    Peer(Peer),
     /// `set KEY VALUE`: the driver has this setting, if the key is one and the value is in its range.
     Set { key: Text, value: Text },
     /// `policy`: the lines up to one that is `.` are the text of a policy.
@@ -159,6 +161,16 @@ fn principal_of(alloc: Global, fields: Option<&str>) -> Result<Line, LineFault>
     Ok(Line::Principal { name, number })
 }
 
+#[tactic(auto, unfolding(crate::specs::Line::peer_of))]
+fn peer_of(fields: Option<&str>) -> Option<Line>
+    ensures { result ≡ peer_of (pieces_behind 32 (option_copied fields.entry)) }
+{
+    let (address, principal) = two_words(fields)?;
+    let address = address_of(address)?;
+    let principal = small_number(principal)?;
+    Some(Line::Peer(Peer { address, principal }))
+}
+
 fn set_of(alloc: Global, fields: Option<&str>) -> Result<Line, LineFault>
     ensures { Gives result (set_of (pieces_behind 32 (option_copied fields.entry))) }
 {
@@ -252,6 +264,16 @@ fn poll_of(fields: Option<&str>) -> Option<Step>
     })
 }
 
+#[tactic(auto, unfolding(crate::specs::Line::image_of))]
+fn image_of(fields: Option<&str>) -> Option<Step>
+    ensures { result ≡ image_of (pieces_behind 32 (option_copied fields.entry)) }
+{
+    let (now, source) = two_words(fields)?;
+    let now = number(now)?;
+    let source = number(source)?;
+    Some(Step::Image { now, source })
+}
+
 #[tactic(auto, unfolding(crate::specs::Line::tick_of))]
 fn tick_of(fields: Option<&str>) -> Option<Step>
     ensures { result ≡ tick_of (pieces_behind 32 (option_copied fields.entry)) }
@@ -299,6 +321,9 @@ fn plain_step_by(word: &str, fields: Option<&str>) -> Option<Step>
     if word == "poll" {
         return poll_of(fields);
     }
+    if word == "image" {
+        return image_of(fields);
+    }
     if word == "list" {
         return list_of(fields);
     }
@@ -333,6 +358,9 @@ fn said_by(alloc: Global, word: &str, fields: Option<&str>) -> Result<Line, Line
 {
     if word == "principal" {
         return principal_of(alloc, fields);
+    }
+    if word == "peer" {
+        return peer_of(fields).ok_or(LineFault::Bad);
     }
     if word == "set" {
         return set_of(alloc, fields);

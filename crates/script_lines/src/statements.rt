@@ -4,6 +4,7 @@ ghost use Rattle.std.specs.Prelude.{◌≡◌, ◌+◌, ◌^◌, ◌<◌, ◌≤
 use crate::line::{Line, plain_text, read_line};
 use crate::pieces::first_of_bytes;
 use byte_strings::Text;
+use driver_core::Peer;
 use driver_world::Step;
 use std::alloc::{AllocError, Global};
 
@@ -15,6 +16,8 @@ pub const LIMIT: usize = 16_777_216;
 pub enum Said {
     /// Rules of the policies may name this principal.
     Principal { name: Text, number: u32 },
+    /// Who sends from this address is this principal.
+    Peer(Peer),
     /// The driver has this setting, if the key is one and the value is in its range.
     Set { key: Text, value: Text },
     /// This text is a policy, each of its lines with its line feed.
@@ -135,6 +138,10 @@ impl<'a> Statements<'a> {
                     number: principal,
                 },
             })),
+            Line::Peer(peer) => Ok(Some(Statement {
+                line: number,
+                said: Said::Peer(peer),
+            })),
             Line::Set { key, value } => Ok(Some(Statement {
                 line: number,
                 said: Said::Set { key, value },
@@ -164,6 +171,7 @@ impl<'a> Statements<'a> {
             })),
             Line::Policy => Ok(Some(self.take_policy(alloc, number)?)),
             Line::Principal { .. } => Ok(Some(self.refuse(number))),
+            Line::Peer(_) => Ok(Some(self.refuse(number))),
             Line::Set { .. } => Ok(Some(self.refuse(number))),
             Line::Bad => Ok(Some(self.refuse(number))),
         }

@@ -25,6 +25,14 @@ pub returns-in-Principal-clause-err : goal.returns-in-Principal-clause-err
 returns-in-Principal-clause-err g c =
     bad_given_up _ _ _ c.args.statement _ _ _ c.in-Principal.is tt c.stop_at.ensures.err
 
+pub returns-in-Peer-clause-ok : goal.returns-in-Peer-clause-ok
+returns-in-Peer-clause-ok g c =
+    bad_taken _ _ _ c.args.statement _ _ _ c.in-Peer.is tt c.stop_at-in-Peer.ensures.ok
+
+pub returns-in-Peer-clause-err : goal.returns-in-Peer-clause-err
+returns-in-Peer-clause-err g c =
+    bad_given_up _ _ _ c.args.statement _ _ _ c.in-Peer.is tt c.stop_at-in-Peer.ensures.err
+
 pub returns-in-Set-clause-ok : goal.returns-in-Set-clause-ok
 returns-in-Set-clause-ok g c =
     bad_taken _ _ _ c.args.statement _ _ _ c.in-Set.is tt c.stop_at-in-Set.ensures.ok
