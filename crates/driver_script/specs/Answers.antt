@@ -3,7 +3,7 @@ use Rattle.std.specs.Prelude.{ℕ, ◌+◌, ◌/◌, ◌%◌, ℤ, List, [], ◌
 use Rattle.std.specs.Fmt.{decimal, signed_decimal}
 use Rattle.std.specs.List.{flat_map}
 use Rattle.driver_script.specs.declared.answers.AnswerLine.{AnswerLine}
-use Rattle.driver_script.specs.declared.answers.AnswerLine.TheVariants.{Attached, Full, Stopped, PolicyInForce, PolicyFull, Setup, Dropped, Beat, Status, Elicit, Sent, PolicyRefused, Reply, Offer, Poll, Fragment, Gone, List as Lists, Counter, Value, Denied, UnknownCounter, WrongClient, NoMemory, BadLine}
+use Rattle.driver_script.specs.declared.answers.AnswerLine.TheVariants.{Attached, Full, Stopped, PolicyInForce, PolicyFull, Setup, Dropped, Beat, Status, Elicit, Sent, Withheld, PolicyRefused, Reply, Offer, Poll, Fragment, Gone, List as Lists, Counter, Value, Denied, UnknownCounter, WrongClient, NoMemory, BadLine}
 use Rattle.channel_uri.specs.Address.{address_text}
 use Rattle.channel_uri.specs.declared.address.Address.{Address}
 use Rattle.driver_core.specs.declared.setup_fault.SetupFault.{SetupFault}
@@ -152,6 +152,10 @@ status_line position = numbered_line (codes "status ") position
 abbrev pub sent_line : Address → List ℕ → List ℕ
 sent_line to bytes = codes "sent " ++ (address_text to ++ (codes " " ++ (hex_text bytes ++ codes "\n")))
 
+-- an address to which a datagram is not sent, and the verdict that says so
+abbrev pub withheld_line : Address → Verdict → List ℕ
+withheld_line to verdict = codes "withheld " ++ (address_text to ++ (codes " " ++ (verdict_text verdict ++ codes "\n")))
+
 -- a line that is none of a script
 abbrev pub bad_line : ℕ → List ℕ
 bad_line number = codes "line " ++ (decimal number ++ codes ": bad line\n")
@@ -169,6 +173,7 @@ line_text Beat = codes "beat\n"
 line_text (Status position) = status_line position
 line_text Elicit = codes "elicit\n"
 line_text (Sent to bytes) = sent_line to bytes.now
+line_text (Withheld to verdict) = withheld_line to verdict
 line_text (PolicyRefused fault) = refusal_line fault
 line_text (Reply client bytes) = reply_text client bytes.now
 line_text (Offer answer) = offer_line answer

@@ -3,11 +3,12 @@ use Rattle.std.specs.Prelude.{◌≡◌, ℕ, Bool, true, false, List, [], ◌�
 use Rattle.std.specs.Fmt.{decimal}
 use Rattle.std.specs.List.{flat_map, list_any}
 use Rattle.driver_world.specs.declared.answer.Answer.{Answer}
-use Rattle.driver_world.specs.declared.answer.Answer.TheVariants.{NoMemory, Attached, Full, Stopped, PolicyInForce, PolicyFull, Imaged, Received, Heard, Limited, Elicited, Resent, Reported, Dropped, Replies, Offered, Polled, Gone, Counters, Value, Denied, UnknownCounter, WrongClient}
+use Rattle.driver_world.specs.declared.answer.Answer.TheVariants.{NoMemory, Attached, Full, Stopped, PolicyInForce, PolicyFull, Imaged, Received, Heard, Limited, Elicited, Idle, Sent, Resent, Reported, Dropped, Replies, Offered, Polled, Gone, Counters, Value, Denied, UnknownCounter, WrongClient}
 use Rattle.driver_core.specs.declared.event.Event.TheVariants.{Reload}
 use Rattle.driver_core.specs.declared.listing.ListedCounter.{ListedCounter}
 use Rattle.driver_core.specs.declared.replies.Message.{Message}
 use Rattle.driver_core.specs.declared.peer.Peer.{Peer}
+use Rattle.driver_core.specs.declared.send_request.Outlet.{Outlet}
 use Rattle.driver_core.specs.declared.settings.Settings.{Settings}
 use Rattle.any_log.specs.declared.fragment.Fragment.{Fragment}
 use Rattle.channel_uri.specs.Address.{is_same}
@@ -27,7 +28,7 @@ use Rattle.script_lines.specs.declared.statements.Said.{Said}
 use Rattle.driver_script.specs.declared.script.Preface.{Preface}
 use Rattle.script_lines.specs.declared.statements.Said.TheVariants.{Principal, Peer as PeerGiven, Set, Policy, Does, Bad}
 use Rattle.script_lines.specs.declared.statements.Statement.{Statement}
-use Rattle.driver_script.specs.Answers.{counter_line, data_line, denial_line, dropped_line, fragment_line, list_line, offer_line, policy_line, poll_line, refusal_line, reply_text, sent_line, setup_line, status_line, value_line}
+use Rattle.driver_script.specs.Answers.{counter_line, data_line, denial_line, dropped_line, fragment_line, list_line, offer_line, policy_line, poll_line, refusal_line, reply_text, sent_line, setup_line, status_line, value_line, withheld_line}
 use Rattle.script_lines.specs.Settings.{Chosen, no_choices, choose}
 
 -- ---- the head of a script: its principals, its peers, its settings and its policy
@@ -152,7 +153,15 @@ fragment_text fragment = fragment_line fragment.position fragment.flags fragment
 abbrev pub sent_text : Address → List (List ℕ) → List ℕ
 sent_text to datagrams = flat_map (sent_line to) datagrams
 
--- an answer has its line, and a line for each reply, fragment, counter or datagram
+-- a line for each destination: the datagram goes there, or it may not
+abbrev pub outlet_text : List ℕ → Outlet → List ℕ
+outlet_text bytes outlet =
+    if outlet.decision.verdict.allow then sent_line outlet.to bytes else withheld_line outlet.to outlet.decision.verdict
+
+abbrev pub outlets_text : List ℕ → List Outlet → List ℕ
+outlets_text bytes outlets = flat_map (outlet_text bytes) outlets
+
+-- an answer has its line, and a line for each reply, fragment, counter, datagram or destination
 unfoldable pub answer_text : Answer → List ℕ
 answer_text NoMemory = codes "no memory\n"
 answer_text (Attached client) = codes "attached " ++ (decimal client ++ codes "\n")
@@ -165,6 +174,8 @@ answer_text (Received words) = data_line words
 answer_text Heard = codes "beat\n"
 answer_text (Limited position) = status_line position
 answer_text Elicited = codes "elicit\n"
+answer_text Idle = []
+answer_text (Sent bytes outlets) = outlets_text bytes outlets
 answer_text (Resent to datagrams) = sent_text to datagrams
 answer_text (Reported to datagrams) = sent_text to datagrams
 answer_text (Dropped why) = dropped_line why

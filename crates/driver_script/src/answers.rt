@@ -243,6 +243,25 @@ impl fmt::Display for SentLine<'_> {
     }
 }
 
+/// The line of an address to which a datagram is not sent.
+#[derive(Clone, Copy)]
+struct WithheldLine {
+    to: Address,
+    verdict: Verdict,
+}
+
+impl fmt::Display for WithheldLine {
+    ghost use Rattle.driver_script.specs.Answers.{withheld_line};
+
+    ghost output = { λ line. Some (withheld_line line.to line.verdict) };
+
+    fn fmt<W: fmt::Write>(&self, f: &mut fmt::Formatter<W>) -> fmt::Result {
+        let to = self.to;
+        let verdict = self.verdict;
+        writeln!(f, "withheld {to} {verdict}")
+    }
+}
+
 /// The line that says which line is bad.
 #[derive(Clone, Copy)]
 struct BadLine(u64);
@@ -350,6 +369,11 @@ pub enum AnswerLine<'a> {
         to: Address,
         bytes: &'a [u8],
     },
+    /// A datagram is not sent to a destination, by this verdict.
+    Withheld {
+        to: Address,
+        verdict: Verdict,
+    },
     /// The text is no policy, and the one before stays in force.
     PolicyRefused(PolicyFault),
     /// This client gets a reply.
@@ -412,6 +436,7 @@ impl fmt::Display for AnswerLine<'_> {
             AnswerLine::Status(position) => Numbered("status ", position).fmt(f),
             AnswerLine::Elicit => f.write_str("elicit\n"),
             AnswerLine::Sent { to, bytes } => SentLine { to, bytes }.fmt(f),
+            AnswerLine::Withheld { to, verdict } => WithheldLine { to, verdict }.fmt(f),
             AnswerLine::PolicyRefused(fault) => RefusalLine(fault).fmt(f),
             AnswerLine::Reply { client, bytes } => ReplyLine { client, bytes }.fmt(f),
             AnswerLine::Offer(offered) => OfferLine(offered).fmt(f),

@@ -1,9 +1,9 @@
 ghost use Rattle.driver_core.specs.Replies.{layout_of};
 ghost use Rattle.command_codec.specs.Reply.{reply_bytes};
-ghost use Rattle.driver_script.specs.Answers.{data_line, line_text, list_line, policy_line, poll_line, sent_line, setup_line, word_behind};
+ghost use Rattle.driver_script.specs.Answers.{data_line, line_text, list_line, policy_line, poll_line, sent_line, setup_line, withheld_line, word_behind};
 ghost use Rattle.driver_script.specs.Ends.{OfAnswering, OfRunning};
 ghost use Rattle.driver_script.specs.Output.{AppendsFront};
-ghost use Rattle.driver_script.specs.Script.{message_text, counter_text, fragment_text, sent_text, answer_text, told_text, ended_text, may_peer, no_preface};
+ghost use Rattle.driver_script.specs.Script.{message_text, counter_text, fragment_text, outlet_text, outlets_text, sent_text, answer_text, told_text, ended_text, may_peer, no_preface};
 ghost use Rattle.std.specs.Io.KnownBytes.{Appends};
 ghost use Rattle.std.specs.List.{flat_map};
 ghost use Rattle.driver_script.specs.declared.script.Ended.TheVariants.{BadLine};
@@ -23,7 +23,7 @@ use crate::fault::RunFault;
 use crate::input::read_input;
 use crate::output::write_whole;
 use byte_strings::{Bytes, Items, Text};
-use driver_core::{Address, Event, ListedCounter, Message, Peer};
+use driver_core::{Address, Event, ListedCounter, Message, Outlet, Peer};
 use driver_world::{Answer, Fragment, Insert, Step, World};
 use policy_text::{Names, PolicyFault};
 use script_lines::settings::Choices;
@@ -191,6 +191,41 @@ fn text_of_sent(alloc: Global, to: &Address, datagrams: &[Bytes]) -> Result<Stri
     Ok(text)
 }
 
+/// Appends the line of a destination: the datagram goes there, or it may not.
+#[tactic(auto, unfolding(crate::specs::Answers::line_text))]
+fn push_outlet(text: &mut String, bytes: &[u8], outlet: &Outlet) -> Result<(), AllocError>
+    ensures { OnOk result (string_bytes text.new ≡ string_bytes text.old ++ outlet_text bytes.now outlet.now) }
+{
+    let to = outlet.to;
+    let verdict = outlet.decision.verdict;
+    let line = if verdict.allow {
+        AnswerLine::Sent { to, bytes }
+    } else {
+        AnswerLine::Withheld { to, verdict }
+    };
+    write!(text, "{line}")?;
+    Ok(())
+}
+
+/// Appends the line of each destination.
+fn push_outlets(text: &mut String, bytes: &[u8], outlets: &[Outlet]) -> Result<(), AllocError>
+    ensures { OnOk result (string_bytes text.new ≡ string_bytes text.old ++ outlets_text bytes.now outlets.now) }
+{
+    for outlet in outlets {
+        push_outlet(text, bytes, outlet)?;
+    }
+    Ok(())
+}
+
+/// The text of a datagram's destinations.
+fn text_of_outlets(alloc: Global, bytes: &[u8], outlets: &[Outlet]) -> Result<String, AllocError>
+    ensures { IfOk result (λ text. string_bytes text ≡ outlets_text bytes.now outlets.now) }
+{
+    let mut text = String::new(alloc);
+    push_outlets(&mut text, bytes, outlets)?;
+    Ok(text)
+}
+
 /// The text of a poll and its fragments.
 #[tactic(auto, unfolding(crate::specs::Answers::line_text))]
 fn text_of_poll(alloc: Global, fragments: &[Fragment]) -> Result<String, AllocError>
@@ -230,6 +265,10 @@ fn text_of(alloc: Global, answer: &Answer) -> Result<String, AllocError>
         Answer::Heard => text_of_line(alloc, AnswerLine::Beat),
         Answer::Limited(position) => text_of_line(alloc, AnswerLine::Status(*position)),
         Answer::Elicited => text_of_line(alloc, AnswerLine::Elicit),
+        Answer::Idle => Ok(String::new(alloc)),
+        Answer::Sent { bytes, outlets } => {
+            text_of_outlets(alloc, bytes.as_slice(), outlets.as_slice())
+        }
         Answer::Resent { to, datagrams } => text_of_sent(alloc, to, datagrams.as_slice()),
         Answer::Reported { to, datagrams } => text_of_sent(alloc, to, datagrams.as_slice()),
         Answer::Dropped(why) => text_of_line(alloc, AnswerLine::Dropped(*why)),

@@ -6,7 +6,7 @@ use Rattle.std.specs.Option.{option_map}
 use Rattle.std.specs.Str.{bytes_eq}
 use Rattle.driver_core.specs.declared.event.Event.TheVariants.{Attach, Command, Tick}
 use Rattle.driver_world.specs.declared.step.Step.{Step}
-use Rattle.driver_world.specs.declared.step.Step.TheVariants.{Conductor, Packet, Offer, Poll, Image, List as Lists, Value}
+use Rattle.driver_world.specs.declared.step.Step.TheVariants.{Conductor, Packet, Offer, Poll, Send, Image, List as Lists, Value}
 use Rattle.channel_uri.specs.Address.{address_of}
 use Rattle.script_lines.specs.declared.line.Line.{Line}
 use Rattle.script_lines.specs.declared.line.Line.TheVariants.{Skipped, Principal, Peer, Set, Policy, Does, Bad}
@@ -112,6 +112,14 @@ poll_of fields =
     small_number_of words.4 >>= λ limit.
     Some (Poll now client subscription source limit)
 
+-- `send NOW SOURCE`
+unfoldable pub send_of : List (List ℕ) → Option Step
+send_of fields =
+    two fields >>= λ words.
+    number_of words.0 >>= λ now.
+    number_of words.1 >>= λ source.
+    Some (Send now source)
+
 -- `image NOW SOURCE`
 unfoldable pub image_of : List (List ℕ) → Option Step
 image_of fields =
@@ -147,6 +155,7 @@ plain_step_by word fields =
     if bytes_eq word (codes "attach") then attach_of fields
     else if bytes_eq word (codes "tick") then tick_of fields
     else if bytes_eq word (codes "poll") then poll_of fields
+    else if bytes_eq word (codes "send") then send_of fields
     else if bytes_eq word (codes "image") then image_of fields
     else if bytes_eq word (codes "list") then list_of fields
     else if bytes_eq word (codes "value") then value_of fields

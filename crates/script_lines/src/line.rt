@@ -1,4 +1,4 @@
-ghost use Rattle.script_lines.specs.Line.{is_plain, line_of, or_bad, said_by, step_by, plain_step_by, one, two, three, four, five, name_of, principal_of, peer_of, set_of, policy_of, attach_of, command_of, offer_of, packet_of, tick_of, poll_of, image_of, list_of, value_of, keeps_fields};
+ghost use Rattle.script_lines.specs.Line.{is_plain, line_of, or_bad, said_by, step_by, plain_step_by, one, two, three, four, five, name_of, principal_of, peer_of, set_of, policy_of, attach_of, command_of, offer_of, packet_of, tick_of, poll_of, send_of, image_of, list_of, value_of, keeps_fields};
 ghost use Rattle.script_lines.specs.LineFault.{Gives, HasMemory};
 ghost use Rattle.script_lines.specs.Pieces.{pieces, pieces_behind};
 ghost use Rattle.script_lines.specs.declared.line.LineFault.TheVariants.{NoMemory};
@@ -264,6 +264,16 @@ fn poll_of(fields: Option<&str>) -> Option<Step>
     })
 }
 
+#[tactic(auto, unfolding(crate::specs::Line::send_of))]
+fn send_of(fields: Option<&str>) -> Option<Step>
+    ensures { result ≡ send_of (pieces_behind 32 (option_copied fields.entry)) }
+{
+    let (now, source) = two_words(fields)?;
+    let now = number(now)?;
+    let source = number(source)?;
+    Some(Step::Send { now, source })
+}
+
 #[tactic(auto, unfolding(crate::specs::Line::image_of))]
 fn image_of(fields: Option<&str>) -> Option<Step>
     ensures { result ≡ image_of (pieces_behind 32 (option_copied fields.entry)) }
@@ -320,6 +330,9 @@ fn plain_step_by(word: &str, fields: Option<&str>) -> Option<Step>
     }
     if word == "poll" {
         return poll_of(fields);
+    }
+    if word == "send" {
+        return send_of(fields);
     }
     if word == "image" {
         return image_of(fields);
