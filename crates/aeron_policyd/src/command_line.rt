@@ -144,6 +144,8 @@ Lines of a script:
                           a datagram came to the address LOCAL from the address FROM, as 127.0.0.1:40123: a SETUP makes
                           an image, data goes to it; a status message says how far a publication may be sent, a NAK has
                           what is missing sent again to FROM; what is for none is dropped by a word
+  send NOW SOURCE         the sender sends the one datagram of publication SOURCE that is due, if one is, to each of its
+                          destinations that the policy allows
   image NOW SOURCE        the receiver tells the publisher of image SOURCE what is due: a NAK of what is missing, and a
                           status message
   tick NOW                time goes on: clients and images of which nothing was heard for too long are gone
