@@ -453,7 +453,9 @@ draft_follows s (Reload now policy) inputs logged were =
     reload_cases (Follow s) (at_moment s now) policy (λ room. stay) (λ full. stay)
 draft_follows s (Tick now) inputs logged were =
     let at : State = at_moment s now in
-    ticked_follows s (all_left at (late at)) (late at) inputs.silent (all_left_named at (late at) were)
+    let leaves : LeavesNamed at (all_left at (late at)) = all_left_named at (late at) were in
+    ticked_follows s (all_left at (late at)) (late at) inputs.silent
+    (record { destinations = leaves.destinations; named_of = leaves.named_of })
 draft_follows s (Setup now local from setup) inputs logged were =
     let stay : Follows s.destinations s.destinations s.streams.sources = same s.destinations s.streams.sources were in
     set_up_cases (Follow s) (at_moment s now) local from setup (λ fault. stay)

@@ -290,8 +290,8 @@ pub fn limits_are_kept()
 {}
 
 /// And none of these limits is kept too soon: there is room for one more, or for a policy, where the lists concerned are
-/// below theirs (for a publication those of registrations and of publications), the pairs would stay within theirs, and a
-/// number is left.
+/// below theirs (for a publication those of registrations, of publications and of destinations), the pairs would stay within
+/// theirs, and a number is left.
 pub fn room_is_left_below_the_limits()
     ensures { RoomIsLeftBelowTheLimits }
 {}
