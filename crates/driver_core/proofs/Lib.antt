@@ -22,6 +22,7 @@ pub mod SizeLemmas
 pub mod SoundnessLemmas
 pub mod StayLemmas
 pub mod SubscribeLemmas
+pub mod TargetLemmas
 pub mod TickLemmas
 pub mod UnreadLemmas
 pub mod UnsubscribeLemmas

@@ -47,7 +47,7 @@ use Rattle.driver_laws.proofs.SubscribingLemmas.{found_number}
 use Rattle.driver_laws.proofs.RenewalLemmas.{ToldAsItIs, unchanged}
 
 -- a refusal changes no pair
-refused_change : (s : State) (now handle correlation : ℕ) (inputs : Inputs) (client : Client) (question : Question)
+pub refused_change : (s : State) (now handle correlation : ℕ) (inputs : Inputs) (client : Client) (question : Question)
     (decision : Decision) (refusal : Refusal) → client.number ≡ handle → decision ≡ decided_on s question →
     IsRefusedOn s now handle correlation question refusal (
     renewed s inputs (refused (at_request s now handle) (decision ∷ []) client.number correlation refusal))

@@ -5,6 +5,7 @@ pub mod ClosingLemmas
 pub mod DecisionLemmas
 pub mod DenialLemmas
 pub mod DenialTextLemmas
+pub mod DestinationLemmas
 pub mod DroppingLemmas
 pub mod EveryLemmas
 pub mod GoingLemmas
@@ -18,6 +19,7 @@ pub mod LeftLemmas
 pub mod LimitLemmas
 pub mod ListingLemmas
 pub mod LoggedLemmas
+pub mod NamedLemmas
 pub mod NewNumberLemmas
 pub mod NumberLemmas
 pub mod OwnerLemmas

@@ -325,7 +325,7 @@ draft_logged s (Setup now local from setup) inputs logged =
     set_up_cases (Keeps s) (at_moment s now) local from setup (λ fault. logged)
     (λ join place is set. image_logged (at_moment s now) _ place logged)
 
-event_logged : (s : State) (event : Event) (inputs : Inputs) → HaveTheirLogs s.streams →
+pub event_logged : (s : State) (event : Event) (inputs : Inputs) → HaveTheirLogs s.streams →
     HaveTheirLogs (state_after s event inputs).streams
 unfolding conduct renewed dropping
 event_logged s event inputs logged =
@@ -333,7 +333,7 @@ event_logged s event inputs logged =
 
 -- ---- every registry
 
-opened_logged : (settings : Settings) (policy : Rules) (peers : List Peer) →
+pub opened_logged : (settings : Settings) (policy : Rules) (peers : List Peer) →
     HaveTheirLogs (opened settings policy peers).streams
 unfolding opened
 opened_logged settings policy peers = λ registration has. absurd (contains_none registration has)

@@ -170,7 +170,7 @@ remove_counter_drops s now handle client correlation fields read =
 
 -- ---- registrations
 
-origin_stays : (now : ℕ) (origin : Origin) → is_published_by (left_by now origin) ≡ is_published_by origin
+pub origin_stays : (now : ℕ) (origin : Origin) → is_published_by (left_by now origin) ≡ is_published_by origin
 origin_stays now (Published exclusive since) = refl
 origin_stays now (Remote address initial_term join) = refl
 

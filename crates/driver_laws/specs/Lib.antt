@@ -2,6 +2,7 @@ pub mod ClosingLaws
 pub mod CounterLaws
 pub mod DecisionLaws
 pub mod DenialLaws
+pub mod DestinationLaws
 pub mod Events
 pub mod GrantLaws
 pub mod ImageLaws

@@ -10,6 +10,7 @@ use Rattle.driver_core.specs.Subscribing.{has_room_for_subscription, with_subscr
 use Rattle.driver_laws.specs.Events.{AfterAnyEvents}
 use Rattle.channel_uri.specs.Channel.{Shape}
 use Rattle.client_registry.specs.Clients.{has_room}
+use Rattle.destinations.specs.Destinations.{has_room as has_room_in, of}
 use Rattle.policy_core.specs.RuleList.{Rules}
 use Rattle.stream_registry.specs.declared.fault.StreamFault.TheVariants.{Full}
 use Rattle.stream_registry.specs.declared.wanted.Adding.{Adding}
@@ -40,7 +41,8 @@ LimitsAreKept = AfterAnyEvents IsWithinLimits
 abbrev pub IsLeft : ℕ → Type 0
 IsLeft last = last < 18446744073709551615
 
--- where no limit would be passed, there is room; the lists of publications are full only at theirs
+-- where no limit would be passed, there is room, also for the one destination of a publication; the lists of publications
+-- are full only at theirs
 pub record HasRoomBelow (s : State) : Type 0 where
   pub client : length s.clients.rows < 64 → IsLeft s.clients.last → has_room s.clients ≡ true
   pub subscription :
@@ -48,9 +50,12 @@ pub record HasRoomBelow (s : State) : Type 0 where
       length (pairs_of (with_subscription s client channel stream)) ≤ 4096 →
       has_room_for_subscription s client channel stream ≡ true
   pub publication :
-      (client : ℕ) (wanted : Wanted) (adding : Adding) → IsLeft s.last_number →
-      length (pairs_of (with_publication s client wanted adding)) ≤ 4096 →
+      (client : ℕ) (wanted : Wanted) (adding : Adding) → IsLeft s.last_number → IsLeft s.destinations.last →
+      length s.destinations.rows < 8192 → length (pairs_of (with_publication s client wanted adding)) ≤ 4096 →
       has_room_for_publication s client wanted adding ≡ true
+  pub destination :
+      (source : ℕ) → IsLeft s.destinations.last → length (of s.destinations.rows source) < 32 →
+      length s.destinations.rows < 8192 → has_room_in s.destinations source ≡ true
   pub lists :
       (wanted : Wanted) → adding_of s.streams wanted ≡ Err Full →
       (1024 ≤ length s.streams.registrations) ⊎ (256 ≤ length (filter is_published s.streams.sources))

@@ -7,6 +7,7 @@ ghost use Rattle.driver_laws.specs.ClosingLaws.{ClosedLogsWereThere, LogsCloseEx
 ghost use Rattle.driver_laws.specs.CounterLaws.{CountersAreRemovedExactly, CountersAreRemovedOnly, CountersAreSetExactly, CountersAreSetOnly};
 ghost use Rattle.driver_laws.specs.DecisionLaws.{DecisionsAreByThePolicyInForce};
 ghost use Rattle.driver_laws.specs.DenialLaws.{DenialsAreNamed};
+ghost use Rattle.driver_laws.specs.DestinationLaws.{DestinationsAreGrantedExactly, DestinationsAreOfLivePublications};
 ghost use Rattle.driver_laws.specs.GrantLaws.{CountersAreGrantedExactly, TerminationsAreGrantedExactly, CountersAndTerminationsAreGrantedOnly};
 ghost use Rattle.driver_laws.specs.ImageLaws.{ImagesAreGrantedExactly, ImagesAreRead};
 ghost use Rattle.driver_laws.specs.ImageTellingLaws.{ImagesAreToldExactly};
@@ -119,6 +120,19 @@ pub fn denials_are_named()
 /// brings.
 pub fn decisions_are_by_the_policy_in_force()
     ensures { DecisionsAreByThePolicyInForce }
+{}
+
+/// A client's well-formed request for a destination of its own publication is granted where the first rule that matches
+/// allows it, or where none matches and the default does, destinations of that publication are named by hand, the address is
+/// not there yet, and there is room; else nothing is added, and it is refused by the first of these that fails.
+pub fn destinations_are_granted_exactly()
+    ensures { DestinationsAreGrantedExactly }
+{}
+
+/// In every registry each destination is of a live publication, their numbers rise up to the one that was drawn last, a
+/// publication has at most 32 and all have at most 8,192; whatever destination comes later has a number above that last one.
+pub fn destinations_are_of_live_publications()
+    ensures { DestinationsAreOfLivePublications }
 {}
 
 /// A client's request that a subscription go takes away the one of that number that is the client's own, and the images
@@ -276,8 +290,8 @@ pub fn limits_are_kept()
 {}
 
 /// And none of these limits is kept too soon: there is room for one more, or for a policy, where the lists concerned are
-/// below theirs (for a publication those of registrations and of publications), the pairs would stay within theirs, and a
-/// number is left.
+/// below theirs (for a publication those of registrations, of publications and of destinations), the pairs would stay within
+/// theirs, and a number is left.
 pub fn room_is_left_below_the_limits()
     ensures { RoomIsLeftBelowTheLimits }
 {}

@@ -1,0 +1,109 @@
+-- Over every list of events: destinations are named as the policy in force says, each of a live publication.
+use Rattle.std.specs.Prelude.{◌≡◌, ℕ, ◌<◌, ◌≤◌, true, false, List, [], ◌∷◌, Contains, length, ◌⊎◌}
+use Rattle.driver_core.specs.Change.{Change}
+use Rattle.driver_core.specs.declared.event.Event.{Event}
+use Rattle.driver_core.specs.declared.event.Event.TheVariants.{Command}
+use Rattle.driver_core.specs.declared.event.Inputs.{Inputs}
+use Rattle.driver_core.specs.declared.refusal.Refusal.TheVariants.{Conflict, Denied, Full}
+use Rattle.driver_core.specs.declared.replies.Reply.TheVariants.{OperationSuccess}
+use Rattle.driver_core.specs.Commands.{heard}
+use Rattle.driver_core.specs.Conduct.{conduct, state_of}
+use Rattle.driver_core.specs.Requests.{AsksToDirect, DestinationRequest, destination_question}
+use Rattle.driver_core.specs.State.{State, at_moment}
+use Rattle.driver_core.specs.Verdicts.{IsByPolicy, verdict_on}
+use Rattle.driver_laws.specs.Events.{AfterAnyEvents}
+use Rattle.driver_laws.specs.GrantLaws.{IsRefusedOn, decided_on}
+use Rattle.driver_laws.specs.NumberLaws.{Rises}
+use Rattle.destinations.specs.declared.destination.Destination.{Destination}
+use Rattle.destinations.specs.Destinations.{DestinationList, added, has, has_room, of}
+use Rattle.stream_registry.specs.declared.row.Source.{Source}
+use Rattle.stream_registry.specs.Origins.{is_published}
+
+-- ---- granted exactly
+
+-- the policy in force allows it, the act being that of a destination, the channel the destination's and the stream the
+-- publication's
+abbrev pub IsAllowed : State → DestinationRequest → Type 0
+IsAllowed s request = (verdict_on s (destination_question request)).allow ≡ true
+
+-- the address is there for the publication under the next number of the destinations, named for the principal for whom the
+-- client acts, and the one reply is that it is so; all else stays but for the moments
+pub record IsDirected (s : State) (now handle : ℕ) (request : DestinationRequest) (change : Change) : Type 0 where
+  pub after_is :
+      change.after
+      ≡ record (heard (at_moment s now) handle) {
+        destinations = added s.destinations request.target.source request.target.address request.client.principal;
+      }
+  pub told :
+      change.outcome.replies ≡ record { client = handle; reply = OperationSuccess request.correlation } ∷ []
+  pub decided : change.outcome.decisions ≡ decided_on s (destination_question request) ∷ []
+  pub closes : change.outcome.closes ≡ []
+
+-- The verdict decides, which is the first matching rule's or the default's. Then the publication's destinations are to be
+-- named by hand, the address is not to be there yet, and there is to be room for it: the publication has fewer than 32, all
+-- have fewer than 8,192, and a number is left.
+pub record IsDirectedExactly (s : State) (now handle : ℕ) (request : DestinationRequest) (change : Change) : Type 0 where
+  pub by : IsByPolicy s (destination_question request) (verdict_on s (destination_question request))
+  pub granted :
+      IsAllowed s request → request.target.manual ≡ true →
+      has s.destinations.rows request.target.source request.target.address ≡ false →
+      has_room s.destinations request.target.source ≡ true → IsDirected s now handle request change
+  pub not_by_hand :
+      IsAllowed s request → request.target.manual ≡ false →
+      IsRefusedOn s now handle request.correlation (destination_question request) Conflict change
+  pub known :
+      IsAllowed s request → request.target.manual ≡ true →
+      has s.destinations.rows request.target.source request.target.address ≡ true →
+      IsRefusedOn s now handle request.correlation (destination_question request) Conflict change
+  pub full :
+      IsAllowed s request → request.target.manual ≡ true →
+      has s.destinations.rows request.target.source request.target.address ≡ false →
+      has_room s.destinations request.target.source ≡ false →
+      IsRefusedOn s now handle request.correlation (destination_question request) Full change
+  pub denied :
+      (verdict_on s (destination_question request)).allow ≡ false →
+      IsRefusedOn s now handle request.correlation (destination_question request)
+      (Denied (verdict_on s (destination_question request))) change
+
+abbrev pub DestinationsAreGrantedExactly : Type 0
+DestinationsAreGrantedExactly =
+    AfterAnyEvents (λ s.
+    (now handle : ℕ) (bytes : List ℕ) (inputs : Inputs) (request : DestinationRequest) →
+    AsksToDirect s handle bytes request →
+    IsDirectedExactly s now handle request (conduct s (Command now handle bytes) inputs))
+
+-- ---- of live publications
+
+-- a publication of that number is live
+pub record HasPublication (logs : List Source) (source : ℕ) : Type 0 where
+  pub log : Source
+  pub stands : Contains logs log
+  pub source_is : log.number ≡ source
+  pub published : is_published log ≡ true
+
+-- each is of a live publication, and their numbers rise, so that no two are alike and none is above the one drawn last
+pub record AreOfLive (destinations : DestinationList) (logs : List Source) : Type 0 where
+  pub live :
+      (destination : Destination) → Contains destinations.rows destination → HasPublication logs destination.source
+  pub numbers : Rises (λ (destination : Destination). destination.number) 0 destinations.last destinations.rows
+
+-- no publication has more than 32, and all have no more than 8,192
+pub record AreFewNamed (destinations : DestinationList) : Type 0 where
+  pub each : (source : ℕ) → length (of destinations.rows source) ≤ 32
+  pub all : length destinations.rows ≤ 8192
+
+-- the number drawn last never falls, and a destination that was not there before has a number above the last of then
+pub record ComeAbove (before after : DestinationList) : Type 0 where
+  pub last : before.last ≤ after.last
+  pub comes :
+      (destination : Destination) → Contains after.rows destination →
+      Contains before.rows destination ⊎ (before.last < destination.number)
+
+-- so it is in every registry, whatever happens later: no number of a destination is drawn twice
+pub record AreLawful (s : State) : Type 0 where
+  pub of_live : AreOfLive s.destinations s.streams.sources
+  pub few : AreFewNamed s.destinations
+  pub never_again : (later : List (Event × Inputs)) → ComeAbove s.destinations (state_of s later).destinations
+
+abbrev pub DestinationsAreOfLivePublications : Type 0
+DestinationsAreOfLivePublications = AfterAnyEvents AreLawful
