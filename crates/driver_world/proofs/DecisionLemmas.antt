@@ -41,18 +41,18 @@ use Rattle.term_log.specs.Whole.{Whole, is_connected}
 -- ---- a move of one log
 
 -- what the move of the log of that source leaves, and answers
-abbrev left_by : RunEnd → ℕ → Move → Moved
+abbrev pub left_by : RunEnd → ℕ → Move → Moved
 left_by e source move = record { after = record e { logs = with_log e.logs source move.after }; answer = move.answer }
 
 -- a log that is left as it was leaves all as it was
-stays_left : (e : RunEnd) (source : ℕ) (log : WholeLog) (answer : Answer) → log_at e.logs source ≡ Some log →
+pub stays_left : (e : RunEnd) (source : ℕ) (log : WholeLog) (answer : Answer) → log_at e.logs source ≡ Some log →
     left_by e source (answered log answer) ≡ stays e answer
 stays_left e source log answer found =
     ap (λ (logs : List WholeLog). record { after = record e { logs = logs }; answer = answer })
     (with_same source log e.logs found)
 
 -- where the log is found, it moves
-log_moves : (e : RunEnd) (source : ℕ) (move : WholeLog → Move) (absent : Answer) (log : WholeLog) →
+pub log_moves : (e : RunEnd) (source : ℕ) (move : WholeLog → Move) (absent : Answer) (log : WholeLog) →
     log_at e.logs source ≡ Some log → on_log e source move absent ≡ left_by e source (move log)
 unfolding on_log
 log_moves e source move absent log found = ap (moved_on e source move absent) found
@@ -130,19 +130,19 @@ offer_denied e now message asked log frames found is denies =
     ∙ stays_left e asked.source log (Denied asked.decision.verdict) found
 
 -- the log of frames that were appended
-abbrev IsAppended : WholeLog → Type 0
+abbrev pub IsAppended : WholeLog → Type 0
 IsAppended log = (frames : Whole) × (log.whole ≡ whole frames)
 
-abbrev IsForPublication : Made → Type 0
+abbrev pub IsForPublication : Made → Type 0
 IsForPublication (for_publication ident) = Unit {0}
 IsForPublication (for_stream ident) = ⊥
 
-appended_for : (w : AnyWhole) → IsForPublication (made_any w) → (frames : Whole) × (w ≡ whole frames)
+pub appended_for : (w : AnyWhole) → IsForPublication (made_any w) → (frames : Whole) × (w ≡ whole frames)
 appended_for (whole frames) is = (frames, refl)
 appended_for (rebuilt frames) is = absurd is
 
 -- what a publication's log is made for
-published_made : (settings : Settings) (log : Source) (origin : Origin) → is_published_by origin ≡ true →
+pub published_made : (settings : Settings) (log : Source) (origin : Origin) → is_published_by origin ≡ true →
     IsForPublication (made_by settings log origin)
 published_made settings log (Published exclusive since) is = tt
 published_made settings log (Remote address initial_term join) is = absurd (cc is)
@@ -167,7 +167,7 @@ made_by_cond settings true first log source publication logs sources made rest f
     ap (λ (l : WholeLog). made_any l.whole) (sym same_log) ∙ made ∙ ap (made_of settings) same_source
 made_by_cond settings false first log source publication logs sources made rest found is = rest found is
 
-made_at : (settings : Settings) (logs : List WholeLog) (sources : List Source) (number : ℕ) (log : WholeLog) (publication : Source) →
+pub made_at : (settings : Settings) (logs : List WholeLog) (sources : List Source) (number : ℕ) (log : WholeLog) (publication : Source) →
     map made_for logs ≡ map (made_as settings) sources → log_at logs number ≡ Some log →
     source_at sources number ≡ Some publication → made_any log.whole ≡ made_of settings publication
 unfolding first_of rest_of

@@ -16,6 +16,7 @@ pub mod QuietLemmas
 pub mod ReaderLemmas
 pub mod RegisteredLemmas
 mod RegisteringLemmas
+pub mod ResendLemmas
 pub mod RunLemmas
 mod SourceLemmas
 pub mod StandLemmas

@@ -14,4 +14,5 @@ pub mod Receiving
 pub mod Recovery
 pub mod Registered
 pub mod Reporting
+pub mod ResendLaws
 pub mod Standing
