@@ -231,12 +231,14 @@ frames_give now sent held = record { on = λ log stands. refl }
 pub beat_heard : (now : ℕ) (place : TermPlace) (held after : HeldLog) → after.source ≡ held.source →
     after.recovery ≡ held.recovery → Carries held.log after.log (beaten now place) → Does (beat_move now place) held after Heard
 beat_heard now place held after stays kept carries = record {
-  on = λ log stands.
-      (refl, record {
-        source_is = rw stays stands.source_is;
-        whole = carries.on log.whole stands.whole;
-        recovery_is = kept ∙ stands.recovery_is;
-      });
+  on = λ log stands. (
+    refl,
+    record {
+      source_is = rw stays stands.source_is;
+      whole = carries.on log.whole stands.whole;
+      recovery_is = kept ∙ stands.recovery_is;
+    },
+  );
 }
 
 -- ---- what receivers ask, and what a publisher is told
@@ -264,13 +266,13 @@ pub status_heard : (now : ℕ) (message : StatusMessage) (held after : HeldLog) 
     Does (status_move now message) held after (answer_heard answer)
 status_heard now message held after answer hears stays kept carries = record {
   on = λ log stands. (
-        ap answer_heard (hears.on log.whole stands.whole),
-        record {
-          source_is = rw stays stands.source_is;
-          whole = carries.on log.whole stands.whole;
-          recovery_is = kept ∙ stands.recovery_is;
-        },
-      );
+    ap answer_heard (hears.on log.whole stands.whole),
+    record {
+      source_is = rw stays stands.source_is;
+      whole = carries.on log.whole stands.whole;
+      recovery_is = kept ∙ stands.recovery_is;
+    },
+  );
 }
 
 pub nak_answered : (now : ℕ) (from : Address) (decision : Decision) (nak : Nak) (held after : HeldLog) (reply : Option NakReply) →

@@ -4,6 +4,7 @@ ghost use Rattle.std.specs.Prelude.{◌≡◌, ℕ, ◌≤◌, length, IfOk, OnO
 ghost use Rattle.driver_core.specs.Conduct.{conduct, outcome_of};
 ghost use Rattle.driver_core.specs.ImageRequests.{image_for};
 ghost use Rattle.driver_core.specs.Pairs.{pairs_of};
+ghost use Rattle.driver_core.specs.PublicationRequests.{publication_for, resending_of};
 ghost use Rattle.driver_core.specs.Soundness.{AreSettings, IsSound, MovesLogs};
 ghost use Rattle.driver_world.specs.Ends.{inputs_of};
 ghost use Rattle.driver_core.specs.Readers.{readers_of};
@@ -18,7 +19,7 @@ use crate::open_logs::OpenLogs;
 use crate::opening::{Opening, open_next, prepare};
 use crate::step::Step;
 use byte_strings::Items;
-use driver_core::{Address, Astray, Entry, Event, Outcome, Peer, Registry, Settings};
+use driver_core::{Address, Astray, Entry, Event, LogRequest, Outcome, Peer, Registry, Settings};
 use frame_codec::{
     Datagram, Frames, Nak, Packet, StatusMessage, TermPlace, frames_are_of_one_term,
     frames_are_told,
@@ -74,6 +75,20 @@ fn image_of(
     registry.image_for(local, from, place.session_id, place.stream_id)
 }
 
+/// The source number of the publication that a status message is for.
+fn publication_of(registry: &Registry, message: &StatusMessage) -> Option<u64>
+    ensures { result ≡ publication_for registry.now message.now.session_id message.now.stream_id }
+{
+    registry.publication_for(message.session_id, message.stream_id)
+}
+
+/// Of which publication a NAK from that address asks for frames, and whether the policy in force lets it have them.
+fn asked_by(registry: &Registry, from: &Address, nak: &Nak) -> Option<LogRequest>
+    ensures { result ≡ resending_of registry.now from.now nak.now.session_id nak.now.stream_id }
+{
+    registry.resending(from, nak.session_id, nak.stream_id)
+}
+
 /// The logs follow an event that left this registry: the log that it opens is opened before those are closed that it
 /// closes, and then exactly the pairs read. It takes no memory.
 fn follow(
@@ -95,7 +110,6 @@ fn follow(
 }
 
 impl World {
-    ghost use Rattle.driver_core.specs.PublicationRequests.{publication_for, resending_of};
     ghost use Rattle.driver_world.specs.Ends.{on_asked, on_frames, on_stream, on_told, opening_end};
     ghost use Rattle.driver_world.specs.Receiving.{beat_move};
     ghost use Rattle.driver_world.specs.Standing.{StandsForEnd, Serves, ServesAs, Takes, Runs, Continues, pages_of_logs};
@@ -197,10 +211,7 @@ impl World {
     fn status(&mut self, now: u64, message: &StatusMessage) -> Answer
         ensures { ServesAs self.old self.new (λ e. on_told e now message.now (publication_for e.registry message.now.session_id message.now.stream_id)) result }
     {
-        match self
-            .registry
-            .publication_for(message.session_id, message.stream_id)
-        {
+        match publication_of(&self.registry, message) {
             Some(source) => self.logs.status(source, now, message),
             None => Answer::Dropped(Cause::Astray(Astray::NoStream)),
         }
@@ -210,7 +221,7 @@ impl World {
     fn nak(&mut self, alloc: Global, now: u64, from: &Address, nak: &Nak) -> Answer
         ensures { ServesAs self.old self.new (λ e. on_asked e now from.now nak.now (resending_of e.registry from.now nak.now.session_id nak.now.stream_id)) result }
     {
-        let Some(request) = self.registry.resending(from, nak.session_id, nak.stream_id) else {
+        let Some(request) = asked_by(&self.registry, from, nak) else {
             return Answer::Dropped(Cause::Astray(Astray::NoStream));
         };
         match self

@@ -9,16 +9,16 @@ use Rattle.driver_world.specs.Standing.{Held}
 use Rattle.driver_world.proofs.RunLemmas.{absent_served, first_refused, first_served, reported_told, step_served}
 use Rattle.driver_world.proofs.StandLemmas.{match_moved}
 use Rattle.driver_world.proofs.world.World.report.Goals as goal
-use Rattle.driver_world.proofs.world.World.report.Goals.{in-Err-report, in-Ok-report}
+use Rattle.driver_world.proofs.world.World.report.Goals.{in-Err, in-Ok}
 
 pub invariant_of-self : goal.invariant_of-self
 invariant_of-self c =
     elim c.match-report.branch [
-      | in-Ok-report w ↦
+      | in-Ok w ↦
           match_moved c.self.inside.registry c.args.source
           (report_move c.args.now c.settings-receiver_id.result.receiver_id c.in-Some.to) Gone
-          w.in-Ok-report.answer c.self.inside.logs c.report.new.self c.self.invariant w.in-Ok-report.ensures.moved
-      | in-Err-report w ↦ rw w.in-Err-report.ensures.err c.self.invariant
+          w.in-Ok.answer c.self.inside.logs c.report.new.self c.self.invariant w.in-Ok.ensures.moved
+      | in-Err w ↦ rw w.in-Err.ensures.err c.self.invariant
     ]
 
 pub returns-in_default : goal.returns-in_default
@@ -30,8 +30,8 @@ returns-in_default c =
     (absent_served held (λ e. on_report e c.args.now c.args.source (publisher_of e.registry c.args.source)) Gone tt
     (λ e same. rw (← same, is) refl)))
 
-pub returns-after-report : goal.returns-after-report
-returns-after-report c =
+pub returns : goal.returns
+returns c =
     let s = c.self.inside.registry in
     let source = c.args.source in
     let old : Held = record { registry = s; logs = c.self.inside.logs.logs } in
@@ -43,14 +43,14 @@ returns-after-report c =
     let is : publisher_of s source ≡ Some c.in-Some.to = sym c.publisher_of.ensures ∙ c.in-Some.is in
     rw (← c.self.view_is)
     (elim c.match-report.branch [
-      | in-Ok-report w ↦
+      | in-Ok w ↦
           rw w.result-is
-          (step_served old new (Image c.args.now source) w.in-Ok-report.answer (λ e. refl)
-          (first_served s c.self.inside.logs c.report.new.self what source move Gone w.in-Ok-report.answer
-          (λ e same. rw (← same, is, same_id) refl) tt (λ log. reported_told c.in-Some.to _) w.in-Ok-report.ensures.moved))
-      | in-Err-report w ↦
+          (step_served old new (Image c.args.now source) w.in-Ok.answer (λ e. refl)
+          (first_served s c.self.inside.logs c.report.new.self what source move Gone w.in-Ok.answer
+          (λ e same. rw (← same, is, same_id) refl) tt (λ log. reported_told c.in-Some.to _) w.in-Ok.ensures.moved))
+      | in-Err w ↦
           rw w.result-is
           (step_served old new (Image c.args.now source) _ (λ e. refl)
           (first_refused s c.self.inside.logs c.report.new.self what source move Gone
-          (λ e same. rw (← same, is, same_id) refl) w.in-Err-report.ensures.err w.in-Err-report.ensures.without_memory))
+          (λ e same. rw (← same, is, same_id) refl) w.in-Err.ensures.err w.in-Err.ensures.without_memory))
     ])

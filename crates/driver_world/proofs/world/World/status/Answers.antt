@@ -17,7 +17,7 @@ pub returns-in-None : goal.returns-in-None
 returns-in-None c =
     let message = c.args.message.now in
     let held : Held = record { registry = c.self.inside.registry; logs = c.self.inside.logs.logs } in
-    let is : publication_for held.registry message.session_id message.stream_id ≡ None = sym c.publication_for.ensures ∙ c.in-None.is in
+    let is : publication_for held.registry message.session_id message.stream_id ≡ None = sym c.publication_of.ensures ∙ c.in-None.is in
     rw (← c.self.view_is)
     (absent_served held (λ e. on_told e c.args.now message (publication_for e.registry message.session_id message.stream_id)) unheard tt
     (λ e same. rw (← same, is) refl))
@@ -26,7 +26,7 @@ pub returns-in-Some : goal.returns-in-Some
 returns-in-Some c =
     let message = c.args.message.now in
     let s = c.self.inside.registry in
-    let is : publication_for s message.session_id message.stream_id ≡ Some c.in-Some.source = sym c.publication_for.ensures ∙ c.in-Some.is in
+    let is : publication_for s message.session_id message.stream_id ≡ Some c.in-Some.source = sym c.publication_of.ensures ∙ c.in-Some.is in
     rw (← c.self.view_is)
     (first_served s c.self.inside.logs c.status.new.self
     (λ e. on_told e c.args.now message (publication_for e.registry message.session_id message.stream_id)) c.in-Some.source
