@@ -130,19 +130,19 @@ offer_denied e now message asked log frames found is denies =
     ∙ stays_left e asked.source log (Denied asked.decision.verdict) found
 
 -- the log of frames that were appended
-abbrev IsAppended : WholeLog → Type 0
+abbrev pub IsAppended : WholeLog → Type 0
 IsAppended log = (frames : Whole) × (log.whole ≡ whole frames)
 
-abbrev IsForPublication : Made → Type 0
+abbrev pub IsForPublication : Made → Type 0
 IsForPublication (for_publication ident) = Unit {0}
 IsForPublication (for_stream ident) = ⊥
 
-appended_for : (w : AnyWhole) → IsForPublication (made_any w) → (frames : Whole) × (w ≡ whole frames)
+pub appended_for : (w : AnyWhole) → IsForPublication (made_any w) → (frames : Whole) × (w ≡ whole frames)
 appended_for (whole frames) is = (frames, refl)
 appended_for (rebuilt frames) is = absurd is
 
 -- what a publication's log is made for
-published_made : (settings : Settings) (log : Source) (origin : Origin) → is_published_by origin ≡ true →
+pub published_made : (settings : Settings) (log : Source) (origin : Origin) → is_published_by origin ≡ true →
     IsForPublication (made_by settings log origin)
 published_made settings log (Published exclusive since) is = tt
 published_made settings log (Remote address initial_term join) is = absurd (cc is)

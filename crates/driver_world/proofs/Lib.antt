@@ -16,6 +16,7 @@ pub mod QuietLemmas
 pub mod ReaderLemmas
 pub mod RegisteredLemmas
 mod RegisteringLemmas
+pub mod ResendLemmas
 pub mod RunLemmas
 pub mod SendLemmas
 pub mod SendLawLemmas

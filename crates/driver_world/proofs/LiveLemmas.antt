@@ -396,7 +396,7 @@ IsPutInto more e message o answer =
     (source : ℕ) (frame : Frame) → Contains (put_into e source message o) frame → Contains (more source) frame
 
 -- an offer that is answered a position is allowed
-is_allowed : (verdict : Bool) → not verdict ≡ false → verdict ≡ true
+pub is_allowed : (verdict : Bool) → not verdict ≡ false → verdict ≡ true
 is_allowed true is = refl
 is_allowed false is = absurd (cc is)
 

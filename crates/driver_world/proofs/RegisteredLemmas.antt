@@ -115,7 +115,7 @@ found_published number logs log true first same holds rest is =
     subst (λ one. is_published one ≡ true) this (holds (eqb-true first.number number same))
 found_published number logs log false first same holds rest is = rest is
 
-published_at : (number : ℕ) (logs : List Source) (log : Source) → All (IsPublishedBy number) logs →
+pub published_at : (number : ℕ) (logs : List Source) (log : Source) → All (IsPublishedBy number) logs →
     source_at logs number ≡ Some log → is_published log ≡ true
 published_at number [] log all is = absurd (cc is)
 published_at number (first ∷ logs) log all is =

@@ -11,7 +11,7 @@ use Rattle.driver_core.specs.declared.replies.Message.{Message}
 use Rattle.driver_core.specs.LogRequests.{offering_of, receiving_of}
 use Rattle.driver_core.specs.State.{State}
 use Rattle.driver_world.specs.declared.answer.Answer.{Answer}
-use Rattle.driver_world.specs.declared.answer.Answer.TheVariants.{NoMemory, Attached, Full, Stopped, PolicyInForce, PolicyFull, Imaged, Dropped, Replies, Offered as OfferedAs, Polled, Gone as IsGone, Counters, Value as ValueIs, Denied, UnknownCounter, WrongClient, Received, Heard, Limited, Elicited, Idle, Sent, Resent, Reported}
+use Rattle.driver_world.specs.declared.answer.Answer.TheVariants.{NoMemory, Attached, Full, Stopped, PolicyInForce, PolicyFull, Imaged, Dropped, Replies, Offered as OfferedAs, Polled, Gone as IsGone, Counters, Value as ValueIs, Denied, UnknownCounter, WrongClient, Received, Heard, Limited, Elicited, Idle, Sent as SentTo, Resent, Reported}
 use Rattle.driver_world.specs.declared.answer.Offered.TheVariants.{Closed}
 use Rattle.driver_world.specs.declared.step.Step.{Step}
 use Rattle.driver_world.specs.declared.step.Step.TheVariants.{Conductor, Packet, Offer, Poll, Image}
@@ -68,7 +68,7 @@ IsTold Heard = Unit {0}
 IsTold (Limited position) = Unit {0}
 IsTold Elicited = Unit {0}
 IsTold Idle = Unit {0}
-IsTold (Sent bytes outlets) = Unit {0}
+IsTold (SentTo bytes outlets) = Unit {0}
 IsTold (Resent to datagrams) = Unit {0}
 IsTold (Reported to datagrams) = Unit {0}
 IsTold (Dropped fault) = Unit {0}
@@ -97,7 +97,7 @@ told e what Heard is_told is = (is, refl)
 told e what (Limited position) is_told is = (is, refl)
 told e what Elicited is_told is = (is, refl)
 told e what Idle is_told is = (is, refl)
-told e what (Sent bytes outlets) is_told is = (is, refl)
+told e what (SentTo bytes outlets) is_told is = (is, refl)
 told e what (Resent to datagrams) is_told is = (is, refl)
 told e what (Reported to datagrams) is_told is = (is, refl)
 told e what (Dropped fault) is_told is = (is, refl)
@@ -125,7 +125,7 @@ told_has takes Heard is_told = tt
 told_has takes (Limited position) is_told = tt
 told_has takes Elicited is_told = tt
 told_has takes Idle is_told = tt
-told_has takes (Sent bytes outlets) is_told = tt
+told_has takes (SentTo bytes outlets) is_told = tt
 told_has takes (Resent to datagrams) is_told = tt
 told_has takes (Reported to datagrams) is_told = tt
 told_has takes (Dropped fault) is_told = tt

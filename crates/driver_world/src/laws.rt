@@ -1,6 +1,7 @@
 //! What holds over every run: each function does nothing, and its clause is the law.
 
 ghost use Rattle.driver_world.specs.CarryingLaws.{PayloadsComeFromTheirPublisher};
+ghost use Rattle.driver_world.specs.ResendLaws.{ResendsComeFromTheLiveLog};
 ghost use Rattle.driver_world.specs.Laws.{BytesComeFromTheLiveLog, LogsFollowTheRegistry, OffersAreGrantedExactly, PollsAreGrantedExactly, RunsTakeEvents};
 ghost use Rattle.driver_world.specs.SendLaws.{SendsAreGrantedExactly};
 
@@ -53,4 +54,12 @@ pub fn bytes_come_from_the_live_log()
 /// poll gives nothing that came from another address.
 pub fn payloads_come_from_their_publisher()
     ensures { PayloadsComeFromTheirPublisher }
+{}
+
+/// Where a datagram is answered by datagrams that are sent again, it is a NAK, they go to the address that it is from, and the
+/// first rule that matches lets the principal that is bound to that address have them, or where none matches the default
+/// does. They are what it asks for of all frames of the publication of its session and stream, whose log is open. A NAK that
+/// the policy denies changes nothing and is dropped by that verdict.
+pub fn resends_come_from_the_live_log()
+    ensures { ResendsComeFromTheLiveLog }
 {}
