@@ -14,10 +14,7 @@ pub mod Receiving
 pub mod Recovery
 pub mod Registered
 pub mod Reporting
-<<<<<<< HEAD
+pub mod ResendLaws
 pub mod SendLaws
 pub mod Sending
-=======
-pub mod ResendLaws
->>>>>>> c4d6a81d846bea9ef1b8f0b301c5b9605dd07af3
 pub mod Standing

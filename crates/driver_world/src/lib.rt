@@ -33,13 +33,8 @@ pub use cause::Cause;
 pub use image_log::Insert;
 pub use laws::{
     bytes_come_from_the_live_log, logs_follow_the_registry, offers_are_granted_exactly,
-<<<<<<< HEAD
-    payloads_come_from_their_publisher, polls_are_granted_exactly, runs_take_events,
-    sends_are_granted_exactly,
-=======
     payloads_come_from_their_publisher, polls_are_granted_exactly, resends_come_from_the_live_log,
-    runs_take_events,
->>>>>>> c4d6a81d846bea9ef1b8f0b301c5b9605dd07af3
+    runs_take_events, sends_are_granted_exactly,
 };
 pub use offering::offer_step;
 pub use open_log::OpenLog;
