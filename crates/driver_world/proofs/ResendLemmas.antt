@@ -9,7 +9,6 @@ use Rattle.channel_uri.specs.declared.address.Address.{Address}
 use Rattle.driver_core.specs.declared.event.Event.{Event}
 use Rattle.driver_core.specs.declared.event.Event.TheVariants.{Setup as SetUp}
 use Rattle.driver_core.specs.declared.image_request.Astray.{Astray}
-use Rattle.driver_core.specs.declared.log_request.LogRequest.{LogRequest}
 use Rattle.driver_core.specs.declared.outcome.Outcome.{Outcome}
 use Rattle.driver_core.specs.declared.outcome.Response.{Response}
 use Rattle.driver_core.specs.declared.outcome.Response.TheVariants as response
@@ -24,7 +23,7 @@ use Rattle.driver_world.specs.declared.answer.Answer.{Answer}
 use Rattle.driver_world.specs.declared.answer.Answer.TheVariants.{Dropped, Resent}
 use Rattle.driver_world.specs.declared.cause.Cause.TheVariants.{Denied}
 use Rattle.driver_world.specs.Answers.{answered_by, answer_of}
-use Rattle.driver_world.specs.Ends.{RunEnd, Moved, conducted, inputs_of, log_at, moved_on, on_asked, on_image, on_log, on_packet, on_told}
+use Rattle.driver_world.specs.Ends.{RunEnd, conducted, inputs_of, log_at, moved_on, on_asked, on_image, on_log, on_packet, on_told}
 use Rattle.driver_world.specs.Hearing.{answer_asked, answer_heard, nak_move, status_move}
 use Rattle.driver_world.specs.Laws.{made_as, made_for, stays}
 use Rattle.driver_world.specs.Moves.{WholeLog, Move, answered}

@@ -155,14 +155,14 @@ send_there e follows now source publication log is sends found =
     let goes' : outlets_of e.registry log.source ≡ outlets = ap (outlets_of e.registry) here ∙ goes e.registry source publication is in
     let moves : moved e (Send now source) ≡ left_by e source (turned e now lingers log of'.0 outlets) =
     log_moves e source (send_move e.registry now) Gone log found
-    ∙ ap (left_by e source) (turn_is e now lingers log of'.0 outlets lets' goes' of'.1.0 of'.1.1) in (
+    ∙ ap (left_by e source) (turn_is e now lingers log of'.0 outlets lets' goes' of'.1 of'.2) in (
       of'.0,
-      of'.1.0,
+      of'.1,
       record {
         outlets = outlets;
         are = refl;
         decided = λ destination. record { to_is = refl; by = by_policy e.registry (send_question publication destination) };
-        idle = λ none. moves ∙ turn_idle e now source lingers log of'.0 outlets found of'.1.0 none;
+        idle = λ none. moves ∙ turn_idle e now source lingers log of'.0 outlets found of'.1 none;
         sent = λ bytes some. moves ∙ turn_sent e now source lingers log of'.0 outlets bytes found some;
       },
     )
