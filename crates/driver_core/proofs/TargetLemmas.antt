@@ -5,7 +5,6 @@ use Rattle.std.proofs.lemmas.Bool.{eqb-true}
 use Rattle.driver_core.specs.declared.directing.Target.{Target}
 use Rattle.driver_core.specs.Directing.{log_with, own_log, target_address, target_at, target_of, target_on}
 use Rattle.driver_core.specs.LogRequests.{registration_at}
-use Rattle.driver_core.specs.Renewal.{source_at}
 use Rattle.driver_core.specs.State.{State}
 use Rattle.channel_uri.specs.declared.address.Address.{Address}
 use Rattle.channel_uri.specs.Channel.{Shape}

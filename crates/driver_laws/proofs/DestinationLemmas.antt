@@ -1,5 +1,5 @@
 -- Destinations are named exactly where the policy in force allows it.
-use Rattle.std.proofs.Common.{◌≡◌, ℕ, ◌==◌, not, Bool, true, false, List, [], ◌∷◌, Result, Ok, Err, refl, sym, ap, ◌∙◌}
+use Rattle.std.proofs.Common.{◌≡◌, ℕ, not, true, false, List, [], ◌∷◌, Result, Ok, Err, refl, ap, ◌∙◌}
 use Rattle.std.proofs.lemmas.Bool.{cond_both, eq-eqb}
 use Rattle.driver_core.specs.declared.event.Event.TheVariants.{Command}
 use Rattle.driver_core.specs.declared.event.Inputs.{Inputs}
@@ -14,13 +14,11 @@ use Rattle.driver_core.specs.Pairs.{pairs_of}
 use Rattle.driver_core.specs.Renewal.{renewed}
 use Rattle.driver_core.specs.Requests.{AsksToDirect, DestinationRequest, destination_question}
 use Rattle.driver_core.specs.State.{State, at_moment}
-use Rattle.driver_core.specs.Unread.{dropping}
 use Rattle.driver_core.specs.Verdicts.{verdict_on}
 use Rattle.driver_laws.specs.DestinationLaws.{IsDirected, IsDirectedExactly}
 use Rattle.driver_laws.specs.GrantLaws.{IsRefusedOn, decided_on}
 use Rattle.driver_laws.specs.ImageLaws.{AreRead}
 use Rattle.destinations.specs.declared.fault.DestinationFault.{DestinationFault}
-use Rattle.destinations.specs.declared.fault.DestinationFault.TheVariants as fault
 use Rattle.destinations.specs.Destinations.{adding as naming, has, has_room}
 use Rattle.policy_core.specs.declared.decision.Decision.{Decision}
 use Rattle.policy_core.specs.declared.verdict.Verdict.{Verdict}

@@ -1,9 +1,9 @@
 -- Each destination is of a live publication, and no number of one is drawn twice.
-use Rattle.std.proofs.Common.{◌≡◌, ℕ, ◌+◌, ◌<◌, ◌≤◌, ◌==◌, ◌&&◌, not, Bool, true, false, max, cond, List, [], ◌∷◌, ◌++◌, map, filter, length, Option, Some, None, Result, Ok, Err, inl, inr, refl, sym, subst, ap, ◌∙◌, ◌⊎◌, ⊎_elim, arith}
+use Rattle.std.proofs.Common.{◌≡◌, ℕ, ◌+◌, ◌<◌, ◌≤◌, ◌==◌, not, Bool, true, false, max, cond, List, [], ◌∷◌, ◌++◌, map, filter, length, Option, Some, None, Result, Ok, Err, inl, inr, refl, sym, subst, ap, ◌∙◌, ⊎_elim, arith}
 use Rattle.std.specs.List.{Contains, list_any}
-use Rattle.std.proofs.lemmas.Bool.{and_parts, cases_Bool, eqb-true, eq-eqb, ltb-true, not-true}
+use Rattle.std.proofs.lemmas.Bool.{cases_Bool, eq-eqb}
 use Rattle.std.proofs.lemmas.List.{length-append}
-use Rattle.std.proofs.lemmas.List.Elements.{Contains-append_left, Contains-push, Contains-push_cases, filter-append}
+use Rattle.std.proofs.lemmas.List.Elements.{Contains-append_left, Contains-push, Contains-push_cases}
 use Rattle.std.proofs.lemmas.List.Filters.{length-filter_both}
 use Rattle.driver_core.specs.declared.event.Event.{Event}
 use Rattle.driver_core.specs.declared.event.Event.TheVariants.{Attach, Command, Reload, Setup, Tick}
@@ -30,15 +30,14 @@ use Rattle.driver_core.specs.Ticking.{closed_past, late, numbers_of_closing, tic
 use Rattle.driver_core.specs.Unpublishing.{unpublished}
 use Rattle.driver_core.specs.Unread.{dropping, without_unread}
 use Rattle.driver_core.specs.Unsubscribing.{unsubscribed}
-use Rattle.driver_laws.specs.DestinationLaws.{AreFewNamed, AreLawful, AreOfLive, ComeAbove, DestinationsAreOfLivePublications, HasPublication}
+use Rattle.driver_laws.specs.DestinationLaws.{AreOfLive, ComeAbove, DestinationsAreOfLivePublications, HasPublication}
 use Rattle.driver_laws.specs.Events.{AfterAnyEvents}
 use Rattle.driver_laws.specs.OwnerLaws.{HasLog, HaveTheirLogs}
 use Rattle.channel_uri.specs.declared.address.Address.{Address}
 use Rattle.client_registry.specs.declared.client.Client.{Client}
 use Rattle.destinations.specs.declared.destination.Destination.{Destination}
 use Rattle.destinations.specs.declared.fault.DestinationFault.{DestinationFault}
-use Rattle.destinations.specs.declared.fault.DestinationFault.TheVariants as fault
-use Rattle.destinations.specs.Destinations.{DestinationList, added as named, adding as naming, cleared as all_recalled, has, has_room, is_of, is_of_others, is_other, of, without as without_named, without_sources}
+use Rattle.destinations.specs.Destinations.{DestinationList, added as named, adding as naming, cleared as all_recalled, is_of_others, is_other, without as without_named, without_sources}
 use Rattle.log_readers.specs.Unread.{is_kept, without_unread as without_unread_in}
 use Rattle.policy_core.specs.RuleList.{Rules}
 use Rattle.stream_registry.specs.declared.pairs.Pair.{Pair}
@@ -53,6 +52,7 @@ use Rattle.stream_registry.specs.Leaving.{left as left_in, unregistered, unsubsc
 use Rattle.stream_registry.specs.Lingering.{closed, is_closing, is_used, left_alone, settled, settled_one, stays_live}
 use Rattle.stream_registry.specs.Origins.{is_published}
 use Rattle.stream_registry.specs.Streams.{Streams}
+use Rattle.destinations.proofs.OrderLemmas.{adds, kept_orderly, none_orderly, stays_orderly}
 use Rattle.driver_core.proofs.EventCases.{Cases, attach_cases, command_cases, reload_cases, set_up_cases}
 use Rattle.driver_core.proofs.ListLemmas.{contains_none, left_was_there, passes_are_left}
 use Rattle.driver_core.proofs.TargetLemmas.{target_registered}
@@ -62,7 +62,6 @@ use Rattle.driver_laws.proofs.EveryLemmas.{after_any}
 use Rattle.driver_laws.proofs.LeftLemmas.{mapped}
 use Rattle.driver_laws.proofs.LoggedLemmas.{event_logged, opened_logged}
 use Rattle.driver_laws.proofs.NumberLemmas.{settled_number}
-use Rattle.driver_laws.proofs.RisingLemmas.{rises_kept, rises_push}
 use Rattle.driver_laws.proofs.StayingLemmas.{origin_stays}
 
 -- ---- publications that stay
@@ -106,92 +105,52 @@ read_stay pairs logs source was = record {
 
 -- ---- a table of destinations beside the logs
 
-abbrev destination_number : Destination → ℕ
-destination_number destination = destination.number
-
-record AreNamed (destinations : DestinationList) (logs : List Source) : Type 0 where
-  of_live : AreOfLive destinations logs
-  few : AreFewNamed destinations
-
 record Follows (before after : DestinationList) (logs : List Source) : Type 0 where
-  named_of : AreNamed after logs
+  named_of : AreOfLive after logs
   above : ComeAbove before after
 
 -- where the table stays, and so do the publications
 stays_named : (destinations : DestinationList) (logs after : List Source) → PublicationsStay logs after →
-    AreNamed destinations logs → AreNamed destinations after
+    AreOfLive destinations logs → AreOfLive destinations after
 stays_named destinations logs after stay were = record {
-  of_live = record {
-    live = λ destination has. stay destination.source (were.of_live.live destination has);
-    numbers = were.of_live.numbers;
-  };
-  few = were.few;
+  live = λ destination has. stay destination.source (were.live destination has);
+  orderly = were.orderly;
+  all = were.all;
 }
 
 stays : (destinations : DestinationList) (logs after : List Source) → PublicationsStay logs after →
-    AreNamed destinations logs → Follows destinations destinations after
+    AreOfLive destinations logs → Follows destinations destinations after
 stays destinations logs after stay were = record {
   named_of = stays_named destinations logs after stay were;
   above = record { last = omega arith; comes = λ destination has. inl has };
 }
 
-same : (destinations : DestinationList) (logs : List Source) → AreNamed destinations logs →
+same : (destinations : DestinationList) (logs : List Source) → AreOfLive destinations logs →
     Follows destinations destinations logs
 same destinations logs were = stays destinations logs logs (λ source has. has) were
 
 -- ---- what goes
 
-push_less : {X : Type 0} (b : Bool) (x : X) (ys xs : List X) → length ys ≤ length xs →
-    length (cond b (x ∷ ys) ys) ≤ length (cond b (x ∷ xs) xs)
-push_less true x ys xs less = omega (arith, less)
-push_less false x ys xs less = less
-
-skip_less : {X : Type 0} (b : Bool) (x : X) (ys xs : List X) → length ys ≤ length xs →
-    length ys ≤ length (cond b (x ∷ xs) xs)
-skip_less true x ys xs less = omega (arith, less)
-skip_less false x ys xs less = less
-
-one_less : {X : Type 0} (p : X → Bool) (b : Bool) (x : X) (ys xs : List X) →
-    length (filter p ys) ≤ length (filter p xs) →
-    length (filter p (cond b (x ∷ ys) ys)) ≤ length (filter p (x ∷ xs))
-one_less p true x ys xs less = push_less (p x) x (filter p ys) (filter p xs) less
-one_less p false x ys xs less = skip_less (p x) x (filter p ys) (filter p xs) less
-
-fewer_of : {X : Type 0} (p q : X → Bool) (xs : List X) → length (filter p (filter q xs)) ≤ length (filter p xs)
-fewer_of p q [] = omega arith
-fewer_of p q (x ∷ xs) = one_less p (q x) x (filter q xs) xs (fewer_of p q xs)
-
-fewer : {X : Type 0} (q : X → Bool) (xs : List X) → length (filter q xs) ≤ length xs
-fewer q [] = omega arith
-fewer q (x ∷ xs) = push_fewer (q x) x (filter q xs) xs (fewer q xs)
-  where
-    push_fewer : {Y : Type 0} (b : Bool) (y : Y) (zs ys : List Y) → length zs ≤ length ys →
-        length (cond b (y ∷ zs) zs) ≤ length (y ∷ ys)
-    push_fewer true y zs ys less = omega (arith, less)
-    push_fewer false y zs ys less = omega (arith, less)
+fewer : {X : Type 0} (test : X → Bool) (rows : List X) → length (filter test rows) ≤ length rows
+fewer test rows =
+    let both : length (filter test rows) + length (filter (λ row. not (test row)) rows) ≡ length rows =
+    length-filter_both test (λ row. not (test row)) (λ row. refl) rows in
+    omega (arith, both)
 
 -- those that pass the test stay, and have their publications
 passed : (destinations : DestinationList) (logs after : List Source) (test : Destination → Bool) →
     ((destination : Destination) → Contains (filter test destinations.rows) destination →
-    HasPublication after destination.source) → AreNamed destinations logs →
+    HasPublication after destination.source) → AreOfLive destinations logs →
     Follows destinations (record destinations { rows = filter test destinations.rows }) after
 passed destinations logs after test live were =
     let rows : List Destination = destinations.rows in
     record {
       named_of = record {
-        of_live = record {
-          live = live;
-          numbers = rises_kept destination_number test 0 destinations.last rows were.of_live.numbers;
-        };
-        few = record {
-          each = λ source.
-              let less = fewer_of (is_of source) test rows in
-              let few = were.few.each source in
-              omega (arith, less, few);
-          all = let less = fewer test rows in
-              let few = were.few.all in
-              omega (arith, less, few);
-        };
+        live = live;
+        orderly = kept_orderly test destinations.last rows were.orderly;
+        all = let less = fewer test rows in
+            let few = were.all in
+            omega (arith, less, few);
       };
       above = record {
         last = omega arith;
@@ -200,12 +159,12 @@ passed destinations logs after test live were =
     }
 
 recalled_follows : (destinations : DestinationList) (logs : List Source) (source : ℕ) (address : Address) →
-    AreNamed destinations logs → Follows destinations (without_named destinations source address) logs
+    AreOfLive destinations logs → Follows destinations (without_named destinations source address) logs
 unfolding without_named
 recalled_follows destinations logs source address were =
     passed destinations logs logs (is_other source address)
     (λ destination has.
-    were.of_live.live destination (left_was_there (is_other source address) destinations.rows destination has)) were
+    were.live destination (left_was_there (is_other source address) destinations.rows destination has)) were
 
 -- a destination whose publication closes goes with it
 closing_live : (destinations : DestinationList) (now : ℕ) (silent : List ℕ) (logs : List Source) (destination : Destination) →
@@ -231,7 +190,7 @@ closing_live destinations now silent logs destination others was =
     })
     (cases_Bool (is_closing now silent log))
 
-closed_follows : (destinations : DestinationList) (now : ℕ) (silent : List ℕ) (logs : List Source) → AreNamed destinations logs →
+closed_follows : (destinations : DestinationList) (now : ℕ) (silent : List ℕ) (logs : List Source) → AreOfLive destinations logs →
     Follows destinations (without_sources destinations (numbers_of_closing now silent logs))
     (filter (stays_live now silent) logs)
 unfolding without_sources
@@ -240,53 +199,26 @@ closed_follows destinations now silent logs were =
     passed destinations logs (filter (stays_live now silent) logs) test
     (λ destination has.
     closing_live destinations now silent logs destination (passes_test test destinations.rows destination has)
-    (were.of_live.live destination (left_was_there test destinations.rows destination has))) were
+    (were.live destination (left_was_there test destinations.rows destination has))) were
 
-all_gone : (destinations : DestinationList) (logs : List Source) → AreNamed destinations logs →
+all_gone : (destinations : DestinationList) (logs : List Source) → AreOfLive destinations logs →
     Follows destinations (all_recalled destinations) []
 all_gone destinations logs were = record {
   named_of = record {
-    of_live = record {
-      live = λ destination has. absurd (contains_none destination has);
-      numbers = omega arith;
-    };
-    few = record { each = λ source. omega arith; all = omega arith };
+    live = λ destination has. absurd (contains_none destination has);
+    orderly = none_orderly destinations.last;
+    all = omega arith;
   };
   above = record { last = omega arith; comes = λ destination has. absurd (contains_none destination has) };
 }
 
 -- ---- what comes
 
-has_place_in : (known room : Bool) (next number : ℕ) →
-    cond {A = Result ℕ DestinationFault} known (Err fault.Conflict) (cond room (Ok next) (Err fault.Full)) ≡ Ok number →
-    room ≡ true
-has_place_in true room next number is = absurd (cc is)
-has_place_in false true next number is = refl
-has_place_in false false next number is = absurd (cc is)
-
-naming_room : (destinations : DestinationList) (source : ℕ) (address : Address) (number : ℕ) →
-    naming destinations source address ≡ Ok number → has_room destinations source ≡ true
-unfolding naming
-naming_room destinations source address number is =
-    has_place_in (has destinations.rows source address) (has_room destinations source) (destinations.last + 1) number is
-
-push_of : (rows : List Destination) (row : Destination) (source : ℕ) (b : Bool) → (row.source == source) ≡ b →
-    length (of rows row.source) < 32 → length (of rows source) ≤ 32 →
-    length (of rows source ++ cond b (row ∷ []) []) ≤ 32
-push_of rows row source true is few were =
-    let more = length-append (of rows source) (row ∷ []) in
-    let one : length (of rows source) < 32 =
-    subst (λ (number : ℕ). length (of rows number) < 32) (eqb-true row.source source is) few in
-    omega (arith, more, one)
-push_of rows row source false is few were =
-    let more = length-append (of rows source) [] in
-    omega (arith, more, were)
-
 named_follows : (destinations : DestinationList) (logs : List Source) (source : ℕ) (address : Address) (principal number : ℕ) →
-    naming destinations source address ≡ Ok number → HasPublication logs source → AreNamed destinations logs →
+    naming destinations source address ≡ Ok number → HasPublication logs source → AreOfLive destinations logs →
     Follows destinations (named destinations source address principal) logs
 unfolding named
-named_follows destinations logs source address principal number is has' were =
+named_follows destinations logs source address principal number is has were =
     let rows : List Destination = destinations.rows in
     let last : ℕ = destinations.last in
     let row : Destination = record {
@@ -295,25 +227,15 @@ named_follows destinations logs source address principal number is has' were =
       address = address;
       principal = principal;
     } in
-    let room = and_parts _ _ (naming_room destinations source address number is) in
-    let few : length (of rows source) < 32 = ltb-true (length (of rows source)) 32 room.0 in
-    let all : length rows < 8192 = ltb-true (length rows) 8192 (and_parts _ _ room.1).0 in
+    let room = (adds destinations source address number is).places in
     record {
       named_of = record {
-        of_live = record {
-          live = λ destination stands.
-              ⊎_elim (λ before. were.of_live.live destination before)
-              (λ this. subst (λ (d : Destination). HasPublication logs d.source) this has')
-              (Contains-push_cases rows row destination stands);
-          numbers = rises_push destination_number 0 last (last + 1) rows row were.of_live.numbers
-              (omega arith) (omega arith);
-        };
-        few = record {
-          each = λ other.
-              rw (filter-append (is_of other) rows (row ∷ []))
-              (push_of rows row other (source == other) refl few (were.few.each other));
-          all = let more = length-append rows (row ∷ []) in omega (arith, more, all);
-        };
+        live = λ destination stands.
+            ⊎_elim (λ before. were.live destination before)
+            (λ this. subst (λ (d : Destination). HasPublication logs d.source) this has)
+            (Contains-push_cases rows row destination stands);
+        orderly = stays_orderly.added destinations source number address principal were.orderly is;
+        all = let more = length-append rows (row ∷ []) in omega (arith, more, room);
       };
       above = record {
         last = omega arith;
@@ -326,13 +248,13 @@ named_follows destinations logs source address principal number is has' were =
 
 tried_follows : (destinations : DestinationList) (logs : List Source) (source : ℕ) (address : Address) (principal : ℕ)
     (found : Result ℕ DestinationFault) → naming destinations source address ≡ found → HasPublication logs source →
-    AreNamed destinations logs → Follows destinations (directed_by destinations source address principal found) logs
+    AreOfLive destinations logs → Follows destinations (directed_by destinations source address principal found) logs
 tried_follows destinations logs source address principal (Ok number) is has' were =
     named_follows destinations logs source address principal number is has' were
 tried_follows destinations logs source address principal (Err why) is has' were = same destinations logs were
 
 sole_follows : (destinations : DestinationList) (logs : List Source) (source principal : ℕ) (address : Option Address) →
-    HasPublication logs source → AreNamed destinations logs →
+    HasPublication logs source → AreOfLive destinations logs →
     Follows destinations (directed_to destinations source principal address) logs
 sole_follows destinations logs source principal None has' were = same destinations logs were
 sole_follows destinations logs source principal (Some address) has' were =
@@ -344,7 +266,7 @@ abbrev Follow : State → Draft → Type 0
 Follow s draft = Follows s.destinations draft.after.destinations draft.after.streams.sources
 
 publication_follows : (t : State) (client : Client) (wanted : Wanted) (place : ℕ) (adding : Adding) →
-    AreNamed t.destinations t.streams.sources →
+    AreOfLive t.destinations t.streams.sources →
     Follows t.destinations (with_sole t client.principal wanted adding)
     (added t.streams (t.last_number + 1) client.number wanted place adding).sources
 unfolding with_sole
@@ -370,20 +292,20 @@ target_published t request logged is =
     }
 
 unregistered_follows : (destinations : DestinationList) (streams : Streams) (client number now : ℕ) →
-    AreNamed destinations streams.sources →
+    AreOfLive destinations streams.sources →
     Follows destinations destinations (unregistered streams client number now).sources
 unfolding unregistered settled
 unregistered_follows destinations streams client number now were =
     stays destinations streams.sources _ (settled_stay _ now streams.sources) were
 
 left_follows : (destinations : DestinationList) (streams : Streams) (client now : ℕ) →
-    AreNamed destinations streams.sources → Follows destinations destinations (left_in streams client now).sources
+    AreOfLive destinations streams.sources → Follows destinations destinations (left_in streams client now).sources
 unfolding left_in settled
 left_follows destinations streams client now were =
     stays destinations streams.sources _ (settled_stay _ now streams.sources) were
 
 command_follows : (s : State) (now handle : ℕ) (bytes : List ℕ) → HaveTheirLogs s.streams →
-    AreNamed s.destinations s.streams.sources → Cases (Follow s) (at_moment s now) handle bytes
+    AreOfLive s.destinations s.streams.sources → Cases (Follow s) (at_moment s now) handle bytes
 unfolding at_moment heard refused replied told subscribed with_subscription subscribed_in published with_directed_publication with_publication replied_opening unpublished unsubscribed unsubscribed_in keep_alive counted with_counter valued uncounted directed with_destination recalled without_destination close left terminated stopped_for_good
 command_follows s now handle bytes logged were =
     let stay : Follows s.destinations s.destinations s.streams.sources = same s.destinations s.streams.sources were in
@@ -416,9 +338,9 @@ command_follows s now handle bytes logged were =
 -- as clients go one by one
 record LeavesNamed (s after : State) : Type 0 where
   destinations : after.destinations ≡ s.destinations
-  named_of : AreNamed after.destinations after.streams.sources
+  named_of : AreOfLive after.destinations after.streams.sources
 
-all_left_named : (s : State) (clients : List ℕ) → AreNamed s.destinations s.streams.sources →
+all_left_named : (s : State) (clients : List ℕ) → AreOfLive s.destinations s.streams.sources →
     LeavesNamed s (all_left s clients)
 unfolding left
 all_left_named s [] were = record { destinations = refl; named_of = were }
@@ -434,14 +356,14 @@ ticked_follows s between clients silent leaves =
     rw (← leaves.destinations)
     (closed_follows between.destinations between.moment silent between.streams.sources leaves.named_of)
 
-image_follows : (s : State) (wanted : ImageWanted) (place : ℕ) → AreNamed s.destinations s.streams.sources →
+image_follows : (s : State) (wanted : ImageWanted) (place : ℕ) → AreOfLive s.destinations s.streams.sources →
     Follow s (image_made s wanted place)
 unfolding image_made with_image answered
 image_follows s wanted place were =
     stays s.destinations s.streams.sources _ (more_stay s.streams.sources _) were
 
 draft_follows : (s : State) (event : Event) (inputs : Inputs) → HaveTheirLogs s.streams →
-    AreNamed s.destinations s.streams.sources → Follow s (drafted s event inputs)
+    AreOfLive s.destinations s.streams.sources → Follow s (drafted s event inputs)
 unfolding drafted at_moment answered attached reloaded in_force tick
 draft_follows s (Attach now principal) inputs logged were =
     let stay : Follows s.destinations s.destinations s.streams.sources = same s.destinations s.streams.sources were in
@@ -471,7 +393,7 @@ unread_follows before t follows = record {
 }
 
 event_follows : (s : State) (event : Event) (inputs : Inputs) → HaveTheirLogs s.streams →
-    AreNamed s.destinations s.streams.sources →
+    AreOfLive s.destinations s.streams.sources →
     Follows s.destinations (state_after s event inputs).destinations (state_after s event inputs).streams.sources
 unfolding conduct renewed dropping
 event_follows s event inputs logged were =
@@ -494,7 +416,7 @@ above_all before between after first last = record {
 }
 
 all_above : (s : State) (later : List (Event × Inputs)) → HaveTheirLogs s.streams →
-    AreNamed s.destinations s.streams.sources → ComeAbove s.destinations (state_of s later).destinations
+    AreOfLive s.destinations s.streams.sources → ComeAbove s.destinations (state_of s later).destinations
 all_above s [] logged were = record { last = omega arith; comes = λ destination has. inl has }
 all_above s (event ∷ later) logged were =
     let next = event_follows s event.0 event.1 logged were in
@@ -505,16 +427,17 @@ all_above s (event ∷ later) logged were =
 -- ---- every registry
 
 opened_named : (settings : Settings) (policy : Rules) (peers : List Peer) →
-    AreNamed (opened settings policy peers).destinations (opened settings policy peers).streams.sources
+    AreOfLive (opened settings policy peers).destinations (opened settings policy peers).streams.sources
 unfolding opened
 opened_named settings policy peers = record {
-  of_live = record { live = λ destination has. absurd (contains_none destination has); numbers = omega arith };
-  few = record { each = λ source. omega arith; all = omega arith };
+  live = λ destination has. absurd (contains_none destination has);
+  orderly = none_orderly 0;
+  all = omega arith;
 }
 
-both_named : AfterAnyEvents (λ s. HaveTheirLogs s.streams × AreNamed s.destinations s.streams.sources)
+both_named : AfterAnyEvents (λ s. HaveTheirLogs s.streams × AreOfLive s.destinations s.streams.sources)
 both_named =
-    after_any (λ s. HaveTheirLogs s.streams × AreNamed s.destinations s.streams.sources)
+    after_any (λ s. HaveTheirLogs s.streams × AreOfLive s.destinations s.streams.sources)
     (λ settings policy peers. (opened_logged settings policy peers, opened_named settings policy peers))
     (λ s event inputs both.
     (event_logged s event inputs both.0, (event_follows s event inputs both.0 both.1).named_of))
@@ -523,7 +446,6 @@ pub destinations_lawful : DestinationsAreOfLivePublications
 destinations_lawful settings policy peers events =
     let both = both_named settings policy peers events in
     record {
-      of_live = both.1.of_live;
-      few = both.1.few;
+      of_live = both.1;
       never_again = λ later. all_above _ later both.0 both.1;
     }

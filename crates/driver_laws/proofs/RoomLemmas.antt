@@ -1,8 +1,9 @@
 -- There is room where no limit would be passed.
-use Rattle.std.proofs.Common.{◌≡◌, ℕ, ◌+◌, ◌<◌, ◌≤◌, ◌==◌, ℤ, List, [], ◌∷◌, Bool, true, false, ◌&&◌, cond, filter, length, Option, Some, None, inl, inr, refl, ap, ◌⊎◌, arith}
+use Rattle.std.proofs.Common.{◌≡◌, ℕ, ◌+◌, ◌<◌, ◌≤◌, ◌==◌, ℤ, List, [], ◌∷◌, Bool, true, false, ◌&&◌, cond, filter, length, map, Option, Some, None, inl, inr, refl, ap, ◌⊎◌, arith}
 use Rattle.std.specs.Prelude.{Result, Ok, Err, nat_lt}
-use Rattle.std.specs.List.{Contains}
-use Rattle.std.proofs.lemmas.Bool.{le-leb, lt-ltb, ltb-false, ne_eqb}
+use Rattle.std.specs.List.{AllByRecursion, Contains}
+use Rattle.std.proofs.lemmas.Bool.{eq-eqb, le-leb, lt-ltb, ltb-false, ltb-true, ne_eqb, or_right}
+use Rattle.std.proofs.lemmas.List.{length-map}
 use Rattle.driver_core.specs.Pairs.{is_within_pairs, pairs_of}
 use Rattle.driver_core.specs.Directing.{can_direct, has_room_for_sole, sole_address}
 use Rattle.driver_core.specs.Publishing.{with_publication}
@@ -18,6 +19,7 @@ use Rattle.channel_uri.specs.Channel.{Shape}
 use Rattle.channel_uri.specs.Parameters.{stated_session_of}
 use Rattle.destinations.specs.declared.destination.Destination.{Destination}
 use Rattle.destinations.specs.Destinations.{DestinationList, adding as naming, has, has_room as has_room_in, is_of, of}
+use Rattle.destinations.specs.Laws.{IsAmong}
 use Rattle.stream_registry.specs.declared.fault.StreamFault.{StreamFault}
 use Rattle.stream_registry.specs.declared.fault.StreamFault.TheVariants.{Conflict, Full}
 use Rattle.stream_registry.specs.declared.row.Source.{Source}
@@ -27,11 +29,17 @@ use Rattle.stream_registry.specs.declared.wanted.ImageWanted.{ImageWanted}
 use Rattle.stream_registry.specs.declared.wanted.Wanted.{Wanted}
 use Rattle.stream_registry.specs.Adding.{adding_by, adding_of, has_room_for_log, has_room_for_registration, has_room_for_subscription as has_room_for_one, joining_of, making_of, session_of}
 use Rattle.stream_registry.specs.Joining.{contradicts, joined_at}
+use Rattle.stream_registry.specs.Few.{AreFew}
 use Rattle.stream_registry.specs.Images.{has_room_for_image}
 use Rattle.stream_registry.specs.Origins.{is_published, is_remote}
 use Rattle.stream_registry.specs.Sessions.{is_stated_again}
 use Rattle.stream_registry.specs.Streams.{Streams}
+use Rattle.stream_registry.proofs.LimitLemmas.{make_has_room_for_log}
+use Rattle.destinations.proofs.RoomLemmas.{room_is_for_every_source}
+use Rattle.driver_core.proofs.ListLemmas.{passes_are_left}
+use Rattle.driver_laws.proofs.ClosingLemmas.{any_of}
 use Rattle.driver_laws.proofs.DroppingLemmas.{first_there, later_there, none_pass}
+use Rattle.driver_laws.proofs.LeftLemmas.{mapped}
 
 -- ---- numbers and pairs
 
@@ -128,6 +136,26 @@ none_at (row ∷ rows) source address none =
     )
     refl
 
+all_of : {X : Type 0} (P : X → Type 0) (rows : List X) → ((row : X) → Contains rows row → P row) → AllByRecursion P rows
+all_of P [] each = tt
+all_of P (row ∷ rows) each =
+    (each row (first_there row rows), all_of P rows (λ other there. each other (later_there row other rows there)))
+
+-- the numbers of the live publications
+abbrev publications_of : List Source → List ℕ
+publications_of logs = map (λ (log : Source). log.number) (filter is_published logs)
+
+is_among : (logs : List Source) (source : ℕ) → HasPublication logs source → IsAmong (publications_of logs) source
+is_among logs source was =
+    any_of (λ (other : ℕ). other == source) (publications_of logs) was.log.number
+    (mapped (λ (log : Source). log.number) (filter is_published logs) was.log
+    (passes_are_left is_published logs was.log was.published was.stands))
+    (eq-eqb was.log.number source was.source_is)
+
+-- so it is where another source is among them
+among_more : (source other : ℕ) (sources : List ℕ) → IsAmong sources other → IsAmong (source ∷ sources) other
+among_more source other sources among = or_right (source == other) _ among
+
 named_room : (destinations : DestinationList) (source : ℕ) → IsLeft destinations.last →
     length (of destinations.rows source) < 32 → length destinations.rows < 8192 → has_room_in destinations source ≡ true
 named_room destinations source left' each all =
@@ -135,27 +163,49 @@ named_room destinations source left' each all =
     (both_hold _ _ (lt-ltb (length destinations.rows) 8192 all)
     (lt-ltb destinations.last 18446744073709551615 left'))
 
-address_room : (destinations : DestinationList) (source : ℕ) (address : Option Address) → IsLeft destinations.last →
-    length destinations.rows < 8192 →
+publications_count : (logs : List Source) → length (publications_of logs) ≡ length (filter is_published logs)
+publications_count logs = length-map (filter is_published logs) (λ (log : Source). log.number)
+
+live_room : (destinations : DestinationList) (logs : List Source) (source : ℕ) → AreOfLive destinations logs → AreFew logs →
+    HasPublication logs source → IsLeft destinations.last → length (of destinations.rows source) < 32 →
+    has_room_in destinations source ≡ true
+live_room destinations logs source live few was left' each =
+    let count = publications_count logs in
+    let most = few.published in
+    named_room destinations source left' each
+    (room_is_for_every_source destinations (publications_of logs) source live.orderly (omega (arith, count, most))
+    (all_of (λ (d : Destination). IsAmong (publications_of logs) d.source) destinations.rows
+    (λ destination there. is_among logs destination.source (live.live destination there)))
+    (is_among logs source was) each)
+
+-- a source of which nothing is named yet
+next_room : (destinations : DestinationList) (logs : List Source) (source : ℕ) → AreOfLive destinations logs →
+    length (filter is_published logs) < 256 → IsLeft destinations.last → length (of destinations.rows source) ≡ 0 →
+    has_room_in destinations source ≡ true
+next_room destinations logs source live few left' none =
+    let count = publications_count logs in
+    let sources : List ℕ = source ∷ publications_of logs in
+    named_room destinations source left' (omega (arith, none))
+    (room_is_for_every_source destinations sources source live.orderly (omega (arith, count, few))
+    (all_of (λ (d : Destination). IsAmong sources d.source) destinations.rows
+    (λ destination there.
+    among_more source destination.source (publications_of logs)
+    (is_among logs destination.source (live.live destination there))))
+    (any_of (λ (other : ℕ). other == source) sources source (first_there source (publications_of logs))
+    (eq-eqb source source refl))
+    (omega (arith, none)))
+
+address_room : (destinations : DestinationList) (logs : List Source) (source : ℕ) (address : Option Address) →
+    AreOfLive destinations logs → length (filter is_published logs) < 256 → IsLeft destinations.last →
     ((destination : Destination) → Contains destinations.rows destination → (destination.source == source) ≡ false) →
     can_direct destinations source address ≡ true
 unfolding naming
-address_room destinations source None left' few none = refl
-address_room destinations source (Some address) left' few none =
+address_room destinations logs source None live few left' none = refl
+address_room destinations logs source (Some address) live few left' none =
     let nothing : of destinations.rows source ≡ [] = none_pass (is_of source) destinations.rows none in
-    let count : length (of destinations.rows source) ≡ 0 = ap length nothing in
     let room : has_room_in destinations source ≡ true =
-    named_room destinations source left' (omega (arith, count)) few in
+    next_room destinations logs source live few left' (ap length nothing) in
     rw (none_at destinations.rows source address none, room) refl
-
-sole_room : (s : State) (wanted : Wanted) (adding : Adding) → IsLeft s.destinations.last →
-    length s.destinations.rows < 8192 →
-    ((destination : Destination) → Contains s.destinations.rows destination →
-    (destination.source == s.last_number + 1) ≡ false) → has_room_for_sole s wanted adding ≡ true
-unfolding has_room_for_sole
-sole_room s wanted (Join source session) left' few none = refl
-sole_room s wanted (Make session) left' few none =
-    address_room s.destinations (s.last_number + 1) (sole_address wanted.channel) left' few none
 
 -- a log that is yet to come has no destination
 none_of_next : (s : State) → AreOfLive s.destinations s.streams.sources → AreDrawn s → (destination : Destination) →
@@ -166,23 +216,33 @@ none_of_next s named drawn destination has' =
     let below = (drawn.sources was.log was.stands).below in
     ne_eqb destination.source (s.last_number + 1) (λ is. absurd (omega (arith, at, below, is)))
 
+sole_room : (s : State) (wanted : Wanted) (adding : Adding) → AreOfLive s.destinations s.streams.sources → AreDrawn s →
+    IsLeft s.destinations.last → adding_of s.streams wanted ≡ Ok adding → has_room_for_sole s wanted adding ≡ true
+unfolding has_room_for_sole
+sole_room s wanted (Join source session) named drawn left' is = refl
+sole_room s wanted (Make session) named drawn left' is =
+    let logs : List Source = s.streams.sources in
+    let few : length (filter is_published logs) < 256 =
+    ltb-true (length (filter is_published logs)) 256 (make_has_room_for_log s.streams wanted session is) in
+    address_room s.destinations logs (s.last_number + 1) (sole_address wanted.channel) named few left'
+    (none_of_next s named drawn)
+
 -- ---- every registry
 
-pub has_room_below : (s : State) → AreOfLive s.destinations s.streams.sources → AreDrawn s → HasRoomBelow s
-has_room_below s named drawn = record {
-  client = λ few left'.
-      both_hold _ _ (lt-ltb (length s.clients.rows) 64 few) (lt-ltb s.clients.last 18446744073709551615 left');
+pub has_room_below : (s : State) → AreOfLive s.destinations s.streams.sources → AreFew s.streams.sources → AreDrawn s →
+    HasRoomBelow s
+has_room_below s named few drawn = record {
+  client = λ fewer left'.
+      both_hold _ _ (lt-ltb (length s.clients.rows) 64 fewer) (lt-ltb s.clients.last 18446744073709551615 left');
   subscription = subscription_room s;
-  publication = λ client wanted adding left' named_left few pairs.
-      both_hold _ _
-      (both_hold _ _ (number_left s left')
-      (sole_room s wanted adding named_left few (none_of_next s named drawn)))
+  publication = λ client wanted adding left' named_left is pairs.
+      both_hold _ _ (both_hold _ _ (number_left s left') (sole_room s wanted adding named drawn named_left is))
       (few_pairs (with_publication s client wanted adding) pairs);
-  destination = λ source left' each all. named_room s.destinations source left' each all;
+  destination = λ source was left' each. live_room s.destinations s.streams.sources source named few was left' each;
   lists = λ wanted is. lists_full s.streams wanted is;
   image = image_room s;
-  counter = λ left' few.
-      both_hold _ _ (lt-ltb (length s.counters) 1024 few) (lt-ltb s.last_number 18446744073709551615 left');
+  counter = λ left' fewer.
+      both_hold _ _ (lt-ltb (length s.counters) 1024 fewer) (lt-ltb s.last_number 18446744073709551615 left');
   policy = λ policy left' pairs.
       both_hold _ _ (few_pairs (in_force s policy) pairs) (lt-ltb s.epoch 18446744073709551615 left');
 }

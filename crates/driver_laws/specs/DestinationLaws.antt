@@ -13,9 +13,9 @@ use Rattle.driver_core.specs.State.{State, at_moment}
 use Rattle.driver_core.specs.Verdicts.{IsByPolicy, verdict_on}
 use Rattle.driver_laws.specs.Events.{AfterAnyEvents}
 use Rattle.driver_laws.specs.GrantLaws.{IsRefusedOn, decided_on}
-use Rattle.driver_laws.specs.NumberLaws.{Rises}
 use Rattle.destinations.specs.declared.destination.Destination.{Destination}
-use Rattle.destinations.specs.Destinations.{DestinationList, added, has, has_room, of}
+use Rattle.destinations.specs.Destinations.{DestinationList, added, has, has_room}
+use Rattle.destinations.specs.Laws.{IsOrderly}
 use Rattle.stream_registry.specs.declared.row.Source.{Source}
 use Rattle.stream_registry.specs.Origins.{is_published}
 
@@ -81,15 +81,12 @@ pub record HasPublication (logs : List Source) (source : ℕ) : Type 0 where
   pub source_is : log.number ≡ source
   pub published : is_published log ≡ true
 
--- each is of a live publication, and their numbers rise, so that no two are alike and none is above the one drawn last
+-- each is of a live publication; their numbers rise, so that no two are alike and none is above the one drawn last; no
+-- publication has more than 32 or an address twice, and all have no more than 8,192
 pub record AreOfLive (destinations : DestinationList) (logs : List Source) : Type 0 where
   pub live :
       (destination : Destination) → Contains destinations.rows destination → HasPublication logs destination.source
-  pub numbers : Rises (λ (destination : Destination). destination.number) 0 destinations.last destinations.rows
-
--- no publication has more than 32, and all have no more than 8,192
-pub record AreFewNamed (destinations : DestinationList) : Type 0 where
-  pub each : (source : ℕ) → length (of destinations.rows source) ≤ 32
+  pub orderly : IsOrderly destinations
   pub all : length destinations.rows ≤ 8192
 
 -- the number drawn last never falls, and a destination that was not there before has a number above the last of then
@@ -102,7 +99,6 @@ pub record ComeAbove (before after : DestinationList) : Type 0 where
 -- so it is in every registry, whatever happens later: no number of a destination is drawn twice
 pub record AreLawful (s : State) : Type 0 where
   pub of_live : AreOfLive s.destinations s.streams.sources
-  pub few : AreFewNamed s.destinations
   pub never_again : (later : List (Event × Inputs)) → ComeAbove s.destinations (state_of s later).destinations
 
 abbrev pub DestinationsAreOfLivePublications : Type 0

@@ -1,5 +1,5 @@
 -- Over every list of events: no list grows past its limit.
-use Rattle.std.specs.Prelude.{◌≡◌, ℕ, ◌<◌, ◌≤◌, ℤ, true, length, filter, Err, ◌⊎◌}
+use Rattle.std.specs.Prelude.{◌≡◌, ℕ, ◌<◌, ◌≤◌, ℤ, true, length, filter, Ok, Err, ◌⊎◌}
 use Rattle.driver_core.specs.Counting.{has_room_for_counter}
 use Rattle.driver_core.specs.Pairs.{pairs_of}
 use Rattle.driver_core.specs.Publishing.{has_room_for_publication, with_publication}
@@ -7,6 +7,7 @@ use Rattle.driver_core.specs.Reloading.{has_room_for_policy, in_force}
 use Rattle.driver_core.specs.SettingUp.{has_room_for_setup, with_image}
 use Rattle.driver_core.specs.State.{State}
 use Rattle.driver_core.specs.Subscribing.{has_room_for_subscription, with_subscription}
+use Rattle.driver_laws.specs.DestinationLaws.{HasPublication}
 use Rattle.driver_laws.specs.Events.{AfterAnyEvents}
 use Rattle.channel_uri.specs.Channel.{Shape}
 use Rattle.client_registry.specs.Clients.{has_room}
@@ -41,8 +42,8 @@ LimitsAreKept = AfterAnyEvents IsWithinLimits
 abbrev pub IsLeft : ℕ → Type 0
 IsLeft last = last < 18446744073709551615
 
--- where no limit would be passed, there is room, also for the one destination of a publication; the lists of publications
--- are full only at theirs
+-- Where no limit would be passed, there is room: the lists of publications are full only at theirs, and all destinations
+-- together where each publication has its 32.
 pub record HasRoomBelow (s : State) : Type 0 where
   pub client : length s.clients.rows < 64 → IsLeft s.clients.last → has_room s.clients ≡ true
   pub subscription :
@@ -51,11 +52,11 @@ pub record HasRoomBelow (s : State) : Type 0 where
       has_room_for_subscription s client channel stream ≡ true
   pub publication :
       (client : ℕ) (wanted : Wanted) (adding : Adding) → IsLeft s.last_number → IsLeft s.destinations.last →
-      length s.destinations.rows < 8192 → length (pairs_of (with_publication s client wanted adding)) ≤ 4096 →
+      adding_of s.streams wanted ≡ Ok adding → length (pairs_of (with_publication s client wanted adding)) ≤ 4096 →
       has_room_for_publication s client wanted adding ≡ true
   pub destination :
-      (source : ℕ) → IsLeft s.destinations.last → length (of s.destinations.rows source) < 32 →
-      length s.destinations.rows < 8192 → has_room_in s.destinations source ≡ true
+      (source : ℕ) → HasPublication s.streams.sources source → IsLeft s.destinations.last →
+      length (of s.destinations.rows source) < 32 → has_room_in s.destinations source ≡ true
   pub lists :
       (wanted : Wanted) → adding_of s.streams wanted ≡ Err Full →
       (1024 ≤ length s.streams.registrations) ⊎ (256 ≤ length (filter is_published s.streams.sources))

@@ -130,7 +130,8 @@ pub fn destinations_are_granted_exactly()
 {}
 
 /// In every registry each destination is of a live publication, their numbers rise up to the one that was drawn last, a
-/// publication has at most 32 and all have at most 8,192; whatever destination comes later has a number above that last one.
+/// publication has at most 32 and no address twice, and all have at most 8,192; whatever destination comes later has a number
+/// above that last one.
 pub fn destinations_are_of_live_publications()
     ensures { DestinationsAreOfLivePublications }
 {}
@@ -290,8 +291,8 @@ pub fn limits_are_kept()
 {}
 
 /// And none of these limits is kept too soon: there is room for one more, or for a policy, where the lists concerned are
-/// below theirs (for a publication those of registrations, of publications and of destinations), the pairs would stay within
-/// theirs, and a number is left.
+/// below theirs (for a publication those of registrations and of publications, for a destination that of its publication),
+/// the pairs would stay within theirs, and a number is left.
 pub fn room_is_left_below_the_limits()
     ensures { RoomIsLeftBelowTheLimits }
 {}
