@@ -56,9 +56,11 @@ named given line name number later =
     else later (record given { names = given.names ++ (name, number) ∷ [] })
 
 -- whether a further peer may be given: its address is not, and fewer are than a driver takes
+abbrev pub is_peer_at : Address → Peer → Bool
+is_peer_at address peer = is_same peer.address address
+
 abbrev pub may_peer : List Peer → Address → Bool
-may_peer peers address =
-    if list_any (λ peer. is_same peer.address address) peers then false else nat_lt (length peers) 256
+may_peer peers address = if list_any (is_peer_at address) peers then false else nat_lt (length peers) 256
 
 abbrev pub peered : Preface → ℕ → Peer → (Preface → Opening) → Opening
 peered given line peer later =

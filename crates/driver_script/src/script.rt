@@ -3,9 +3,13 @@ ghost use Rattle.command_codec.specs.Reply.{reply_bytes};
 ghost use Rattle.driver_script.specs.Answers.{data_line, line_text, list_line, policy_line, poll_line, sent_line, setup_line, withheld_line, word_behind};
 ghost use Rattle.driver_script.specs.Ends.{OfAnswering, OfRunning};
 ghost use Rattle.driver_script.specs.Output.{AppendsFront};
+<<<<<<< HEAD
 ghost use Rattle.driver_script.specs.Script.{message_text, counter_text, fragment_text, outlet_text, outlets_text, sent_text, answer_text, told_text, ended_text, may_peer, no_preface};
+=======
+ghost use Rattle.driver_script.specs.Script.{message_text, counter_text, fragment_text, sent_text, answer_text, told_text, ended_text, is_peer_at, may_peer, no_preface};
+>>>>>>> 22064425d6debd24cba3ae95868e15b3e67f91eb
 ghost use Rattle.std.specs.Io.KnownBytes.{Appends};
-ghost use Rattle.std.specs.List.{flat_map};
+ghost use Rattle.std.specs.List.{flat_map, list_any};
 ghost use Rattle.driver_script.specs.declared.script.Ended.TheVariants.{BadLine};
 ghost use Rattle.script_lines.specs.declared.statements.Said.TheVariants.{Principal, Peer as PeerGiven, Set, Policy};
 ghost use Rattle.driver_script.specs.declared.fault.RunFault.TheVariants.{TooLong};
@@ -284,6 +288,13 @@ fn text_of(alloc: Global, answer: &Answer) -> Result<String, AllocError>
     }
 }
 
+/// Whether the peer sends from this address.
+fn is_peer_at(peer: &Peer, address: &Address) -> bool
+    ensures { result ≡ is_peer_at address.now peer.now }
+{
+    peer.address == *address
+}
+
 /// What the lines before the first policy give.
 #[derive(Drop)]
 struct Preface {
@@ -307,15 +318,24 @@ impl Preface {
         }
     }
 
+    /// Whether a peer is given at this address.
+    fn has_peer(&self, address: &Address) -> bool
+        ensures { result ≡ list_any (is_peer_at address.now) self.now.peers }
+    {
+        self.peers
+            .as_slice()
+            .iter()
+            .any(|peer| is_peer_at(peer, address))
+    }
+
     /// Whether a further peer may be given, at this address.
     fn may_peer(&self, address: &Address) -> bool
         ensures { result ≡ may_peer self.now.peers address.now }
     {
-        let peers = self.peers.as_slice();
-        if peers.iter().any(|peer| peer.address == *address) {
+        if self.has_peer(address) {
             return false;
         }
-        peers.len() < PEERS
+        self.peers.as_slice().len() < PEERS
     }
 }
 
