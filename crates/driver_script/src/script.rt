@@ -3,11 +3,7 @@ ghost use Rattle.command_codec.specs.Reply.{reply_bytes};
 ghost use Rattle.driver_script.specs.Answers.{data_line, line_text, list_line, policy_line, poll_line, sent_line, setup_line, withheld_line, word_behind};
 ghost use Rattle.driver_script.specs.Ends.{OfAnswering, OfRunning};
 ghost use Rattle.driver_script.specs.Output.{AppendsFront};
-<<<<<<< HEAD
-ghost use Rattle.driver_script.specs.Script.{message_text, counter_text, fragment_text, outlet_text, outlets_text, sent_text, answer_text, told_text, ended_text, may_peer, no_preface};
-=======
-ghost use Rattle.driver_script.specs.Script.{message_text, counter_text, fragment_text, sent_text, answer_text, told_text, ended_text, is_peer_at, may_peer, no_preface};
->>>>>>> 22064425d6debd24cba3ae95868e15b3e67f91eb
+ghost use Rattle.driver_script.specs.Script.{message_text, counter_text, fragment_text, outlet_text, outlets_text, sent_text, answer_text, told_text, ended_text, is_peer_at, may_peer, no_preface};
 ghost use Rattle.std.specs.Io.KnownBytes.{Appends};
 ghost use Rattle.std.specs.List.{flat_map, list_any};
 ghost use Rattle.driver_script.specs.declared.script.Ended.TheVariants.{BadLine};
