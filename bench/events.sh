@@ -2,7 +2,7 @@
 # Compares the events of driver_core with plain Rust: `bench/events.sh`, with `rt` and `rustc` on the path.
 set -e
 cd "$(dirname "$0")"
-needed='byte_strings channel_uri client_registry command_codec compiled_policy counters decision_cache driver_core log_readers policy_core rows stream_registry'
+needed='byte_strings channel_uri client_registry command_codec compiled_policy counters decision_cache destinations driver_core frame_codec log_readers policy_core rows stream_registry'
 mkdir -p out/crates/driver_core_c/src
 for crate in $needed; do
     cp -r "../crates/$crate" out/crates/
