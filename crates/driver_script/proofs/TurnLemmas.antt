@@ -455,7 +455,7 @@ so_far_at names start all held left found before after' is so_far =
 some_opening_text : (o : Opening) → (ended : Ended) × (text : List ℕ) × IsOpeningText o ended text
 some_opening_text Ends = (Done, [], (refl, refl))
 some_opening_text (Refuses line) = (BadLine line, ended_text (BadLine line), (refl, refl))
-some_opening_text (Opens names settings policy rest) = some_text names (opening_end settings policy peers) rest
+some_opening_text (Opens names settings policy peers rest) = some_text names (opening_end settings policy peers) rest
 
 -- nothing was written
 pub begins_any : (statements : List Statement) (written : Option (List ℕ)) → BeginsScript statements written written
