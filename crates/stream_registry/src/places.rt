@@ -1,4 +1,6 @@
 ghost use Rattle.stream_registry.specs.Places.{is_same_place, is_manual, is_same_media, is_udp, is_ipc};
+ghost use Rattle.channel_uri.specs.Place.{spot_of};
+ghost use Rattle.stream_registry.specs.Images.{is_endpoint};
 ghost use Rattle.std.specs.Prelude.{◌≡◌};
 
 use channel_uri::{Channel, Media, Place};
@@ -12,6 +14,16 @@ pub(crate) fn is_same_place(channel: &Channel, other: &Channel) -> bool
         (Some(Place::Ipc), Some(Place::Ipc)) => true,
         (Some(Place::Manual), Some(Place::Manual)) => true,
         (Some(Place::Endpoint(address)), Some(Place::Endpoint(other))) => address == other,
+        _ => false,
+    }
+}
+
+/// Whether the channel's place is the endpoint of that text.
+pub(crate) fn is_endpoint(channel: &Channel, text: &str) -> bool
+    ensures { result ≡ is_endpoint text.now (spot_of channel.now) }
+{
+    match channel.place() {
+        Some(Place::Endpoint(endpoint)) => endpoint == text,
         _ => false,
     }
 }
