@@ -35,7 +35,7 @@ impl Registry {
         let Some(publisher) = image.address() else {
             return Err(Astray::Stranger);
         };
-        if publisher != *from {
+        if !publisher.is(from) {
             return Err(Astray::Stranger);
         }
         Ok(image.number)

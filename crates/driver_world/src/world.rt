@@ -20,7 +20,7 @@ use crate::step::Step;
 use byte_strings::Items;
 use driver_core::{Address, Astray, Entry, Event, Outcome, Peer, Registry, Settings};
 use frame_codec::{
-    BadPacket, Datagram, Frames, Packet, TermPlace, frames_are_of_one_term, frames_are_told,
+    BadPacket, Datagram, Frames, Packet, Setup, TermPlace, frames_are_of_one_term, frames_are_told,
 };
 use policy_core::Policy;
 use rows::Rows;
@@ -66,9 +66,9 @@ fn image_of(
     registry: &Registry,
     local: &Address,
     from: &Address,
-    place: &TermPlace,
+    place: TermPlace,
 ) -> Result<u64, Astray>
-    ensures { result ≡ image_for registry.now local.now from.now place.now.session_id place.now.stream_id }
+    ensures { result ≡ image_for registry.now local.now from.now place.session_id place.stream_id }
 {
     registry.image_for(local, from, place.session_id, place.stream_id)
 }
@@ -94,6 +94,7 @@ fn follow(
 }
 
 impl World {
+    ghost use Rattle.driver_core.specs.declared.event.Event.TheVariants.{Setup as SetUp};
     ghost use Rattle.driver_world.specs.Ends.{on_frames, on_stream, opening_end};
     ghost use Rattle.driver_world.specs.Receiving.{beat_move};
     ghost use Rattle.driver_world.specs.Standing.{StandsForEnd, Serves, ServesAs, Takes, Runs, Continues, pages_of_logs};
@@ -172,7 +173,7 @@ impl World {
         let Some(frame) = left.next() else {
             return Answer::Dropped(Cause::Astray(Astray::NoStream));
         };
-        match image_of(&self.registry, local, from, &frame.header.place) {
+        match image_of(&self.registry, local, from, frame.header.place) {
             Ok(source) => match self.logs.receive(alloc, source, now, frames) {
                 Ok(answer) => answer,
                 Err(_) => Answer::NoMemory,
@@ -185,15 +186,36 @@ impl World {
     fn beat(&mut self, now: u64, local: &Address, from: &Address, place: &TermPlace) -> Answer
         ensures { ServesAs self.old self.new (λ e. on_stream e local.now from.now place.now (beat_move now place.now)) result }
     {
-        match image_of(&self.registry, local, from, place) {
+        match image_of(&self.registry, local, from, *place) {
             Ok(source) => self.logs.beat(source, now, place),
             Err(why) => Answer::Dropped(Cause::Astray(why)),
         }
     }
 
+    /// A SETUP came to the address `local`, from the address `from`. An event is large, so other datagrams come to none.
+    #[inline(never)]
+    fn set_up(
+        &mut self,
+        alloc: Global,
+        now: u64,
+        local: &Address,
+        from: &Address,
+        setup: Setup,
+    ) -> Answer
+        ensures { Serves self.old self.new (Conductor (SetUp now local.now from.now setup)) result }
+    {
+        let event = Event::Setup {
+            now,
+            local: *local,
+            from: *from,
+            setup,
+        };
+        self.conduct(alloc, &event)
+    }
+
     /// A datagram came to the address `local`, from the address `from`: a SETUP is an event; the frames of data and a
     /// heartbeat go to the image of that address, session and stream, where they are from its publisher.
-    fn packet(
+    pub fn packet(
         &mut self,
         alloc: Global,
         now: u64,
@@ -211,15 +233,7 @@ impl World {
                 self.receive(alloc, now, local, from, frames)
             }
             Ok(Packet::Beat(header)) => self.beat(now, local, from, &header.place),
-            Ok(Packet::Setup(setup)) => {
-                let event = Event::Setup {
-                    now,
-                    local: *local,
-                    from: *from,
-                    setup,
-                };
-                self.conduct(alloc, &event)
-            }
+            Ok(Packet::Setup(setup)) => self.set_up(alloc, now, local, from, setup),
             Ok(Packet::Nak(_)) | Ok(Packet::Sm(_)) => {
                 Answer::Dropped(Cause::Unread(BadPacket::OtherType))
             }

@@ -1,6 +1,5 @@
 -- Images: the logs of remote publishers.
-use Rattle.std.specs.Prelude.{ℕ, ℤ, Bool, false, not, ◌&&◌, nat_lt, List, [], ◌∷◌, ◌++◌, length, filter, find, Option, Some}
-use Rattle.std.specs.Str.{bytes_eq}
+use Rattle.std.specs.Prelude.{ℕ, ℤ, Bool, false, not, ◌&&◌, nat_lt, List, [], ◌∷◌, ◌++◌, length, filter, find, Option}
 use Rattle.std.specs.Ordering.{int_eq}
 use Rattle.stream_registry.specs.declared.row.Origin.TheVariants.{Remote}
 use Rattle.stream_registry.specs.declared.row.Source.{Source}
@@ -12,7 +11,6 @@ use Rattle.stream_registry.specs.Places.{is_same_place}
 use Rattle.stream_registry.specs.Slots.{free_slot}
 use Rattle.stream_registry.specs.Streams.{Streams}
 use Rattle.channel_uri.specs.Channel.{Shape}
-use Rattle.channel_uri.specs.Place.{Spot, AtEndpoint, spot_of}
 
 -- there are at most 512 of them
 abbrev pub has_room_for_image : Streams → Bool
@@ -22,16 +20,6 @@ has_room_for_image s = nat_lt (length (filter is_remote s.sources)) 512
 unfoldable pub is_image_at : Shape → ℤ → ℤ → Source → Bool
 is_image_at channel session stream log =
     is_remote log && int_eq log.session session && int_eq log.stream stream && is_same_place log.channel channel
-
--- it is the endpoint of that text
-abbrev pub is_endpoint : List ℕ → Option Spot → Bool
-is_endpoint text (Some (AtEndpoint endpoint)) = bytes_eq endpoint text
-is_endpoint text spot = false
-
--- the same, where that place is the endpoint of a text
-unfoldable pub is_image_to : List ℕ → ℤ → ℤ → Source → Bool
-is_image_to endpoint session stream log =
-    is_remote log && int_eq log.session session && int_eq log.stream stream && is_endpoint endpoint (spot_of log.channel)
 
 abbrev pub image_at : Streams → Shape → ℤ → ℤ → Option Source
 image_at s channel session stream = find (is_image_at channel session stream) s.sources

@@ -1,9 +1,8 @@
 ghost use Rattle.stream_registry.specs.Places.{is_same_place, is_manual, is_same_media, is_udp, is_ipc};
-ghost use Rattle.channel_uri.specs.Place.{spot_of};
-ghost use Rattle.stream_registry.specs.Images.{is_endpoint};
+ghost use Rattle.channel_uri.specs.Channel.{endpoint_shape};
 ghost use Rattle.std.specs.Prelude.{◌≡◌};
 
-use channel_uri::{Channel, Media, Place};
+use channel_uri::{Address, Channel, Media, Place};
 
 /// Whether both channels name the same place.
 #[tactic(auto, unfolding(crate::specs::Places::is_same_place))]
@@ -18,14 +17,12 @@ pub(crate) fn is_same_place(channel: &Channel, other: &Channel) -> bool
     }
 }
 
-/// Whether the channel's place is the endpoint of that text.
-pub(crate) fn is_endpoint(channel: &Channel, text: &str) -> bool
-    ensures { result ≡ is_endpoint text.now (spot_of channel.now) }
+/// Whether the channel names the same place as the channel of that address.
+#[tactic(auto, using(crate::proofs::EndpointLemmas::place_same))]
+pub(crate) fn is_at(channel: &Channel, address: &Address) -> bool
+    ensures { result ≡ is_same_place channel.now (endpoint_shape address.now) }
 {
-    match channel.place() {
-        Some(Place::Endpoint(endpoint)) => endpoint == text,
-        _ => false,
-    }
+    channel.is_at(address)
 }
 
 /// Whether the destinations are named by hand.
