@@ -557,11 +557,6 @@ enum Answer {
     Gone,
 }
 
-enum Step {
-    Packet { now: u64, local: Address, from: Address, bytes: Vec<u8> },
-    Poll { subscription: u64, source: u64, limit: u32 },
-}
-
 struct Image {
     source: u64,
     endpoint: Address,
@@ -600,6 +595,7 @@ impl World {
         Ok(&mut open.log)
     }
 
+    #[inline(never)]
     fn packet(&mut self, now: u64, local: Address, from: Address, bytes: &[u8]) -> Answer {
         match packet(bytes) {
             Err(fault) => Answer::Dropped(Cause::Unread(fault)),
@@ -631,6 +627,7 @@ impl World {
         }
     }
 
+    #[inline(never)]
     fn poll(&mut self, subscription: u64, source: u64, limit: u32) -> Answer {
         let Some(open) = self.logs.iter_mut().find(|open| open.source == source) else {
             return Answer::Gone;
@@ -641,13 +638,6 @@ impl World {
         }
     }
 
-    #[inline(never)]
-    fn step(&mut self, step: &Step) -> Answer {
-        match step {
-            Step::Packet { now, local, from, bytes } => self.packet(*now, *local, *from, bytes),
-            Step::Poll { subscription, source, limit } => self.poll(*subscription, *source, *limit),
-        }
-    }
 }
 
 /// The sum of what became of the frames of a datagram.
@@ -655,35 +645,30 @@ fn told(words: &[Word]) -> u64 {
     words.iter().fold(0_u64, |sum, word| sum.wrapping_mul(7).wrapping_add(*word as u64))
 }
 
-fn step_of(bytes: &[u8]) -> Step {
-    Step::Packet { now: 0, local: LOCAL, from: PUBLISHER, bytes: bytes.to_vec() }
-}
-
 fn play(setup: &[u8], datagrams: &[u8], lengths: &[u16], time: &mut u64) -> Option<u64> {
     let mut packets = Vec::with_capacity(lengths.len());
     let mut rest = datagrams;
     for length in lengths {
         let (bytes, behind) = rest.split_at(usize::from(*length));
-        packets.push(step_of(bytes));
+        packets.push(bytes.to_vec());
         rest = behind;
     }
     let mut world = World { images: Vec::new(), logs: Vec::new() };
-    let Answer::Imaged = world.step(&step_of(setup)) else {
+    let Answer::Imaged = world.packet(0, LOCAL, PUBLISHER, setup) else {
         return None;
     };
-    let poll = Step::Poll { subscription: 1, source: 2, limit: u32::MAX };
     let mut sum = 0_u64;
     *time = 0;
     for batch in packets.chunks(BATCH) {
         let start = moment();
-        for step in batch {
-            let Answer::Received(words) = world.step(step) else {
+        for bytes in batch {
+            let Answer::Received(words) = world.packet(0, LOCAL, PUBLISHER, bytes) else {
                 return None;
             };
             sum = sum.wrapping_add(told(&words));
         }
         *time += moment() - start;
-        let Answer::Polled(fragments) = world.step(&poll) else {
+        let Answer::Polled(fragments) = world.poll(1, 2, u32::MAX) else {
             return None;
         };
         for fragment in &fragments {

@@ -3,6 +3,7 @@ pub mod AddressText
 pub mod Canonical
 pub mod Cuts
 pub mod EndingLemmas
+pub mod EndpointPlace
 pub mod EndpointText
 pub mod LastValue
 pub mod NumberLemmas

@@ -1,5 +1,5 @@
 -- What a text denotes as a channel (Aeron wiki, channel configuration).
-use Rattle.std.specs.Prelude.{◌≡◌, ℕ, Bool, false, List, [], ◌∷◌, ◌++◌, Result, Ok, Err, nat_lt, length, codes, if◌then◌else◌}
+use Rattle.std.specs.Prelude.{◌≡◌, ℕ, Bool, false, List, [], ◌∷◌, ◌++◌, Option, IfSome, Result, Ok, Err, nat_lt, length, codes, if◌then◌else◌}
 use Rattle.std.specs.Str.{bytes_eq}
 use Rattle.channel_uri.specs.declared.address.Address.{Address}
 use Rattle.channel_uri.specs.declared.error.UriError.{UriError}
@@ -46,6 +46,10 @@ ipc_shape = record { spy = false; media = Ipc; keys = [] }
 -- datagrams to this address
 abbrev pub endpoint_shape : Address → Shape
 endpoint_shape address = record { spy = false; media = Udp; keys = (codes "endpoint", address_text address) ∷ [] }
+
+-- it is the channel of that address, where one is known
+abbrev pub IsKnownAs : Shape → Option Address → Type 0
+IsKnownAs channel known = IfSome known (λ address. channel ≡ endpoint_shape address)
 
 -- it is what its text denotes
 abbrev pub EndpointsAreDenoted : Type 0

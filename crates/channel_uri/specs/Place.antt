@@ -32,6 +32,11 @@ spot_of channel =
     (is_text (codes "manual") (value_at (codes "control-mode") channel.keys))
     (value_at (codes "endpoint") channel.keys)
 
+-- it is the endpoint of that text
+abbrev pub is_at_text : List ℕ → Option Spot → Bool
+is_at_text text (Some (AtEndpoint endpoint)) = bytes_eq endpoint text
+is_at_text text spot = false
+
 -- what a `Place` shows
 abbrev pub spot_at : Place → Spot
 spot_at IpcOf = AtIpc

@@ -1,4 +1,4 @@
-ghost use Rattle.channel_uri.specs.Address.{address_of, address_text, first_octet_of, octets_of, plain_below, port_of};
+ghost use Rattle.channel_uri.specs.Address.{address_of, address_text, first_octet_of, is_same, octets_of, plain_below, port_of};
 ghost use Rattle.std.specs.Fmt.{decimal};
 ghost use Rattle.std.specs.Prelude.{◌≡◌, ◌+◌, ◌≤◌, ◌++◌, Some, length};
 
@@ -32,6 +32,15 @@ fn push_octet(text: &mut ArrayString<LONGEST>, octet: u8, mark: &str)
 }
 
 impl Address {
+    /// Whether both are one address.
+    pub fn is(&self, other: &Address) -> bool
+        ensures { result ≡ is_same self.now other.now }
+    {
+        let [a, b, c, d] = self.octets;
+        let [e, f, g, h] = other.octets;
+        a == e && b == f && c == g && d == h && self.port == other.port
+    }
+
     /// The address as it is written: four numbers with dots between them, `:` and the port, none with leading zeros.
     pub fn text(&self) -> ShortText<21>
         ensures { result ≡ address_text self.now }

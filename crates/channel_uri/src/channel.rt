@@ -1,3 +1,4 @@
+ghost use Rattle.channel_uri.specs.Address.{address_text};
 ghost use Rattle.channel_uri.specs.Fault.{Equals};
 ghost use Rattle.channel_uri.specs.Channel.{media_of};
 ghost use Rattle.channel_uri.specs.Canonical.{mark_of, pairs_text};
@@ -22,14 +23,18 @@ pub struct Channel {
     spy: bool,
     media: Media,
     keys: Keys,
+    /// The address, where it is known that the channel is the one of an address.
+    address: Option<Address>,
 }
 
 impl Model for Channel {
-    ghost use Rattle.channel_uri.specs.Channel.{Shape};
+    ghost use Rattle.channel_uri.specs.Channel.{IsKnownAs, Shape};
 
     ghost Value = { Shape };
 
     ghost view = { λ channel. record { spy = channel.spy; media = channel.media; keys = channel.keys } };
+
+    ghost invariant = { λ channel. IsKnownAs (record { spy = channel.spy; media = channel.media; keys = channel.keys }) channel.address };
 }
 
 /// The medium of a channel's text; there is no spy of `ipc`.
@@ -51,7 +56,7 @@ fn media_of(spy: bool, word: &str) -> Result<Media, UriError>
 impl Channel {
     ghost use Rattle.channel_uri.specs.Canonical.{canonical_of};
     ghost use Rattle.channel_uri.specs.Channel.{denotes, counter_shape, endpoint_shape, ipc_shape};
-    ghost use Rattle.channel_uri.specs.Place.{spot_of, spot_at};
+    ghost use Rattle.channel_uri.specs.Place.{is_at_text, spot_of, spot_at};
 
     /// Reads a channel's text: `aeron:udp` or `aeron:ipc`, for a spy of `udp` behind `aeron-spy:`, and then perhaps a
     /// `?` and pairs `key=value` with `|` between them. A repeated key keeps its last value; in `endpoint` and `control` a
@@ -74,7 +79,12 @@ impl Channel {
         let keys = syntax::keys_of(pairs)?;
         match values::first_fault(&keys) {
             Some(fault) => Err(fault),
-            None => Ok(Channel { spy, media, keys }),
+            None => Ok(Channel {
+                spy,
+                media,
+                keys,
+                address: None,
+            }),
         }
     }
 
@@ -86,6 +96,7 @@ impl Channel {
             spy: false,
             media: Media::Counter,
             keys: Keys::new(),
+            address: None,
         }
     }
 
@@ -97,6 +108,7 @@ impl Channel {
             spy: false,
             media: Media::Ipc,
             keys: Keys::new(),
+            address: None,
         }
     }
 
@@ -108,6 +120,7 @@ impl Channel {
             spy: false,
             media: Media::Udp,
             keys: Keys::one("endpoint", address.text().as_str()),
+            address: Some(*address),
         }
     }
 
@@ -150,6 +163,38 @@ impl Channel {
         }
     }
 
+    /// Whether it is known that the channel is the one of that address.
+    #[tactic(auto, using(crate::proofs::EndpointPlace::same_shapes))]
+    fn is_known_as(&self, address: &Address) -> bool
+        ensures { result ≡ true → self.now ≡ endpoint_shape address.now }
+    {
+        match self.address {
+            Some(known) => known.is(address),
+            None => false,
+        }
+    }
+
+    /// Whether the channel's place is the endpoint of that text.
+    fn is_at_text(&self, text: &str) -> bool
+        ensures { result ≡ is_at_text text.now (spot_of self.now) }
+    {
+        match self.place() {
+            Some(Place::Endpoint(endpoint)) => endpoint == text,
+            _ => false,
+        }
+    }
+
+    /// Whether the channel's place is the endpoint of that address, as [`Address::text`] writes it.
+    #[tactic(auto, using(crate::proofs::EndpointPlace::known_place))]
+    pub fn is_at(&self, address: &Address) -> bool
+        ensures { result ≡ is_at_text (address_text address.now) (spot_of self.now) }
+    {
+        if self.is_known_as(address) {
+            return true;
+        }
+        self.is_at_text(address.text().as_str())
+    }
+
     /// The one text of the channel: its keys in byte order.
     #[tactic(auto, unfolding(crate::specs::Canonical::canonical_of))]
     pub fn canonical(&self, alloc: Global) -> Result<Text, AllocError>
@@ -172,6 +217,7 @@ impl Channel {
     {
         (self.spy, self.media) = (other.spy, other.media);
         self.keys.set_from(&other.keys);
+        self.address = other.address;
     }
 
     /// Another channel, equal to this one. It takes no memory.
@@ -182,6 +228,7 @@ impl Channel {
             spy: self.spy,
             media: self.media,
             keys: self.keys.copy(),
+            address: self.address,
         }
     }
 }

@@ -63,8 +63,29 @@ fn is_channel_of(alloc: Global, octets: [u8; 4], port: u16, text: &str) -> Resul
     Ok(
         written.as_str() == read.canonical(alloc)?.as_str()
             && channel.endpoint() == Some(address)
-            && read.endpoint() == Some(address),
+            && read.endpoint() == Some(address)
+            && channel.is_at(&address)
+            && read.is_at(&address),
     )
+}
+
+/// Whether the channel of the address is at the other one, and the two are one address.
+fn is_at(address: &Address, other: &Address) -> (bool, bool) {
+    (
+        Channel::at_endpoint(address).is_at(other),
+        address.is(other),
+    )
+}
+
+#[test]
+fn channels_are_at_one_address(rt: HostRuntime) {
+    let [first, second, third] = [([1, 2, 3, 4], 5), ([1, 2, 3, 5], 5), ([1, 2, 3, 4], 6)].map(|(
+        octets,
+        port,
+    )| Address { octets, port });
+    assert!(rt; is_at(&first, &first) == (true, true));
+    assert!(rt; is_at(&first, &second) == (false, false));
+    assert!(rt; is_at(&first, &third) == (false, false));
 }
 
 #[test]

@@ -2,7 +2,7 @@ ghost use Rattle.driver_core.specs.ImageRequests.{image_for};
 ghost use Rattle.std.specs.Prelude.{◌≡◌};
 
 use crate::registry::Registry;
-use channel_uri::{Address, Channel};
+use channel_uri::Address;
 
 /// Why a datagram of a remote publisher's stream is for no image.
 #[derive(Clone, Copy, Debug, PartialEq, Eq)]
@@ -29,14 +29,13 @@ impl Registry {
     ) -> Result<u64, Astray>
         ensures { result ≡ image_for self.now local.now from.now session stream }
     {
-        let channel = Channel::at_endpoint(local);
-        let Some(image) = self.streams.image_at(&channel, session, stream) else {
+        let Some(image) = self.streams.image_to(local, session, stream) else {
             return Err(Astray::NoStream);
         };
         let Some(publisher) = image.address() else {
             return Err(Astray::Stranger);
         };
-        if publisher != *from {
+        if !publisher.is(from) {
             return Err(Astray::Stranger);
         }
         Ok(image.number)

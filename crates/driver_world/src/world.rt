@@ -21,7 +21,7 @@ use crate::step::Step;
 use byte_strings::Items;
 use driver_core::{Address, Astray, Entry, Event, LogRequest, Outcome, Peer, Registry, Settings};
 use frame_codec::{
-    Datagram, Frames, Nak, Packet, StatusMessage, TermPlace, frames_are_of_one_term,
+    Datagram, Frames, Nak, Packet, Setup, StatusMessage, TermPlace, frames_are_of_one_term,
     frames_are_told,
 };
 use policy_core::Policy;
@@ -68,9 +68,9 @@ fn image_of(
     registry: &Registry,
     local: &Address,
     from: &Address,
-    place: &TermPlace,
+    place: TermPlace,
 ) -> Result<u64, Astray>
-    ensures { result ≡ image_for registry.now local.now from.now place.now.session_id place.now.stream_id }
+    ensures { result ≡ image_for registry.now local.now from.now place.session_id place.stream_id }
 {
     registry.image_for(local, from, place.session_id, place.stream_id)
 }
@@ -110,6 +110,7 @@ fn follow(
 }
 
 impl World {
+    ghost use Rattle.driver_core.specs.declared.event.Event.TheVariants.{Setup as SetUp};
     ghost use Rattle.driver_world.specs.Ends.{on_asked, on_frames, on_stream, on_told, opening_end};
     ghost use Rattle.driver_world.specs.Receiving.{beat_move};
     ghost use Rattle.driver_world.specs.Standing.{StandsForEnd, Serves, ServesAs, Takes, Runs, Continues, pages_of_logs};
@@ -188,7 +189,7 @@ impl World {
         let Some(frame) = left.next() else {
             return Answer::Dropped(Cause::Astray(Astray::NoStream));
         };
-        match image_of(&self.registry, local, from, &frame.header.place) {
+        match image_of(&self.registry, local, from, frame.header.place) {
             Ok(source) => match self.logs.receive(alloc, source, now, frames) {
                 Ok(answer) => answer,
                 Err(_) => Answer::NoMemory,
@@ -201,7 +202,7 @@ impl World {
     fn beat(&mut self, now: u64, local: &Address, from: &Address, place: &TermPlace) -> Answer
         ensures { ServesAs self.old self.new (λ e. on_stream e local.now from.now place.now (beat_move now place.now)) result }
     {
-        match image_of(&self.registry, local, from, place) {
+        match image_of(&self.registry, local, from, *place) {
             Ok(source) => self.logs.beat(source, now, place),
             Err(why) => Answer::Dropped(Cause::Astray(why)),
         }
@@ -257,10 +258,31 @@ impl World {
         }
     }
 
+    /// A SETUP came to the address `local`, from the address `from`. An event is large, so other datagrams come to none.
+    #[inline(never)]
+    fn set_up(
+        &mut self,
+        alloc: Global,
+        now: u64,
+        local: &Address,
+        from: &Address,
+        setup: Setup,
+    ) -> Answer
+        ensures { Serves self.old self.new (Conductor (SetUp now local.now from.now setup)) result }
+    {
+        let event = Event::Setup {
+            now,
+            local: *local,
+            from: *from,
+            setup,
+        };
+        self.conduct(alloc, &event)
+    }
+
     /// A datagram came to the address `local`, from the address `from`: a SETUP is an event; the frames of data and a
     /// heartbeat go to the image of that address, session and stream, where they are from its publisher; a NAK and a status
     /// message go to the publication of their session and stream, whatever address they came to.
-    fn packet(
+    pub fn packet(
         &mut self,
         alloc: Global,
         now: u64,
@@ -278,15 +300,7 @@ impl World {
                 self.receive(alloc, now, local, from, frames)
             }
             Ok(Packet::Beat(header)) => self.beat(now, local, from, &header.place),
-            Ok(Packet::Setup(setup)) => {
-                let event = Event::Setup {
-                    now,
-                    local: *local,
-                    from: *from,
-                    setup,
-                };
-                self.conduct(alloc, &event)
-            }
+            Ok(Packet::Setup(setup)) => self.set_up(alloc, now, local, from, setup),
             Ok(Packet::Nak(nak)) => self.nak(alloc, now, from, &nak),
             Ok(Packet::Sm(message)) => self.status(now, &message),
         }

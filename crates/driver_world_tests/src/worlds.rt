@@ -1,8 +1,8 @@
 //! A driver with logs: runs of it, and the pages that no log has.
 
 use crate::deeds::{Deed, PUBLISH_ALONE, UNPUBLISH_2, event};
-use driver_core::Settings;
-use driver_world::{Answer, Step, World};
+use driver_core::{Address, Astray, Settings};
+use driver_world::{Answer, Cause, Step, World};
 use policy_core::Policy;
 use std::alloc::{AllocError, Global};
 
@@ -86,4 +86,28 @@ fn runs_leave_the_pages_without_a_log(rt: HostRuntime) {
     assert!(rt; run_to(rt.alloc(), &[(&[Deed::Attach], &[None], &[(0, 393_216)])]) == Ok(false));
     assert!(rt; run_to(rt.alloc(), &[(&[Deed::Attach], &[], &[(0, 393_216)])]) == Ok(false));
     assert!(rt; run_to(rt.alloc(), &[(&[], &[], &[(0, 196_608)])]) == Ok(false));
+}
+
+/// A data frame without a payload.
+const EMPTY_FRAME: [u8; 32] = [
+    32, 0, 0, 0, 0, 0xc0, 1, 0, 0, 0, 0, 0, 9, 0, 0, 0, 10, 0, 0, 0, 5, 0, 0, 0, 0, 0, 0, 0, 0, 0,
+    0, 0,
+];
+
+/// Whether a datagram is one for no image, in a world in which nothing happened yet.
+fn is_astray(alloc: Global, bytes: &[u8]) -> Result<bool, AllocError> {
+    let policy = Policy::new(Vec::new(alloc), true)?;
+    let mut world = World::new(alloc, Settings::default(), policy, &[])?;
+    let address = Address {
+        octets: [127, 0, 0, 1],
+        port: 40_123,
+    };
+    let answer = world.packet(alloc, 0, &address, &address, bytes);
+    Ok(matches!(answer, Answer::Dropped(Cause::Astray(Astray::NoStream))))
+}
+
+#[test]
+fn a_datagram_needs_no_step(rt: HostRuntime) {
+    assert!(rt; is_astray(rt.alloc(), &EMPTY_FRAME) == Ok(true));
+    assert!(rt; is_astray(rt.alloc(), &[]) == Ok(false));
 }

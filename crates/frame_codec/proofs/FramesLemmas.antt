@@ -1,13 +1,14 @@
 -- The frames of a datagram, one behind the other.
-use Rattle.std.proofs.Common.{◌≡◌, ℕ, zero, suc, ◌<◌, ◌≤◌, true, cond, ltb, List, [], ◌∷◌, length, Some, None, Result, Ok, Err, refl, sym, ap, subst, ◌∙◌, arith}
+use Rattle.std.proofs.Common.{◌≡◌, ℕ, zero, suc, ◌+◌, ◌*◌, ◌/◌, ◌<◌, ◌≤◌, true, cond, ltb, List, [], ◌∷◌, length, Some, None, Result, Ok, Err, refl, sym, ap, subst, ◌∙◌, arith}
 use Rattle.std.proofs.lemmas.List.{length-drop, nil_from_length}
 use Rattle.frame_codec.specs.declared.fault.BadPacket.{BadPacket}
 use Rattle.frame_codec.specs.declared.fault.BadPacket.TheVariants.{TooShort, Mixed}
 use Rattle.frame_codec.specs.declared.header.Header.{Header}
+use Rattle.frame_codec.specs.declared.frames.Frames.{Frames}
 use Rattle.frame_codec.specs.Steps.{◌>>=◌, fault_of}
 use Rattle.frame_codec.specs.FrameType.{type_of}
 use Rattle.frame_codec.specs.Frame.{Sent, padded, frame_of}
-use Rattle.frame_codec.specs.Frames.{follows, behind, next_of, later_of, all_later, frames_of, frames_in, and_then}
+use Rattle.frame_codec.specs.Frames.{follows, behind, next_of, later_of, all_later, frames_of, frames_in, frames_left, most_left, and_then}
 use Rattle.frame_codec.proofs.Chains.{bind_ok, step, guard_ok, wanted_ok, ok_is}
 use Rattle.frame_codec.proofs.Readers.{frame_fits}
 
@@ -18,6 +19,33 @@ behind_less bytes frame e =
     let long = fits.0 in
     let within = fits.1 in
     omega (arith, length-drop (padded (length frame.bytes)) bytes)
+
+-- ---- no more frames than there could be
+
+behind_much : (bytes : List ℕ) (frame : Sent) → frame_of bytes ≡ Ok frame → length (behind frame bytes) + 32 ≤ length bytes
+behind_much bytes frame e =
+    let fits = frame_fits bytes frame e in
+    let long = fits.0 in
+    let within = fits.1 in
+    omega (arith, length-drop (padded (length frame.bytes)) bytes)
+
+most_by : (r : Result Sent BadPacket) (n : ℕ) (bytes : List ℕ) → ((frame : Sent) → r ≡ Ok frame → 32 * length (frames_in n (behind frame bytes)) + 32 ≤ length bytes)
+    → 32 * length (and_then r (λ frame. frames_in n (behind frame bytes))) ≤ length bytes
+most_by (Ok frame) n bytes few = let h = few frame refl in omega arith
+most_by (Err fault) n bytes few = omega arith
+
+most_in : (n : ℕ) (bytes : List ℕ) → 32 * length (frames_in n bytes) ≤ length bytes
+unfolding frames_in
+most_in zero bytes = omega arith
+most_in (suc n) bytes =
+    most_by (frame_of bytes) n bytes (λ frame e.
+    let much = behind_much bytes frame e in
+    let rest = most_in n (behind frame bytes) in
+    omega arith)
+
+pub fewer_left : (frames : Frames) → length (frames_left frames) ≤ most_left frames
+unfolding frames_left
+fewer_left frames = let most = most_in (length frames.rest.now) frames.rest.now in omega arith
 
 -- ---- frames that are there
 

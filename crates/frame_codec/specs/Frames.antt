@@ -1,5 +1,5 @@
 -- Several frames of one term in a datagram (Aeron Transport Protocol Specification, data frame).
-use Rattle.std.specs.Prelude.{ℕ, suc, zero, ◌+◌, ◌==◌, nat_lt, if◌then◌else◌, Bool, true, false, not, List, [], ◌∷◌, length, drop, Result, Ok, Err}
+use Rattle.std.specs.Prelude.{ℕ, suc, zero, ◌+◌, ◌/◌, ◌==◌, nat_lt, if◌then◌else◌, Bool, true, false, not, List, [], ◌∷◌, length, drop, Result, Ok, Err}
 use Rattle.std.specs.Ordering.{int_eq}
 use Rattle.frame_codec.specs.declared.fault.BadPacket.{BadPacket}
 use Rattle.frame_codec.specs.declared.fault.BadPacket.TheVariants.{TooShort, Mixed}
@@ -63,3 +63,7 @@ frames_in (suc n) bytes = and_then (frame_of bytes) (λ frame. frames_in n (behi
 -- the frames that are still to come
 unfoldable pub frames_left : Frames → List Sent
 frames_left frames = frames_in (length frames.rest.now) frames.rest.now
+
+-- as many as there could be, each of at least 32 bytes
+abbrev pub most_left : Frames → ℕ
+most_left frames = length frames.rest.now / 32

@@ -11,6 +11,7 @@ pub(crate) const ALIGNMENT: u32 = 32;
 
 /// The byte at a place.
 #[tactic(auto, unfolding(crate::specs::Fields::byte_at))]
+#[inline(always)]
 pub(crate) fn byte(bytes: &[u8], place: usize) -> u8
     requires { place < length bytes.now }
     ensures { result ≡ byte_at place bytes.now }
@@ -20,6 +21,7 @@ pub(crate) fn byte(bytes: &[u8], place: usize) -> u8
 
 /// The number in two bytes.
 #[tactic(auto, unfolding(crate::specs::Fields::half_at))]
+#[inline(always)]
 pub(crate) fn half(bytes: &[u8], place: usize) -> u16
     requires { place + 2 ≤ length bytes.now }
     ensures { result ≡ half_at place bytes.now }
@@ -29,6 +31,7 @@ pub(crate) fn half(bytes: &[u8], place: usize) -> u16
 
 /// The number in four bytes.
 #[tactic(auto, unfolding(crate::specs::Fields::number_at))]
+#[inline(always)]
 pub(crate) fn number(bytes: &[u8], place: usize) -> u32
     requires { place + 4 ≤ length bytes.now }
     ensures { result ≡ number_at place bytes.now }
@@ -38,6 +41,7 @@ pub(crate) fn number(bytes: &[u8], place: usize) -> u32
 
 /// The number in eight bytes.
 #[tactic(auto, unfolding(crate::specs::Fields::long_at))]
+#[inline(always)]
 pub(crate) fn long(bytes: &[u8], place: usize) -> u64
     requires { place + 8 ≤ length bytes.now }
     ensures { result ≡ long_at place bytes.now }
@@ -47,6 +51,7 @@ pub(crate) fn long(bytes: &[u8], place: usize) -> u64
 
 /// The signed number in four bytes.
 #[tactic(auto, unfolding(crate::specs::Fields::signed_at))]
+#[inline(always)]
 pub(crate) fn signed(bytes: &[u8], place: usize) -> i32
     requires { place + 4 ≤ length bytes.now }
     ensures { result ≡ signed_at place bytes.now }
@@ -56,6 +61,7 @@ pub(crate) fn signed(bytes: &[u8], place: usize) -> i32
 
 /// The signed number in four bytes, which may not be negative.
 #[tactic(auto, unfolding(crate::specs::Fields::natural_at))]
+#[inline(always)]
 pub(crate) fn natural(bytes: &[u8], place: usize) -> Result<u32, BadPacket>
     requires { place + 4 ≤ length bytes.now }
     ensures exact { result ≡ natural_at place bytes.now }
@@ -71,6 +77,7 @@ pub(crate) fn natural(bytes: &[u8], place: usize) -> Result<u32, BadPacket>
 
 /// The length that a frame states, at least `least` and no more than the bytes that are there.
 #[tactic(auto, unfolding(crate::specs::Fields::stated_length))]
+#[inline(always)]
 pub(crate) fn stated_length(bytes: &[u8], least: u32) -> Result<u32, BadPacket>
     requires { 4 ≤ length bytes.now }
     ensures exact { result ≡ stated_length least bytes.now }
@@ -87,6 +94,7 @@ pub(crate) fn stated_length(bytes: &[u8], least: u32) -> Result<u32, BadPacket>
 }
 
 /// An offset at which a frame may begin.
+#[inline(always)]
 pub(crate) fn aligned(offset: u32) -> Result<u32, BadPacket>
     ensures { result ≡ aligned offset }
 {

@@ -88,7 +88,16 @@ fn check_later(first: &Header, bytes: &[u8]) -> Result<(), BadPacket>
 }
 
 impl<'a> Frames<'a> {
-    ghost use Rattle.frame_codec.specs.Frames.{frames_left};
+    ghost use Rattle.frame_codec.specs.Frames.{frames_left, most_left};
+
+    /// As many frames as there could be in what is left, each of at least 32 bytes. None of them is read.
+    #[tactic(auto, using(crate::proofs::FramesLemmas::fewer_left))]
+    pub fn most(&self) -> usize
+        ensures exact { result ≡ most_left self.now }
+        ensures most { length (frames_left self.now) ≤ result }
+    {
+        self.rest.len() / Header::SIZE
+    }
 
     /// The frames of a datagram, where all of them are sound and each stands behind the one before.
     #[inline(always)]

@@ -54,6 +54,7 @@ impl Header {
 
     /// The header in the first 32 bytes, of that kind, length and term offset.
     #[tactic(auto, unfolding(crate::specs::Header::header_of))]
+    #[inline(always)]
     pub(crate) fn read(kind: Kind, size: u32, term_offset: u32, bytes: &[u8]) -> Header
         requires { 32 ≤ length bytes.now }
         ensures { result ≡ header_of kind size term_offset bytes.now }

@@ -126,6 +126,11 @@ fn frames(bytes: &[u8]) -> Option<Frames<'_>> {
     }
 }
 
+#[test]
+fn frames_that_there_could_be(rt: HostRuntime) {
+    assert!(rt; matches!(frames(&DATA), Some(frames) if frames.most() == 1));
+}
+
 /// Initial term, term and offset, and the position, in terms of 64 KiB.
 const PLACES: [(i32, i32, u32, u64); 3] = [
     (5, 7, 96, 131_168),

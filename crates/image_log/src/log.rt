@@ -196,9 +196,17 @@ impl ImageLog {
         Frames::new(&self.store, index, self.store.rank(end), bytes)
     }
 
-    /// What becomes of a frame.
-    fn answer(&self, position: u64, frame: &[u8]) -> Insert
-        requires { IsFor self.now.rebuilt.ident position frame.now }
+    /// How many frames begin below a position.
+    fn rank(&self, position: u64) -> usize
+        ensures { result ≡ rank position self.now.rebuilt.frames }
+    {
+        self.store.rank(position)
+    }
+
+    /// What becomes of a frame. `at` is the position's rank.
+    fn answer(&self, at: usize, position: u64, frame: &[u8]) -> Insert
+        requires of { IsFor self.now.rebuilt.ident position frame.now }
+        requires rank { at ≡ rank position self.now.rebuilt.frames }
         ensures answer { result ≡ insert_of self.now.rebuilt position frame.now }
         ensures fits { position < 2 ^ 57 }
     {
@@ -212,21 +220,21 @@ impl ImageLog {
         if u64::from(handed::offset_of(frame)) + span > u64::from(self.ident.term_length) {
             return Insert::Beyond;
         }
-        self.store.answer(position, position + span, frame)
+        self.store.answer(at, position, position + span, frame)
     }
 
-    /// Keeps a frame.
-    fn take(&mut self, position: u64, span: u32, frame: &[u8])
+    /// Keeps a frame. `at` is the position's rank.
+    fn take(&mut self, at: usize, position: u64, span: u32, frame: &[u8])
         requires of { IsFor self.old.rebuilt.ident position frame.now }
         requires span { span ≡ span_of frame.now }
         requires taken { insert_of self.old.rebuilt position frame.now ≡ Insert.Taken }
+        requires rank { at ≡ rank position self.old.rebuilt.frames }
         ensures { self.new ≡ record self.old {
           rebuilt = record self.old.rebuilt {
             frames = insert self.old.rebuilt.frames (rank position self.old.rebuilt.frames) (framed position span frame.now);
           };
         } }
     {
-        let at = self.store.rank(position);
         self.store.put(at, position, span, frame);
         if position == self.contiguous {
             self.contiguous = self.store.chain(at, position);
@@ -240,10 +248,11 @@ impl ImageLog {
         ensures answer { result ≡ insert_of self.old.rebuilt position frame.now }
         ensures after { self.new ≡ record self.old { rebuilt = after_insert self.old.rebuilt position frame.now } }
     {
-        let answer = self.answer(position, frame);
+        let at = self.rank(position);
+        let answer = self.answer(at, position, frame);
         let span = handed::span_of(frame);
         if let Insert::Taken = answer {
-            self.take(position, span as u32, frame);
+            self.take(at, position, span as u32, frame);
         }
         self.beat(position + span);
         answer

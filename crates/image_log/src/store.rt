@@ -151,12 +151,12 @@ impl Store {
         at < self.places.len() && self.start_of(at) < end
     }
 
-    /// What becomes of a frame that is neither below what is kept nor beyond it.
-    pub(crate) fn answer(&self, position: u64, end: u64, bytes: &[u8]) -> Insert
-        requires { position < end }
+    /// What becomes of a frame that is neither below what is kept nor beyond it. `at` is the position's rank.
+    pub(crate) fn answer(&self, at: usize, position: u64, end: u64, bytes: &[u8]) -> Insert
+        requires rank { at ≡ rank position self.now.frames }
+        requires some { position < end }
         ensures { result ≡ answer_among position end bytes.now self.now.frames }
     {
-        let at = self.rank(position);
         if self.has(at, position, bytes) {
             return Insert::Repeat;
         }
@@ -279,12 +279,17 @@ fn clear(out: &mut [u8])
     out.fill(0);
 }
 
-/// An insert for which there is room.
+/// An insert for which there is room. A frame that comes in order goes behind all others.
+#[tactic(auto, using(std::proofs::lemmas::List::Edits::insert_end))]
 fn put_in(places: &mut VecDeque<Place>, at: usize, place: Place)
     requires { (at ≤ deque_len places.old) × (deque_len places.old < deque_capacity places.old) }
     ensures items { places.new.items ≡ insert places.old.items at place }
     ensures capacity { deque_capacity places.old ≤ deque_capacity places.new }
 {
+    if at == places.len() {
+        places.push_back_reserved(place);
+        return;
+    }
     match places.insert(at, place) {
         Ok(()) => {}
         Err(_) => unreachable!(),

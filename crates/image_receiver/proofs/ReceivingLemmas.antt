@@ -1,9 +1,7 @@
 -- Frames of a datagram that a log is given.
-use Rattle.std.proofs.Common.{◌≡◌, ℕ, zero, suc, ◌+◌, ◌≤◌, List, [], ◌∷◌, ◌++◌, length, Ok, Err, refl, sym, subst, ◌∙◌, append_assoc, length-append, arith}
-use Rattle.frame_codec.specs.declared.frames.Frames.{Frames}
+use Rattle.std.proofs.Common.{◌≡◌, ℕ, ◌+◌, ◌≤◌, List, [], ◌∷◌, ◌++◌, length, refl, sym, subst, ◌∙◌, append_assoc, length-append, arith}
 use Rattle.frame_codec.specs.declared.header.TermPlace.{TermPlace}
-use Rattle.frame_codec.specs.Frame.{Sent, frame_of}
-use Rattle.frame_codec.specs.Frames.{and_then, behind, frames_in, frames_left}
+use Rattle.frame_codec.specs.Frame.{Sent}
 use Rattle.frame_codec.specs.Sound.{AreBeside, AreOfOneTerm, AreTold}
 use Rattle.image_log.specs.Log.{Log}
 use Rattle.image_log.specs.Rebuilt.{Rebuilt, after_insert}
@@ -27,20 +25,6 @@ pub frames_are : (ident : Ident) (frames : List Sent) → BeginsIn ident frames 
 frames_are ident [] begins told one = tt
 frames_are ident (frame ∷ later) begins told one =
     (told.0, begins, beside_are ident frame.header.place later begins told.1 one)
-
--- a frame has a byte at least
-count_in : (n : ℕ) (bytes : List ℕ) → length (frames_in n bytes) ≤ n
-unfolding frames_in
-count_in zero bytes = omega arith
-count_in (suc n) bytes =
-    elim (frame_of bytes) as (λ read. length (and_then read (λ frame. frames_in n (behind frame bytes))) ≤ suc n) [
-      | Ok frame ↦ (let rest = count_in n (behind frame bytes) in omega (arith, rest))
-      | Err fault ↦ omega arith
-    ]
-
-pub count_left : (frames : Frames) → length (frames_left frames) ≤ length frames.rest.now
-unfolding frames_left
-count_left frames = count_in (length frames.rest.now) frames.rest.now
 
 -- what holds while frames are handed in: the words so far, and then those for the frames that are still to come
 abbrev pub IsHanding : Log → List Sent → List Insert → ℕ → List Insert → Rebuilt → Held → Type 0

@@ -28,7 +28,7 @@ fn position_in(ident: &Ident, place: &TermPlace) -> u64
 fn room_for(alloc: Global, frames: Frames<'_>) -> Result<Vec<Insert>, NoMemory>
     ensures { IfOk result (λ words. (words.items ≡ []) × (length (frames_left frames.entry) ≤ vec_capacity words)) }
 {
-    Vec::with_capacity(alloc, frames.count())
+    Vec::with_capacity(alloc, frames.most())
 }
 
 /// Hands in a frame at its header's position.

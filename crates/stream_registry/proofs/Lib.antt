@@ -1,3 +1,4 @@
+pub mod EndpointLemmas
 pub mod FewLemmas
 pub mod LimitLemmas
 pub mod PageLawLemmas

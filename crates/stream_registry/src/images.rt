@@ -1,15 +1,16 @@
 ghost use Rattle.stream_registry.specs.Images.{has_room_for_image, image_at, image_of, image_place_for, imaged, is_image_at, stays_beside, without_images};
+ghost use Rattle.channel_uri.specs.Channel.{endpoint_shape};
 ghost use Rattle.std.specs.Option.{option_copied};
 ghost use Rattle.std.specs.Prelude.{◌≡◌, find, true};
 
 use crate::lingering::is_image_of;
 use crate::log_pages::pages_of;
-use crate::places::is_same_place;
+use crate::places::{is_at, is_same_place};
 use crate::row::{Origin, Source};
 use crate::slots::free_slot;
 use crate::streams::Streams;
 use crate::wanted::ImageWanted;
-use channel_uri::Channel;
+use channel_uri::{Address, Channel};
 use rows::Test;
 
 /// How many images there are at most.
@@ -43,6 +44,34 @@ fn image_in<'a>(
     None
 }
 
+/// Whether it is the image of a publisher that sends to that endpoint on that stream, with that session.
+#[tactic(auto, unfolding(crate::specs::Images::is_image_at))]
+fn is_image_to(log: &Source, endpoint: &Address, session: i32, stream: i32) -> bool
+    ensures { result ≡ is_image_at (endpoint_shape endpoint.now) session stream log.now }
+{
+    !log.is_published()
+        && log.session == session
+        && log.stream == stream
+        && is_at(&log.channel, endpoint)
+}
+
+/// The image of a publisher that sends to that endpoint on that stream, with that session.
+fn image_to_in<'a>(
+    logs: &'a [Source],
+    endpoint: &Address,
+    session: i32,
+    stream: i32,
+) -> Option<&'a Source>
+    ensures { option_copied result ≡ find (is_image_at (endpoint_shape endpoint.now) session stream) logs.now }
+{
+    for log in logs {
+        if is_image_to(log, endpoint, session, stream) {
+            return Some(log);
+        }
+    }
+    None
+}
+
 /// Keeps all logs but the images of these numbers.
 #[derive(Clone, Copy)]
 pub(crate) struct Beside<'a> {
@@ -70,6 +99,13 @@ impl Streams {
         ensures { option_copied result ≡ image_at self.now channel.now session stream }
     {
         image_in(self.sources.as_slice(), channel, session, stream)
+    }
+
+    /// As [`Streams::image_at`], where the place is that endpoint. No channel is made for the search.
+    pub fn image_to(&self, endpoint: &Address, session: i32, stream: i32) -> Option<&Source>
+        ensures { option_copied result ≡ image_at self.now (endpoint_shape endpoint.now) session stream }
+    {
+        image_to_in(self.sources.as_slice(), endpoint, session, stream)
     }
 
     /// The page at which the memory of an image begins that would be made, as [`Streams::place_for`] tells it of a

@@ -1,7 +1,8 @@
 ghost use Rattle.stream_registry.specs.Places.{is_same_place, is_manual, is_same_media, is_udp, is_ipc};
+ghost use Rattle.channel_uri.specs.Channel.{endpoint_shape};
 ghost use Rattle.std.specs.Prelude.{◌≡◌};
 
-use channel_uri::{Channel, Media, Place};
+use channel_uri::{Address, Channel, Media, Place};
 
 /// Whether both channels name the same place.
 #[tactic(auto, unfolding(crate::specs::Places::is_same_place))]
@@ -14,6 +15,14 @@ pub(crate) fn is_same_place(channel: &Channel, other: &Channel) -> bool
         (Some(Place::Endpoint(address)), Some(Place::Endpoint(other))) => address == other,
         _ => false,
     }
+}
+
+/// Whether the channel names the same place as the channel of that address.
+#[tactic(auto, using(crate::proofs::EndpointLemmas::place_same))]
+pub(crate) fn is_at(channel: &Channel, address: &Address) -> bool
+    ensures { result ≡ is_same_place channel.now (endpoint_shape address.now) }
+{
+    channel.is_at(address)
 }
 
 /// Whether the destinations are named by hand.

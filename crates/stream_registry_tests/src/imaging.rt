@@ -76,11 +76,16 @@ fn slots_are_of_one_kind(rt: HostRuntime) -> Result<(), Fail> {
 /// Whether the image of this session is found on the stream.
 fn is_found(play: &Play, stream: i32, session: i32) -> bool {
     match image_wanted(HERE, stream, session) {
-        Ok(wanted) => {
-            play.streams
-                .image_at(&wanted.channel, session, stream)
-                .is_some()
-        }
+        Ok(wanted) => match (
+            play.streams.image_at(&wanted.channel, session, stream),
+            wanted.channel.endpoint(),
+        ) {
+            (Some(image), Some(local)) => match play.streams.image_to(&local, session, stream) {
+                Some(same) => same.number == image.number,
+                None => false,
+            },
+            _ => false,
+        },
         Err(_) => false,
     }
 }

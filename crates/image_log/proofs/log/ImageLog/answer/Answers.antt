@@ -1,7 +1,8 @@
-use Rattle.std.proofs.Common.{◌≡◌, ℕ, ◌+◌, ◌<◌, ◌≤◌, List, ap, ap₂, ◌∙◌, subst, arith}
+use Rattle.std.proofs.Common.{◌≡◌, ℕ, ◌+◌, ◌<◌, ◌≤◌, List, sym, ap, ap₂, ◌∙◌, subst, arith}
 use Rattle.image_log.specs.Log.{Log}
 use Rattle.image_log.specs.Answer.{answer_among}
 use Rattle.image_log.specs.Frame.{Frame}
+use Rattle.image_log.specs.Order.{rank}
 use Rattle.image_log.specs.Rebuilt.{Rebuilt, low_of}
 use Rattle.image_log.proofs.Taken.{is_below, is_past, is_crossing, is_among, span_fits, position_fits}
 use Rattle.image_log.proofs.log.ImageLog.answer.Goals as goal
@@ -13,7 +14,7 @@ returns-then-position-low-clause-answer c =
 
 pub returns-then-position-low-clause-fits : goal.returns-then-position-low-clause-fits
 returns-then-position-low-clause-fits c =
-    position_fits c.args.self.now.rebuilt.ident c.args.position c.args.frame.now c.requires (omega (arith, c.self.invariant.terms, ap (λ (r : Rebuilt). r.ident.term_length) (ap (λ (l : Log). l.rebuilt) c.self.view_is)))
+    position_fits c.args.self.now.rebuilt.ident c.args.position c.args.frame.now c.requires.of (omega (arith, c.self.invariant.terms, ap (λ (r : Rebuilt). r.ident.term_length) (ap (λ (l : Log). l.rebuilt) c.self.view_is)))
 
 pub returns-then-position-reach-clause-answer : goal.returns-then-position-reach-clause-answer
 returns-then-position-reach-clause-answer c =
@@ -23,11 +24,11 @@ returns-then-position-reach-clause-answer c =
 
 pub returns-then-position-reach-clause-fits : goal.returns-then-position-reach-clause-fits
 returns-then-position-reach-clause-fits c =
-    position_fits c.args.self.now.rebuilt.ident c.args.position c.args.frame.now c.requires (omega (arith, c.self.invariant.terms, ap (λ (r : Rebuilt). r.ident.term_length) (ap (λ (l : Log). l.rebuilt) c.self.view_is)))
+    position_fits c.args.self.now.rebuilt.ident c.args.position c.args.frame.now c.requires.of (omega (arith, c.self.invariant.terms, ap (λ (r : Rebuilt). r.ident.term_length) (ap (λ (l : Log). l.rebuilt) c.self.view_is)))
 
 pub overflow_add-from : goal.overflow_add-from
 overflow_add-from c =
-    let span = span_fits c.args.self.now.rebuilt.ident c.args.position c.args.frame.now c.requires in
+    let span = span_fits c.args.self.now.rebuilt.ident c.args.position c.args.frame.now c.requires.of in
     omega (arith, span.2, c.span_of-span.ensures, c.from.ensures, c.offset_of.type_inv)
 
 pub returns-then-from-span-clause-answer : goal.returns-then-from-span-clause-answer
@@ -39,11 +40,14 @@ returns-then-from-span-clause-answer c =
 
 pub returns-then-from-span-clause-fits : goal.returns-then-from-span-clause-fits
 returns-then-from-span-clause-fits c =
-    position_fits c.args.self.now.rebuilt.ident c.args.position c.args.frame.now c.requires (omega (arith, c.self.invariant.terms, ap (λ (r : Rebuilt). r.ident.term_length) (ap (λ (l : Log). l.rebuilt) c.self.view_is)))
+    position_fits c.args.self.now.rebuilt.ident c.args.position c.args.frame.now c.requires.of (omega (arith, c.self.invariant.terms, ap (λ (r : Rebuilt). r.ident.term_length) (ap (λ (l : Log). l.rebuilt) c.self.view_is)))
 
-pub answer-requires : goal.answer-requires
-answer-requires c =
-    let span = span_fits c.args.self.now.rebuilt.ident c.args.position c.args.frame.now c.requires in
+pub answer-requires-clause-rank : goal.answer-requires-clause-rank
+answer-requires-clause-rank c = c.requires.rank ∙ ap (λ (l : Log). rank c.args.position l.rebuilt.frames) (sym c.self.view_is)
+
+pub answer-requires-clause-some : goal.answer-requires-clause-some
+answer-requires-clause-some c =
+    let span = span_fits c.args.self.now.rebuilt.ident c.args.position c.args.frame.now c.requires.of in
     omega (arith, span.0, c.span_of-span.ensures)
 
 pub returns-clause-answer : goal.returns-clause-answer
@@ -58,4 +62,4 @@ returns-clause-answer c =
 
 pub returns-clause-fits : goal.returns-clause-fits
 returns-clause-fits c =
-    position_fits c.args.self.now.rebuilt.ident c.args.position c.args.frame.now c.requires (omega (arith, c.self.invariant.terms, ap (λ (r : Rebuilt). r.ident.term_length) (ap (λ (l : Log). l.rebuilt) c.self.view_is)))
+    position_fits c.args.self.now.rebuilt.ident c.args.position c.args.frame.now c.requires.of (omega (arith, c.self.invariant.terms, ap (λ (r : Rebuilt). r.ident.term_length) (ap (λ (l : Log). l.rebuilt) c.self.view_is)))
