@@ -1,5 +1,5 @@
 -- All frames that are held, term by term.
-use Rattle.std.proofs.Common.{◌≡◌, ℕ, ◌+◌, ◌*◌, ◌-◌, ◌/◌, ◌%◌, ◌<◌, ◌≤◌, Bool, true, false, cond, List, [], ◌∷◌, ◌++◌, min, refl, sym, ap, ap₂, ◌∙◌, subst, arith, append_assoc}
+use Rattle.std.proofs.Common.{◌≡◌, ℕ, ◌+◌, ◌*◌, ◌-◌, ◌/◌, ◌%◌, ◌^◌, ◌<◌, ◌≤◌, Bool, true, false, cond, List, [], ◌∷◌, ◌++◌, min, refl, sym, ap, ap₂, ◌∙◌, subst, arith, append_assoc}
 use Rattle.std.specs.Prelude.{max, nat_lt, nat_le, ◌&&◌, if◌then◌else◌, filter}
 use Rattle.std.proofs.lemmas.Bool.Decides.{nat_tests}
 use Rattle.std.proofs.lemmas.List.{append-nil}
@@ -11,7 +11,7 @@ use Rattle.term_log.specs.Frames.{Frame, fragment, pad, span, total, IsFrame, Is
 use Rattle.term_log.specs.Kept.{Kept, StandsFor}
 use Rattle.term_log.specs.Log.{low_of}
 use Rattle.term_log.specs.Reading.{Given, given, all_given, sent_size, of_term, within, GivesFrom, GivesAll}
-use Rattle.term_log.specs.Ranges.{meets, is_over, GivesOver}
+use Rattle.term_log.specs.Ranges.{meets, is_over, over_start, GivesOver, Reaches}
 use Rattle.term_log.proofs.Held.{run_front, run_rest, total_both, term_near}
 use Rattle.term_log.proofs.Places.{mod_within}
 use Rattle.term_log.proofs.Stands.{frame_fits}
@@ -94,17 +94,17 @@ record From (k : Kept) (position : ℕ) (after : List Frame) : Type 0 where
   stands : StandsFor k (before ++ after)
   place : position ≡ k.ident.start + total before
 
--- the frames of a term that are given, and those behind it
-record Turn (k : Kept) (position next : ℕ) (after : List Frame) (left : List Given) : Type 0 where
-  later : List Frame
-  rest : From k next later
-  all : all_given k.ident position after ≡ left ++ all_given k.ident next later
+-- the frames of the term in which a position lies, from there on
+record OfTerm (k : Kept) (position : ℕ) (after : List Frame) : Type 0 where
+  run : IsRun k.ident position (of_term k.ident.term_length position after)
+  least : total (of_term k.ident.term_length position after) ≤ k.ident.term_length
+  ends : position + total (of_term k.ident.term_length position after) ≡ min k.tail (term_end k.ident.term_length position)
 
-turn : (k : Kept) (position next : ℕ) (after : List Frame) (left : List Given) → IsIdent k.ident → From k position after
-    → GivesFrom k position k.ident.term_length left → next ≡ min k.tail (term_end k.ident.term_length position) → Turn k position next after left
-turn k position next after left sound from gives next_is =
+frames_of_term : (k : Kept) (position : ℕ) (after : List Frame) → IsIdent k.ident → From k position after → OfTerm k position after
+frames_of_term k position after sound from =
     let i : Ident = k.ident in
     let term : ℕ = i.term_length in
+    let term_low = sound.term_low in
     let s = from.stands in
     let place = from.place in
     let here : List Frame = of_term term position after in
@@ -114,12 +114,43 @@ turn k position next after left sound from gives next_is =
     let tail = s.tail in
     let both = total_both from.before after in
     let ends = term_total i position after sound run in
-    let next_here : next ≡ position + total here = omega arith in
     let split_offset = div-add-mod' position term in
-    let least : total here ≤ term = omega arith in
-    let here_run = run_front i position here later (subst (λ (fs : List Frame). IsRun i position fs) split run) in
-    let given_is : left ≡ all_given i position here =
-    gives.on from.before after s place ∙ ap (all_given i position) (within_whole i position term here here_run least) in
+    record {
+      run = run_front i position here later (subst (λ (fs : List Frame). IsRun i position fs) split run);
+      least = omega arith;
+      ends = omega arith;
+    }
+
+-- what is kept of given frames is kept of each part of them
+record KeepsParts (keep : List Given → List Given) : Type 0 where
+  both : (xs ys : List Given) → keep (xs ++ ys) ≡ keep xs ++ keep ys
+  none : keep [] ≡ []
+
+-- what is given from a position on, of which a part is kept: the same as if all frames of its term were given
+record GivesKept (keep : List Given → List Given) (k : Kept) (position : ℕ) (left : List Given) : Type 0 where
+  on : (before after : List Frame) → StandsFor k (before ++ after) → position ≡ k.ident.start + total before
+      → keep left ≡ keep (all_given k.ident position (of_term k.ident.term_length position after))
+
+-- the frames of a term that are given, and those behind it
+record Turn (keep : List Given → List Given) (k : Kept) (position next : ℕ) (after : List Frame) (left : List Given) : Type 0 where
+  later : List Frame
+  rest : From k next later
+  all : keep (all_given k.ident position after) ≡ keep left ++ keep (all_given k.ident next later)
+
+turn : (keep : List Given → List Given) (k : Kept) (position next : ℕ) (after : List Frame) (left : List Given) → KeepsParts keep → IsIdent k.ident
+    → From k position after → GivesKept keep k position left → next ≡ min k.tail (term_end k.ident.term_length position)
+    → Turn keep k position next after left
+turn keep k position next after left parts sound from gives next_is =
+    let i : Ident = k.ident in
+    let term : ℕ = i.term_length in
+    let s = from.stands in
+    let place = from.place in
+    let here : List Frame = of_term term position after in
+    let later : List Frame = later_of term position after in
+    let split : after ≡ here ++ later = term_split term position after in
+    let ends = (frames_of_term k position after sound from).ends in
+    let next_here : next ≡ position + total here = omega arith in
+    let given_is = gives.on from.before after s place in
     let whole : from.before ++ after ≡ (from.before ++ here) ++ later = ap (λ (fs : List Frame). from.before ++ fs) split ∙ sym (append_assoc from.before here later) in
     record {
       later = later;
@@ -128,7 +159,10 @@ turn k position next after left sound from gives next_is =
         stands = subst (λ (fs : List Frame). StandsFor k fs) whole s;
         place = omega (arith, total_both from.before here);
       };
-      all = ap (all_given i position) split ∙ given_both i position here later ∙ ap₂ (λ (xs : List Given) (p : ℕ). xs ++ all_given i p later) (sym given_is) (sym next_here);
+      all = ap (λ (fs : List Frame). keep (all_given i position fs)) split
+          ∙ ap keep (given_both i position here later)
+          ∙ parts.both (all_given i position here) (all_given i (position + total here) later)
+          ∙ ap₂ (λ (xs : List Given) (p : ℕ). xs ++ keep (all_given i p later)) (sym given_is) (sym next_here);
     }
 
 -- fewer terms are left
@@ -164,20 +198,20 @@ none_left k position (f ∷ fs) from ends =
     absurd (omega (arith, total_both from.before (f ∷ fs)))
 
 -- all frames from the first held term on
-three_terms : (k : Kept) (low second third : ℕ) (after : List Frame) (a b c : List Given) → IsIdent k.ident → From k low after
-    → (k.tail / k.ident.term_length - 2) * k.ident.term_length ≤ low
-    → GivesFrom k low k.ident.term_length a → GivesFrom k second k.ident.term_length b → GivesFrom k third k.ident.term_length c
+three_terms : (keep : List Given → List Given) (k : Kept) (low second third : ℕ) (after : List Frame) (a b c : List Given) → KeepsParts keep
+    → IsIdent k.ident → From k low after → (k.tail / k.ident.term_length - 2) * k.ident.term_length ≤ low
+    → GivesKept keep k low a → GivesKept keep k second b → GivesKept keep k third c
     → second ≡ min k.tail (term_end k.ident.term_length low) → third ≡ min k.tail (term_end k.ident.term_length second)
-    → all_given k.ident low after ≡ a ++ b ++ c
-three_terms k low second third after a b c sound from held gives_a gives_b gives_c second_is third_is =
+    → keep (all_given k.ident low after) ≡ keep (a ++ b ++ c)
+three_terms keep k low second third after a b c parts sound from held gives_a gives_b gives_c second_is third_is =
     let i : Ident = k.ident in
     let term : ℕ = i.term_length in
     let term_low = sound.term_low in
     let some : 0 < term = omega arith in
     let end : ℕ = min k.tail (term_end term third) in
-    let one = turn k low second after a sound from gives_a second_is in
-    let two = turn k second third one.later b sound one.rest gives_b third_is in
-    let three = turn k third end two.later c sound two.rest gives_c refl in
+    let one = turn keep k low second after a parts sound from gives_a second_is in
+    let two = turn keep k second third one.later b parts sound one.rest gives_b third_is in
+    let three = turn keep k third end two.later c parts sound two.rest gives_c refl in
     let near = term_near k.tail low term some held in
     let own = div-add-mod' k.tail term in
     let split = div-add-mod' low term in
@@ -188,9 +222,11 @@ three_terms k low second third after a b c sound from held gives_a gives_b gives
     let second_left : k.tail ≤ second - second % term + 2 * term = terms_less k.tail low second term (2 * term) some second_is first_left (omega arith) in
     let third_left : k.tail ≤ third - third % term + term = terms_less k.tail second third term term some third_is (omega arith) (omega arith) in
     let last : k.tail ≤ end = omega arith in
+    let ended : keep (all_given i end three.later) ≡ [] = ap keep (none_left k end three.later three.rest last) ∙ parts.none in
     one.all
-    ∙ ap (λ (xs : List Given). a ++ xs) (two.all ∙ ap (λ (xs : List Given). b ++ xs) (three.all ∙ ap (λ (xs : List Given). c ++ xs) (none_left k end three.later three.rest last) ∙ append-nil c))
-    ∙ sym (append_assoc a b c)
+    ∙ ap (λ (xs : List Given). keep a ++ xs) (two.all ∙ ap (λ (xs : List Given). keep b ++ xs) (three.all ∙ ap (λ (xs : List Given). keep c ++ xs) ended ∙ append-nil (keep c)))
+    ∙ sym (append_assoc (keep a) (keep b) (keep c))
+    ∙ sym (parts.both (a ++ b) c ∙ ap (λ (xs : List Given). xs ++ keep c) (parts.both a b))
 
 -- ---- what is held, of all frames
 
@@ -274,6 +310,21 @@ low_starts k some ahead =
     let is : low_of k ≡ (k.tail / term - 2) * term + 0 = omega (arith, ahead) in
     ap (λ (n : ℕ). n % term) is ∙ mod-mul-add (k.tail / term - 2) term 0 some
 
+-- all of what is given is kept
+keeps_all : KeepsParts (λ xs. xs)
+keeps_all = record { both = λ xs ys. refl; none = refl }
+
+-- a budget of a whole term leaves nothing of one out
+gives_whole : (k : Kept) (position : ℕ) (left : List Given) → IsIdent k.ident → GivesFrom k position k.ident.term_length left → GivesKept (λ xs. xs) k position left
+gives_whole k position left sound gives =
+    record {
+      on = λ before after s place.
+          let from : From k position after = record { before = before; stands = s; place = place } in
+          let here = frames_of_term k position after sound from in
+          let term : ℕ = k.ident.term_length in
+          gives.on before after s place ∙ ap (all_given k.ident position) (within_whole k.ident position term (of_term term position after) here.run here.least);
+    }
+
 -- the frames of three terms are all from the first position on
 pub gives_all : (k : Kept) (position second third : ℕ) (a b c : List Given) → IsIdent k.ident → low_of k ≤ position
     → GivesFrom k position k.ident.term_length a → GivesFrom k second k.ident.term_length b → GivesFrom k third k.ident.term_length c
@@ -283,30 +334,157 @@ gives_all k position second third a b c sound low gives_a gives_b gives_c second
     record {
       on = λ before after s place.
           let from : From k position after = record { before = before; stands = s; place = place } in
-          sym (three_terms k position second third after a b c sound from (omega (arith, low)) gives_a gives_b gives_c second_is third_is);
+          sym (three_terms (λ xs. xs) k position second third after a b c keeps_all sound from (omega (arith, low))
+          (gives_whole k position a sound gives_a) (gives_whole k second b sound gives_b) (gives_whole k third c sound gives_c) second_is third_is);
     }
 
-pub gives_over : (k : Kept) (at size : ℕ) (all left : List Given) → IsIdent k.ident → GivesAll k (low_of k) all
-    → left ≡ filter (meets at size) all → GivesOver k at size left
-gives_over k at size all left sound gives left_is =
+-- ---- the frames that meet a range
+
+keeps_meeting : (at size : ℕ) → KeepsParts (filter (meets at size))
+keeps_meeting at size = record { both = λ xs ys. filter-append (meets at size) xs ys; none = refl }
+
+-- no frame meets a range that ends before it
+none_behind : (i : Ident) (position at size : ℕ) (fs : List Frame) → at + size ≤ position → filter (meets at size) (all_given i position fs) ≡ []
+none_behind i position at size [] over = refl
+none_behind i position at size (f ∷ fs) over =
+    let apart : min (position + span f) (at + size) ≤ max position at = omega arith in
+    let out : meets at size (given i position f) ≡ false = grind (arith, nat_tests, apart) in
+    let rest = none_behind i (position + span f) at size fs (omega arith) in
+    let others : List Given = filter (meets at size) (all_given i (position + span f) fs) in
+    ap (λ (b : Bool). cond b (given i position f ∷ others) others) out ∙ rest
+
+-- no frame meets a range that begins behind it
+none_under : (i : Ident) (position low at size : ℕ) (fs : List Frame) → position + total fs ≤ at
+    → filter (is_over low at size) (all_given i position fs) ≡ []
+none_under i position low at size [] under = refl
+none_under i position low at size (f ∷ fs) under =
+    let apart : min (position + span f) (at + size) ≤ max position at = omega arith in
+    let out : meets at size (given i position f) ≡ false = grind (arith, nat_tests, apart) in
+    let rest = none_under i (position + span f) low at size fs (omega arith) in
+    let g : Given = given i position f in
+    let others : List Given = filter (is_over low at size) (all_given i (position + span f) fs) in
+    let left : cond (nat_le low position && false) (g ∷ others) others ≡ others =
+    elim (nat_le low position) as (λ b. cond (b && false) (g ∷ others) others ≡ others) [ | true ↦ refl | false ↦ refl ] in
+    ap (λ (b : Bool). cond (nat_le low position && b) (g ∷ others) others) out ∙ left ∙ rest
+
+sent_most : (i : Ident) (position : ℕ) (f : Frame) → IsFrame i position f → sent_size f ≤ i.mtu + 32
+sent_most i position (fragment flags payload) is = omega (arith, is.0)
+sent_most i position (pad size) is = omega arith
+
+-- what a budget leaves out meets no range that ends so far before it
+within_meets : (i : Ident) (position at size budget : ℕ) (fs : List Frame) → IsRun i position fs → position + total fs < 2 ^ 64
+    → Reaches i at size position budget
+    → filter (meets at size) (all_given i position (within budget fs)) ≡ filter (meets at size) (all_given i position fs)
+within_meets i position at size budget [] run high reaches = refl
+within_meets i position at size budget (f ∷ fs) run high reaches =
+    let less = sent_less i position f run.0 in
+    let most = sent_most i position f run.0 in
+    elim (nat_lt budget (sent_size f)) as (λ b. nat_lt budget (sent_size f) ≡ b
+    → filter (meets at size) (all_given i position (if b then [] else f ∷ within (budget - sent_size f) fs)) ≡ filter (meets at size) (all_given i position (f ∷ fs))) [
+      | true ↦ λ short.
+          let little : budget < sent_size f = grind (arith, nat_tests, short) in
+          sym (none_behind i position at size (f ∷ fs) (omega arith))
+      | false ↦ λ fits.
+          let enough : sent_size f ≤ budget = grind (arith, nat_tests, fits) in
+          let rest = within_meets i (position + span f) at size (budget - sent_size f) fs run.1 (omega arith) (omega arith) in
+          ap (λ (others : List Given). cond (meets at size (given i position f)) (given i position f ∷ others) others) rest
+    ]
+    refl
+
+gives_meeting : (k : Kept) (position at size budget : ℕ) (left : List Given) → IsIdent k.ident → k.tail < 2 ^ 64 → Reaches k.ident at size position budget
+    → GivesFrom k position budget left → GivesKept (filter (meets at size)) k position left
+gives_meeting k position at size budget left sound high reaches gives =
+    record {
+      on = λ before after s place.
+          let from : From k position after = record { before = before; stands = s; place = place } in
+          let here = frames_of_term k position after sound from in
+          let ends = here.ends in
+          ap (filter (meets at size)) (gives.on before after s place)
+          ∙ within_meets k.ident position at size budget (of_term k.ident.term_length position after) here.run (omega arith) reaches;
+    }
+
+-- the search begins where a term does, or at the first position that is held
+over_starts : (k : Kept) (at : ℕ) → 0 < k.ident.term_length → k.ident.start < max (low_of k) (at - at % k.ident.term_length)
+    → max (low_of k) (at - at % k.ident.term_length) % k.ident.term_length ≡ 0
+over_starts k at some ahead =
+    let term : ℕ = k.ident.term_length in
+    let begin : ℕ = at - at % term in
+    elim (nat_le begin (low_of k)) as (λ b. nat_le begin (low_of k) ≡ b → max (low_of k) begin % term ≡ 0) [
+      | true ↦ λ under.
+          let less : begin ≤ low_of k = grind (arith, nat_tests, under) in
+          let is : max (low_of k) begin ≡ low_of k = omega arith in
+          ap (λ (n : ℕ). n % term) is ∙ low_starts k some (omega arith)
+      | false ↦ λ over.
+          let more : low_of k < begin = grind (arith, nat_tests, over) in
+          let split = div-add-mod' at term in
+          let is : max (low_of k) begin ≡ at / term * term + 0 = omega arith in
+          ap (λ (n : ℕ). n % term) is ∙ mod-mul-add (at / term) term 0 some
+    ]
+    refl
+
+part_over : (k : Kept) (at : ℕ) (frames : List Frame) → IsIdent k.ident → StandsFor k frames → Parted k.ident.start (over_start k at) frames
+part_over k at frames sound s =
+    let i : Ident = k.ident in
+    let term_low = sound.term_low in
+    let tail = s.tail in
+    let some : 0 < i.term_length = omega arith in
+    let before_tail = low_before k (omega arith) in
+    let first : ℕ = max (low_of k) (at - at % i.term_length) in
+    elim (nat_le k.tail first) as (λ b. nat_le k.tail first ≡ b → Parted i.start (over_start k at) frames) [
+      | true ↦ λ behind.
+          let over : k.tail ≤ first = grind (arith, nat_tests, behind) in
+          record { before = frames; after = []; is = sym (append-nil frames); place = omega arith }
+      | false ↦ λ before.
+          let under : first < k.tail = grind (arith, nat_tests, before) in
+          let is : over_start k at ≡ first = omega arith in
+          subst (λ (n : ℕ). Parted i.start n frames) (sym is) (part_at i i.start first frames sound s.sound (omega arith) (omega arith) (over_starts k at some))
+    ]
+    refl
+
+-- no frame before the search's start is asked for
+none_before : (k : Kept) (at size : ℕ) (fs : List Frame) → IsRun k.ident k.ident.start fs → k.ident.start + total fs ≡ over_start k at
+    → filter (is_over (low_of k) at size) (all_given k.ident k.ident.start fs) ≡ []
+none_before k at size fs run ends =
+    let i : Ident = k.ident in
+    let low : ℕ = low_of k in
+    elim (nat_le (over_start k at) low) as (λ b. nat_le (over_start k at) low ≡ b → filter (is_over low at size) (all_given i i.start fs) ≡ []) [
+      | true ↦ λ under.
+          let less : over_start k at ≤ low = grind (arith, nat_tests, under) in
+          none_below i i.start low at size fs run (omega arith)
+      | false ↦ λ over.
+          let more : low < over_start k at = grind (arith, nat_tests, over) in
+          none_under i i.start low at size fs (omega arith)
+    ]
+    refl
+
+-- what meets a range of what is given from the search's start on is all that is held and meets it
+pub gives_over : (k : Kept) (at size second third budget budget_2 budget_3 : ℕ) (a b c left : List Given) → IsIdent k.ident → k.ident.start ≤ k.tail
+    → k.tail < 2 ^ 64 → GivesFrom k (over_start k at) budget a → GivesFrom k second budget_2 b → GivesFrom k third budget_3 c
+    → Reaches k.ident at size (over_start k at) budget → Reaches k.ident at size second budget_2 → Reaches k.ident at size third budget_3
+    → second ≡ min k.tail (term_end k.ident.term_length (over_start k at)) → third ≡ min k.tail (term_end k.ident.term_length second)
+    → left ≡ filter (meets at size) (a ++ b ++ c) → GivesOver k at size left
+gives_over k at size second third budget budget_2 budget_3 a b c left sound start high gives_a gives_b gives_c reaches_a reaches_b reaches_c second_is third_is left_is =
     record {
       on = λ frames s.
           let i : Ident = k.ident in
           let low : ℕ = low_of k in
-          let term_low = sound.term_low in
-          let tail = s.tail in
-          let some : 0 < i.term_length = omega arith in
-          let before_tail = low_before k (omega arith) in
-          let parted = part_at i i.start low frames sound s.sound (omega arith) (omega arith) (low_starts k some) in
+          let before_tail = low_before k start in
+          let begin : ℕ = over_start k at in
+          let parted = part_over k at frames sound s in
           let place = parted.place in
           let stands = subst (λ (fs : List Frame). StandsFor k fs) parted.is s in
           let front_run = run_front i i.start parted.before parted.after (subst (λ (fs : List Frame). IsRun i i.start fs) parted.is s.sound) in
+          let from : From k begin parted.after = record { before = parted.before; stands = stands; place = place } in
+          let keep : List Given → List Given = filter (meets at size) in
           let test : Given → Bool = is_over low at size in
           left_is
-          ∙ ap (filter (meets at size)) (gives.on parted.before parted.after stands place)
-          ∙ sym (all_above i low low at size parted.after (omega arith))
+          ∙ sym (three_terms keep k begin second third parted.after a b c (keeps_meeting at size) sound from (omega arith)
+          (gives_meeting k begin at size budget a sound high reaches_a gives_a)
+          (gives_meeting k second at size budget_2 b sound high reaches_b gives_b)
+          (gives_meeting k third at size budget_3 c sound high reaches_c gives_c) second_is third_is)
+          ∙ sym (all_above i begin low at size parted.after (omega arith))
           ∙ ap (λ (p : ℕ). filter test (all_given i p parted.after)) place
-          ∙ sym (ap (λ (xs : List Given). xs ++ filter test (all_given i (i.start + total parted.before) parted.after)) (none_below i i.start low at size parted.before front_run (omega arith)))
+          ∙ sym (ap (λ (xs : List Given). xs ++ filter test (all_given i (i.start + total parted.before) parted.after)) (none_before k at size parted.before front_run (sym place)))
           ∙ sym (filter-append test (all_given i i.start parted.before) (all_given i (i.start + total parted.before) parted.after))
           ∙ ap (filter test) (sym (given_both i i.start parted.before parted.after) ∙ ap (all_given i i.start) (sym parted.is));
     }

@@ -1,6 +1,7 @@
 -- The frames of a log whose ranges meet a range of positions, over all the terms that are held. Own rules.
-use Rattle.std.specs.Prelude.{◌≡◌, ℕ, ◌+◌, max, min, nat_lt, nat_le, ◌&&◌, Bool, List, ◌++◌, filter}
+use Rattle.std.specs.Prelude.{◌≡◌, ℕ, ◌+◌, ◌-◌, ◌%◌, ◌^◌, ◌≤◌, max, min, nat_lt, nat_le, ◌&&◌, Bool, List, ◌++◌, filter}
 use Rattle.term_log.specs.declared.ranges.FramesOver.{FramesOver}
+use Rattle.term_log.specs.declared.ident.Ident.{Ident}
 use Rattle.term_log.specs.Frames.{Frame, span}
 use Rattle.term_log.specs.Kept.{Kept, StandsFor}
 use Rattle.term_log.specs.Log.{low_of}
@@ -19,6 +20,14 @@ is_over low position size g = nat_le low g.position && meets position size g
 pub record GivesOver (k : Kept) (position size : ℕ) (left : List Given) : Type 0 where
   pub on : (frames : List Frame) → StandsFor k frames
       → left ≡ filter (is_over (low_of k) position size) (all_given k.ident k.ident.start frames)
+
+-- where frames that are held and meet a range from `position` on may begin: at the start of its term, as far as that is held
+abbrev pub over_start : Kept → ℕ → ℕ
+over_start k position = min k.tail (max (low_of k) (position - position % k.ident.term_length))
+
+-- a budget of bytes from a position on goes up to the range's end and over one frame more, or up to the greatest position
+abbrev pub Reaches : Ident → ℕ → ℕ → ℕ → ℕ → Type 0
+Reaches i position size from budget = min (position + size + (i.mtu + 32)) (2 ^ 64 - 1) ≤ from + budget
 
 -- all that is to come of three terms, before it is asked what meets the range
 abbrev pub all_left : FramesOver → List Given

@@ -8,7 +8,7 @@ ghost use Rattle.term_log.specs.Cut.{cut};
 ghost use Rattle.term_log.specs.Frames.{Frame, fragment, pad, total};
 ghost use Rattle.term_log.specs.Ident.{IsIdent, greatest_position, payload_length, place_at};
 ghost use Rattle.term_log.specs.Log.{low_of};
-ghost use Rattle.term_log.specs.Ranges.{GivesOver, over_left};
+ghost use Rattle.term_log.specs.Ranges.{GivesOver, Reaches, over_left, over_start};
 ghost use Rattle.term_log.specs.Reading.{AreFrom, EndsBy, GivesAll, GivesFrom, frames_left, sent_bytes, spans};
 ghost use Rattle.term_log.specs.Kept.{Kept, after_frame, after_frames, offset_of, opened, rest_of};
 
@@ -233,15 +233,47 @@ impl Appender {
         )
     }
 
-    /// The frames that are held and meet a range.
+    /// Where frames that meet a range may begin: at the start of the term in which the range begins, as far as that is held.
+    fn over_start(&self, low: u64, position: u64) -> u64
+        requires exact { low ≡ low_of self.now }
+        requires within { low ≤ self.now.tail }
+        ensures value { result ≡ over_start self.now position }
+        ensures low { low_of self.now ≤ result }
+        ensures high { result ≤ self.now.tail }
+        ensures sound { IsIdent self.now.ident }
+        ensures start { self.now.ident.start ≤ self.now.tail }
+        ensures fits { self.now.tail < 2 ^ 64 }
+    {
+        let term_length = u64::from(self.ident.term_length);
+        low.max(position - position % term_length).min(self.tail)
+    }
+
+    /// How many bytes of frames are looked at from a position on, for a range: up to its end, and those of a frame more.
+    fn over_budget(&self, from: u64, position: u64, size: u64) -> usize
+        ensures { Reaches self.now.ident position size from result }
+    {
+        let frame = u64::from(self.ident.mtu) + Header::SIZE as u64;
+        let end = position.saturating_add(size).saturating_add(frame);
+        end.saturating_sub(from) as usize
+    }
+
+    /// The frames that are held and meet a range. They are looked for from the start of its term on, up to its end.
     pub(crate) fn frames_over(&self, low: u64, position: u64, size: u64) -> FramesOver<'_>
         requires exact { low ≡ low_of self.now }
         requires within { low ≤ self.now.tail }
         ensures gives { GivesOver self.now position size (over_left result) }
         ensures within { All (EndsBy self.now.tail) (over_left result) }
     {
-        let (first, second, third) = self.terms_from(low);
-        FramesOver::new(first, second, third, position, size)
+        let first = self.over_start(low, position);
+        let second = self.next_term(first);
+        let third = self.next_term(second);
+        FramesOver::new(
+            self.frames_from(first, self.over_budget(first, position, size)),
+            self.frames_from(second, self.over_budget(second, position, size)),
+            self.frames_from(third, self.over_budget(third, position, size)),
+            position,
+            size,
+        )
     }
 
     /// The frames from a position on that is held: a frame's start or the tail. They are all up to the tail.
