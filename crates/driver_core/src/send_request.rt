@@ -1,3 +1,4 @@
+ghost use Rattle.channel_uri.specs.Channel.{endpoint_shape};
 ghost use Rattle.destinations.specs.Destinations.{of};
 ghost use Rattle.driver_core.specs.PublicationRequests.{log_decision};
 ghost use Rattle.driver_core.specs.SendRequests.{outlet_of, outlets_of, sending_of};
@@ -48,15 +49,24 @@ impl Registry {
         )
     }
 
-    /// What the policy in force says of sending a datagram of the log to that destination: of an address that was named by
-    /// hand its channel is asked, else the log's own.
+    /// That where the destination was named by hand: the channel of its address is asked. A channel is large, so that a log
+    /// which has an endpoint is asked for without one.
+    #[inline(never)]
+    fn decision_by_hand(&self, log: &Source, destination: &Destination) -> Decision
+        ensures { result ≡ log_decision self.now destination.now.principal Send destination.now.number (endpoint_shape destination.now.address) log.now.stream }
+    {
+        let channel = Channel::at_endpoint(&destination.address);
+        self.send_decision(log, destination, &channel)
+    }
+
+    /// Where a datagram of the log goes, and whether it may: of an address that was named by hand its channel is asked, else
+    /// the log's own.
     #[tactic(auto, unfolding(stream_registry::specs::Places::is_manual))]
     fn outlet(&self, log: &Source, destination: &Destination) -> Outlet
         ensures { result ≡ outlet_of self.now log.now destination.now }
     {
         let decision = if let Some(Place::Manual) = log.channel.place() {
-            let channel = Channel::at_endpoint(&destination.address);
-            self.send_decision(log, destination, &channel)
+            self.decision_by_hand(log, destination)
         } else {
             self.send_decision(log, destination, &log.channel)
         };

@@ -364,7 +364,7 @@ none_under i position low at size (f ∷ fs) under =
     let g : Given = given i position f in
     let others : List Given = filter (is_over low at size) (all_given i (position + span f) fs) in
     let left : cond (nat_le low position && false) (g ∷ others) others ≡ others =
-    elim (nat_le low position) as (λ b. cond (b && false) (g ∷ others) others ≡ others) [ | true ↦ refl | false ↦ refl ] in
+    elim (nat_le low position) as (λ b. cond (b && false) (g ∷ others) others ≡ others) [ true ↦ refl | false ↦ refl ] in
     ap (λ (b : Bool). cond (nat_le low position && b) (g ∷ others) others) out ∙ left ∙ rest
 
 sent_most : (i : Ident) (position : ℕ) (f : Frame) → IsFrame i position f → sent_size f ≤ i.mtu + 32

@@ -28,6 +28,21 @@ fn meets(position: u64, size: u64, frame: &LogFrame<'_>) -> bool
         && frame.position.saturating_sub(position) < size
 }
 
+/// The frames from the first one on that meets a range, if any does: those before it are passed.
+fn from_meeting<'a>(frames: Frames<'a>, position: u64, size: u64) -> Frames<'a>
+    ensures { filter (meets position size) (frames_left result) ≡ filter (meets position size) (frames_left frames.entry) }
+{
+    let mut left = frames;
+    let mut later = frames;
+    while let Some(frame) = later.next() {
+        if meets(position, size, &frame) {
+            return left;
+        }
+        left = later;
+    }
+    left
+}
+
 impl<'a> FramesOver<'a> {
     /// Those frames of three terms that meet a range.
     #[tactic(auto, unfolding(crate::specs::Ranges::over_left))]
@@ -41,7 +56,7 @@ impl<'a> FramesOver<'a> {
         ensures { over_left result ≡ filter (meets position size) (frames_left first.entry ++ frames_left second.entry ++ frames_left third.entry) }
     {
         FramesOver {
-            first,
+            first: from_meeting(first, position, size),
             second,
             third,
             position,
