@@ -1,13 +1,15 @@
 -- What a turn of the sender comes to, by what is due.
-use Rattle.std.proofs.Common.{◌≡◌, ℕ, Bool, true, false, cond, List, Option, Some, None, refl, ap}
+use Rattle.std.proofs.Common.{◌≡◌, ℕ, Bool, true, false, cond, List, Some, None, refl, ap, subst, ◌∙◌}
 use Rattle.std.specs.Option.{option_map}
-use Rattle.any_log.specs.Sending.{after_turn, due_in, turn_of}
+use Rattle.any_log.specs.Sending.{CutsCopy, after_turn, due_in, turn_of}
 use Rattle.any_log.specs.Whole.{AnyWhole, whole, rebuilt}
 use Rattle.publication_sender.specs.declared.cutting.DatagramKind.{DatagramKind}
 use Rattle.publication_sender.specs.declared.cutting.Pace.{Pace}
-use Rattle.publication_sender.specs.Cutting.{after_due, bytes_as, cut_of, datagram_of, due_of}
+use Rattle.publication_sender.specs.declared.cutting.DatagramKind.TheVariants as kinds
+use Rattle.publication_sender.specs.Cutting.{CopiesFrames, IsDue, after_due, bytes_as, cut_of, datagram_of, due_of}
 use Rattle.term_log.specs.Ident.{is_udp}
-use Rattle.term_log.specs.Whole.{Whole}
+use Rattle.term_log.specs.Log.{Log}
+use Rattle.term_log.specs.Whole.{Stands, Whole}
 
 -- ---- the log is not sent
 
@@ -56,3 +58,18 @@ pub some_turn : (pace : Pace) (now : ℕ) (lingers : Bool) (w : AnyWhole) (kind 
     → (bytes : List ℕ) × (turn_of pace now lingers w ≡ Some (Some bytes))
 some_turn pace now lingers (whole w) kind is = (bytes_as lingers w kind, some_by (is_udp w.ident.kind) pace now lingers w kind is)
 some_turn pace now lingers (rebuilt r) kind is = absurd (cc is)
+
+-- ---- frames are copied where they are due
+
+pub copied_frames : (pace : Pace) (now : ℕ) (lingers : Bool) (old new : Log) (copy : List ℕ) → IsDue pace now old (Some kinds.Frames)
+    → CopiesFrames now old new copy → CutsCopy pace now lingers old new (Some copy)
+unfolding datagram_of cut_of
+copied_frames pace now lingers old new copy is copies =
+    record {
+      on = λ w s.
+          let due : Some kinds.Frames ≡ due_of pace now w = is.on w s in
+          let copied = copies.on w s in (
+            ap Some copied.0 ∙ ap (option_map (bytes_as lingers w)) due,
+            subst (λ (x : Whole). Stands new x) (ap (after_due now w) due) copied.1,
+          );
+    }

@@ -1,13 +1,12 @@
 -- What receivers ask of a log by status messages and NAKs (Aeron Transport Protocol Specification, flow control by status
 -- messages, loss recovery). Only the log of a publication is asked. What is done on them is this project's own.
-use Rattle.std.specs.Prelude.{◌≡◌, ℕ, Bool, true, false, not, List, Option, Some, None, if◌then◌else◌}
+use Rattle.std.specs.Prelude.{◌≡◌, ℕ, Bool, true, false, not, List, [], ◌∷◌, Option, Some, None, if◌then◌else◌}
 use Rattle.any_log.specs.declared.any_log.AnyLog.{AnyLog}
 use Rattle.any_log.specs.declared.asking.NakReply.{NakReply}
 use Rattle.any_log.specs.declared.asking.NakReply.TheVariants.{Denied, Empty, OutOfWindow, Lingering, Busy, Resent}
 use Rattle.any_log.specs.Whole.{AnyWhole, whole, rebuilt, StandsFor}
 use Rattle.frame_codec.specs.declared.nak.Nak.{Nak}
 use Rattle.frame_codec.specs.declared.status_message.StatusMessage.{StatusMessage}
-use Rattle.policy_core.specs.declared.verdict.Verdict.{Verdict}
 use Rattle.policy_core.specs.declared.decision.Decision.{Decision}
 use Rattle.publication_sender.specs.declared.hearing.StatusAnswer.{StatusAnswer}
 use Rattle.publication_sender.specs.Hearing.{answer_of, heard_of}
@@ -31,6 +30,11 @@ after_status now message (whole w) = whole (heard_of now message w)
 after_status now message (rebuilt r) = rebuilt r
 
 -- ---- a NAK
+
+-- the first of the datagrams is taken; none where none is left
+abbrev pub TakesNext : List (List ℕ) → List (List ℕ) → Option (List ℕ) → Type 0
+TakesNext old new None = old ≡ []
+TakesNext old new (Some bytes) = old ≡ bytes ∷ new
 
 -- the gate's word; what it grants is sent again
 abbrev pub reply_by : Nak → Whole → Word → NakReply

@@ -1,6 +1,6 @@
 //! What receivers ask of a publication's log, by status messages and NAKs.
 
-ghost use Rattle.any_log.specs.Asking.{Hears, IsGranted, IsToResend, Keeps, Replies, RepliesTo, after_status};
+ghost use Rattle.any_log.specs.Asking.{Hears, IsGranted, IsToResend, Keeps, Replies, RepliesTo, TakesNext, after_status};
 ghost use Rattle.any_log.specs.Held.{Lies};
 ghost use Rattle.any_log.specs.Whole.{Carries};
 ghost use Rattle.publication_sender.specs.Resending.{ResendsOver, gate_after, asking_of};
@@ -32,15 +32,31 @@ pub enum NakReply {
     Resent(Items<Bytes>),
 }
 
+/// A copy of the next datagram, if one is left.
+fn copy_of_next(alloc: Global, left: &mut Datagrams<'_>) -> Result<Option<Bytes>, AllocError>
+    ensures { IfOk result (λ copy. TakesNext left.old.datagrams left.new.datagrams copy) }
+{
+    if left.is_done() {
+        return Ok(None);
+    }
+    let mut room = Vec::from_elem(alloc, 0u8, left.mtu())?;
+    match left.next_into(room.as_mut_slice()) {
+        Some(size) => {
+            room.truncate(size);
+            Ok(Some(Bytes::from(room)))
+        }
+        None => Ok(None),
+    }
+}
+
 /// Copies of the datagrams, in their order.
 fn copies_of(alloc: Global, datagrams: Datagrams<'_>) -> Result<Items<Bytes>, AllocError>
     ensures { IfOk result (λ copies. copies ≡ datagrams.entry.datagrams) }
 {
     let mut left = datagrams;
-    let mut room = Vec::from_elem(alloc, 0u8, left.mtu())?;
     let mut copies = Items::new(alloc);
-    while let Some(size) = left.next_into(room.as_mut_slice()) {
-        copies.push(Bytes::new(alloc, &room.as_slice()[..size])?)?;
+    while let Some(copy) = copy_of_next(alloc, &mut left)? {
+        copies.push(copy)?;
     }
     Ok(copies)
 }

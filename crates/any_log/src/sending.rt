@@ -8,7 +8,7 @@ ghost use Rattle.term_log.specs.declared.ident.LogKind.TheVariants as kinds;
 
 use crate::any_log::AnyLog;
 use byte_strings::Bytes;
-use publication_sender::{DatagramKind, Pace, cut, due};
+use publication_sender::{DatagramKind, Pace, copy_frames, cut, due};
 use std::alloc::{AllocError, Global};
 use term_log::{LogKind, TermLog};
 
@@ -55,8 +55,8 @@ impl AnyLog {
     }
 }
 
-/// Cuts the datagram that is due of the log of a publication over datagrams.
-fn copy_of_cut(
+/// Cuts the datagram that is due of the log of a publication over datagrams, in room for the greatest one.
+fn copy_of_any(
     log: &mut TermLog,
     alloc: Global,
     now: u64,
@@ -75,5 +75,26 @@ fn copy_of_cut(
             Ok(Some(Bytes::from(room)))
         }
         None => Ok(None),
+    }
+}
+
+/// Cuts the datagram that is due of the log of a publication over datagrams. Frames are copied at once, and into no more room
+/// than they need.
+#[tactic(auto, using(crate::proofs::SendingLemmas::copied_frames))]
+fn copy_of_cut(
+    log: &mut TermLog,
+    alloc: Global,
+    now: u64,
+    pace: &Pace,
+    lingers: bool,
+) -> Result<Option<Bytes>, AllocError>
+    requires { log.old.kept.ident.kind ≡ kinds.Udp }
+    ensures cut { IfOk result (λ datagram. CutsCopy pace.now now lingers log.old log.new datagram) }
+    ensures kept { log.new.kept ≡ log.old.kept }
+    ensures err { OnErr result (log.new ≡ log.old) }
+{
+    match due(log, now, pace) {
+        Some(DatagramKind::Frames) => Ok(Some(Bytes::from(copy_frames(log, alloc, now)?))),
+        _ => copy_of_any(log, alloc, now, pace, lingers),
     }
 }

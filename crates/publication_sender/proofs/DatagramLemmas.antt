@@ -1,6 +1,6 @@
 -- How frames go into datagrams.
 use Rattle.std.proofs.Common.{◌≡◌, ◌≤◌, ℕ, zero, suc, ◌+◌, ◌-◌, ◌/◌, true, false, List, [], ◌∷◌, length, take, Option, Some, None, refl, sym, ap, subst, ◌∙◌, arith}
-use Rattle.std.specs.Prelude.{◌++◌, drop, nat_le}
+use Rattle.std.specs.Prelude.{◌==◌, ◌++◌, drop, nat_le, nat_lt}
 use Rattle.std.proofs.lemmas.Bool.{eq-eqb}
 use Rattle.std.proofs.lemmas.Bool.Decides.{nat_tests}
 use Rattle.std.proofs.lemmas.List.{append-nil, append_assoc, drop_at, length-append, length-drop, take_at}
@@ -165,3 +165,28 @@ gives_first term mtu old new out_old out_new size fills =
     subst (λ (ds : List (List ℕ)). GivesFirst ds (datagrams_of term mtu new) out_old out_new size)
     (ap (λ (ds : List (List ℕ)). ahead (first_run term mtu old) ds) left ∙ sym step)
     (gives (first_run term mtu old) old new (datagrams_of term mtu new) out_old out_new size fills none)
+
+-- no datagram is left where no frame is, or the next one is too long for any
+pub done_none : (term mtu : ℕ) (all : List Given) → all ≡ [] → (length (datagrams_of term mtu all) == 0) ≡ true
+unfolding datagrams_of
+done_none term mtu all is = rw (is) refl
+
+nonzero : (n : ℕ) → (suc n == 0) ≡ false
+nonzero n = grind (arith, nat_tests)
+
+pub done_some : (term mtu : ℕ) (all later : List Given) (g : Given) → all ≡ g ∷ later
+    → (length (datagrams_of term mtu all) == 0) ≡ nat_lt mtu (length g.bytes)
+done_some term mtu all later g is =
+    ap (λ (gs : List Given). length (datagrams_of term mtu gs) == 0) is
+    ∙ ap (λ (ds : List (List ℕ)). length ds == 0) (datagrams_step term mtu (g ∷ later))
+    ∙ elim (nat_le (length g.bytes) mtu) as (λ b. nat_le (length g.bytes) mtu ≡ b
+    → (length (ahead (first_run term mtu (g ∷ later)) (datagrams_of term mtu (drop (length (first_run term mtu (g ∷ later))) (g ∷ later)))) == 0) ≡ nat_lt mtu (length g.bytes)) [
+      | true ↦ λ short.
+          let fits : nat_lt mtu (length g.bytes) ≡ false = grind (arith, nat_tests, short) in
+          let others : List Given = fitting term (g.position / term) (mtu - length g.bytes) later in
+          rw (eq-eqb (g.position / term) (g.position / term) refl, short, fits) (nonzero (length (datagrams_of term mtu (drop (length others) later))))
+      | false ↦ λ long.
+          let over : nat_lt mtu (length g.bytes) ≡ true = grind (arith, nat_tests, long) in
+          rw (eq-eqb (g.position / term) (g.position / term) refl, long, over) refl
+    ]
+    refl

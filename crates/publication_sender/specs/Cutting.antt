@@ -100,6 +100,10 @@ pub record Lays (bytes old new : List ℕ) (size : ℕ) : Type 0 where
 pub record CutsFrames (now : ℕ) (old new : Log) (out_old out_new : List ℕ) (size : ℕ) : Type 0 where
   pub on : (w : Whole) → Stands old w → Lays (frames_bytes w) out_old out_new size × Stands new (datagram_cut now (sent_on w))
 
+-- the copy has the frames that may be sent, and the log moves on by them
+pub record CopiesFrames (now : ℕ) (old new : Log) (copy : List ℕ) : Type 0 where
+  pub on : (w : Whole) → Stands old w → (copy ≡ frames_bytes w) × Stands new (datagram_cut now (sent_on w))
+
 -- a datagram stands at the front, or nothing is changed
 abbrev pub LaysDue : Option (List ℕ) → List ℕ → List ℕ → Option ℕ → Type 0
 LaysDue None old new size = (size ≡ None) × (new ≡ old)

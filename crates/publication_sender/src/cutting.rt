@@ -2,14 +2,15 @@
 
 ghost use Rattle.frame_codec.specs.Frame.{beat_bytes};
 ghost use Rattle.frame_codec.specs.Setup.{setup_bytes};
-ghost use Rattle.publication_sender.specs.Cutting.{CutsFrames, Cuts, HasFrames, IsDue, Lays, beat_flags, beat_of, setup_at};
-ghost use Rattle.std.specs.Prelude.{◌≡◌, ◌<◌, ◌≤◌, length};
+ghost use Rattle.publication_sender.specs.Cutting.{CopiesFrames, CutsFrames, Cuts, HasFrames, IsDue, Lays, beat_flags, beat_of, setup_at};
+ghost use Rattle.std.specs.Prelude.{◌≡◌, ◌<◌, ◌≤◌, IfOk, OnErr, length};
 ghost use Rattle.term_log.specs.Ident.{IsIdent, place_at};
 ghost use Rattle.term_log.specs.Sender.{after_setup, later_of};
 ghost use Rattle.term_log.specs.SenderSteps.{datagram_cut, setup_cut};
 ghost use Rattle.term_log.specs.Whole.{Carries};
 
 use frame_codec::{Flags, Header, Setup, TermPlace, term_of, write_beat, write_setup};
+use std::alloc::{AllocError, Global};
 use term_log::{Ident, LogKind, TermLog};
 
 /// What a sender cuts next.
@@ -148,13 +149,32 @@ fn cut_frames(log: &mut TermLog, now: u64, out: &mut [u8]) -> usize
 {
     let position = log.sender_position();
     let frames = log.frames_from(position, log.send_budget() as usize);
-    let bytes = frames.bytes();
+    let (bytes, span) = frames.bytes_and_span();
     let size = bytes.len();
     out[..size].copy_from_slice(bytes);
-    let end = position + frames.span();
-    log.sent(end);
+    log.sent(position + span);
     log.datagram_sent(now);
     size
+}
+
+/// Cuts the frames that may be sent at the moment `now`, in nanoseconds, as [`cut`] does where they are due, into a copy of
+/// their own: they are told as sent, whoever gets them.
+///
+/// # Errors
+/// Nothing is changed where there is no memory for the copy.
+pub fn copy_frames(log: &mut TermLog, alloc: Global, now: u64) -> Result<Vec<u8>, AllocError>
+    requires { log.old.kept.ident.kind ≡ LogKind.Udp }
+    ensures cuts { IfOk result (λ copy. CopiesFrames now log.old log.new copy.items) }
+    ensures kept { log.new.kept ≡ log.old.kept }
+    ensures err { OnErr result (log.new ≡ log.old) }
+{
+    let position = log.sender_position();
+    let frames = log.frames_from(position, log.send_budget() as usize);
+    let (bytes, span) = frames.bytes_and_span();
+    let copy = Vec::from_slice(alloc, bytes)?;
+    log.sent(position + span);
+    log.datagram_sent(now);
+    Ok(copy)
 }
 
 /// Cuts the datagram that is due of a log at the moment `now`, in nanoseconds: it is written at the front of `out`, and the

@@ -1,7 +1,7 @@
 //! Frames that are sent again, in datagrams.
 
 ghost use Rattle.publication_sender.specs.Datagrams.{Fills, FillsFirst, GivesFirst, TakesFitting, datagrams_of, first_run, fitting};
-ghost use Rattle.std.specs.Prelude.{◌≡◌, ◌+◌, ◌<◌, ◌≤◌, ◌++◌, drop, length, take};
+ghost use Rattle.std.specs.Prelude.{◌≡◌, ◌+◌, ◌==◌, ◌<◌, ◌≤◌, ◌++◌, drop, length, take};
 ghost use Rattle.term_log.specs.Ranges.{over_left};
 
 use std::marker::Model;
@@ -120,6 +120,17 @@ impl<'a> Datagrams<'a> {
         ensures { result ≡ self.now.mtu }
     {
         self.mtu
+    }
+
+    /// Whether no datagram is left.
+    pub fn is_done(&self) -> bool
+        ensures { result ≡ (length self.now.datagrams == 0) }
+    {
+        let mut later = self.frames;
+        match later.next() {
+            Some(frame) => self.mtu < frame.bytes.len(),
+            None => true,
+        }
     }
 
     /// Writes the next datagram at the front of `out`. The answer is how many bytes it has; none where all were given.

@@ -1,7 +1,7 @@
 //! The sender's side of a publication's log: steps that are lent one log and what they decide by.
 //!
 //! [`due`] says which datagram is cut next, and [`cut`] cuts it; [`receive_status`] is what a receiver's status message does,
-//! and [`receive_nak`] what a NAK does. Nothing here takes memory. Flow control by status messages, loss recovery, SETUP frames
+//! and [`receive_nak`] what a NAK does. [`copy_frames`] alone takes memory. Flow control by status messages, loss recovery, SETUP frames
 //! and heartbeats are those of the Aeron Transport Protocol Specification.
 #![tactic(auto)]
 
@@ -11,7 +11,7 @@ mod hearing;
 mod laws;
 mod resending;
 
-pub use cutting::{DatagramKind, Pace, cut, due};
+pub use cutting::{DatagramKind, Pace, copy_frames, cut, due};
 pub use datagrams::Datagrams;
 pub use hearing::{StatusAnswer, receive_status};
 pub use laws::{held_logs_are_asked_as_wholes, resends_carry_what_is_asked};

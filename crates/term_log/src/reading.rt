@@ -140,23 +140,13 @@ impl<'a> Frames<'a> {
         }
     }
 
-    /// The bytes of all frames that are still to come, one behind the other, as they are sent in one datagram.
-    pub fn bytes(&self) -> &'a [u8]
-        ensures { result.now ≡ sent_bytes (frames_left self.now) }
+    /// The bytes of all frames that are still to come, one behind the other, as they are sent in one datagram, and how many
+    /// positions those frames take.
+    pub fn bytes_and_span(&self) -> (&'a [u8], u64)
+        ensures bytes { result.0.now ≡ sent_bytes (frames_left self.now) }
+        ensures span { result.1 ≡ spans (frames_left self.now) }
     {
         front_of(self, self.rest)
-    }
-
-    /// How many positions all frames take that are still to come.
-    pub fn span(&self) -> u64
-        ensures { result ≡ spans (frames_left self.now) }
-    {
-        let mut span = 0;
-        let mut later = *self;
-        while let Some(frame) = later.next() {
-            span += frame.span();
-        }
-        span
     }
 
     /// The next frame, if the budget admits it.
@@ -172,18 +162,21 @@ impl<'a> Frames<'a> {
     }
 }
 
-/// Those of the bytes from the next frame on that are sent.
-fn front_of<'a>(frames: &Frames<'a>, bytes: &'a [u8]) -> &'a [u8]
+/// Those of the bytes from the next frame on that are sent, and how many positions their frames take.
+fn front_of<'a>(frames: &Frames<'a>, bytes: &'a [u8]) -> (&'a [u8], u64)
     requires { bytes.now ≡ frames.now.rest.now }
-    ensures { result.now ≡ sent_bytes (frames_left frames.now) }
+    ensures bytes { result.0.now ≡ sent_bytes (frames_left frames.now) }
+    ensures span { result.1 ≡ spans (frames_left frames.now) }
 {
     let mut size = 0;
+    let mut span = 0;
     let mut later = *frames;
     while let Some(frame) = later.next() {
         size += frame.bytes.len();
+        span += frame.span();
     }
     let (sent, _) = bytes.split_at(size);
-    sent
+    (sent, span)
 }
 
 impl<'a> Iterator for Frames<'a> {

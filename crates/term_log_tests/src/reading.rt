@@ -48,7 +48,7 @@ pub fn gives_rows(log: &TermLog, plain: &Plain, first: usize, budget: u64) -> bo
     let mut left = budget;
     let mut same = true;
     let frames = log.frames_from(position, budget as usize);
-    let sent = frames.bytes();
+    let (sent, _) = frames.bytes_and_span();
     for frame in frames {
         match plain.rows.get(row) {
             Some(next) => {

@@ -15,8 +15,8 @@ pub fn send(log: &mut TermLog) -> usize
         LogKind::Udp => {
             let position = log.sender_position();
             let frames = log.frames_from(position, log.send_budget() as usize);
-            let size = frames.bytes().len();
-            let span = frames.span();
+            let (bytes, span) = frames.bytes_and_span();
+            let size = bytes.len();
             log.sent(position + span);
             size
         }

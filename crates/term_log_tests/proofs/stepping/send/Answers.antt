@@ -12,9 +12,9 @@ unfolding sent_on
 returns-in-Udp c kind =
     let old = c.args.log.now in
     let position : ℕ = c.sender_position-position.result in
-    let span : ℕ = c.span-span.result in
+    let span : ℕ = c.bytes_and_span-span.result.1 in
     let first = c.sender_position-position.ensures.start in
-    let last : IsStartIn old (position + span) = subst (λ (n : ℕ). IsStartIn old (position + n)) (sym c.span-span.ensures) (c.frames_from-frames.ensures.end first) in
+    let last : IsStartIn old (position + span) = subst (λ (n : ℕ). IsStartIn old (position + n)) (sym c.bytes_and_span-span.ensures.span) (c.frames_from-frames.ensures.end first) in
     let carried = c.sent.ensures.whole last in
     record {
       on = λ w s.
@@ -24,7 +24,7 @@ returns-in-Udp c kind =
           let read : spans (frames_left c.frames_from-frames.result) ≡ total (frames_for w position c.send_budget.result) =
           (c.frames_from-frames.ensures.whole.on w s (first.on w s)).1 in
           let is : position + span ≡ w.sender.position + total (next_frames w) =
-          ap (λ (n : ℕ). position + n) (c.span-span.ensures ∙ read)
+          ap (λ (n : ℕ). position + n) (c.bytes_and_span-span.ensures.span ∙ read)
           ∙ ap₂ (λ (p b : ℕ). p + total (frames_for w p b)) here budget in
           subst (λ (n : ℕ). Stands c.sent.new.self (sent_to n w)) is (carried.on w s);
     }

@@ -1,4 +1,4 @@
-use Rattle.std.proofs.Common.{◌<◌, arith, sym, subst}
+use Rattle.std.proofs.Common.{arith, sym, subst}
 use Rattle.any_log.specs.declared.any_log.AnyLog.{AnyLog}
 use Rattle.any_log.specs.declared.any_log.AnyLog.TheVariants.{Image}
 use Rattle.any_log.specs.Held.{Lies}
