@@ -14,7 +14,7 @@ use Rattle.driver_world.specs.declared.answer.Answer.{Answer}
 use Rattle.driver_world.specs.declared.answer.Answer.TheVariants.{NoMemory, Attached, Full, Stopped, PolicyInForce, PolicyFull, Imaged, Dropped, Replies, Offered as OfferedAs, Polled, Gone as IsGone, Counters, Value as ValueIs, Denied, UnknownCounter, WrongClient, Received, Heard, Limited, Elicited, Idle, Sent as SentTo, Resent, Reported}
 use Rattle.driver_world.specs.declared.answer.Offered.TheVariants.{Closed}
 use Rattle.driver_world.specs.declared.step.Step.{Step}
-use Rattle.driver_world.specs.declared.step.Step.TheVariants.{Conductor, Packet, Offer, Poll, Image}
+use Rattle.driver_world.specs.declared.step.Step.TheVariants.{Conductor, Packet, Offer, Poll}
 use Rattle.driver_world.specs.declared.cause.Cause.{Cause}
 use Rattle.driver_world.specs.declared.cause.Cause.TheVariants.{Astray as IsAstray, Unread}
 use Rattle.driver_core.specs.declared.event.Event.TheVariants.{Setup as SetUp}
