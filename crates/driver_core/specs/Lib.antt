@@ -8,6 +8,7 @@ pub mod Counting
 pub mod Deciding
 pub mod Directing
 pub mod Draft
+pub mod Identity
 pub mod ImageRequests
 pub mod Kept
 pub mod Leaving

@@ -20,7 +20,8 @@ use Rattle.policy_core.specs.Rules.{verdict_of}
 use Rattle.stream_registry.specs.declared.pairs.Pair.{Pair}
 use Rattle.stream_registry.specs.declared.row.Source.{Source}
 use Rattle.stream_registry.specs.declared.row.Subscription.{Subscription}
-use Rattle.stream_registry.specs.Origins.{address_of, begins_at}
+use Rattle.stream_registry.specs.Origins.{begins_at}
+use Rattle.driver_core.specs.Identity.{identity_of}
 use Rattle.stream_registry.specs.Pairs.{image_question, is_pair, pair_of}
 
 -- the rows of a pair
@@ -60,7 +61,7 @@ available_to ends pair (Some log) (Some subscription) =
     record {
       client = subscription.client;
       reply = AvailableImage pair.source pair.subscription log.session log.stream
-          (position_at ends (begins_at log) pair.source) (address_of log);
+          (position_at ends (begins_at log) pair.source) (identity_of log);
     }
     ∷ []
 

@@ -1,11 +1,10 @@
 -- How a reply is laid out.
-use Rattle.std.specs.Prelude.{ℕ, List, [], Option, Some, None, unwrap_or, codes}
+use Rattle.std.specs.Prelude.{ℕ, List, [], unwrap_or}
+use Rattle.driver_core.specs.Identity.{identity_text}
 use Rattle.driver_core.specs.declared.refusal.Refusal.{Refusal}
 use Rattle.driver_core.specs.declared.refusal.Refusal.TheVariants.{UnknownCommandType, MalformedCommand, WrongClient, InvalidChannel, UnknownSubscription, UnknownPublication, UnknownCounter, Denied, Conflict, Full, NoRoom}
 use Rattle.driver_core.specs.declared.replies.Reply.{Reply}
 use Rattle.driver_core.specs.declared.replies.Reply.TheVariants.{Error, OperationSuccess, PublicationReady, ExclusivePublicationReady, SubscriptionReady, AvailableImage, UnavailableImage, CounterReady, UnavailableCounter, ClientTimeout}
-use Rattle.channel_uri.specs.declared.address.Address.{Address}
-use Rattle.channel_uri.specs.Address.{address_text}
 use Rattle.command_codec.specs.declared.error_code.ErrorCode.{ErrorCode}
 use Rattle.command_codec.specs.declared.error_code.ErrorCode.TheVariants as code
 use Rattle.command_codec.specs.declared.reply.Reply.{Reply as Layout}
@@ -32,11 +31,6 @@ unfoldable pub refusal_text : Refusal → List ℕ
 refusal_text (Denied verdict) = verdict_text verdict
 refusal_text refusal = unwrap_or (code_text (code_for refusal)) []
 
--- where a log comes from: this driver's own memory, or the address of its publisher
-abbrev pub origin_text : Option Address → List ℕ
-origin_text None = codes "aeron:ipc"
-origin_text (Some address) = address_text address
-
 unfoldable pub layout_of : Reply → Layout
 layout_of (Error correlation refusal) =
     layout.Error (record { correlation = correlation; code = code_for refusal; text = refusal_text refusal })
@@ -47,14 +41,14 @@ layout_of (PublicationReady correlation registration session stream) =
 layout_of (ExclusivePublicationReady correlation registration session stream) =
     layout.ExclusivePublicationReady (
     record { correlation = correlation; registration = registration; session = session; stream = stream })
-layout_of (AvailableImage source subscription session stream position address) =
+layout_of (AvailableImage source subscription session stream position identity) =
     layout.AvailableImage (record {
       source = source;
       subscription = subscription;
       session = session;
       stream = stream;
       position = position;
-      origin = origin_text address;
+      origin = identity_text identity;
     })
 layout_of (UnavailableImage source subscription stream) =
     layout.UnavailableImage (record { source = source; subscription = subscription; stream = stream })

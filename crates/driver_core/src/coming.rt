@@ -12,6 +12,7 @@ use crate::event::End;
 use crate::registry::Registry;
 use crate::renewal::position_at;
 use crate::replies::{Message, Reply};
+use crate::source_identity::SourceIdentity;
 use byte_strings::Items;
 use policy_core::{Act, Decision, Request};
 use std::alloc::{AllocError, Global};
@@ -27,7 +28,7 @@ fn available(ends: &[End], pair: Pair, log: &Source, wish: &Wish<'_>) -> Message
         session: log.session,
         stream: log.stream,
         position: position_at(ends, log.begins_at(), pair.source),
-        address: log.address(),
+        identity: SourceIdentity::of(log),
     };
     Message {
         client: wish.client,

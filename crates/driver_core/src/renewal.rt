@@ -6,6 +6,7 @@ use crate::event::{End, Inputs};
 use crate::outcome::Outcome;
 use crate::registry::Registry;
 use crate::replies::{Message, Reply};
+use crate::source_identity::SourceIdentity;
 use crate::told::Told;
 use byte_strings::Items;
 use log_readers::Turnover;
@@ -70,7 +71,7 @@ fn tell_available(
         session: log.session,
         stream: log.stream,
         position: position_at(ends, log.begins_at(), pair.source),
-        address: log.address(),
+        identity: SourceIdentity::of(log),
     };
     messages.push(Message {
         client: subscription.client,

@@ -1,10 +1,10 @@
 ghost use Rattle.command_codec.specs.Reply.{reply_bytes};
-ghost use Rattle.driver_core.specs.Replies.{code_for, refusal_text, layout_of, origin_text};
+ghost use Rattle.driver_core.specs.Replies.{code_for, refusal_text, layout_of};
 ghost use Rattle.std.specs.Prelude.{◌≡◌, ◌∷◌, [], IfOk};
 
 use crate::refusal::Refusal;
+use crate::source_identity::SourceIdentity;
 use byte_strings::{Bytes, Items, Text};
-use channel_uri::Address;
 use command_codec::{
     AvailableImage, ClientTimeout, CounterReady, ErrorCode, ErrorReply, OperationSuccess,
     PublicationReady, SubscriptionReady, UnavailableCounter, UnavailableImage,
@@ -49,8 +49,8 @@ pub enum Reply {
         session: i32,
         stream: i32,
         position: u64,
-        /// From where the log's publisher sends, where that is a remote one.
-        address: Option<Address>,
+        /// How it has that log.
+        identity: SourceIdentity,
     },
     /// The subscription does not read the log of this source any more.
     UnavailableImage {
@@ -124,16 +124,6 @@ impl Refusal {
     }
 }
 
-/// Where a log comes from: this driver's own memory, or the address of its publisher.
-fn origin_text(alloc: Global, address: Option<Address>) -> Result<Text, AllocError>
-    ensures { IfOk result (λ text. text ≡ origin_text address) }
-{
-    match address {
-        None => Text::new(alloc, "aeron:ipc"),
-        Some(address) => Text::new(alloc, address.text().as_str()),
-    }
-}
-
 impl Reply {
     /// The reply as it is laid out.
     #[tactic(auto, unfolding(crate::specs::Replies::layout_of))]
@@ -185,14 +175,14 @@ impl Reply {
                 session,
                 stream,
                 position,
-                address,
+                identity,
             } => Ok(command_codec::Reply::AvailableImage(AvailableImage {
                 source: *source,
                 subscription: *subscription,
                 session: *session,
                 stream: *stream,
                 position: *position,
-                origin: origin_text(alloc, *address)?,
+                origin: identity.text(alloc)?,
             })),
             Reply::UnavailableImage {
                 source,

@@ -14,13 +14,14 @@ use Rattle.driver_laws.specs.Events.{AfterAnyEvents}
 use Rattle.stream_registry.specs.declared.pairs.Pair.{Pair}
 use Rattle.stream_registry.specs.declared.row.Source.{Source}
 use Rattle.stream_registry.specs.declared.row.Subscription.{Subscription}
-use Rattle.stream_registry.specs.Origins.{address_of, begins_at}
+use Rattle.stream_registry.specs.Origins.{begins_at}
+use Rattle.driver_core.specs.Identity.{identity_of}
 use Rattle.stream_registry.specs.Pairs.{pair_of}
 
 -- ---- which replies tell of images
 
 abbrev pub is_available : Reply → Bool
-is_available (AvailableImage source subscription session stream position address) = true
+is_available (AvailableImage source subscription session stream position identity) = true
 is_available reply = false
 
 abbrev pub is_unavailable : Reply → Bool
@@ -63,7 +64,7 @@ pub record IsToldAvailable (after : State) (ends : List End) (pair : Pair) (mess
       message
       ≡ record {
         client = subscription.client;
-        reply = AvailableImage pair.source pair.subscription log.session log.stream position (address_of log);
+        reply = AvailableImage pair.source pair.subscription log.session log.stream position (identity_of log);
       }
 
 -- the client of the pair's subscription is told that the log is no more there for it

@@ -18,11 +18,17 @@ use Rattle.policy_core.specs.Question.{Question}
 use Rattle.policy_core.specs.RuleList.{Rules}
 use Rattle.policy_core.specs.Rules.{verdict_of}
 
--- a channel of shared memory reaches the publications there; one of an endpoint reaches the images of what is sent to it,
--- and none of them where it asks for a spy
+-- a spy reaches the publications over datagrams of its place; another channel of shared memory reaches the publications
+-- there
+abbrev pub reaches_published : Shape → Shape → Bool
+reaches_published channel published =
+    if channel.spy then is_udp published.media && is_same_place published channel
+    else is_ipc published.media && is_ipc channel.media
+
+-- and one of an endpoint the images of what is sent to it
 unfoldable pub reaches : Shape → Source → Bool
 reaches channel log =
-    if is_published log then is_ipc log.channel.media && is_ipc channel.media
+    if is_published log then reaches_published channel log.channel
     else is_udp channel.media && not channel.spy && is_same_place log.channel channel
 
 -- a subscription reads the logs that its channel reaches, of its stream, and of its session where it states one

@@ -1,4 +1,4 @@
-ghost use Rattle.stream_registry.specs.Pairs.{fits, is_allowed, is_of, is_pair, is_read, pairs_at, pairs_of, reaches, reads_as};
+ghost use Rattle.stream_registry.specs.Pairs.{fits, is_allowed, is_of, is_pair, is_read, pairs_at, pairs_of, reaches, reaches_published, reads_as};
 ghost use Rattle.stream_registry.specs.Wish.{row_of};
 ghost use Rattle.std.specs.List.{list_any};
 ghost use Rattle.std.specs.Prelude.{◌≡◌, ◌++◌, IfOk, OnOk};
@@ -23,14 +23,25 @@ pub struct Pair {
     pub subscription: u64,
 }
 
-/// Whether the channel reaches the log: one of shared memory the publications there, one of an endpoint the images of what
-/// is sent to it. A spy reaches none.
+/// Whether the channel reaches a publication of that channel: a spy those over datagrams of its place, one of shared memory
+/// those there.
+fn reaches_published(channel: &Channel, published: &Channel) -> bool
+    ensures { result ≡ reaches_published channel.now published.now }
+{
+    if channel.is_spy() {
+        is_udp(published.media()) && is_same_place(published, channel)
+    } else {
+        is_ipc(published.media()) && is_ipc(channel.media())
+    }
+}
+
+/// Whether the channel reaches the log: a publication as above, and one of an endpoint the images of what is sent to it.
 #[tactic(auto, unfolding(crate::specs::Pairs::reaches))]
 fn reaches(channel: &Channel, log: &Source) -> bool
     ensures { result ≡ reaches channel.now log.now }
 {
     if log.is_published() {
-        is_ipc(log.channel.media()) && is_ipc(channel.media())
+        reaches_published(channel, &log.channel)
     } else {
         is_udp(channel.media()) && !channel.is_spy() && is_same_place(&log.channel, channel)
     }
