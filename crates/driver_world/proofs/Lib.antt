@@ -1,4 +1,5 @@
 pub mod BringLemmas
+pub mod CachingLemmas
 pub mod CarryingLemmas
 pub mod DecisionLemmas
 pub mod EndLemmas

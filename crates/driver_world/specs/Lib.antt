@@ -1,5 +1,6 @@
 pub mod Answers
 pub mod Bringing
+pub mod Caching
 pub mod CarryingLaws
 pub mod Ends
 pub mod Hearing

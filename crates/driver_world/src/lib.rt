@@ -10,6 +10,7 @@
 #![tactic(auto)]
 
 mod answer;
+mod caches;
 mod cause;
 mod hearing;
 mod inputs;

@@ -2,6 +2,7 @@
 
 ghost use Rattle.any_log.specs.declared.any_log.AnyLog.TheVariants.{Term};
 ghost use Rattle.any_log.specs.Held.{Lies};
+ghost use Rattle.driver_core.specs.Cached.{AreCached};
 ghost use Rattle.driver_world.specs.Held.{LiesAsBefore};
 ghost use Rattle.driver_world.specs.Moves.{Does, offer_move, offers, term_held};
 ghost use Rattle.driver_world.specs.Recovery.{Recovering};
@@ -10,6 +11,7 @@ ghost use Rattle.std.specs.Prelude.{ℕ};
 use crate::answer::{Answer, Offered};
 use crate::open_log::OpenLog;
 use any_log::AnyLog;
+use decision_cache::Cache;
 use driver_core::View;
 use policy_core::Verdict;
 use term_log::TermLog;
@@ -33,7 +35,7 @@ fn offer_to(log: &mut TermLog, now: u64, timeout: u64, verdict: Verdict, message
 }
 
 /// A client offers a message to the log that its registration is with, at the moment `now` in nanoseconds, as the registry
-/// that the view shows says. It takes no memory.
+/// that the view shows says, with the verdict from the client's cache where it is there. It wants no memory.
 ///
 /// The answer is the first that applies: [`Offered::Closed`] where the client has no such registration, or one with another
 /// log, or the log is that of a remote stream; [`Answer::Denied`] by the policy of that registry; [`Offered::TooLong`];
@@ -43,16 +45,19 @@ fn offer_to(log: &mut TermLog, now: u64, timeout: u64, verdict: Verdict, message
 pub fn offer_step<V: View>(
     view: &V,
     log: &mut OpenLog,
+    cache: &mut Cache,
     now: u64,
     client: u64,
     registration: u64,
     message: &[u8],
 ) -> Answer
+    requires { AreCached (V.shows view.now) cache.old }
     ensures does { Does (offer_move (V.shows view.now) now client registration message.now) log.old log.new result }
     ensures lies { LiesAsBefore log.old log.new }
+    ensures cached { AreCached (V.shows view.now) cache.new }
 {
     let registry = view.registry();
-    let Some(request) = registry.offering(client, registration) else {
+    let Some(request) = registry.offering_cached(cache, client, registration) else {
         return Answer::Offered(Offered::Closed);
     };
     if request.source != log.source {

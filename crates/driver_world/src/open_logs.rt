@@ -1,6 +1,7 @@
 //! The open logs of a driver, in one arena.
 
 ghost use Rattle.any_log.specs.Whole.{rebuilt, whole};
+ghost use Rattle.driver_core.specs.Cached.{AreCached};
 ghost use Rattle.driver_core.specs.Pairs.{pairs_of as all_pairs};
 ghost use Rattle.driver_core.specs.Readers.{readers_of};
 ghost use Rattle.driver_world.specs.Held.{AreForFirst, IsOpened, is_closed, is_kept, place_at, plots_of, rejoined_held, with_readers, without};
@@ -34,6 +35,7 @@ use crate::reporting::report_step;
 use crate::resending::nak_step;
 use crate::sending::send_step;
 use any_log::AnyLog;
+use decision_cache::Cache;
 use driver_core::{Address, Astray, Registry, View};
 use frame_codec::{Frames, Nak, StatusMessage, TermPlace};
 use image_log::{ImageLog, ImageRoom};
@@ -232,38 +234,60 @@ impl OpenLogs {
     pub(crate) fn offer<V: View>(
         &mut self,
         view: &V,
+        cache: &mut Cache,
         source: u64,
         now: u64,
         client: u64,
         registration: u64,
         message: &[u8],
     ) -> Answer
-        ensures { MovesFirst source (offer_move (V.shows view.now) now client registration message.now) (OfferedAs Closed) self.old self.new result }
+        requires { AreCached (V.shows view.now) cache.old }
+        ensures moved { MovesFirst source (offer_move (V.shows view.now) now client registration message.now) (OfferedAs Closed) self.old self.new result }
+        ensures cached { AreCached (V.shows view.now) cache.new }
     {
         let Some(at) = place_of(self.logs.as_slice(), source) else {
             return Answer::Offered(Offered::Closed);
         };
-        offer_step(view, &mut self.logs[at], now, client, registration, message)
+        offer_step(
+            view,
+            &mut self.logs[at],
+            cache,
+            now,
+            client,
+            registration,
+            message,
+        )
     }
 
     /// A client polls the first log of that source, as [`poll_step`] says.
     pub(crate) fn poll<V: View>(
         &mut self,
         view: &V,
+        cache: &mut Cache,
         alloc: Global,
         source: u64,
         client: u64,
         subscription: u64,
         limit: u32,
     ) -> Result<Answer, AllocError>
+        requires { AreCached (V.shows view.now) cache.old }
         ensures moved { IfOk result (λ answer. MovesFirst source (poll_move (V.shows view.now) client subscription limit) Gone self.old self.new answer) }
         ensures err { OnErr result (self.new ≡ self.old) }
         ensures without_memory { OnErr result (GivesFirst source (poll_move (V.shows view.now) client subscription limit) self.old) }
+        ensures cached { AreCached (V.shows view.now) cache.new }
     {
         let Some(at) = place_of(self.logs.as_slice(), source) else {
             return Ok(Answer::Gone);
         };
-        poll_step(view, &mut self.logs[at], alloc, client, subscription, limit)
+        poll_step(
+            view,
+            &mut self.logs[at],
+            cache,
+            alloc,
+            client,
+            subscription,
+            limit,
+        )
     }
 
     /// The frames of a datagram come to the first log of that source, as [`receive_step`] says.

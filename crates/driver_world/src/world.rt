@@ -12,6 +12,7 @@ ghost use Rattle.driver_world.specs.Held.{inputs_held};
 ghost use Rattle.driver_world.specs.Opening.{CanOpen, Follows, HasRoom, place_of};
 
 use crate::answer::{Answer, Offered};
+use crate::caches::{CACHES, caches};
 use crate::cause::Cause;
 use crate::inputs::inputs_of;
 use crate::open_log::OpenLog;
@@ -19,7 +20,11 @@ use crate::open_logs::OpenLogs;
 use crate::opening::{Opening, open_next, prepare};
 use crate::step::Step;
 use byte_strings::Items;
-use driver_core::{Address, Astray, Entry, Event, LogRequest, Outcome, Peer, Registry, Settings};
+use decision_cache::Cache;
+use driver_core::{
+    Address, Astray, Entry, Event, LogRequest, Outcome, Peer, Registry, Settings,
+    cached_verdicts_stay_right,
+};
 use frame_codec::{
     Datagram, Frames, Nak, Packet, Setup, StatusMessage, TermPlace, frames_are_of_one_term,
     frames_are_told,
@@ -37,16 +42,19 @@ pub struct World {
     logs: OpenLogs,
     /// Room for the subscriptions that read one log.
     room: Rows<u64, 512>,
+    /// What clients were told of offers and polls, each by its own cache.
+    caches: Vec<Cache>,
 }
 
 impl Model for World {
+    ghost use Rattle.driver_world.specs.Caching.{AllCached};
     ghost use Rattle.driver_world.specs.Standing.{Held, Match};
 
     ghost Value = { Held };
 
     ghost view = { λ world. record { registry = world.registry; logs = world.logs.logs } };
 
-    ghost invariant = { λ world. Match world.registry world.logs };
+    ghost invariant = { λ world. Match world.registry world.logs × AllCached world.registry world.caches.items };
 }
 
 /// Decides the event on the registry, where the logs are these.
@@ -128,10 +136,12 @@ impl World {
         requires { AreSettings settings }
         ensures { IfOk result (λ world. StandsForEnd world (opening_end settings policy peers.now)) }
     {
+        cached_verdicts_stay_right();
         Ok(World {
             registry: Registry::new(alloc, settings, policy, peers)?,
             logs: OpenLogs::new(alloc, settings.arena_pages as usize)?,
             room: Rows::new(alloc)?,
+            caches: caches(alloc)?,
         })
     }
 
@@ -148,6 +158,7 @@ impl World {
         ensures taken { IfOk result (λ outcome. Takes self.old self.new event.now outcome) }
         ensures err { OnErr result (self.new ≡ self.old) }
     {
+        cached_verdicts_stay_right();
         let entry = plan_for(&self.registry, alloc, event, self.logs.as_slice())?;
         let opening = prepare(&mut self.logs, alloc, event, entry.outcome.opens)?;
         self.registry.apply(&entry);
@@ -313,8 +324,16 @@ impl World {
         let Some(source) = self.registry.source_offered(client, registration) else {
             return Answer::Offered(Offered::Closed);
         };
-        self.logs
-            .offer(&self.registry, source, now, client, registration, message)
+        let cache = &mut self.caches[(client % CACHES) as usize];
+        self.logs.offer(
+            &self.registry,
+            cache,
+            source,
+            now,
+            client,
+            registration,
+            message,
+        )
     }
 
     /// A client polls a log.
@@ -329,9 +348,16 @@ impl World {
     ) -> Answer
         ensures { Serves self.old self.new (Poll _now client subscription source limit) result }
     {
-        let Ok(answer) = self
-            .logs
-            .poll(&self.registry, alloc, source, client, subscription, limit)
+        let cache = &mut self.caches[(client % CACHES) as usize];
+        let Ok(answer) = self.logs.poll(
+            &self.registry,
+            cache,
+            alloc,
+            source,
+            client,
+            subscription,
+            limit,
+        )
         else {
             return Answer::NoMemory;
         };

@@ -22,6 +22,7 @@ returns over c =
       does = poll_given (over.V.View.shows c.args.view.now) c.args.client c.args.subscription c.args.limit held after
           c.in-Some.request at.0 c.in_ok-fragments.fragments asked at.1 allowed copies refl refl c.poll.ensures.whole;
       lies = held_lies c.log.inside.source c.log.inside.recovery c.log.inside.recovery c.log.inside.log c.poll.new.self c.poll.ensures.lies;
+      cached = search rules;
       err = tt;
       without_memory = tt;
     }

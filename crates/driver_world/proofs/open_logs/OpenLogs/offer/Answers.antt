@@ -10,8 +10,8 @@ use Rattle.driver_world.proofs.HeldLemmas.{found_at, moves_at, moves_none}
 use Rattle.driver_world.proofs.HousedLemmas.{housed_set}
 use Rattle.driver_world.proofs.open_logs.OpenLogs.offer.Goals as goal
 
-pub returns-in_default : goal.returns-in_default
-returns-in_default g c =
+pub returns-in_default-clause-moved : goal.returns-in_default-clause-moved
+returns-in_default-clause-moved g c =
     let old : HeldLogs = record { pages = c.self.inside.arena.home.pages; logs = c.self.inside.logs.items; room = vec_capacity c.self.inside.logs } in
     let move = offer_move (g.V.View.shows c.args.view.now) c.args.now c.args.client c.args.registration c.args.message.now in
     let none : place_at old.logs c.args.source ≡ None =
@@ -29,8 +29,8 @@ invariant_of-self g c =
     let was = get_or_default logs c.in-Some.at d c.index_mut.result.now within ∙ sym c.index_mut.ensures.value in
     subst (λ (h : HeldLog). LiesAsBefore h c.offer_step.new.log) (sym was) c.offer_step.ensures.lies) c.self.invariant
 
-pub returns : goal.returns
-returns g c =
+pub returns-clause-moved : goal.returns-clause-moved
+returns-clause-moved g c =
     let old : HeldLogs = record { pages = c.self.inside.arena.home.pages; logs = c.self.inside.logs.items; room = vec_capacity c.self.inside.logs } in
     let move = offer_move (g.V.View.shows c.args.view.now) c.args.now c.args.client c.args.registration c.args.message.now in
     let place : place_at old.logs c.args.source ≡ Some c.in-Some.at =

@@ -6,9 +6,11 @@ use Rattle.driver_world.proofs.StandLemmas.{match_moved}
 use Rattle.driver_world.proofs.world.World.beat.Goals as goal
 
 pub invariant_of-self : goal.invariant_of-self
-invariant_of-self c =
-    match_moved c.self.inside.registry c.in-Ok.source (beat_move c.args.now c.args.place.now) unheard c.beat.result
-    c.self.inside.logs c.beat.new.self c.self.invariant c.beat.ensures
+invariant_of-self c = (
+  match_moved c.self.inside.registry c.in-Ok.source (beat_move c.args.now c.args.place.now) unheard c.beat.result
+      c.self.inside.logs c.beat.new.self c.self.invariant.0 c.beat.ensures,
+  c.self.invariant.1,
+)
 
 pub returns-in-Ok : goal.returns-in-Ok
 returns-in-Ok c =

@@ -7,5 +7,5 @@ use Rattle.driver_world.proofs.world.World.holes.Goals as goal
 pub returns : goal.returns
 returns c =
     c.holes.ensures
-    ∙ ap holes_of (taken_live c.self.inside.registry c.self.inside.logs c.self.invariant)
+    ∙ ap holes_of (taken_live c.self.inside.registry c.self.inside.logs c.self.invariant.0)
     ∙ ap (λ (h : Held). holes_of (pages_of_logs h.registry)) c.self.view_is

@@ -11,14 +11,16 @@ use Rattle.driver_world.proofs.world.World.nak.Goals as goal
 use Rattle.driver_world.proofs.world.World.nak.Goals.{in-Err, in-Ok}
 
 pub invariant_of-self : goal.invariant_of-self
-invariant_of-self c =
-    elim c.match-nak.branch [
-      | in-Ok w ↦
-          match_moved c.self.inside.registry c.in-Some.request.source
-          (nak_move c.args.now c.args.from.now c.in-Some.request.decision c.args.nak.now) unheard
-          w.in-Ok.answer c.self.inside.logs c.nak.new.self c.self.invariant w.in-Ok.ensures.moved
-      | in-Err w ↦ rw w.in-Err.ensures.err c.self.invariant
-    ]
+invariant_of-self c = (
+  elim c.match-nak.branch [
+    | in-Ok w ↦
+        match_moved c.self.inside.registry c.in-Some.request.source
+        (nak_move c.args.now c.args.from.now c.in-Some.request.decision c.args.nak.now) unheard
+        w.in-Ok.answer c.self.inside.logs c.nak.new.self c.self.invariant.0 w.in-Ok.ensures.moved
+    | in-Err w ↦ rw w.in-Err.ensures.err c.self.invariant.0
+  ],
+  c.self.invariant.1,
+)
 
 pub returns-in_default : goal.returns-in_default
 returns-in_default c =

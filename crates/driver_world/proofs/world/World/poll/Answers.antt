@@ -1,16 +1,29 @@
+use Rattle.std.proofs.Common.{rules}
 use Rattle.driver_world.specs.declared.answer.Answer.TheVariants.{Gone}
 use Rattle.driver_world.specs.Moves.{poll_move}
+use Rattle.driver_world.proofs.CachingLemmas.{cached_at, cached_set}
 use Rattle.driver_world.proofs.RunLemmas.{poll_refused, poll_served}
 use Rattle.driver_world.proofs.StandLemmas.{match_moved}
 use Rattle.driver_world.proofs.world.World.poll.Goals as goal
 
 pub invariant_of-self : goal.invariant_of-self
-invariant_of-self c = rw c.in_default.ensures.err c.self.invariant
+invariant_of-self c = (
+  rw c.in_default.ensures.err c.self.invariant.0,
+  cached_set c.self.inside.registry c.self.inside.caches.items _ c.poll.new.cache c.self.invariant.1 c.poll.ensures.cached,
+)
+
+pub poll-requires : goal.poll-requires
+poll-requires c =
+    let few = c.self.invariant.1.count in
+    cached_at c.self.inside.registry c.self.inside.caches.items _ c.index_mut-cache.result.now c.self.invariant.1 (search (rules, few))
+    c.index_mut-cache.ensures.value
 
 pub invariant_of-self-2 : goal.invariant_of-self-2
-invariant_of-self-2 c =
-    match_moved c.self.inside.registry c.args.source (poll_move c.self.inside.registry c.args.client c.args.subscription c.args.limit)
-    Gone c.in-Ok.answer c.self.inside.logs c.poll.new.self c.self.invariant c.in-Ok.ensures.moved
+invariant_of-self-2 c = (
+  match_moved c.self.inside.registry c.args.source (poll_move c.self.inside.registry c.args.client c.args.subscription c.args.limit)
+      Gone c.in-Ok.answer c.self.inside.logs c.poll.new.self c.self.invariant.0 c.in-Ok.ensures.moved,
+  cached_set c.self.inside.registry c.self.inside.caches.items _ c.poll.new.cache c.self.invariant.1 c.poll.ensures.cached,
+)
 
 pub returns-in_default : goal.returns-in_default
 returns-in_default c =

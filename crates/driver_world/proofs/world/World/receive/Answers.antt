@@ -14,17 +14,19 @@ use Rattle.frame_codec.specs.Frames.{frames_left}
 pub receive-requires : goal.receive-requires
 receive-requires c =
     are_for_first c.self.inside.registry c.self.inside.logs c.args.local.now c.args.from.now (frames_left c.args.frames)
-    (frames_left c.next.new.self) (sent c.in-Some.frame) c.in-Ok.source c.self.invariant c.in-Some.ensures.steps
+    (frames_left c.next.new.self) (sent c.in-Some.frame) c.in-Ok.source c.self.invariant.0 c.in-Some.ensures.steps
     (sym c.image_of.ensures ∙ c.in-Ok.is) c.requires.told c.requires.one
 
 pub invariant_of-self : goal.invariant_of-self
-invariant_of-self c =
-    elim c.match-receive.branch [
-      | in-Ok-receive w ↦
-          match_moved c.self.inside.registry c.in-Ok.source (receive_move c.args.now (frames_left c.args.frames)) unheard
-          w.in-Ok-receive.answer c.self.inside.logs c.receive.new.self c.self.invariant w.in-Ok-receive.ensures.moved
-      | in-Err-receive w ↦ rw w.in-Err-receive.ensures.err c.self.invariant
-    ]
+invariant_of-self c = (
+  elim c.match-receive.branch [
+    | in-Ok-receive w ↦
+        match_moved c.self.inside.registry c.in-Ok.source (receive_move c.args.now (frames_left c.args.frames)) unheard
+        w.in-Ok-receive.answer c.self.inside.logs c.receive.new.self c.self.invariant.0 w.in-Ok-receive.ensures.moved
+    | in-Err-receive w ↦ rw w.in-Err-receive.ensures.err c.self.invariant.0
+  ],
+  c.self.invariant.1,
+)
 
 pub returns-after-receive : goal.returns-after-receive
 returns-after-receive c =

@@ -12,14 +12,16 @@ use Rattle.driver_world.proofs.world.World.report.Goals as goal
 use Rattle.driver_world.proofs.world.World.report.Goals.{in-Err, in-Ok}
 
 pub invariant_of-self : goal.invariant_of-self
-invariant_of-self c =
-    elim c.match-report.branch [
-      | in-Ok w ↦
-          match_moved c.self.inside.registry c.args.source
-          (report_move c.args.now c.settings-receiver_id.result.receiver_id c.in-Some.to) Gone
-          w.in-Ok.answer c.self.inside.logs c.report.new.self c.self.invariant w.in-Ok.ensures.moved
-      | in-Err w ↦ rw w.in-Err.ensures.err c.self.invariant
-    ]
+invariant_of-self c = (
+  elim c.match-report.branch [
+    | in-Ok w ↦
+        match_moved c.self.inside.registry c.args.source
+        (report_move c.args.now c.settings-receiver_id.result.receiver_id c.in-Some.to) Gone
+        w.in-Ok.answer c.self.inside.logs c.report.new.self c.self.invariant.0 w.in-Ok.ensures.moved
+    | in-Err w ↦ rw w.in-Err.ensures.err c.self.invariant.0
+  ],
+  c.self.invariant.1,
+)
 
 pub returns-in_default : goal.returns-in_default
 returns-in_default c =

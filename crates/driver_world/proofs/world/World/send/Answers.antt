@@ -13,13 +13,15 @@ use Rattle.driver_world.proofs.world.World.send.Goals as goal
 use Rattle.driver_world.proofs.world.World.send.Goals.{in-Err, in-Ok}
 
 pub invariant_of-self : goal.invariant_of-self
-invariant_of-self c =
-    elim c.match-send.branch [
-      | in-Ok w ↦
-          match_moved c.self.inside.registry c.args.source (send_move c.self.inside.registry c.args.now) Gone
-          w.in-Ok.answer c.self.inside.logs c.send.new.self c.self.invariant w.in-Ok.ensures.moved
-      | in-Err w ↦ rw w.in-Err.ensures.err c.self.invariant
-    ]
+invariant_of-self c = (
+  elim c.match-send.branch [
+    | in-Ok w ↦
+        match_moved c.self.inside.registry c.args.source (send_move c.self.inside.registry c.args.now) Gone
+        w.in-Ok.answer c.self.inside.logs c.send.new.self c.self.invariant.0 w.in-Ok.ensures.moved
+    | in-Err w ↦ rw w.in-Err.ensures.err c.self.invariant.0
+  ],
+  c.self.invariant.1,
+)
 
 pub returns : goal.returns
 returns c =

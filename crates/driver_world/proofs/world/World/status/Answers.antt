@@ -9,9 +9,11 @@ use Rattle.driver_world.proofs.StandLemmas.{match_moved}
 use Rattle.driver_world.proofs.world.World.status.Goals as goal
 
 pub invariant_of-self : goal.invariant_of-self
-invariant_of-self c =
-    match_moved c.self.inside.registry c.in-Some.source (status_move c.args.now c.args.message.now) unheard c.status.result
-    c.self.inside.logs c.status.new.self c.self.invariant c.status.ensures
+invariant_of-self c = (
+  match_moved c.self.inside.registry c.in-Some.source (status_move c.args.now c.args.message.now) unheard c.status.result
+      c.self.inside.logs c.status.new.self c.self.invariant.0 c.status.ensures,
+  c.self.invariant.1,
+)
 
 pub returns-in-None : goal.returns-in-None
 returns-in-None c =
