@@ -418,7 +418,7 @@ unfolding conduct dropping
 replies_named s event inputs names =
     all_replies (IsNamed s event) s inputs (drafted s event inputs) names.replies
     (λ client source subscription stream. tt)
-    (λ client source subscription session stream position address. tt)
+    (λ client source subscription session stream position identity. tt)
     names.later
 
 pub denials_named : (s : State) (event : Event) (inputs : Inputs) → AreRising s → HaveTheirClients s →

@@ -14,7 +14,7 @@ use Rattle.driver_core.specs.Directing.{has_room_for_sole}
 use Rattle.driver_core.proofs.AskingLemmas.{sole_same}
 use Rattle.driver_core.specs.Draft.{replied, replied_opening, refused, told}
 use Rattle.driver_core.specs.Pairs.{is_within_pairs}
-use Rattle.driver_core.specs.Publishing.{add_publication, has_place, has_room_for_publication, is_publishable, opening_of, publication_decision, publish, publish_by, publish_under, published, ready_for, refused_by_streams, session_of, with_directed_publication, with_publication}
+use Rattle.driver_core.specs.Publishing.{add_publication, has_place, has_room_for_publication, is_publishable, opening_of, publication_decision, publish, publish_by, publish_under, published, ready_for, refused_by_streams, session_of, with_publication}
 use Rattle.driver_core.specs.Renewal.{renewed}
 use Rattle.driver_core.specs.Requests.{PublicationRequest, AsksToPublish, publication_question, wanted_by}
 use Rattle.driver_core.specs.State.{State, at_moment, has_number}

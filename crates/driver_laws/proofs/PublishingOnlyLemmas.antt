@@ -407,7 +407,7 @@ renewed_only s event inputs =
       told =
           all_replies (λ message. IsPublicationTold s event after message.client message.reply) s inputs (drafted s event inputs)
           only.told (λ client source subscription stream. tt)
-          (λ client source subscription session stream position address. tt) only.later;
+          (λ client source subscription session stream position identity. tt) only.later;
     })
 
 -- and images that go take no registration away
@@ -437,7 +437,7 @@ told_as_before s event after other same client (ExclusivePublicationReady correl
 told_as_before s event after other same client (Error correlation refusal) told = tt
 told_as_before s event after other same client (OperationSuccess correlation) told = tt
 told_as_before s event after other same client (SubscriptionReady correlation registration) told = tt
-told_as_before s event after other same client (AvailableImage source subscription session stream position address) told = tt
+told_as_before s event after other same client (AvailableImage source subscription session stream position identity) told = tt
 told_as_before s event after other same client (UnavailableImage source subscription stream) told = tt
 told_as_before s event after other same client (CounterReady correlation registration) told = tt
 told_as_before s event after other same client (UnavailableCounter registration) told = tt

@@ -18,7 +18,7 @@ use Rattle.driver_core.proofs.PairLemmas.{nothing_lacks}
 use Rattle.stream_registry.specs.declared.pairs.Pair.{Pair}
 use Rattle.stream_registry.specs.declared.row.Source.{Source}
 use Rattle.stream_registry.specs.declared.row.Subscription.{Subscription}
-use Rattle.channel_uri.specs.declared.address.Address.{Address}
+use Rattle.driver_core.specs.declared.source_identity.SourceIdentity.{SourceIdentity}
 
 -- an event is its draft, renewed
 pub conduct_is : (s : State) (event : Event) (inputs : Inputs) →
@@ -67,8 +67,8 @@ pub record HoldsOfImages (P : Message → Type 0) : Type 0 where
       (client source subscription : ℕ) (stream : ℤ) →
       P (record { client = client; reply = UnavailableImage source subscription stream })
   pub available :
-      (client source subscription : ℕ) (session stream : ℤ) (position : ℕ) (address : Option Address) →
-      P (record { client = client; reply = AvailableImage source subscription session stream position address })
+      (client source subscription : ℕ) (session stream : ℤ) (position : ℕ) (identity : SourceIdentity) →
+      P (record { client = client; reply = AvailableImage source subscription session stream position identity })
 
 unavailable_holds : (P : Message → Type 0) → HoldsOfImages P → (pair : Pair) (subscription : Option Subscription) →
     AllByRecursion P (unavailable_to pair subscription)
@@ -98,8 +98,8 @@ all_images P holds s inputs gone come =
 pub all_replies : (P : Message → Type 0) (s : State) (inputs : Inputs) (draft : Draft) → AllByRecursion P draft.replies →
     ((client source subscription : ℕ) (stream : ℤ) →
     P (record { client = client; reply = UnavailableImage source subscription stream })) →
-    ((client source subscription : ℕ) (session stream : ℤ) (position : ℕ) (address : Option Address) →
-    P (record { client = client; reply = AvailableImage source subscription session stream position address })) →
+    ((client source subscription : ℕ) (session stream : ℤ) (position : ℕ) (identity : SourceIdentity) →
+    P (record { client = client; reply = AvailableImage source subscription session stream position identity })) →
     AllByRecursion P draft.later → AllByRecursion P (renewed s inputs draft).outcome.replies
 unfolding renewed
 all_replies P s inputs draft first unavailable available last =

@@ -74,7 +74,7 @@ unfolding renewed
 draft_grants_only s event inputs draft grants = record {
   told = all_replies (λ (message : Message). IsGrantTold s event draft.after message.client message.reply) s inputs draft
       grants.replies (λ client source subscription stream. tt)
-      (λ client source subscription session stream position address. tt) grants.later;
+      (λ client source subscription session stream position identity. tt) grants.later;
   stands = grants.stands;
 }
 
@@ -88,7 +88,7 @@ told_as_before s event after other same client (Error correlation refusal) told 
 told_as_before s event after other same client (OperationSuccess correlation) told = tt
 told_as_before s event after other same client (PublicationReady correlation registration session stream) told = tt
 told_as_before s event after other same client (ExclusivePublicationReady correlation registration session stream) told = tt
-told_as_before s event after other same client (AvailableImage source subscription session stream position address) told = tt
+told_as_before s event after other same client (AvailableImage source subscription session stream position identity) told = tt
 told_as_before s event after other same client (UnavailableImage source subscription stream) told = tt
 told_as_before s event after other same client (CounterReady correlation registration) told = tt
 told_as_before s event after other same client (UnavailableCounter registration) told = tt
