@@ -27,7 +27,7 @@ use Rattle.stream_registry.specs.Origins.{lingering_since}
 use Rattle.log_readers.specs.Unread.{is_left, is_unread}
 use Rattle.driver_core.proofs.ListLemmas.{contains_none, only_one, passes_are_left}
 use Rattle.driver_core.proofs.SoundnessLemmas.{moves_logs, registries_sound}
-use Rattle.driver_laws.proofs.GoingLemmas.{image_alike, moment_of}
+use Rattle.driver_laws.proofs.KeepingLemmas.{image_alike, moment_of}
 use Rattle.driver_laws.proofs.GoneLemmas.{end_is}
 use Rattle.driver_laws.proofs.LeftLemmas.{Left, each_left, mapped, past_settles, place_settles, same_but_since}
 

@@ -14,6 +14,7 @@ pub mod GrantLemmas
 pub mod GrantOnlyLemmas
 pub mod ImageLemmas
 pub mod ImageTellingLemmas
+pub mod KeepingLemmas
 pub mod LeavingLemmas
 pub mod LeftLemmas
 pub mod LimitLemmas
