@@ -2,8 +2,8 @@
 # Compares the datagrams of driver_world with plain Rust: `bench/packets.sh`, with `rt` and `rustc` on the path.
 set -e
 cd "$(dirname "$0")"
-needed='any_log byte_strings channel_uri client_registry command_codec compiled_policy counters decision_cache destinations driver_core
-driver_world frame_codec image_log image_receiver log_arena log_pairs log_readers policy_core publication_sender retransmit_gate rows
+needed='any_log audit_ring byte_strings channel_uri client_registry command_codec compiled_policy counters decision_cache destinations driver_core
+driver_steps driver_world frame_codec image_log image_receiver log_arena log_pairs log_readers policy_core publication_sender retransmit_gate rows
 stream_registry term_log'
 mkdir -p out/crates/driver_world_packets_c/src
 for crate in $needed; do

@@ -12,6 +12,7 @@ pub mod Identity
 pub mod ImageRequests
 pub mod Kept
 pub mod Leaving
+pub mod LeftOut
 pub mod Listing
 pub mod LogRequests
 pub mod Pairs

@@ -15,7 +15,7 @@ use Rattle.counters.specs.declared.counter.Counter.{Counter}
 use Rattle.counters.specs.Counters.{counter_at, question_for, visible_of}
 use Rattle.log_readers.specs.Unread.{is_of_source}
 use Rattle.policy_core.specs.declared.act.Act.TheVariants.{List as SeeCounter}
-use Rattle.policy_core.specs.declared.verdict.Verdict.{Verdict}
+use Rattle.policy_core.specs.declared.decision.Decision.{Decision}
 use Rattle.policy_core.specs.Question.{Question}
 use Rattle.policy_core.specs.Rules.{verdict_of}
 use Rattle.stream_registry.specs.declared.row.Source.{Source}
@@ -68,11 +68,18 @@ source_question principal source = record {
   stream = source.stream;
 }
 
-abbrev pub source_verdict : State → ℕ → Source → Verdict
-source_verdict s principal source = verdict_of s.policy s.epoch (source_question principal source)
+-- what the policy in force decides on it, for those who audit
+abbrev pub source_decision : State → ℕ → Source → Decision
+source_decision s principal source = record {
+  principal = principal;
+  act = SeeCounter;
+  subject = source.number;
+  stream = source.stream;
+  verdict = verdict_of s.policy s.epoch (source_question principal source);
+}
 
 abbrev pub shows_source : State → ℕ → Source → Bool
-shows_source s principal source = (source_verdict s principal source).allow
+shows_source s principal source = (source_decision s principal source).verdict.allow
 
 -- the row stands before the first one of a greater number
 abbrev pub with_row : List ListedCounter → ListedCounter → List ListedCounter
@@ -103,22 +110,28 @@ list s client = list_by s (client_at s.clients.rows client)
 
 -- ---- one counter
 
--- what the policy in force decides on the principal's question for the counter
-abbrev pub verdict_for : State → ℕ → Counter → Verdict
-verdict_for s principal counter = verdict_of s.policy s.epoch (question_for principal counter)
+-- what the policy in force decides on the principal's question for the counter, for those who audit
+abbrev pub counter_decision : State → ℕ → Counter → Decision
+counter_decision s principal counter = record {
+  principal = principal;
+  act = SeeCounter;
+  subject = counter.number;
+  stream = counter.type_id;
+  verdict = verdict_of s.policy s.epoch (question_for principal counter);
+}
 
-abbrev pub value_under : Verdict → ℤ → Shown
-value_under verdict value = if verdict.allow then shown_as.Value value else shown_as.Denied verdict
+abbrev pub value_under : Decision → ℤ → Shown
+value_under decision value = if decision.verdict.allow then shown_as.Value value else shown_as.Denied decision
 
 abbrev pub source_value : State → ℕ → Option Source → Shown
 source_value s principal None = shown_as.UnknownCounter
 source_value s principal (Some source) =
-    value_under (source_verdict s principal source) (uses_of s source)
+    value_under (source_decision s principal source) (uses_of s source)
 
 -- numbers are drawn from one sequence, so that no log has that of a counter
 abbrev pub value_by : State → ℕ → ℕ → Option Counter → Shown
 value_by s principal number None = source_value s principal (source_at s.streams.sources number)
-value_by s principal number (Some counter) = value_under (verdict_for s principal counter) counter.value
+value_by s principal number (Some counter) = value_under (counter_decision s principal counter) counter.value
 
 abbrev pub value_for : State → ℕ → Option Client → Shown
 value_for s number None = shown_as.WrongClient

@@ -25,6 +25,7 @@ mod event;
 mod finding;
 mod image_request;
 mod leaving;
+mod left_out;
 mod listing;
 mod log_request;
 mod outcome;

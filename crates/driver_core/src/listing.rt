@@ -1,4 +1,4 @@
-ghost use Rattle.driver_core.specs.Listing.{list, read_by, registered_with, row_of, shows_source, source_row, source_value, source_verdict, type_of, uses_of, value, value_under, with_row, with_rows};
+ghost use Rattle.driver_core.specs.Listing.{counter_decision, list, read_by, registered_with, row_of, shows_source, source_decision, source_row, source_value, type_of, uses_of, value, value_under, with_row, with_rows};
 ghost use Rattle.driver_core.specs.Renewal.{source_at};
 ghost use Rattle.std.specs.Prelude.{◌≡◌, map, filter, IfOk, OnOk};
 
@@ -6,7 +6,7 @@ use crate::registry::Registry;
 use byte_strings::{Items, Text};
 use channel_uri::Channel;
 use counters::Counter;
-use policy_core::{Act, Request, Verdict};
+use policy_core::{Act, Decision, Request};
 use std::alloc::{AllocError, Global};
 use stream_registry::Source;
 
@@ -43,8 +43,8 @@ pub enum Listed {
 pub enum Shown {
     /// The value of the counter.
     Value(i64),
-    /// The policy does not show the client that counter, by this verdict.
-    Denied(Verdict),
+    /// The policy does not show the client that counter, by this decision.
+    Denied(Decision),
     /// There is no counter of that number.
     UnknownCounter,
     /// The client that looks is not attached.
@@ -127,8 +127,8 @@ fn source_row(
 }
 
 /// What the policy in force decides on showing the log.
-fn source_verdict(registry: &Registry, principal: u32, source: &Source) -> Verdict
-    ensures { result ≡ source_verdict registry.now principal source.now }
+pub(crate) fn source_decision(registry: &Registry, principal: u32, source: &Source) -> Decision
+    ensures { result ≡ source_decision registry.now principal source.now }
 {
     let request = Request {
         principal,
@@ -136,7 +136,33 @@ fn source_verdict(registry: &Registry, principal: u32, source: &Source) -> Verdi
         channel: &source.channel,
         stream: source.stream,
     };
-    registry.compiled.verdict(&request)
+    Decision {
+        principal,
+        act: Act::List,
+        subject: source.number,
+        stream: source.stream,
+        verdict: registry.compiled.verdict(&request),
+    }
+}
+
+/// What the policy in force decides on showing the counter.
+pub(crate) fn counter_decision(registry: &Registry, principal: u32, counter: &Counter) -> Decision
+    ensures { result ≡ counter_decision registry.now principal counter.now }
+{
+    let channel = Channel::counter();
+    let request = Request {
+        principal,
+        act: Act::List,
+        channel: &channel,
+        stream: counter.type_id,
+    };
+    Decision {
+        principal,
+        act: Act::List,
+        subject: counter.number,
+        stream: counter.type_id,
+        verdict: registry.compiled.verdict(&request),
+    }
 }
 
 /// Puts the row before the first one of a greater number.
@@ -162,21 +188,21 @@ fn put_sources(
     ensures { OnOk result (rows.new.items ≡ with_rows rows.old.items (map (source_row registry.now) (filter (shows_source registry.now principal) logs.now))) }
 {
     for source in logs {
-        if source_verdict(registry, principal, source).allow {
+        if source_decision(registry, principal, source).verdict.allow {
             put_row(rows, source_row(registry, alloc, source)?)?;
         }
     }
     Ok(())
 }
 
-/// The value, where the verdict allows that it is shown.
-fn value_under(verdict: Verdict, value: i64) -> Shown
-    ensures { result ≡ value_under verdict value }
+/// The value, where it is decided that it may be shown.
+fn value_under(decision: Decision, value: i64) -> Shown
+    ensures { result ≡ value_under decision value }
 {
-    if verdict.allow {
+    if decision.verdict.allow {
         Shown::Value(value)
     } else {
-        Shown::Denied(verdict)
+        Shown::Denied(decision)
     }
 }
 
@@ -188,7 +214,7 @@ fn source_value(registry: &Registry, principal: u32, number: u64) -> Shown
         return Shown::UnknownCounter;
     };
     value_under(
-        source_verdict(registry, principal, source),
+        source_decision(registry, principal, source),
         uses_of(registry, source),
     )
 }
@@ -216,7 +242,7 @@ impl Registry {
 
     /// What a client is shown of the counter of this number. It takes no memory.
     #[tactic(auto, unfolding(crate::specs::Listing::value))]
-    pub fn value(&self, alloc: Global, client: u64, number: u64) -> Shown
+    pub fn value(&self, client: u64, number: u64) -> Shown
         ensures { result ≡ value self.now client number }
     {
         let Some(client) = self.clients.get(client) else {
@@ -225,14 +251,7 @@ impl Registry {
         let Some(counter) = self.counters.get(number) else {
             return source_value(self, client.principal, number);
         };
-        let channel = Channel::counter();
-        let request = Request {
-            principal: client.principal,
-            act: Act::List,
-            channel: &channel,
-            stream: counter.type_id,
-        };
-        let verdict = self.compiled.verdict(&request);
-        value_under(verdict, counter.value)
+        let decision = counter_decision(self, client.principal, counter);
+        value_under(decision, counter.value)
     }
 }

@@ -3,11 +3,12 @@ use Rattle.std.proofs.Common.{◌≡◌, ℕ, Bool, List, [], ◌∷◌, Some, N
 use Rattle.std.specs.List.{filter}
 use Rattle.driver_core.specs.declared.listing.Listed.TheVariants as listed_as
 use Rattle.driver_core.specs.declared.listing.Shown.TheVariants as shown_as
+use Rattle.driver_core.specs.LeftOut.{left_out as left_out_of}
 use Rattle.driver_core.specs.Listing.{list, value}
 use Rattle.driver_core.specs.Renewal.{source_at}
 use Rattle.driver_core.specs.State.{State}
 use Rattle.driver_core.specs.Verdicts.{verdict_on}
-use Rattle.driver_laws.specs.ListingLaws.{ListsExactly, ShowsExactly, ShowsSourceExactly, LooksExactly, look_question, is_shown_to, source_look}
+use Rattle.driver_laws.specs.ListingLaws.{LeavesOutExactly, ListsExactly, ShowsExactly, ShowsSourceExactly, LooksExactly, look_question, is_shown_to, source_look}
 use Rattle.client_registry.specs.declared.client.Client.{Client}
 use Rattle.client_registry.specs.Clients.{client_at}
 use Rattle.counters.specs.declared.counter.Counter.{Counter}
@@ -83,12 +84,23 @@ nobody_is_shown : (s : State) (handle number : ℕ) → client_at s.clients.rows
 unfolding value
 nobody_is_shown s handle number gone = rw gone refl
 
+leaves_out_exactly : (s : State) (handle : ℕ) (client : Client) → client_at s.clients.rows handle ≡ Some client →
+    LeavesOutExactly s client (left_out_of s handle)
+unfolding left_out_of
+leaves_out_exactly s handle client found = record { denials_are = rw found refl }
+
+nobody_is_left_out : (s : State) (handle : ℕ) → client_at s.clients.rows handle ≡ None → left_out_of s handle ≡ []
+unfolding left_out_of
+nobody_is_left_out s handle gone = rw gone refl
+
 pub looks_exactly : (s : State) (handle : ℕ) → LooksExactly s handle
 looks_exactly s handle = record {
   listed = λ client found. lists_exactly s handle client found;
   valued = λ client number counter found there. shows_exactly s handle client number counter found there;
   sourced = λ client number source found none there. shows_source_exactly s handle client number source found none there;
   unknown = λ client number found none nothing. unknown_is_told s handle client number found none nothing;
+  left_out = λ client found. leaves_out_exactly s handle client found;
+  leaves_nobody = λ gone. nobody_is_left_out s handle gone;
   lists_nobody = λ gone. nobody_is_listed s handle gone;
   values_nobody = λ number gone. nobody_is_shown s handle number gone;
 }

@@ -1,9 +1,10 @@
 -- Over every list of events: which counters a client is shown.
-use Rattle.std.specs.Prelude.{◌≡◌, ℕ, Bool, true, false, map, filter, Some, None}
+use Rattle.std.specs.Prelude.{◌≡◌, ℕ, Bool, true, false, not, List, [], map, filter, Some, None}
 use Rattle.driver_core.specs.declared.listing.Listed.{Listed}
 use Rattle.driver_core.specs.declared.listing.Listed.TheVariants as listed_as
 use Rattle.driver_core.specs.declared.listing.Shown.{Shown}
 use Rattle.driver_core.specs.declared.listing.Shown.TheVariants as shown_as
+use Rattle.driver_core.specs.LeftOut.{left_out as left_out_of, with_denials}
 use Rattle.driver_core.specs.Listing.{list, row_of, shows_source, source_question, source_row, uses_of, value, with_rows}
 use Rattle.driver_core.specs.Renewal.{source_at}
 use Rattle.driver_core.specs.State.{State}
@@ -14,6 +15,8 @@ use Rattle.client_registry.specs.declared.client.Client.{Client}
 use Rattle.client_registry.specs.Clients.{client_at}
 use Rattle.counters.specs.declared.counter.Counter.{Counter}
 use Rattle.counters.specs.Counters.{counter_at, question_for}
+use Rattle.policy_core.specs.declared.act.Act.TheVariants.{List as SeeCounter}
+use Rattle.policy_core.specs.declared.decision.Decision.{Decision}
 use Rattle.policy_core.specs.Question.{Question}
 use Rattle.policy_core.specs.Verdict.{verdict_text}
 use Rattle.stream_registry.specs.declared.row.Source.{Source}
@@ -29,6 +32,32 @@ is_shown_to s client counter = (verdict_on s (look_question client counter)).all
 -- what it is asked before the client is shown the log
 abbrev pub source_look : Client → Source → Question
 source_look client source = source_question client.principal source
+
+-- what the policy in force decides on showing the client the counter
+abbrev pub look_decision : State → Client → Counter → Decision
+look_decision s client counter = record {
+  principal = client.principal;
+  act = SeeCounter;
+  subject = counter.number;
+  stream = counter.type_id;
+  verdict = verdict_on s (look_question client counter);
+}
+
+-- and on showing it the log
+abbrev pub look_at_source : State → Client → Source → Decision
+look_at_source s client source = record {
+  principal = client.principal;
+  act = SeeCounter;
+  subject = source.number;
+  stream = source.stream;
+  verdict = verdict_on s (source_look client source);
+}
+
+abbrev pub is_hidden_from : State → Client → Counter → Bool
+is_hidden_from s client counter = not (is_shown_to s client counter)
+
+abbrev pub is_source_hidden : State → Client → Source → Bool
+is_source_hidden s client source = not (shows_source s client.principal source)
 
 -- the rows are those of the counters that the policy in force shows, and of the live logs, each by the first rule that matches
 -- or the default
@@ -46,7 +75,7 @@ pub record ListsExactly (s : State) (client : Client) (answer : Listed) : Type 0
 pub record ShowsExactly (s : State) (client : Client) (counter : Counter) (answer : Shown) : Type 0 where
   pub by : IsByPolicy s (look_question client counter) (verdict_on s (look_question client counter))
   pub shown : is_shown_to s client counter ≡ true → answer ≡ shown_as.Value counter.value
-  pub denied : is_shown_to s client counter ≡ false → answer ≡ shown_as.Denied (verdict_on s (look_question client counter))
+  pub denied : is_shown_to s client counter ≡ false → answer ≡ shown_as.Denied (look_decision s client counter)
   pub text :
       is_shown_to s client counter ≡ false →
       verdict_text (verdict_on s (look_question client counter))
@@ -59,11 +88,18 @@ pub record ShowsSourceExactly (s : State) (client : Client) (source : Source) (a
       (verdict_on s (source_look client source)).allow ≡ true → answer ≡ shown_as.Value (uses_of s source)
   pub denied :
       (verdict_on s (source_look client source)).allow ≡ false →
-      answer ≡ shown_as.Denied (verdict_on s (source_look client source))
+      answer ≡ shown_as.Denied (look_at_source s client source)
   pub text :
       (verdict_on s (source_look client source)).allow ≡ false →
       verdict_text (verdict_on s (source_look client source))
       ≡ denial_text (verdict_on s (source_look client source)).rule s.epoch
+
+-- each counter and each live log that is left out is told by the decision on it, and no other, by their numbers
+pub record LeavesOutExactly (s : State) (client : Client) (denials : List Decision) : Type 0 where
+  pub denials_are :
+      denials
+      ≡ with_denials (map (look_decision s client) (filter (is_hidden_from s client) s.counters))
+      (map (look_at_source s client) (filter (is_source_hidden s client) s.streams.sources))
 
 -- what a look is told, whoever looks
 pub record LooksExactly (s : State) (handle : ℕ) : Type 0 where
@@ -80,6 +116,9 @@ pub record LooksExactly (s : State) (handle : ℕ) : Type 0 where
       (client : Client) (number : ℕ) → client_at s.clients.rows handle ≡ Some client →
       counter_at s.counters number ≡ None → source_at s.streams.sources number ≡ None →
       value s handle number ≡ shown_as.UnknownCounter
+  pub left_out :
+      (client : Client) → client_at s.clients.rows handle ≡ Some client → LeavesOutExactly s client (left_out_of s handle)
+  pub leaves_nobody : client_at s.clients.rows handle ≡ None → left_out_of s handle ≡ []
   pub lists_nobody : client_at s.clients.rows handle ≡ None → list s handle ≡ listed_as.WrongClient
   pub values_nobody : (number : ℕ) → client_at s.clients.rows handle ≡ None → value s handle number ≡ shown_as.WrongClient
 

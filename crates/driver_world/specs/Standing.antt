@@ -1,94 +1,23 @@
--- A world holds the registry and what is left of the logs. Each run ends where a world may stand; each call of a world
+-- A world holds a driver, and the last decisions of each actor. Each run ends where a world may stand; each call of a world
 -- goes on from each such end.
-use Rattle.std.specs.Prelude.{◌≡◌, ℕ, ◌*◌, Bool, List, [], ◌∷◌, ◌++◌, map}
-use Rattle.std.specs.List.{list_any, range_with_len}
-use Rattle.any_log.specs.Held.{Made, made_held}
-use Rattle.driver_core.specs.declared.event.Event.{Event}
-use Rattle.driver_core.specs.declared.outcome.Outcome.{Outcome}
+use Rattle.std.specs.Prelude.{◌≡◌, List, ◌++◌}
 use Rattle.driver_core.specs.declared.peer.Peer.{Peer}
 use Rattle.driver_core.specs.declared.settings.Settings.{Settings}
-use Rattle.driver_core.specs.Conduct.{conduct}
-use Rattle.driver_core.specs.Soundness.{IsSound}
-use Rattle.driver_core.specs.State.{State}
-use Rattle.driver_world.specs.declared.answer.Answer.{Answer}
-use Rattle.driver_world.specs.declared.step.Step.{Step}
-use Rattle.driver_world.specs.Ends.{RunEnd, Moved, opening_end, conducted, inputs_of, IsAnswer, IsAnswerOf, AreAnswers, after, after_by, end_of}
-use Rattle.driver_world.specs.Held.{HeldLog, HeldLogs, plot_of}
-use Rattle.driver_world.specs.Idents.{made_of}
-use Rattle.driver_world.specs.Memory.{HasMemory, HasMemoryBy, HaveMemory, is_listed}
-use Rattle.driver_world.specs.Moves.{WholeLog, StandsForLog}
-use Rattle.driver_world.specs.Plots.{Plot}
+use Rattle.driver_steps.specs.declared.answer.Answer.{Answer}
+use Rattle.driver_steps.specs.declared.step.Step.{Step}
+use Rattle.driver_steps.specs.Standing.{Held as HeldDriver, StandsForEnd as DriverStands}
+use Rattle.driver_world.specs.Audits.{Audits, kept_all}
+use Rattle.driver_world.specs.Ends.{RunEnd, opening_end, IsAnswer, AreAnswers, HasMemory, HaveMemory, after, end_of}
 use Rattle.policy_core.specs.RuleList.{Rules}
-use Rattle.stream_registry.specs.declared.row.Source.{Source}
-use Rattle.stream_registry.specs.LogPages.{holds}
 
--- the registry, and the open logs
 pub record Held : Type 0 where
-  pub registry : State
-  pub logs : List HeldLog
+  pub driver : HeldDriver
+  pub audits : Audits
 
--- ---- what is held together: the open logs are the live ones
-
--- a log by its number, its first byte in the memory of all logs, how many bytes one of its terms has, and what it is made for
-pub record LogRow : Type 0 where
-  pub source : ℕ
-  pub place : ℕ
-  pub term_length : ℕ
-  pub made : Made
-
-abbrev pub row_on : Plot → Made → LogRow
-row_on plot made =
-    record { source = plot.source; place = plot.place; term_length = plot.term_length; made = made }
-
-abbrev pub row_held : HeldLog → LogRow
-row_held held = row_on (plot_of held) (made_held held.log)
-
-abbrev pub row_for : Settings → Source → LogRow
-row_for settings log = record {
-  source = log.number;
-  place = 4096 * log.place;
-  term_length = log.measures.term_length;
-  made = made_of settings log;
-}
-
--- Each live source has its log, at the place that the registry gave it, and there is no other: so the pages that the
--- registry takes for free are those that are.
-pub record Match (s : State) (held : HeldLogs) : Type 0 where
-  pub sound : IsSound s
-  pub pages : held.pages ≡ s.settings.arena_pages
-  pub rows : map row_held held.logs ≡ map (row_for s.settings) s.streams.sources
-
--- of each page of the arena, from the first on, whether a live log of the registry has it
-unfoldable pub pages_of_logs : State → List Bool
-pages_of_logs s =
-    map (λ page. list_any (λ log. holds log page) s.streams.sources)
-    (range_with_len 0 s.settings.arena_pages)
-
--- ---- which end a world stands for
-
-abbrev pub StandAll : List HeldLog → List WholeLog → Type 0
-StandAll [] [] = Unit {0}
-StandAll [] (log ∷ logs) = ⊥
-StandAll (held ∷ others) [] = ⊥
-StandAll (held ∷ others) (log ∷ logs) = StandsForLog held log × StandAll others logs
-
--- the registry is the end's, and each open log stands for the end's
+-- the driver stands for the end's, and of what was decided for each actor the end is kept
 pub record StandsForEnd (held : Held) (e : RunEnd) : Type 0 where
-  pub registry : held.registry ≡ e.registry
-  pub logs : StandAll held.logs e.logs
-
--- one event that was taken, for each end that the world stands for
-pub record Takes (old new : Held) (event : Event) (outcome : Outcome) : Type 0 where
-  pub on :
-      (e : RunEnd) → StandsForEnd old e →
-      (outcome ≡ (conduct e.registry event (inputs_of e.registry event e.logs)).outcome) × StandsForEnd new (conducted e event).after
-
--- What comes of a step, for each end that the world stands for. Want of memory is an answer only where a list is given.
-pub record ServesAs (old new : Held) (what : RunEnd → Moved) (answer : Answer) : Type 0 where
-  pub on :
-      (e : RunEnd) → StandsForEnd old e →
-      IsAnswerOf (what e) answer × StandsForEnd new (after_by e (what e) answer)
-  pub without_memory : (e : RunEnd) → StandsForEnd old e → HasMemoryBy (is_listed (what e).answer) answer
+  pub driver : DriverStands held.driver e.driver
+  pub audits : held.audits ≡ kept_all e.decided
 
 -- One step, for each end that the world stands for. Want of memory is an answer only to a step that may take some.
 pub record Serves (old new : Held) (step : Step) (answer : Answer) : Type 0 where

@@ -1,65 +1,8 @@
 //! What holds over every run: each function does nothing, and its clause is the law.
 
-ghost use Rattle.driver_world.specs.CarryingLaws.{PayloadsComeFromTheirPublisher};
-ghost use Rattle.driver_world.specs.ResendLaws.{ResendsComeFromTheLiveLog};
-ghost use Rattle.driver_world.specs.Laws.{BytesComeFromTheLiveLog, LogsFollowTheRegistry, OffersAreGrantedExactly, PollsAreGrantedExactly, RunsTakeEvents};
-ghost use Rattle.driver_world.specs.SendLaws.{SendsAreGrantedExactly};
+ghost use Rattle.driver_world.specs.Laws.{RunsAreOfTheDriver};
 
-/// A run leaves the registry that its events leave, those apart that were refused memory: so what is said of all lists of
-/// events holds of runs. Whatever comes next is answered by that registry, unless it is refused memory: an event by its
-/// outcome, a look at the counters by what the client is shown of them.
-pub fn runs_take_events()
-    ensures { RunsTakeEvents }
-{}
-
-/// At the end of every run each live publication and each image has its log and no other log is open, no two of them share
-/// a page, and exactly the subscriptions read it that the registry's lists and the policy in force say. So a reload closes exactly the
-/// images that are no longer allowed, in the logs too.
-pub fn logs_follow_the_registry()
-    ensures { LogsFollowTheRegistry }
-{}
-
-/// A client's offer by a registration of its own goes on to the log exactly where the first rule that matches allows it, or
-/// where none matches and the default does; else it changes nothing and is told that verdict. Where the client has no such
-/// registration, it changes nothing.
-pub fn offers_are_granted_exactly()
-    ensures { OffersAreGrantedExactly }
-{}
-
-/// A client's poll of a log that its own subscription reads is given the log's fragments exactly where the first rule that
-/// matches allows it, or where none matches and the default does; else it changes nothing and is told that verdict. Where
-/// the subscription does not read the log, or is another client's, it changes nothing.
-pub fn polls_are_granted_exactly()
-    ensures { PollsAreGrantedExactly }
-{}
-
-/// A turn of the sender with a publication over datagrams cuts the one datagram that is due of all frames ever appended, if
-/// one is, and tells it for each destination of the publication, in the order in which they were named: it goes there exactly
-/// where the first rule that matches allows the destination's maker to send there, or where none matches and the default
-/// does; else that verdict is told. The log moves on by what was cut, whoever gets it. Where there is no such publication,
-/// nothing is changed.
-pub fn sends_are_granted_exactly()
-    ensures { SendsAreGrantedExactly }
-{}
-
-/// What a poll gives is what the next frames carry of the log that was asked for, which is open: from where the subscription
-/// stood on, in their order, each once, as many as it asked for while there were some. Each fragment of a publication's log
-/// was put into it by an offer that the policy in force allowed.
-pub fn bytes_come_from_the_live_log()
-    ensures { BytesComeFromTheLiveLog }
-{}
-
-/// Each fragment that a poll gives of an image's log is what a frame holds that a datagram brought: a datagram that came
-/// earlier in the run to the image's endpoint, of its session and stream, from the address at which its publisher is. So a
-/// poll gives nothing that came from another address.
-pub fn payloads_come_from_their_publisher()
-    ensures { PayloadsComeFromTheirPublisher }
-{}
-
-/// Where a datagram is answered by datagrams that are sent again, it is a NAK, they go to the address that it is from, and the
-/// first rule that matches lets the principal that is bound to that address have them, or where none matches the default
-/// does. They are what it asks for of all frames of the publication of its session and stream, whose log is open. A NAK that
-/// the policy denies changes nothing and is dropped by that verdict.
-pub fn resends_come_from_the_live_log()
-    ensures { ResendsComeFromTheLiveLog }
+/// A run of a world is one of its driver, with the same answers: so what is said of all runs of a driver holds of worlds.
+pub fn runs_are_of_the_driver()
+    ensures { RunsAreOfTheDriver }
 {}

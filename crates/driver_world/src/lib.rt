@@ -1,45 +1,16 @@
-//! A driver that is run step by step, with the logs of its publications and images.
+//! A driver that is run step by step, and keeps of each actor what was decided for it.
 //!
-//! `World::run` takes any list of steps of the conductor and of clients, and its answers continue the run that came
-//! before, whose logs contracts see as whole lists of frames. `offer_step` and `poll_step` are the steps of a client on one
-//! log, by any view of a registry.
-//!
-//! An event is told how far each log reaches and, where it is a tick, which images are silent. Then the logs follow: the one
-//! opens that the event tells, of a publication or of the image that a SETUP makes, those close that it tells, and exactly
-//! the pairs read. All memory is taken before anything is changed.
+//! `World::run` takes any list of steps of the conductor, the sender, the receiver and of clients, and its answers continue
+//! the run that came before. What a step does is the driver's (crate `driver_steps`); a world also keeps the last 4,096
+//! decisions of each actor, and how many came before them.
 #![tactic(auto)]
 
-mod answer;
-mod caches;
-mod cause;
-mod hearing;
-mod inputs;
+mod actor;
+mod audits;
 mod laws;
-mod offering;
-mod open_log;
-mod open_logs;
-mod opening;
-mod polling;
-mod receiving;
-mod recovery;
-mod reporting;
-mod resending;
-mod sending;
-mod step;
 mod world;
 
-pub use answer::{Answer, Offered};
-pub use any_log::Fragment;
-pub use cause::Cause;
-pub use image_log::Insert;
-pub use laws::{
-    bytes_come_from_the_live_log, logs_follow_the_registry, offers_are_granted_exactly,
-    payloads_come_from_their_publisher, polls_are_granted_exactly, resends_come_from_the_live_log,
-    runs_take_events, sends_are_granted_exactly,
-};
-pub use offering::offer_step;
-pub use open_log::OpenLog;
-pub use polling::poll_step;
-pub use sending::send_step;
-pub use step::Step;
+pub use actor::Actor;
+pub use driver_steps::{Answer, Cause, Fragment, Insert, Offered, OpenLog, Step, Told};
+pub use laws::runs_are_of_the_driver;
 pub use world::World;

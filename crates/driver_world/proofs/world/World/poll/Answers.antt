@@ -1,36 +1,7 @@
-use Rattle.std.proofs.Common.{rules}
-use Rattle.driver_world.specs.declared.answer.Answer.TheVariants.{Gone}
-use Rattle.driver_world.specs.Moves.{poll_move}
-use Rattle.driver_world.proofs.CachingLemmas.{cached_at, cached_set}
-use Rattle.driver_world.proofs.RunLemmas.{poll_refused, poll_served}
-use Rattle.driver_world.proofs.StandLemmas.{match_moved}
+use Rattle.driver_world.proofs.ServeLemmas.{poll_served}
 use Rattle.driver_world.proofs.world.World.poll.Goals as goal
-
-pub invariant_of-self : goal.invariant_of-self
-invariant_of-self c = (
-  rw c.in_default.ensures.err c.self.invariant.0,
-  cached_set c.self.inside.registry c.self.inside.caches.items _ c.poll.new.cache c.self.invariant.1 c.poll.ensures.cached,
-)
-
-pub poll-requires : goal.poll-requires
-poll-requires c =
-    let few = c.self.invariant.1.count in
-    cached_at c.self.inside.registry c.self.inside.caches.items _ c.index_mut-cache.result.now c.self.invariant.1 (search (rules, few))
-    c.index_mut-cache.ensures.value
-
-pub invariant_of-self-2 : goal.invariant_of-self-2
-invariant_of-self-2 c = (
-  match_moved c.self.inside.registry c.args.source (poll_move c.self.inside.registry c.args.client c.args.subscription c.args.limit)
-      Gone c.in-Ok.answer c.self.inside.logs c.poll.new.self c.self.invariant.0 c.in-Ok.ensures.moved,
-  cached_set c.self.inside.registry c.self.inside.caches.items _ c.poll.new.cache c.self.invariant.1 c.poll.ensures.cached,
-)
-
-pub returns-in_default : goal.returns-in_default
-returns-in_default c =
-    rw (← c.self.view_is)
-    (poll_refused c.self.inside.registry c.self.inside.logs c.poll.new.self c.args._now c.args.client c.args.subscription c.args.source c.args.limit c.in_default.ensures.err c.in_default.ensures.without_memory)
 
 pub returns : goal.returns
 returns c =
     rw (← c.self.view_is)
-    (poll_served c.self.inside.registry c.self.inside.logs c.poll.new.self c.args._now c.args.client c.args.subscription c.args.source c.args.limit c.in-Ok.answer c.in-Ok.ensures.moved)
+    (poll_served c.self.inside.driver c.poll-told.new.self c.self.inside.audits.audits c.tell_client.new.self.audits c.args.now c.args.client c.args.subscription c.args.source c.args.limit c.poll-told.result.answer c.poll-told.result.decision c.poll-told.ensures.serves c.poll-told.ensures.decides c.tell_client.ensures)

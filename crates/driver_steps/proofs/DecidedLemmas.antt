@@ -1,0 +1,202 @@
+-- What is decided for a step on one log, and at the end of a run.
+use Rattle.std.proofs.Common.{◌≡◌, ℕ, ◌==◌, true, false, ◌<◌, List, [], ◌∷◌, get_or, length, Option, Some, None, is_some, if◌then◌else◌, refl, sym, subst, ap, ◌∙◌, arith}
+use Rattle.any_log.specs.Held.{position_held}
+use Rattle.any_log.proofs.AnyLemmas.{position_stands}
+use Rattle.any_log.specs.Whole.{position_in}
+use Rattle.channel_uri.specs.declared.address.Address.{Address}
+use Rattle.driver_core.specs.declared.log_request.LogRequest.{LogRequest}
+use Rattle.driver_core.specs.LogRequests.{offering_of, receiving_of}
+use Rattle.driver_core.specs.PublicationRequests.{resending_of}
+use Rattle.driver_core.specs.State.{State}
+use Rattle.driver_steps.specs.declared.answer.Answer.{Answer}
+use Rattle.driver_steps.specs.declared.answer.Answer.TheVariants.{NoMemory, Gone}
+use Rattle.driver_steps.specs.Decided.{Decides, DecidesAs, DecidesFirst, DecidesHeld, DecidesUnless, decision_in, decision_on, nak_decided, offer_decided, offer_decision, poll_decided, poll_decision, poll_decision_by}
+use Rattle.driver_steps.specs.Ends.{RunEnd, log_at}
+use Rattle.driver_steps.specs.Held.{HeldLog, HeldLogs, held_at, place_at}
+use Rattle.driver_steps.specs.Hearing.{nak_move}
+use Rattle.driver_steps.specs.Moves.{WholeLog, MovesFirst, poll_move}
+use Rattle.driver_steps.specs.Receiving.{unheard}
+use Rattle.driver_steps.specs.Standing.{Held, StandAll}
+use Rattle.driver_steps.proofs.HeldLemmas.{found_at, found_nowhere}
+use Rattle.driver_steps.proofs.RunLemmas.{IsTold, asked_told, first_told, poll_told, sourced, told_unless}
+use Rattle.driver_steps.proofs.StandLemmas.{StandAt, stand_at}
+use Rattle.frame_codec.specs.declared.nak.Nak.{Nak}
+use Rattle.std.specs.Option.{option_map}
+use Rattle.policy_core.specs.declared.decision.Decision.{Decision}
+
+-- ---- an offer
+
+offer_decides : (s : State) (client registration : ℕ) (held : HeldLog) (decision : Option Decision) →
+    decision ≡ decision_on held.source (offering_of s client registration) →
+    Decides (offer_decision s client registration) held decision
+unfolding offer_decision
+offer_decides s client registration held decision is = record { on = λ log stands. rw (← stands.source_is) is }
+
+-- the client has no such registration
+pub unregistered_decides : (s : State) (client registration : ℕ) (held : HeldLog) →
+    offering_of s client registration ≡ None → Decides (offer_decision s client registration) held None
+unregistered_decides s client registration held none = offer_decides s client registration held None (rw none refl)
+
+-- it is with another log
+pub elsewhere_decides : (s : State) (client registration : ℕ) (held : HeldLog) (request : LogRequest) →
+    offering_of s client registration ≡ Some request → (request.source == held.source) ≡ false →
+    Decides (offer_decision s client registration) held None
+elsewhere_decides s client registration held request asked other =
+    offer_decides s client registration held None (rw (asked, other) refl)
+
+pub own_decides : (s : State) (client registration : ℕ) (held : HeldLog) (request : LogRequest) →
+    offering_of s client registration ≡ Some request → (request.source == held.source) ≡ true →
+    Decides (offer_decision s client registration) held (Some request.decision)
+own_decides s client registration held request asked own =
+    offer_decides s client registration held (Some request.decision) (rw (asked, own) refl)
+
+-- ---- a poll
+
+poll_decides : (s : State) (client subscription : ℕ) (held : HeldLog) (decision : Option Decision) →
+    decision ≡ poll_decision_by (receiving_of s client subscription held.source) (position_held held.log subscription) →
+    Decides (poll_decision s client subscription) held decision
+unfolding poll_decision
+poll_decides s client subscription held decision is = record {
+  on = λ log stands.
+      let place : position_in log.whole subscription ≡ position_held held.log subscription =
+      sym (position_stands held.log log.whole subscription stands.whole) in
+      rw (← stands.source_is, place) is;
+}
+
+pub unread_decides : (s : State) (client subscription : ℕ) (held : HeldLog) → receiving_of s client subscription held.source ≡ None →
+    Decides (poll_decision s client subscription) held None
+unread_decides s client subscription held none = poll_decides s client subscription held None (rw none refl)
+
+pub placeless_decides : (s : State) (client subscription : ℕ) (held : HeldLog) (request : LogRequest) →
+    receiving_of s client subscription held.source ≡ Some request → position_held held.log subscription ≡ None →
+    Decides (poll_decision s client subscription) held None
+placeless_decides s client subscription held request asked none =
+    poll_decides s client subscription held None (rw (asked, none) refl)
+
+pub read_decides : (s : State) (client subscription : ℕ) (held : HeldLog) (request : LogRequest) (position : ℕ) →
+    receiving_of s client subscription held.source ≡ Some request → position_held held.log subscription ≡ Some position →
+    Decides (poll_decision s client subscription) held (Some request.decision)
+read_decides s client subscription held request position asked there =
+    poll_decides s client subscription held (Some request.decision) (rw (asked, there) refl)
+
+-- ---- the first log of a source
+
+-- none is there
+pub decides_none : (source : ℕ) (decide : WholeLog → Option Decision) (old : HeldLogs) → place_at old.logs source ≡ None →
+    DecidesFirst source decide None old
+decides_none source decide old none = rw (found_nowhere old.logs source none) refl
+
+-- where there is a place, there is a log
+open_by : (logs : List HeldLog) (source at : ℕ) → at < length logs → ((d : HeldLog) → held_at logs source ≡ Some (get_or logs at d)) →
+    true ≡ is_some (held_at logs source)
+open_by [] source at within is = absurd (omega (arith, within))
+open_by (first ∷ logs) source at within is = rw (is first) refl
+
+-- where one is, it is there
+pub open_at : (logs : List HeldLog) (source : ℕ) (at : Option ℕ) → place_at logs source ≡ at → is_some at ≡ is_some (held_at logs source)
+open_at logs source None is = rw (found_nowhere logs source is) refl
+open_at logs source (Some at) is =
+    let told = found_at logs source at is in
+    open_by logs source at told.0 told.1
+
+-- the one at that place decides
+pub decides_at : (source : ℕ) (decide : WholeLog → Option Decision) (old : HeldLogs) (at : ℕ) (held : HeldLog) (decision : Option Decision) →
+    place_at old.logs source ≡ Some at → held ≡ get_or old.logs at held → Decides decide held decision →
+    DecidesFirst source decide decision old
+decides_at source decide old at held decision place is decides =
+    let told = found_at old.logs source at place in
+    let found : held_at old.logs source ≡ Some held = told.1 held ∙ ap Some (sym is) in
+    subst (λ o. DecidesHeld decide decision o) (sym found) decides
+
+-- ---- at the end of a run
+
+decided_found : (decide : WholeLog → Option Decision) (decision : Option Decision) (found : Option HeldLog) (there : Option WholeLog) →
+    StandAt found there → DecidesHeld decide decision found → decision ≡ decision_in there decide
+decided_found decide decision None None at is = is
+decided_found decide decision None (Some log) at is = absurd at
+decided_found decide decision (Some held) None at is = absurd at
+decided_found decide decision (Some held) (Some log) at is = is.on log at
+
+pub decided_first : (e : RunEnd) (source : ℕ) (decide : WholeLog → Option Decision) (decision : Option Decision) (old : HeldLogs) →
+    StandAll old.logs e.logs → DecidesFirst source decide decision old → decision ≡ decision_in (log_at e.logs source) decide
+decided_first e source decide decision old all decides =
+    decided_found decide decision (held_at old.logs source) (log_at e.logs source) (stand_at old.logs e.logs source all) decides
+
+-- ---- a step, for each end that the driver stands for
+
+-- an offer of a registration that is not there is not decided
+pub offer_undecided : (held : Held) (client registration : ℕ) → offering_of held.registry client registration ≡ None →
+    DecidesAs held (λ e. offer_decided e client registration) None
+offer_undecided held client registration none = record {
+  on = λ e stands.
+      let absent : offering_of e.registry client registration ≡ None = rw (← stands.registry) none in
+      rw absent refl;
+}
+
+-- an offer to the first log of the registration's source
+pub offer_decided_first : (registry : State) (old : HeldLogs) (client registration source : ℕ) (decision : Option Decision) →
+    option_map (λ request. request.source) (offering_of registry client registration) ≡ Some source →
+    DecidesFirst source (offer_decision registry client registration) decision old →
+    DecidesAs (record { registry = registry; logs = old.logs }) (λ e. offer_decided e client registration) decision
+offer_decided_first registry old client registration source decision is decides = record {
+  on = λ e stands.
+      let found = sourced (offering_of registry client registration) source is in
+      let asked : offering_of e.registry client registration ≡ Some found.0 = rw (← stands.registry) found.1 in
+      let there : DecidesFirst source (offer_decision e.registry client registration) decision old = rw (← stands.registry) decides in
+      rw (asked, found.2) (decided_first e source (offer_decision e.registry client registration) decision old stands.logs there);
+}
+
+-- a poll of the first log of the source
+pub poll_decided_first : (registry : State) (old new : HeldLogs) (client subscription source limit : ℕ) (answer : Answer) (decision : Option Decision) →
+    MovesFirst source (poll_move registry client subscription limit) Gone old new answer →
+    DecidesFirst source (poll_decision registry client subscription) decision old →
+    DecidesUnless (record { registry = registry; logs = old.logs }) (λ e. poll_decided e client subscription source) answer decision
+unfolding poll_move
+poll_decided_first registry old new client subscription source limit answer decision moves decides = record {
+  on = λ e stands.
+      let is_told : IsTold answer =
+      first_told e old new source (poll_move registry client subscription limit) Gone answer tt
+      (λ log. poll_told subscription limit log (receiving_of registry client subscription log.source) (position_in log.whole subscription))
+      stands.logs moves in
+      let there : DecidesFirst source (poll_decision e.registry client subscription) decision old = rw (← stands.registry) decides in
+      rw (told_unless answer (poll_decided e client subscription source) is_told)
+      (decided_first e source (poll_decision e.registry client subscription) decision old stands.logs there);
+}
+
+-- it is refused memory
+pub undecided_refused : (held : Held) (what : RunEnd → Option Decision) → DecidesUnless held what NoMemory None
+undecided_refused held what = record { on = λ e stands. refl }
+
+-- a NAK of no stream is not decided
+pub nak_undecided : (held : Held) (from : Address) (fields : Nak) →
+    resending_of held.registry from fields.session_id fields.stream_id ≡ None →
+    DecidesUnless held (λ e. nak_decided e from fields) unheard None
+nak_undecided held from fields none = record {
+  on = λ e stands.
+      let absent : resending_of e.registry from fields.session_id fields.stream_id ≡ None = rw (← stands.registry) none in
+      rw absent refl;
+}
+
+open_found : (decision : Option Decision) (found : Option HeldLog) (there : Option WholeLog) → StandAt found there →
+    (if is_some found then decision else None) ≡ decision_in there (λ log. decision)
+open_found decision None None at = refl
+open_found decision None (Some log) at = absurd at
+open_found decision (Some held) None at = absurd at
+open_found decision (Some held) (Some log) at = refl
+
+-- one of a publication, where its log is open
+pub nak_decided_first : (registry : State) (old new : HeldLogs) (now : ℕ) (from : Address) (fields : Nak) (request : LogRequest) (answer : Answer)
+    (decision : Option Decision) → resending_of registry from fields.session_id fields.stream_id ≡ Some request →
+    decision ≡ (if is_some (held_at old.logs request.source) then Some request.decision else None) →
+    MovesFirst request.source (nak_move now from request.decision fields) unheard old new answer →
+    DecidesUnless (record { registry = registry; logs = old.logs }) (λ e. nak_decided e from fields) answer decision
+nak_decided_first registry old new now from fields request answer decision is decides moves = record {
+  on = λ e stands.
+      let is_told : IsTold answer =
+      first_told e old new request.source (nak_move now from request.decision fields) unheard answer tt
+      (λ log. asked_told from _) stands.logs moves in
+      let asked : resending_of e.registry from fields.session_id fields.stream_id ≡ Some request = rw (← stands.registry) is in
+      rw (told_unless answer (nak_decided e from fields) is_told, asked, decides)
+      (open_found (Some request.decision) (held_at old.logs request.source) (log_at e.logs request.source)
+      (stand_at old.logs e.logs request.source stands.logs));
+}

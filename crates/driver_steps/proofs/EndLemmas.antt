@@ -1,0 +1,188 @@
+-- What holds along runs; and a run leaves the registry that its events leave.
+use Rattle.std.proofs.Common.{◌≡◌, ℕ, List, [], ◌∷◌, ◌++◌, Option, Some, None, Result, Ok, Err, refl, sym, ap, ◌∙◌, subst}
+use Rattle.driver_core.specs.declared.event.Event.{Event}
+use Rattle.driver_core.specs.declared.event.Inputs.{Inputs}
+use Rattle.driver_core.specs.declared.log_request.LogRequest.{LogRequest}
+use Rattle.driver_core.specs.declared.peer.Peer.{Peer}
+use Rattle.driver_core.specs.declared.settings.Settings.{Settings}
+use Rattle.driver_core.specs.Conduct.{outcome_of, state_after, state_of}
+use Rattle.driver_core.specs.declared.image_request.Astray.{Astray}
+use Rattle.driver_core.specs.ImageRequests.{image_for}
+use Rattle.driver_core.specs.Listing.{list, value}
+use Rattle.driver_core.specs.LogRequests.{offering_of}
+use Rattle.driver_core.specs.PublicationRequests.{publication_for, publisher_of, resending_of}
+use Rattle.driver_core.specs.State.{State, opened}
+use Rattle.driver_steps.specs.Sending.{send_move}
+use Rattle.driver_steps.specs.declared.answer.Answer.{Answer}
+use Rattle.driver_steps.specs.declared.answer.Answer.TheVariants.{NoMemory, Offered as OfferedAs, Gone as IsGone}
+use Rattle.driver_steps.specs.declared.answer.Offered.TheVariants.{Closed}
+use Rattle.driver_steps.specs.declared.step.Step.{Step}
+use Rattle.driver_steps.specs.declared.step.Step.TheVariants.{Conductor, Packet, Offer, Poll, Image, List as Lists, Send, Value}
+use Rattle.driver_steps.specs.Answers.{answer_of, answer_listed, answer_shown}
+use Rattle.driver_steps.specs.Ends.{RunEnd, opening_end, inputs_of, log_at, moved_on, on_asked, on_image, on_log, on_offered, on_packet, on_report, on_told, conducted, moved, after, IsAnswer, end_of}
+use Rattle.driver_steps.specs.Hearing.{nak_move, status_move}
+use Rattle.driver_steps.specs.Laws.{event_in, event_of, taken_by, taken_from, registry_of, IsTold, TakesEvents, RunsTakeEvents}
+use Rattle.driver_steps.specs.Moves.{WholeLog, Move, offer_move, poll_move}
+use Rattle.driver_steps.specs.Receiving.{beat_move, receive_move, unheard}
+use Rattle.driver_steps.specs.Reporting.{report_move}
+use Rattle.channel_uri.specs.declared.address.Address.{Address}
+use Rattle.frame_codec.specs.declared.fault.BadPacket.{BadPacket}
+use Rattle.frame_codec.specs.declared.nak.Nak.{Nak}
+use Rattle.frame_codec.specs.declared.status_message.StatusMessage.{StatusMessage}
+use Rattle.frame_codec.specs.Datagram.{Content, frames, beat, nak, status, setup, packet_of}
+use Rattle.policy_core.specs.RuleList.{Rules}
+
+-- ---- what holds along runs
+
+-- a step leaves what it comes to, or all as it was
+pub after_both : (P : RunEnd → Type 0) (e : RunEnd) (step : Step) (answer : Answer) → P e → P (moved e step).after →
+    P (after e step answer)
+after_both P e step NoMemory same moves = same
+after_both P e step answer same moves = moves
+
+-- what each step keeps, each run keeps
+pub run_keeps : (P : RunEnd → Type 0) → ((e : RunEnd) (step : Step) → P e → P (moved e step).after) →
+    (e : RunEnd) (steps : List Step) (answers : List Answer) → P e → P (end_of e steps answers)
+run_keeps P keeps e [] answers holds = holds
+run_keeps P keeps e (step ∷ steps) [] holds = holds
+run_keeps P keeps e (step ∷ steps) (answer ∷ answers) holds =
+    run_keeps P keeps (after e step answer) steps answers (after_both P e step answer holds (keeps e step holds))
+
+-- ---- the registry that a step leaves
+
+move_keeps_registry : (e : RunEnd) (source : ℕ) (move : WholeLog → Move) (absent : Answer) (o : Option WholeLog) →
+    (moved_on e source move absent o).after.registry ≡ e.registry
+move_keeps_registry e source move absent None = refl
+move_keeps_registry e source move absent (Some log) = refl
+
+-- an offer leaves the registry as it was
+pub offer_keeps_registry : (e : RunEnd) (now client registration : ℕ) (message : List ℕ) (o : Option LogRequest) →
+    (on_offered e now client registration message o).after.registry ≡ e.registry
+unfolding on_log
+offer_keeps_registry e now client registration message None = refl
+offer_keeps_registry e now client registration message (Some request) =
+    move_keeps_registry e request.source (offer_move e.registry now client registration message) (OfferedAs Closed)
+    (log_at e.logs request.source)
+
+-- and so does a poll
+pub poll_keeps_registry : (e : RunEnd) (client subscription source limit : ℕ) →
+    (on_log e source (poll_move e.registry client subscription limit) IsGone).after.registry ≡ e.registry
+unfolding on_log
+poll_keeps_registry e client subscription source limit =
+    move_keeps_registry e source (poll_move e.registry client subscription limit) IsGone (log_at e.logs source)
+
+-- and so does what comes to a log
+pub log_keeps_registry : (e : RunEnd) (source : ℕ) (move : WholeLog → Move) (absent : Answer) →
+    (on_log e source move absent).after.registry ≡ e.registry
+unfolding on_log
+log_keeps_registry e source move absent = move_keeps_registry e source move absent (log_at e.logs source)
+
+image_keeps_registry : (e : RunEnd) (move : WholeLog → Move) (found : Result ℕ Astray) →
+    (on_image e move found).after.registry ≡ e.registry
+image_keeps_registry e move (Ok source) = log_keeps_registry e source move unheard
+image_keeps_registry e move (Err why) = refl
+
+asked_keeps_registry : (e : RunEnd) (now : ℕ) (from : Address) (fields : Nak) (request : Option LogRequest) →
+    (on_asked e now from fields request).after.registry ≡ e.registry
+asked_keeps_registry e now from fields None = refl
+asked_keeps_registry e now from fields (Some request) =
+    log_keeps_registry e request.source (nak_move now from request.decision fields) unheard
+
+told_keeps_registry : (e : RunEnd) (now : ℕ) (fields : StatusMessage) (source : Option ℕ) →
+    (on_told e now fields source).after.registry ≡ e.registry
+told_keeps_registry e now fields None = refl
+told_keeps_registry e now fields (Some source) = log_keeps_registry e source (status_move now fields) unheard
+
+pub report_keeps_registry : (e : RunEnd) (now source : ℕ) (to : Option Address) →
+    (on_report e now source to).after.registry ≡ e.registry
+report_keeps_registry e now source None = refl
+report_keeps_registry e now source (Some to) =
+    log_keeps_registry e source (report_move now e.registry.settings.receiver_id to) IsGone
+
+-- of datagrams, SETUPs alone are events
+packet_takes_event : (e : RunEnd) (now : ℕ) (local from : Address) (read : Result Content BadPacket) →
+    (on_packet e now local from read).after.registry ≡ state_of e.registry (event_in e now local from read)
+unfolding conducted
+packet_takes_event e now local from (Err fault) = refl
+packet_takes_event e now local from (Ok (frames [])) = refl
+packet_takes_event e now local from (Ok (frames (frame ∷ later))) =
+    image_keeps_registry e (receive_move now (frame ∷ later))
+    (image_for e.registry local from frame.header.place.session_id frame.header.place.stream_id)
+packet_takes_event e now local from (Ok (beat header)) =
+    image_keeps_registry e (beat_move now header.place)
+    (image_for e.registry local from header.place.session_id header.place.stream_id)
+packet_takes_event e now local from (Ok (setup fields)) = refl
+packet_takes_event e now local from (Ok (nak fields)) =
+    asked_keeps_registry e now from fields (resending_of e.registry from fields.session_id fields.stream_id)
+packet_takes_event e now local from (Ok (status fields)) =
+    told_keeps_registry e now fields (publication_for e.registry fields.session_id fields.stream_id)
+
+-- any step leaves the registry that its events leave
+moved_takes : (e : RunEnd) (step : Step) → (moved e step).after.registry ≡ state_of e.registry (event_of e step)
+unfolding conducted
+moved_takes e (Conductor event) = refl
+moved_takes e (Packet now local from bytes) = packet_takes_event e now local from (packet_of bytes)
+moved_takes e (Offer now client registration message) =
+    offer_keeps_registry e now client registration message (offering_of e.registry client registration)
+moved_takes e (Poll now client subscription source limit) =
+    poll_keeps_registry e client subscription source limit
+moved_takes e (Send now source) = log_keeps_registry e source (send_move e.registry now) IsGone
+moved_takes e (Image now source) = report_keeps_registry e now source (publisher_of e.registry source)
+moved_takes e (Lists now client) = refl
+moved_takes e (Value now client number) = refl
+
+step_takes : (e : RunEnd) (step : Step) (answer : Answer) →
+    (after e step answer).registry ≡ state_of e.registry (taken_by e step answer)
+step_takes e step NoMemory = refl
+step_takes e step answer = moved_takes e step
+
+-- ---- the registry that a run leaves
+
+state_of_both : (s : State) (events more : List (Event × Inputs)) →
+    state_of s (events ++ more) ≡ state_of (state_of s events) more
+state_of_both s [] more = refl
+state_of_both s (event ∷ events) more = state_of_both (state_after s event.0 event.1) events more
+
+pub run_takes : (e : RunEnd) (steps : List Step) (answers : List Answer) →
+    (end_of e steps answers).registry ≡ state_of e.registry (taken_from e steps answers)
+run_takes e [] answers = refl
+run_takes e (step ∷ steps) [] = refl
+run_takes e (step ∷ steps) (answer ∷ answers) =
+    let more : List (Event × Inputs) = taken_from (after e step answer) steps answers in
+    run_takes (after e step answer) steps answers
+    ∙ ap (λ (s : State). state_of s more) (step_takes e step answer)
+    ∙ sym (state_of_both e.registry (taken_by e step answer) more)
+
+-- ---- what comes next
+
+answered_told : (e : RunEnd) (step : Step) (answer : Answer) → IsAnswer e step answer →
+    IsTold answer (moved e step).answer
+answered_told e step NoMemory is = tt
+answered_told e step answer is = is
+
+end_takes : (e : RunEnd) (s : State) → e.registry ≡ s → TakesEvents e s
+unfolding conducted
+end_takes e s is = record {
+  leaves = is;
+  tells = λ event answer answered.
+      subst (λ (t : State). IsTold answer (answer_of (outcome_of t event (inputs_of e.registry event e.logs)))) is
+      (answered_told e (Conductor event) answer answered);
+  lists = λ now client answer answered.
+      subst (λ (t : State). IsTold answer (answer_listed (list t client))) is
+      (answered_told e (Lists now client) answer answered);
+  values = λ now client number answer answered.
+      subst (λ (t : State). IsTold answer (answer_shown (value t client number))) is
+      (answered_told e (Value now client number) answer answered);
+}
+
+opening_is : (settings : Settings) (policy : Rules) (peers : List Peer) →
+    (opening_end settings policy peers).registry ≡ opened settings policy peers
+unfolding opening_end
+opening_is settings policy peers = refl
+
+pub runs_take : RunsTakeEvents
+runs_take settings policy peers steps answers =
+    let first : RunEnd = opening_end settings policy peers in
+    end_takes (end_of first steps answers) (registry_of settings policy peers steps answers)
+    (run_takes first steps answers
+    ∙ ap (λ (s : State). state_of s (taken_from first steps answers)) (opening_is settings policy peers))

@@ -1,0 +1,544 @@
+-- Runs are put together of steps.
+use Rattle.std.proofs.Common.{◌≡◌, ℕ, ◌==◌, not, nat_lt, Bool, true, false, List, [], ◌∷◌, length, Option, Some, None, Ok, Err, if◌then◌else◌, refl, subst, sym}
+use Rattle.std.specs.Option.{option_map}
+use Rattle.any_log.specs.Whole.{AnyWhole, whole, rebuilt, position_in}
+use Rattle.driver_core.specs.declared.event.Event.{Event}
+use Rattle.driver_core.specs.declared.log_request.LogRequest.{LogRequest}
+use Rattle.driver_core.specs.declared.outcome.Outcome.{Outcome}
+use Rattle.driver_core.specs.declared.outcome.Response.{Response}
+use Rattle.driver_core.specs.declared.outcome.Response.TheVariants as response
+use Rattle.driver_core.specs.declared.replies.Message.{Message}
+use Rattle.driver_core.specs.LogRequests.{offering_of, receiving_of}
+use Rattle.driver_core.specs.State.{State}
+use Rattle.driver_steps.specs.declared.answer.Answer.{Answer}
+use Rattle.driver_steps.specs.declared.answer.Answer.TheVariants.{NoMemory, Attached, Full, Stopped, PolicyInForce, PolicyFull, Imaged, Dropped, Replies, Offered as OfferedAs, Polled, Gone as IsGone, Counters, Value as ValueIs, Denied, UnknownCounter, WrongClient, Received, Heard, Limited, Elicited, Idle, Sent as SentTo, Resent, Reported}
+use Rattle.driver_steps.specs.declared.answer.Offered.TheVariants.{Closed}
+use Rattle.driver_steps.specs.declared.step.Step.{Step}
+use Rattle.driver_steps.specs.declared.step.Step.TheVariants.{Conductor, Packet, Offer, Poll}
+use Rattle.driver_steps.specs.declared.cause.Cause.{Cause}
+use Rattle.driver_steps.specs.declared.cause.Cause.TheVariants.{Astray as IsAstray, Unread}
+use Rattle.driver_core.specs.declared.event.Event.TheVariants.{Setup as SetUp}
+use Rattle.driver_core.specs.declared.image_request.Astray.{Astray}
+use Rattle.driver_core.specs.declared.image_request.Astray.TheVariants.{NoStream}
+use Rattle.driver_core.specs.ImageRequests.{image_for}
+use Rattle.driver_steps.specs.Receiving.{beat_move, receive_move, unheard}
+use Rattle.channel_uri.specs.declared.address.Address.{Address}
+use Rattle.frame_codec.specs.declared.fault.BadPacket.{BadPacket}
+use Rattle.frame_codec.specs.declared.header.Header.{Header}
+use Rattle.frame_codec.specs.declared.header.TermPlace.{TermPlace}
+use Rattle.frame_codec.specs.declared.nak.Nak.{Nak}
+use Rattle.frame_codec.specs.declared.setup.Setup.{Setup}
+use Rattle.frame_codec.specs.declared.status_message.StatusMessage.{StatusMessage}
+use Rattle.frame_codec.specs.Datagram.{frames, beat, nak, status, setup, packet_of}
+use Rattle.frame_codec.specs.Frame.{Sent}
+use Rattle.any_log.specs.declared.asking.NakReply.{NakReply}
+use Rattle.any_log.specs.declared.asking.NakReply.TheVariants as replies
+use Rattle.driver_core.specs.PublicationRequests.{publication_for, resending_of}
+use Rattle.driver_steps.specs.Hearing.{answer_asked, answer_heard}
+use Rattle.driver_steps.specs.Reporting.{answer_reported}
+use Rattle.driver_steps.specs.Sending.{answer_sent, pace_of, send_by}
+use Rattle.any_log.specs.Sending.{turn_of}
+use Rattle.driver_core.specs.declared.send_request.Outlet.{Outlet}
+use Rattle.driver_core.specs.SendRequests.{outlets_of}
+use Rattle.publication_sender.specs.declared.hearing.StatusAnswer.{StatusAnswer}
+use Rattle.publication_sender.specs.declared.hearing.StatusAnswer.TheVariants as statuses
+use Rattle.driver_steps.specs.Answers.{answered_by, answer_of}
+use Rattle.driver_steps.specs.Ends.{RunEnd, Moved, IsAnswerOf, after_by, dropped, moved, moved_on, on_asked, on_frames, on_log, on_stream, on_told, log_at, conducted}
+use Rattle.driver_steps.specs.Held.{HeldLogs}
+use Rattle.driver_steps.specs.Memory.{GivesFirst, HasMemoryBy, is_listed, takes_memory}
+use Rattle.driver_steps.specs.Moves.{WholeLog, Move, MovesFirst, offer_move, offer_to, offer_under, poll_move, poll_under}
+use Rattle.driver_steps.specs.Standing.{StandAll, Held, StandsForEnd, Takes, Serves, ServesAs}
+use Rattle.driver_steps.specs.Decided.{decided_unless}
+use Rattle.policy_core.specs.declared.decision.Decision.{Decision}
+use Rattle.driver_steps.proofs.StandLemmas.{gives_first, moves_first}
+use Rattle.policy_core.specs.declared.verdict.Verdict.{Verdict}
+use Rattle.term_log.specs.Log.{greatest_message}
+use Rattle.term_log.specs.Whole.{is_connected}
+
+-- ---- answers that are not want of memory
+
+abbrev pub IsTold : Answer → Type 0
+IsTold NoMemory = ⊥
+IsTold (Attached number) = Unit {0}
+IsTold Full = Unit {0}
+IsTold Stopped = Unit {0}
+IsTold (PolicyInForce epoch messages) = Unit {0}
+IsTold PolicyFull = Unit {0}
+IsTold (Imaged number messages) = Unit {0}
+IsTold (Received words) = Unit {0}
+IsTold Heard = Unit {0}
+IsTold (Limited position) = Unit {0}
+IsTold Elicited = Unit {0}
+IsTold Idle = Unit {0}
+IsTold (SentTo bytes outlets) = Unit {0}
+IsTold (Resent to datagrams) = Unit {0}
+IsTold (Reported to datagrams) = Unit {0}
+IsTold (Dropped fault) = Unit {0}
+IsTold (Replies messages) = Unit {0}
+IsTold (OfferedAs offered) = Unit {0}
+IsTold (Polled fragments) = Unit {0}
+IsTold IsGone = Unit {0}
+IsTold (Counters rows) = Unit {0}
+IsTold (ValueIs number) = Unit {0}
+IsTold (Denied verdict) = Unit {0}
+IsTold UnknownCounter = Unit {0}
+IsTold WrongClient = Unit {0}
+
+-- a step that is told such an answer tells what was decided
+pub told_unless : (answer : Answer) (decision : Option Decision) → IsTold answer → decided_unless answer decision ≡ decision
+told_unless NoMemory decision is_told = absurd is_told
+told_unless (Attached number) decision is_told = refl
+told_unless Full decision is_told = refl
+told_unless Stopped decision is_told = refl
+told_unless (PolicyInForce epoch messages) decision is_told = refl
+told_unless PolicyFull decision is_told = refl
+told_unless (Imaged number messages) decision is_told = refl
+told_unless (Received words) decision is_told = refl
+told_unless Heard decision is_told = refl
+told_unless (Limited position) decision is_told = refl
+told_unless Elicited decision is_told = refl
+told_unless Idle decision is_told = refl
+told_unless (SentTo bytes outlets) decision is_told = refl
+told_unless (Resent to datagrams) decision is_told = refl
+told_unless (Reported to datagrams) decision is_told = refl
+told_unless (Dropped fault) decision is_told = refl
+told_unless (Replies messages) decision is_told = refl
+told_unless (OfferedAs offered) decision is_told = refl
+told_unless (Polled fragments) decision is_told = refl
+told_unless IsGone decision is_told = refl
+told_unless (Counters rows) decision is_told = refl
+told_unless (ValueIs number) decision is_told = refl
+told_unless (Denied verdict) decision is_told = refl
+told_unless UnknownCounter decision is_told = refl
+told_unless WrongClient decision is_told = refl
+
+-- such an answer leaves what is left
+told : (e : RunEnd) (what : Moved) (answer : Answer) → IsTold answer → answer ≡ what.answer →
+    IsAnswerOf what answer × (after_by e what answer ≡ what.after)
+told e what NoMemory is_told is = absurd is_told
+told e what (Attached number) is_told is = (is, refl)
+told e what Full is_told is = (is, refl)
+told e what Stopped is_told is = (is, refl)
+told e what (PolicyInForce epoch messages) is_told is = (is, refl)
+told e what PolicyFull is_told is = (is, refl)
+told e what (Imaged number messages) is_told is = (is, refl)
+told e what (Received words) is_told is = (is, refl)
+told e what Heard is_told is = (is, refl)
+told e what (Limited position) is_told is = (is, refl)
+told e what Elicited is_told is = (is, refl)
+told e what Idle is_told is = (is, refl)
+told e what (SentTo bytes outlets) is_told is = (is, refl)
+told e what (Resent to datagrams) is_told is = (is, refl)
+told e what (Reported to datagrams) is_told is = (is, refl)
+told e what (Dropped fault) is_told is = (is, refl)
+told e what (Replies messages) is_told is = (is, refl)
+told e what (OfferedAs offered) is_told is = (is, refl)
+told e what (Polled fragments) is_told is = (is, refl)
+told e what IsGone is_told is = (is, refl)
+told e what (Counters rows) is_told is = (is, refl)
+told e what (ValueIs number) is_told is = (is, refl)
+told e what (Denied verdict) is_told is = (is, refl)
+told e what UnknownCounter is_told is = (is, refl)
+told e what WrongClient is_told is = (is, refl)
+
+-- such an answer asks for no memory
+told_has : (takes : Bool) (answer : Answer) → IsTold answer → HasMemoryBy takes answer
+told_has takes NoMemory is_told = absurd is_told
+told_has takes (Attached number) is_told = tt
+told_has takes Full is_told = tt
+told_has takes Stopped is_told = tt
+told_has takes (PolicyInForce epoch messages) is_told = tt
+told_has takes PolicyFull is_told = tt
+told_has takes (Imaged number messages) is_told = tt
+told_has takes (Received words) is_told = tt
+told_has takes Heard is_told = tt
+told_has takes (Limited position) is_told = tt
+told_has takes Elicited is_told = tt
+told_has takes Idle is_told = tt
+told_has takes (SentTo bytes outlets) is_told = tt
+told_has takes (Resent to datagrams) is_told = tt
+told_has takes (Reported to datagrams) is_told = tt
+told_has takes (Dropped fault) is_told = tt
+told_has takes (Replies messages) is_told = tt
+told_has takes (OfferedAs offered) is_told = tt
+told_has takes (Polled fragments) is_told = tt
+told_has takes IsGone is_told = tt
+told_has takes (Counters rows) is_told = tt
+told_has takes (ValueIs number) is_told = tt
+told_has takes (Denied verdict) is_told = tt
+told_has takes UnknownCounter is_told = tt
+told_has takes WrongClient is_told = tt
+
+-- what such an answer says, for each end that the world stands for
+record DoesAs (new : Held) (what : Moved) (answer : Answer) : Type 0 where
+  is_told : IsTold answer
+  given : answer ≡ what.answer
+  stands : StandsForEnd new what.after
+
+abbrev DoesStep : Held → RunEnd → Step → Answer → Type 0
+DoesStep new e step answer = DoesAs new (moved e step) answer
+
+served_as : (old new : Held) (what : RunEnd → Moved) (answer : Answer) →
+    ((e : RunEnd) → StandsForEnd old e → DoesAs new (what e) answer) → ServesAs old new what answer
+served_as old new what answer does =
+    record {
+      on = λ e stands.
+          let done = does e stands in
+          let told' = told e (what e) answer done.is_told done.given in
+          (told'.0, rw told'.1 done.stands);
+      without_memory = λ e stands. told_has (is_listed (what e).answer) answer (does e stands).is_told;
+    }
+
+served : (old new : Held) (step : Step) (answer : Answer) → ((e : RunEnd) → StandsForEnd old e → DoesStep new e step answer) →
+    Serves old new step answer
+served old new step answer does =
+    record {
+      on = λ e stands.
+          let done = does e stands in
+          let told' = told e (moved e step) answer done.is_told done.given in
+          (told'.0, rw told'.1 done.stands);
+      without_memory = λ e stands. told_has (takes_memory e step) answer (does e stands).is_told;
+    }
+
+answered_told : (r : Response) (replies : List Message) → IsTold (answered_by r replies)
+answered_told response.Nothing replies = tt
+answered_told (response.Attached number) replies = tt
+answered_told response.Full replies = tt
+answered_told response.Stopped replies = tt
+answered_told (response.PolicyInForce epoch) replies = tt
+answered_told response.PolicyFull replies = tt
+answered_told (response.Imaged number) replies = tt
+answered_told (response.Dropped fault) replies = tt
+
+-- ---- an event, and want of memory
+
+-- an event that was taken serves the conductor's step
+pub event_served : (old new : Held) (event : Event) (outcome : Outcome) → Takes old new event outcome →
+    Serves old new (Conductor event) (answer_of outcome)
+unfolding answer_of conducted
+event_served old new event outcome takes =
+    served old new (Conductor event) (answer_of outcome) (λ e stands.
+    let taken = takes.on e stands in
+    record { is_told = answered_told outcome.response outcome.replies; given = rw taken.0 refl; stands = taken.1 })
+
+-- a step that is refused memory leaves all as it was
+refusal_served : (old new : Held) (step : Step) → new ≡ old → ((e : RunEnd) → StandsForEnd old e → takes_memory e step ≡ true) →
+    Serves old new step NoMemory
+refusal_served old new step same takes = record { on = λ e stands. (tt, rw same stands); without_memory = takes }
+
+-- ---- a step on one log
+
+told_cond : (b : Bool) (one other : Move) → IsTold one.answer → IsTold other.answer → IsTold (if b then one else other).answer
+told_cond true one other is_told others = is_told
+told_cond false one other is_told others = others
+
+offers_told : (now timeout : ℕ) (verdict : Verdict) (message : List ℕ) (log : WholeLog) (w : AnyWhole) →
+    IsTold (offer_to now timeout verdict message log w).answer
+offers_told now timeout verdict message log (whole kept) =
+    told_cond (not verdict.allow) _ _ tt
+    (told_cond (nat_lt (greatest_message kept.ident) (length message)) _ _ tt
+    (told_cond (not (is_connected kept now timeout)) _ _ tt tt))
+offers_told now timeout verdict message log (rebuilt kept) = tt
+
+offer_told : (s : State) (now : ℕ) (message : List ℕ) (log : WholeLog) (request : Option LogRequest) →
+    IsTold (offer_under s now message log request).answer
+offer_told s now message log None = tt
+offer_told s now message log (Some request) =
+    told_cond (not (request.source == log.source)) _ _ tt
+    (offers_told now s.settings.connection_timeout request.decision.verdict message log log.whole)
+
+pub poll_told : (subscription limit : ℕ) (log : WholeLog) (request : Option LogRequest) (position : Option ℕ) →
+    IsTold (poll_under subscription limit log request position).answer
+poll_told subscription limit log None position = tt
+poll_told subscription limit log (Some request) None = tt
+poll_told subscription limit log (Some request) (Some position) = told_cond (not request.decision.verdict.allow) _ _ tt tt
+
+moved_told : (e : RunEnd) (source : ℕ) (move : WholeLog → Move) (absent : Answer) (there : Option WholeLog) →
+    IsTold absent → ((log : WholeLog) → IsTold (move log).answer) →
+    IsTold (moved_on e source move absent there).answer
+moved_told e source move absent None none some = none
+moved_told e source move absent (Some log) none some = some log
+
+-- the answer of a move of the first log of a source is one
+pub first_told : (e : RunEnd) (old new : HeldLogs) (source : ℕ) (move : WholeLog → Move) (absent answer : Answer) → IsTold absent →
+    ((log : WholeLog) → IsTold (move log).answer) → StandAll old.logs e.logs → MovesFirst source move absent old new answer →
+    IsTold answer
+first_told e old new source move absent answer none some all moves =
+    rw (moves_first e source move absent answer old new all moves).0
+    (moved_told e source move absent (log_at e.logs source) none some)
+
+-- the registration is not there, so the offer leaves all as it was
+pub closed_served : (held : Held) (now client registration : ℕ) (message : List ℕ) →
+    offering_of held.registry client registration ≡ None →
+    Serves held held (Offer now client registration message) (OfferedAs Closed)
+closed_served held now client registration message none =
+    served held held (Offer now client registration message) (OfferedAs Closed) (λ e stands.
+    let asked : offering_of e.registry client registration ≡ None = rw (← stands.registry) none in
+    let left : (moved e (Offer now client registration message)).after ≡ e = rw asked refl in
+    record { is_told = tt; given = rw asked refl; stands = rw left stands })
+
+-- an offer to the first log of the registration's source serves the client's step
+pub offer_served : (registry : State) (old new : HeldLogs) (now client registration : ℕ) (message : List ℕ) (request : LogRequest) (answer : Answer) →
+    offering_of registry client registration ≡ Some request →
+    MovesFirst request.source (offer_move registry now client registration message) (OfferedAs Closed) old new answer →
+    Serves (record { registry = registry; logs = old.logs }) (record { registry = registry; logs = new.logs })
+    (Offer now client registration message) answer
+unfolding on_log offer_move
+offer_served registry old new now client registration message request answer is moves =
+    served (record { registry = registry; logs = old.logs }) (record { registry = registry; logs = new.logs })
+    (Offer now client registration message) answer (λ e stands.
+    let asked : offering_of e.registry client registration ≡ Some request = rw (← stands.registry) is in
+    let there : MovesFirst request.source (offer_move e.registry now client registration message) (OfferedAs Closed) old new answer =
+    rw (← stands.registry) moves in
+    let made = moves_first e request.source (offer_move e.registry now client registration message) (OfferedAs Closed) answer old new stands.logs there in
+    let is_told : IsTold answer =
+    rw made.0
+    (moved_told e request.source (offer_move e.registry now client registration message) (OfferedAs Closed) (log_at e.logs request.source) tt
+    (λ log. offer_told e.registry now message log (offering_of e.registry client registration))) in
+    let left : (moved e (Offer now client registration message)).after
+    ≡ (moved_on e request.source (offer_move e.registry now client registration message) (OfferedAs Closed) (log_at e.logs request.source)).after =
+    rw asked refl in
+    record {
+      is_told = is_told;
+      given = rw asked made.0;
+      stands = rw left (record { registry = rw made.2 stands.registry; logs = made.1 });
+    })
+
+-- who is asked of the log of that source asks something of it
+pub sourced : (asked : Option LogRequest) (source : ℕ) → option_map (λ request. request.source) asked ≡ Some source →
+    (request : LogRequest) × (asked ≡ Some request) × (request.source ≡ source)
+sourced None source is = absurd (cc)
+sourced (Some request) source is = (request, refl, cc)
+
+pub unsourced : (asked : Option LogRequest) → option_map (λ request. request.source) asked ≡ None → asked ≡ None
+unsourced None is = refl
+unsourced (Some request) is = absurd (cc)
+
+-- the same, where the source alone was looked for
+pub sourced_served : (registry : State) (old new : HeldLogs) (now client registration : ℕ) (message : List ℕ) (source : ℕ) (answer : Answer) →
+    option_map (λ request. request.source) (offering_of registry client registration) ≡ Some source →
+    MovesFirst source (offer_move registry now client registration message) (OfferedAs Closed) old new answer →
+    Serves (record { registry = registry; logs = old.logs }) (record { registry = registry; logs = new.logs })
+    (Offer now client registration message) answer
+sourced_served registry old new now client registration message source answer is moves =
+    let found = sourced (offering_of registry client registration) source is in
+    let there : MovesFirst found.0.source (offer_move registry now client registration message) (OfferedAs Closed) old new answer =
+    rw found.2 moves in
+    offer_served registry old new now client registration message found.0 answer found.1 there
+
+-- a poll of the first log of the source serves the client's step
+pub poll_served : (registry : State) (old new : HeldLogs) (now client subscription source limit : ℕ) (answer : Answer) →
+    MovesFirst source (poll_move registry client subscription limit) IsGone old new answer →
+    Serves (record { registry = registry; logs = old.logs }) (record { registry = registry; logs = new.logs })
+    (Poll now client subscription source limit) answer
+unfolding on_log poll_move
+poll_served registry old new now client subscription source limit answer moves =
+    served (record { registry = registry; logs = old.logs }) (record { registry = registry; logs = new.logs })
+    (Poll now client subscription source limit) answer (λ e stands.
+    let there : MovesFirst source (poll_move e.registry client subscription limit) IsGone old new answer =
+    rw (← stands.registry) moves in
+    let made = moves_first e source (poll_move e.registry client subscription limit) IsGone answer old new stands.logs there in
+    let is_told : IsTold answer =
+    rw made.0
+    (moved_told e source (poll_move e.registry client subscription limit) IsGone (log_at e.logs source) tt
+    (λ log. poll_told subscription limit log (receiving_of e.registry client subscription log.source) (position_in log.whole subscription))) in
+    record { is_told = is_told; given = made.0; stands = record { registry = rw made.2 stands.registry; logs = made.1 } })
+
+-- a poll for whose fragments there is no memory serves it too
+pub poll_refused : (registry : State) (old new : HeldLogs) (now client subscription source limit : ℕ) → new ≡ old →
+    GivesFirst source (poll_move registry client subscription limit) old →
+    Serves (record { registry = registry; logs = old.logs }) (record { registry = registry; logs = new.logs })
+    (Poll now client subscription source limit) NoMemory
+unfolding on_log
+poll_refused registry old new now client subscription source limit same gives =
+    refusal_served (record { registry = registry; logs = old.logs }) (record { registry = registry; logs = new.logs })
+    (Poll now client subscription source limit) (rw same refl) (λ e stands.
+    let there : GivesFirst source (poll_move e.registry client subscription limit) old = rw (← stands.registry) gives in
+    gives_first e source (poll_move e.registry client subscription limit) IsGone old.logs stands.logs there)
+
+-- ---- a datagram
+
+-- a datagram serves its step by what its bytes hold
+pub packet_served : (old new : Held) (now : ℕ) (local from : Address) (bytes : List ℕ) (sent : List Sent) (answer : Answer) →
+    packet_of bytes ≡ Ok (frames sent) → ServesAs old new (λ e. on_frames e now local from sent) answer →
+    Serves old new (Packet now local from bytes) answer
+packet_served old new now local from bytes sent answer is serves = record {
+  on = λ e stands. rw is (serves.on e stands);
+  without_memory = λ e stands. rw is (serves.without_memory e stands);
+}
+
+pub beat_served : (old new : Held) (now : ℕ) (local from : Address) (bytes : List ℕ) (header : Header) (answer : Answer) →
+    packet_of bytes ≡ Ok (beat header) →
+    ServesAs old new (λ e. on_stream e local from header.place (beat_move now header.place)) answer →
+    Serves old new (Packet now local from bytes) answer
+beat_served old new now local from bytes header answer is serves = record {
+  on = λ e stands. rw is (serves.on e stands);
+  without_memory = λ e stands. rw is (serves.without_memory e stands);
+}
+
+pub setup_served : (old new : Held) (now : ℕ) (local from : Address) (bytes : List ℕ) (fields : Setup) (answer : Answer) →
+    packet_of bytes ≡ Ok (setup fields) → Serves old new (Conductor (SetUp now local from fields)) answer →
+    Serves old new (Packet now local from bytes) answer
+setup_served old new now local from bytes fields answer is serves = record {
+  on = λ e stands. rw is (serves.on e stands);
+  without_memory = λ e stands. rw is (serves.without_memory e stands);
+}
+
+-- one that is dropped
+drop_stands : (held : Held) (e : RunEnd) (cause : Cause) → StandsForEnd held e → DoesAs held (dropped e cause) (Dropped cause)
+drop_stands held e cause stands = record { is_told = tt; given = refl; stands = stands }
+
+pub fault_served : (held : Held) (now : ℕ) (local from : Address) (bytes : List ℕ) (fault : BadPacket) →
+    packet_of bytes ≡ Err fault → Serves held held (Packet now local from bytes) (Dropped (Unread fault))
+fault_served held now local from bytes fault is =
+    served held held (Packet now local from bytes) (Dropped (Unread fault))
+    (λ e stands. rw is (drop_stands held e (Unread fault) stands))
+
+pub nak_served : (old new : Held) (now : ℕ) (local from : Address) (bytes : List ℕ) (fields : Nak) (answer : Answer) →
+    packet_of bytes ≡ Ok (nak fields) →
+    ServesAs old new (λ e. on_asked e now from fields (resending_of e.registry from fields.session_id fields.stream_id)) answer →
+    Serves old new (Packet now local from bytes) answer
+nak_served old new now local from bytes fields answer is serves = record {
+  on = λ e stands. rw is (serves.on e stands);
+  without_memory = λ e stands. rw is (serves.without_memory e stands);
+}
+
+pub status_served : (old new : Held) (now : ℕ) (local from : Address) (bytes : List ℕ) (fields : StatusMessage) (answer : Answer) →
+    packet_of bytes ≡ Ok (status fields) →
+    ServesAs old new (λ e. on_told e now fields (publication_for e.registry fields.session_id fields.stream_id)) answer →
+    Serves old new (Packet now local from bytes) answer
+status_served old new now local from bytes fields answer is serves = record {
+  on = λ e stands. rw is (serves.on e stands);
+  without_memory = λ e stands. rw is (serves.without_memory e stands);
+}
+
+-- ---- what goes to the first log of a source, which the registry names
+
+-- for each end of that registry the step moves that log
+abbrev GoesTo : State → (RunEnd → Moved) → ℕ → (WholeLog → Move) → Answer → Type 0
+GoesTo registry what source move absent = (e : RunEnd) → registry ≡ e.registry → what e ≡ on_log e source move absent
+
+pub first_served : (registry : State) (old new : HeldLogs) (what : RunEnd → Moved) (source : ℕ) (move : WholeLog → Move)
+    (absent answer : Answer) → GoesTo registry what source move absent → IsTold absent →
+    ((log : WholeLog) → IsTold (move log).answer) → MovesFirst source move absent old new answer →
+    ServesAs (record { registry = registry; logs = old.logs }) (record { registry = registry; logs = new.logs }) what answer
+unfolding on_log
+first_served registry old new what source move absent answer goes none some moves =
+    served_as (record { registry = registry; logs = old.logs }) (record { registry = registry; logs = new.logs }) what answer
+    (λ e stands.
+    let made = moves_first e source move absent answer old new stands.logs moves in
+    let is_told : IsTold answer = rw made.0 (moved_told e source move absent (log_at e.logs source) none some) in
+    rw (goes e stands.registry)
+    (record { is_told = is_told; given = made.0; stands = record { registry = rw made.2 stands.registry; logs = made.1 } }))
+
+pub first_refused : (registry : State) (old new : HeldLogs) (what : RunEnd → Moved) (source : ℕ) (move : WholeLog → Move)
+    (absent : Answer) → GoesTo registry what source move absent → new ≡ old → GivesFirst source move old →
+    ServesAs (record { registry = registry; logs = old.logs }) (record { registry = registry; logs = new.logs }) what NoMemory
+unfolding on_log
+first_refused registry old new what source move absent goes same gives = record {
+  on = λ e stands. (tt, rw same stands);
+  without_memory = λ e stands. rw (goes e stands.registry) (gives_first e source move absent old.logs stands.logs gives);
+}
+
+-- a step of its own that does so
+pub step_served : (old new : Held) (step : Step) (answer : Answer) →
+    ((e : RunEnd) → takes_memory e step ≡ is_listed (moved e step).answer) →
+    ServesAs old new (λ e. moved e step) answer → Serves old new step answer
+step_served old new step answer takes serves = record {
+  on = λ e stands. serves.on e stands;
+  without_memory = λ e stands. rw (takes e) (serves.without_memory e stands);
+}
+
+-- nothing is there to which it could go
+pub absent_served : (held : Held) (what : RunEnd → Moved) (absent : Answer) → IsTold absent →
+    ((e : RunEnd) → held.registry ≡ e.registry → what e ≡ record { after = e; answer = absent }) → ServesAs held held what absent
+absent_served held what absent none is =
+    served_as held held what absent (λ e stands.
+    rw (is e stands.registry) (record { is_told = none; given = refl; stands = stands }))
+
+pub heard_told : (heard : Option StatusAnswer) → IsTold (answer_heard heard)
+heard_told None = tt
+heard_told (Some statuses.Elicited) = tt
+heard_told (Some (statuses.Limit position)) = tt
+heard_told (Some statuses.OutOfWindow) = tt
+
+pub asked_told : (from : Address) (reply : Option NakReply) → IsTold (answer_asked from reply)
+asked_told from None = tt
+asked_told from (Some (replies.Denied verdict)) = tt
+asked_told from (Some replies.Empty) = tt
+asked_told from (Some replies.OutOfWindow) = tt
+asked_told from (Some replies.Lingering) = tt
+asked_told from (Some replies.Busy) = tt
+asked_told from (Some (replies.Resent datagrams)) = tt
+
+pub reported_told : (to : Address) (report : Option (List (List ℕ))) → IsTold (answer_reported to report)
+reported_told to None = tt
+reported_told to (Some datagrams) = tt
+
+pub sent_told : (outlets : List Outlet) (turn : Option (Option (List ℕ))) → IsTold (answer_sent outlets turn)
+sent_told outlets None = tt
+sent_told outlets (Some None) = tt
+sent_told outlets (Some (Some bytes)) = tt
+
+pub send_told : (s : State) (now : ℕ) (log : WholeLog) (lingers : Option Bool) → IsTold (send_by s now log lingers).answer
+send_told s now log None = tt
+send_told s now log (Some lingers) = sent_told (outlets_of s log.source) (turn_of (pace_of s.settings) now lingers log.whole)
+
+-- ---- one of a stream
+
+-- it goes to the first log of its image's source
+pub stream_served : (registry : State) (old new : HeldLogs) (local from : Address) (place : TermPlace) (move : WholeLog → Move)
+    (source : ℕ) (answer : Answer) → image_for registry local from place.session_id place.stream_id ≡ Ok source →
+    ((log : WholeLog) → IsTold (move log).answer) → MovesFirst source move unheard old new answer →
+    ServesAs (record { registry = registry; logs = old.logs }) (record { registry = registry; logs = new.logs })
+    (λ e. on_stream e local from place move) answer
+unfolding on_log
+stream_served registry old new local from place move source answer is told_by moves =
+    served_as (record { registry = registry; logs = old.logs }) (record { registry = registry; logs = new.logs })
+    (λ e. on_stream e local from place move) answer (λ e stands.
+    let there : image_for e.registry local from place.session_id place.stream_id ≡ Ok source = rw (← stands.registry) is in
+    let made = moves_first e source move unheard answer old new stands.logs moves in
+    let is_told : IsTold answer =
+    rw made.0 (moved_told e source move unheard (log_at e.logs source) tt told_by) in
+    rw there
+    (record { is_told = is_told; given = made.0; stands = record { registry = rw made.2 stands.registry; logs = made.1 } }))
+
+-- it is for no image
+pub astray_served : (held : Held) (local from : Address) (place : TermPlace) (move : WholeLog → Move) (why : Astray) →
+    image_for held.registry local from place.session_id place.stream_id ≡ Err why →
+    ServesAs held held (λ e. on_stream e local from place move) (Dropped (IsAstray why))
+astray_served held local from place move why is =
+    served_as held held (λ e. on_stream e local from place move) (Dropped (IsAstray why)) (λ e stands.
+    let there : image_for e.registry local from place.session_id place.stream_id ≡ Err why = rw (← stands.registry) is in
+    rw there (drop_stands held e (IsAstray why) stands))
+
+-- there is no memory for its words
+pub stream_refused : (registry : State) (old new : HeldLogs) (local from : Address) (place : TermPlace) (move : WholeLog → Move)
+    (source : ℕ) → image_for registry local from place.session_id place.stream_id ≡ Ok source → new ≡ old →
+    GivesFirst source move old →
+    ServesAs (record { registry = registry; logs = old.logs }) (record { registry = registry; logs = new.logs })
+    (λ e. on_stream e local from place move) NoMemory
+unfolding on_log
+stream_refused registry old new local from place move source is same gives = record {
+  on = λ e stands. (tt, rw same stands);
+  without_memory = λ e stands.
+      let there : image_for e.registry local from place.session_id place.stream_id ≡ Ok source = rw (← stands.registry) is in
+      rw there (gives_first e source move unheard old.logs stands.logs gives);
+}
+
+-- frames are of the stream of the first one
+pub frames_served : (old new : Held) (now : ℕ) (local from : Address) (sent later : List Sent) (frame : Sent) (answer : Answer) →
+    sent ≡ frame ∷ later →
+    ServesAs old new (λ e. on_stream e local from frame.header.place (receive_move now sent)) answer →
+    ServesAs old new (λ e. on_frames e now local from sent) answer
+frames_served old new now local from sent later frame answer is serves =
+    subst (λ (all : List Sent). ServesAs old new (λ e. on_frames e now local from all) answer) (sym is)
+    (subst (λ (all : List Sent).
+    ServesAs old new (λ e. on_stream e local from frame.header.place (receive_move now all)) answer) is serves)
+
+pub no_frames_served : (held : Held) (now : ℕ) (local from : Address) (sent : List Sent) → sent ≡ [] →
+    ServesAs held held (λ e. on_frames e now local from sent) (Dropped (IsAstray NoStream))
+no_frames_served held now local from sent is =
+    subst (λ (all : List Sent). ServesAs held held (λ e. on_frames e now local from all) (Dropped (IsAstray NoStream))) (sym is)
+    (served_as held held (λ e. dropped e (IsAstray NoStream)) (Dropped (IsAstray NoStream))
+    (λ e stands. drop_stands held e (IsAstray NoStream) stands))

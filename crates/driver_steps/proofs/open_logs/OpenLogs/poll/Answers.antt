@@ -1,0 +1,98 @@
+use Rattle.std.proofs.Common.{◌≡◌, ◌<◌, List, length, Some, None, sym, ap, subst, ◌∙◌}
+use Rattle.std.specs.Vec.{vec_capacity}
+use Rattle.std.specs.Prelude.{slice_set}
+use Rattle.std.proofs.lemmas.List.{get_or_default, set-get_or}
+use Rattle.driver_steps.specs.declared.answer.Answer.TheVariants.{Gone}
+use Rattle.driver_steps.specs.Held.{HeldLog, HeldLogs, LiesAsBefore, place_at}
+use Rattle.driver_steps.specs.Memory.{Gives, GivesFirst}
+use Rattle.driver_steps.specs.Moves.{Does, MovesFirst, poll_move}
+use Rattle.driver_steps.proofs.HeldLemmas.{err_each, found_at, gives_at, moves_at, moves_none, ok_each}
+use Rattle.driver_steps.specs.Decided.{Decides, DecidesFirst, poll_decision}
+use Rattle.driver_steps.specs.declared.told.Told.{Told}
+use Rattle.driver_steps.proofs.DecidedLemmas.{decides_at, decides_none}
+use Rattle.driver_steps.proofs.HousedLemmas.{housed_set}
+use Rattle.driver_steps.proofs.open_logs.OpenLogs.poll.Goals as goal
+
+pub returns-in_default-clause-moved : goal.returns-in_default-clause-moved
+returns-in_default-clause-moved g c =
+    let old : HeldLogs = record { pages = c.self.inside.arena.home.pages; logs = c.self.inside.logs.items; room = vec_capacity c.self.inside.logs } in
+    let move = poll_move (g.V.View.shows c.args.view.now) c.args.client c.args.subscription c.args.limit in
+    let none : place_at old.logs c.args.source ≡ None =
+    ap (λ l. place_at l c.args.source) (sym c.as_slice.ensures.value) ∙ sym c.place_of.ensures ∙ c.in_default.is in
+    subst (λ (h : HeldLogs). MovesFirst c.args.source move Gone h h Gone) c.self.view_is
+    (moves_none c.args.source move Gone old none)
+
+pub invariant_of-self : goal.invariant_of-self
+invariant_of-self g c =
+    let logs : List HeldLog = c.self.inside.logs.items in
+    let place : place_at logs c.args.source ≡ Some c.in-Some.at =
+    ap (λ l. place_at l c.args.source) (sym c.as_slice.ensures.value) ∙ sym c.place_of.ensures ∙ c.in-Some.is in
+    let within : c.in-Some.at < length logs = (found_at logs c.args.source c.in-Some.at place).0 in
+    housed_set c.self.inside.arena logs c.in-Some.at c.poll_step.new.log (λ d.
+    let was = get_or_default logs c.in-Some.at d c.index_mut.result.now within ∙ sym c.index_mut.ensures.value in
+    subst (λ (h : HeldLog). LiesAsBefore h c.poll_step.new.log) (sym was) c.poll_step.ensures.lies) c.self.invariant
+
+pub returns-clause-moved : goal.returns-clause-moved
+returns-clause-moved g c =
+    let old : HeldLogs = record { pages = c.self.inside.arena.home.pages; logs = c.self.inside.logs.items; room = vec_capacity c.self.inside.logs } in
+    let held : HeldLog = c.index_mut.result.now in
+    let log : HeldLog = c.poll_step.new.log in
+    let move = poll_move (g.V.View.shows c.args.view.now) c.args.client c.args.subscription c.args.limit in
+    let place : place_at old.logs c.args.source ≡ Some c.in-Some.at =
+    ap (λ l. place_at l c.args.source) (sym c.as_slice.ensures.value) ∙ sym c.place_of.ensures ∙ c.in-Some.is in
+    let new : HeldLogs = record { pages = old.pages; logs = slice_set old.logs c.in-Some.at log; room = old.room } in
+    ok_each (λ (told : Told). Does move held log told.answer)
+    (λ (told : Told). MovesFirst c.args.source move Gone c.args.self.now new told.answer)
+    (λ told does.
+    subst (λ (h : HeldLogs). MovesFirst c.args.source move Gone h new told.answer) c.self.view_is
+    (moves_at c.args.source move Gone told.answer old c.in-Some.at held log place c.index_mut.ensures.value does c.poll_step.ensures.lies))
+    c.poll_step.result c.poll_step.ensures.does
+
+pub returns-clause-err : goal.returns-clause-err
+returns-clause-err g c =
+    let logs : List HeldLog = c.self.inside.logs.items in
+    let held : HeldLog = c.index_mut.result.now in
+    let log : HeldLog = c.poll_step.new.log in
+    let new : HeldLogs = record { pages = c.self.inside.arena.home.pages; logs = slice_set logs c.in-Some.at log; room = vec_capacity c.self.inside.logs } in
+    err_each (log ≡ held) (new ≡ c.args.self.now)
+    (λ same.
+    ap (λ l. let h : HeldLogs = record { pages = c.self.inside.arena.home.pages; logs = l; room = vec_capacity c.self.inside.logs } in h)
+    (ap (λ h. slice_set logs c.in-Some.at h) (same ∙ c.index_mut.ensures.value) ∙ set-get_or logs c.in-Some.at held)
+    ∙ c.self.view_is)
+    c.poll_step.result c.poll_step.ensures.err
+
+pub returns-clause-without_memory : goal.returns-clause-without_memory
+returns-clause-without_memory g c =
+    let old : HeldLogs = record { pages = c.self.inside.arena.home.pages; logs = c.self.inside.logs.items; room = vec_capacity c.self.inside.logs } in
+    let held : HeldLog = c.index_mut.result.now in
+    let move = poll_move (g.V.View.shows c.args.view.now) c.args.client c.args.subscription c.args.limit in
+    let place : place_at old.logs c.args.source ≡ Some c.in-Some.at =
+    ap (λ l. place_at l c.args.source) (sym c.as_slice.ensures.value) ∙ sym c.place_of.ensures ∙ c.in-Some.is in
+    err_each (Gives move held) (GivesFirst c.args.source move c.args.self.now)
+    (λ gives.
+    subst (λ (h : HeldLogs). GivesFirst c.args.source move h) c.self.view_is
+    (gives_at c.args.source move old c.in-Some.at held place c.index_mut.ensures.value gives))
+    c.poll_step.result c.poll_step.ensures.without_memory
+
+pub returns-in_default-clause-decides : goal.returns-in_default-clause-decides
+returns-in_default-clause-decides g c =
+    let old : HeldLogs = record { pages = c.self.inside.arena.home.pages; logs = c.self.inside.logs.items; room = vec_capacity c.self.inside.logs } in
+    let decide = poll_decision (g.V.View.shows c.args.view.now) c.args.client c.args.subscription in
+    let none : place_at old.logs c.args.source ≡ None =
+    ap (λ l. place_at l c.args.source) (sym c.as_slice.ensures.value) ∙ sym c.place_of.ensures ∙ c.in_default.is in
+    subst (λ (h : HeldLogs). DecidesFirst c.args.source decide None h) c.self.view_is
+    (decides_none c.args.source decide old none)
+
+pub returns-clause-decides : goal.returns-clause-decides
+returns-clause-decides g c =
+    let old : HeldLogs = record { pages = c.self.inside.arena.home.pages; logs = c.self.inside.logs.items; room = vec_capacity c.self.inside.logs } in
+    let held : HeldLog = c.index_mut.result.now in
+    let decide = poll_decision (g.V.View.shows c.args.view.now) c.args.client c.args.subscription in
+    let place : place_at old.logs c.args.source ≡ Some c.in-Some.at =
+    ap (λ l. place_at l c.args.source) (sym c.as_slice.ensures.value) ∙ sym c.place_of.ensures ∙ c.in-Some.is in
+    ok_each (λ (told : Told). Decides decide held told.decision)
+    (λ (told : Told). DecidesFirst c.args.source decide told.decision c.args.self.now)
+    (λ told decides.
+    subst (λ (h : HeldLogs). DecidesFirst c.args.source decide told.decision h) c.self.view_is
+    (decides_at c.args.source decide old c.in-Some.at held told.decision place c.index_mut.ensures.value decides))
+    c.poll_step.result c.poll_step.ensures.decides

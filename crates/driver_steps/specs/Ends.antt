@@ -1,0 +1,239 @@
+-- What stands at the end of a run, its logs as whole lists of frames; what each step leaves, and what it is answered.
+use Rattle.std.specs.Prelude.{◌≡◌, ℕ, Bool, List, [], ◌∷◌, ◌++◌, map, filter, find, max, not, ◌==◌, if◌then◌else◌, Option, Some, None, Result, Ok, Err}
+use Rattle.any_log.specs.Whole.{is_silent_in, reach_of, rejoined}
+use Rattle.driver_core.specs.Change.{Change}
+use Rattle.driver_core.specs.declared.event.End.{End}
+use Rattle.driver_core.specs.declared.event.Event.{Event}
+use Rattle.driver_core.specs.declared.event.Event.TheVariants.{Setup as SetUp, Tick}
+use Rattle.driver_core.specs.declared.event.Inputs.{Inputs}
+use Rattle.driver_core.specs.declared.image_request.Astray.{Astray}
+use Rattle.driver_core.specs.declared.image_request.Astray.TheVariants.{NoStream}
+use Rattle.driver_core.specs.declared.log_request.LogRequest.{LogRequest}
+use Rattle.driver_core.specs.declared.peer.Peer.{Peer}
+use Rattle.driver_core.specs.declared.settings.Settings.{Settings}
+use Rattle.driver_core.specs.Conduct.{conduct}
+use Rattle.driver_core.specs.ImageRequests.{image_for}
+use Rattle.driver_core.specs.Listing.{list, value}
+use Rattle.driver_core.specs.LogRequests.{offering_of}
+use Rattle.driver_core.specs.Pairs.{pairs_of}
+use Rattle.driver_core.specs.PublicationRequests.{publication_for, publisher_of, resending_of}
+use Rattle.driver_core.specs.Renewal.{source_at}
+use Rattle.driver_core.specs.State.{State, opened}
+use Rattle.driver_steps.specs.declared.answer.Answer.{Answer}
+use Rattle.driver_steps.specs.declared.answer.Answer.TheVariants.{Dropped, NoMemory, Offered as OfferedAs, Gone as IsGone}
+use Rattle.driver_steps.specs.declared.answer.Offered.TheVariants.{Closed}
+use Rattle.driver_steps.specs.declared.cause.Cause.{Cause}
+use Rattle.driver_steps.specs.declared.cause.Cause.TheVariants.{Astray as IsAstray, Unread}
+use Rattle.driver_steps.specs.declared.step.Step.{Step}
+use Rattle.driver_steps.specs.declared.step.Step.TheVariants.{Conductor, Packet, Offer, Poll, Send, Image, List as Lists, Value}
+use Rattle.driver_steps.specs.Answers.{answer_of, answer_listed, answer_shown}
+use Rattle.driver_core.specs.Readers.{readers_of}
+use Rattle.driver_steps.specs.Held.{is_closed}
+use Rattle.driver_steps.specs.Idents.{begins_of}
+use Rattle.driver_steps.specs.Moves.{WholeLog, Move, offer_move, poll_move}
+use Rattle.driver_steps.specs.Receiving.{beat_move, receive_move, unheard}
+use Rattle.driver_steps.specs.Recovery.{recovering}
+use Rattle.driver_steps.specs.Hearing.{nak_move, status_move}
+use Rattle.driver_steps.specs.Reporting.{report_move}
+use Rattle.driver_steps.specs.Sending.{send_move}
+use Rattle.channel_uri.specs.declared.address.Address.{Address}
+use Rattle.frame_codec.specs.declared.fault.BadPacket.{BadPacket}
+use Rattle.frame_codec.specs.declared.header.TermPlace.{TermPlace}
+use Rattle.frame_codec.specs.declared.nak.Nak.{Nak}
+use Rattle.frame_codec.specs.declared.status_message.StatusMessage.{StatusMessage}
+use Rattle.frame_codec.specs.Datagram.{Content, frames, beat, nak, status, setup, packet_of}
+use Rattle.frame_codec.specs.Frame.{Sent}
+use Rattle.policy_core.specs.RuleList.{Rules}
+use Rattle.stream_registry.specs.declared.lingering.LogPlace.{LogPlace}
+use Rattle.stream_registry.specs.declared.pairs.Pair.{Pair}
+use Rattle.stream_registry.specs.declared.row.Source.{Source}
+
+-- the registry, and the open logs in the order in which they were opened
+pub record RunEnd : Type 0 where
+  pub registry : State
+  pub logs : List WholeLog
+
+-- the end of the empty run
+unfoldable pub opening_end : Settings → Rules → List Peer → RunEnd
+opening_end settings policy peers = record { registry = opened settings policy peers; logs = [] }
+
+-- what a step leaves, and what it is answered
+pub record Moved : Type 0 where
+  pub after : RunEnd
+  pub answer : Answer
+
+-- ---- the logs at an event
+
+-- what the logs tell the conductor: how far each reaches
+abbrev pub end_of_log : WholeLog → End
+end_of_log log = record { source = log.source; position = reach_of log.whole }
+
+-- at a tick, the images of which nothing was heard for longer than the liveness by the moment that it sets
+abbrev pub is_silent_at : State → ℕ → WholeLog → Bool
+is_silent_at s now log = is_silent_in log.whole (max s.moment now) s.settings.image_liveness
+
+abbrev pub silent_of : State → Event → List WholeLog → List ℕ
+silent_of s (Tick now) logs = map (λ log. log.source) (filter (is_silent_at s now) logs)
+silent_of s event logs = []
+
+abbrev pub inputs_of : State → Event → List WholeLog → Inputs
+inputs_of s event logs = record { silent = silent_of s event logs; ends = map end_of_log logs }
+
+-- a log without frames, made for what its row says
+abbrev pub begun : State → Option Source → List WholeLog
+begun s None = []
+begun s (Some log) = record {
+  source = log.number;
+  whole = begins_of s.settings s.moment log;
+  recovery = recovering s.settings;
+} ∷ []
+
+abbrev pub opened_for : State → Option LogPlace → List WholeLog
+opened_for s None = []
+opened_for s (Some place) = begun s (source_at s.streams.sources place.source)
+
+abbrev pub stays_open : List LogPlace → WholeLog → Bool
+stays_open closes log = not (is_closed closes log.source)
+
+-- exactly the subscriptions of these pairs read the log: one that did from where it is, a new one from as far as it reaches
+abbrev pub rejoined_log : List Pair → WholeLog → WholeLog
+rejoined_log pairs log = record log { whole = rejoined (readers_of pairs log.source) log.whole }
+
+-- the log that the event opens comes behind the others, those go that it closes, and exactly the pairs read them
+unfoldable pub logs_after : Change → List WholeLog → List WholeLog
+logs_after change logs =
+    map (rejoined_log (pairs_of change.after))
+    (filter (stays_open change.outcome.closes) (logs ++ opened_for change.after change.outcome.opens))
+
+-- ---- a step on one log
+
+abbrev pub log_at : List WholeLog → ℕ → Option WholeLog
+log_at logs source = find (λ log. log.source == source) logs
+
+-- the first log of that source is another now
+abbrev pub with_log : List WholeLog → ℕ → WholeLog → List WholeLog
+with_log [] source log = []
+with_log (first ∷ logs) source log =
+    if first.source == source then log ∷ logs else first ∷ with_log logs source log
+
+abbrev pub moved_on : RunEnd → ℕ → (WholeLog → Move) → Answer → Option WholeLog → Moved
+moved_on e source move absent None = record { after = e; answer = absent }
+moved_on e source move absent (Some log) = record {
+  after = record e { logs = with_log e.logs source (move log).after };
+  answer = (move log).answer;
+}
+
+-- the move of the log of that source; where it is not open, that answer
+unfoldable pub on_log : RunEnd → ℕ → (WholeLog → Move) → Answer → Moved
+on_log e source move absent = moved_on e source move absent (log_at e.logs source)
+
+-- an offer goes to the log that the client's registration is with
+abbrev pub on_offered : RunEnd → ℕ → ℕ → ℕ → List ℕ → Option LogRequest → Moved
+on_offered e now client registration message None = record { after = e; answer = OfferedAs Closed }
+on_offered e now client registration message (Some request) =
+    on_log e request.source (offer_move e.registry now client registration message) (OfferedAs Closed)
+
+-- ---- an event
+
+-- the conductor takes it
+unfoldable pub conducted : RunEnd → Event → Moved
+conducted e event =
+    let change : Change = conduct e.registry event (inputs_of e.registry event e.logs) in
+    record {
+      after = record { registry = change.after; logs = logs_after change e.logs };
+      answer = answer_of change.outcome;
+    }
+
+-- ---- a datagram
+
+-- all stays as it was
+abbrev pub dropped : RunEnd → Cause → Moved
+dropped e cause = record { after = e; answer = Dropped cause }
+
+-- the log of the image that it is for moves
+abbrev pub on_image : RunEnd → (WholeLog → Move) → Result ℕ Astray → Moved
+on_image e move (Ok source) = on_log e source move unheard
+on_image e move (Err why) = dropped e (IsAstray why)
+
+-- one of that session and stream
+abbrev pub on_stream : RunEnd → Address → Address → TermPlace → (WholeLog → Move) → Moved
+on_stream e local from place move =
+    on_image e move (image_for e.registry local from place.session_id place.stream_id)
+
+-- frames of one stream; there is one at least
+abbrev pub on_frames : RunEnd → ℕ → Address → Address → List Sent → Moved
+on_frames e now local from [] = dropped e (IsAstray NoStream)
+on_frames e now local from (frame ∷ later) =
+    on_stream e local from frame.header.place (receive_move now (frame ∷ later))
+
+-- a NAK goes to the log of its session and stream, on what the policy in force says of who asks
+abbrev pub on_asked : RunEnd → ℕ → Address → Nak → Option LogRequest → Moved
+on_asked e now from fields None = dropped e (IsAstray NoStream)
+on_asked e now from fields (Some request) =
+    on_log e request.source (nak_move now from request.decision fields) unheard
+
+-- a status message goes to the log of its session and stream; no policy is asked
+abbrev pub on_told : RunEnd → ℕ → StatusMessage → Option ℕ → Moved
+on_told e now fields None = dropped e (IsAstray NoStream)
+on_told e now fields (Some source) = on_log e source (status_move now fields) unheard
+
+-- by what its bytes hold: a SETUP is an event
+abbrev pub on_packet : RunEnd → ℕ → Address → Address → Result Content BadPacket → Moved
+on_packet e now local from (Err fault) = dropped e (Unread fault)
+on_packet e now local from (Ok (frames sent)) = on_frames e now local from sent
+on_packet e now local from (Ok (beat header)) = on_stream e local from header.place (beat_move now header.place)
+on_packet e now local from (Ok (setup fields)) = conducted e (SetUp now local from fields)
+on_packet e now local from (Ok (nak fields)) =
+    on_asked e now from fields (resending_of e.registry from fields.session_id fields.stream_id)
+on_packet e now local from (Ok (status fields)) =
+    on_told e now fields (publication_for e.registry fields.session_id fields.stream_id)
+
+-- ---- a turn of the receiver with an image
+
+-- what is due goes to the address of its publisher
+abbrev pub on_report : RunEnd → ℕ → ℕ → Option Address → Moved
+on_report e now source None = record { after = e; answer = IsGone }
+on_report e now source (Some to) =
+    on_log e source (report_move now e.registry.settings.receiver_id to) IsGone
+
+-- ---- any step
+
+abbrev pub moved : RunEnd → Step → Moved
+moved e (Conductor event) = conducted e event
+moved e (Packet now local from bytes) = on_packet e now local from (packet_of bytes)
+moved e (Offer now client registration message) =
+    on_offered e now client registration message (offering_of e.registry client registration)
+moved e (Poll now client subscription source limit) =
+    on_log e source (poll_move e.registry client subscription limit) IsGone
+moved e (Send now source) = on_log e source (send_move e.registry now) IsGone
+moved e (Image now source) = on_report e now source (publisher_of e.registry source)
+moved e (Lists now client) = record { after = e; answer = answer_listed (list e.registry client) }
+moved e (Value now client number) = record { after = e; answer = answer_shown (value e.registry client number) }
+
+-- a step that is refused memory leaves all as it was; any other leaves and is answered what `moved` says
+abbrev pub after_by : RunEnd → Moved → Answer → RunEnd
+after_by e what NoMemory = e
+after_by e what answer = what.after
+
+abbrev pub after : RunEnd → Step → Answer → RunEnd
+after e step answer = after_by e (moved e step) answer
+
+abbrev pub IsAnswerOf : Moved → Answer → Type 0
+IsAnswerOf what NoMemory = Unit {0}
+IsAnswerOf what answer = answer ≡ what.answer
+
+abbrev pub IsAnswer : RunEnd → Step → Answer → Type 0
+IsAnswer e step answer = IsAnswerOf (moved e step) answer
+
+-- the answers of a list of steps, each given where the ones before it left off
+abbrev pub AreAnswers : RunEnd → List Step → List Answer → Type 0
+AreAnswers e [] [] = Unit {0}
+AreAnswers e [] (answer ∷ answers) = ⊥
+AreAnswers e (step ∷ steps) [] = ⊥
+AreAnswers e (step ∷ steps) (answer ∷ answers) = IsAnswer e step answer × AreAnswers (after e step answer) steps answers
+
+-- where they leave off
+abbrev pub end_of : RunEnd → List Step → List Answer → RunEnd
+end_of e [] answers = e
+end_of e (step ∷ steps) [] = e
+end_of e (step ∷ steps) (answer ∷ answers) = end_of (after e step answer) steps answers

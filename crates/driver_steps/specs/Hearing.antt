@@ -1,0 +1,50 @@
+-- What status messages and NAKs do with the log of a publication, and what they are answered. Own rules.
+use Rattle.std.specs.Prelude.{ℕ, Option, Some, None}
+use Rattle.any_log.specs.declared.asking.NakReply.{NakReply}
+use Rattle.any_log.specs.declared.asking.NakReply.TheVariants as replies
+use Rattle.any_log.specs.Asking.{after_status, gate_behind, nak_reply, status_answer}
+use Rattle.channel_uri.specs.declared.address.Address.{Address}
+use Rattle.driver_steps.specs.declared.answer.Answer.{Answer}
+use Rattle.driver_steps.specs.declared.answer.Answer.TheVariants.{Dropped, Elicited, Limited, Resent}
+use Rattle.driver_steps.specs.declared.cause.Cause.TheVariants.{Busy, Denied, Empty, Lingering, OutOfWindow}
+use Rattle.driver_steps.specs.Moves.{Move, WholeLog}
+use Rattle.driver_steps.specs.Receiving.{unheard}
+use Rattle.frame_codec.specs.declared.nak.Nak.{Nak}
+use Rattle.frame_codec.specs.declared.status_message.StatusMessage.{StatusMessage}
+use Rattle.policy_core.specs.declared.decision.Decision.{Decision}
+use Rattle.publication_sender.specs.declared.hearing.StatusAnswer.{StatusAnswer}
+use Rattle.publication_sender.specs.declared.hearing.StatusAnswer.TheVariants as heard
+
+-- ---- a status message
+
+-- an image's log hears none
+abbrev pub answer_heard : Option StatusAnswer → Answer
+answer_heard None = unheard
+answer_heard (Some heard.Elicited) = Elicited
+answer_heard (Some (heard.Limit position)) = Limited position
+answer_heard (Some heard.OutOfWindow) = Dropped OutOfWindow
+
+abbrev pub status_move : ℕ → StatusMessage → WholeLog → Move
+status_move now message log = record {
+  after = record log { whole = after_status now message log.whole };
+  answer = answer_heard (status_answer message log.whole);
+}
+
+-- ---- a NAK
+
+-- what is sent again goes to the address that asks, and to nobody else
+abbrev pub answer_asked : Address → Option NakReply → Answer
+answer_asked from None = unheard
+answer_asked from (Some (replies.Denied verdict)) = Dropped (Denied verdict)
+answer_asked from (Some replies.Empty) = Dropped Empty
+answer_asked from (Some replies.OutOfWindow) = Dropped OutOfWindow
+answer_asked from (Some replies.Lingering) = Dropped Lingering
+answer_asked from (Some replies.Busy) = Dropped Busy
+answer_asked from (Some (replies.Resent datagrams)) = Resent from datagrams
+
+-- the decision comes first, and then the log's gate
+abbrev pub nak_move : ℕ → Address → Decision → Nak → WholeLog → Move
+nak_move now from decision nak log = record {
+  after = record log { recovery = record log.recovery { gate = gate_behind decision now nak log.recovery.gate log.whole } };
+  answer = answer_asked from (nak_reply decision now nak log.recovery.gate log.whole);
+}

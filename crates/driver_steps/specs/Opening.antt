@@ -1,0 +1,77 @@
+-- The log that an event opens, if it opens one, and what becomes of the others. Own rules.
+use Rattle.std.specs.Prelude.{◌≡◌, ℕ, ◌*◌, ◌<◌, List, length, map, filter, Option, Some, None}
+use Rattle.driver_core.specs.declared.event.Event.{Event}
+use Rattle.driver_core.specs.declared.event.Event.TheVariants.{Setup as SetUp}
+use Rattle.driver_core.specs.Pairs.{pairs_of}
+use Rattle.driver_core.specs.Renewal.{source_at}
+use Rattle.driver_core.specs.State.{State}
+use Rattle.driver_steps.specs.declared.opening.Memory.{Memory}
+use Rattle.driver_steps.specs.declared.opening.Memory.TheVariants.{Publication, Image}
+use Rattle.driver_steps.specs.declared.opening.Opening.{Opening}
+use Rattle.driver_steps.specs.Held.{HeldLogs, IsOpening, OpensFor, is_kept, rejoined_held}
+use Rattle.frame_codec.specs.declared.join.Join.{Join}
+use Rattle.frame_codec.specs.declared.setup.Setup.{Setup}
+use Rattle.frame_codec.specs.Join.{join_of}
+use Rattle.stream_registry.specs.declared.lingering.LogPlace.{LogPlace}
+use Rattle.stream_registry.specs.declared.row.Origin.{Origin}
+use Rattle.stream_registry.specs.declared.row.Origin.TheVariants.{Published, Remote}
+use Rattle.stream_registry.specs.declared.row.Source.{Source}
+
+-- where the log is to lie for which memory was taken, if it was for one
+abbrev pub place_of : Option Opening → Option LogPlace
+place_of None = None
+place_of (Some opening) = Some opening.place
+
+-- of how many bytes the log is for which the memory is: none are said of a publication's
+abbrev pub room_of : Memory → Option ℕ
+room_of (Publication room) = None
+room_of (Image room) = Some room
+
+abbrev pub room_by : Option Join → Option ℕ
+room_by None = None
+room_by (Some join) = Some (3 * join.term_length)
+
+abbrev pub room_of_setup : Setup → Option ℕ
+room_of_setup setup = room_by (join_of setup)
+
+-- that for the log which the event brings
+abbrev pub memory_of : Event → Option ℕ
+memory_of (SetUp now local from setup) = room_of_setup setup
+memory_of event = None
+
+abbrev pub IsRoomFor : Option ℕ → Source → Origin → Type 0
+IsRoomFor room log (Published exclusive since) = room ≡ None
+IsRoomFor room log (Remote address initial_term join) = room ≡ Some (3 * log.measures.term_length)
+
+-- it is for that log
+abbrev pub IsMemoryFor : Option ℕ → Option Source → Type 0
+IsMemoryFor room None = Unit {0}
+IsMemoryFor room (Some log) = IsRoomFor room log log.origin
+
+-- there is room for it among the others, and its memory is that for what the event brings
+abbrev pub HasRoom : HeldLogs → Event → Option Opening → Type 0
+HasRoom logs event None = Unit {0}
+HasRoom logs event (Some opening) = (length logs.logs < logs.room) × (room_of opening.memory ≡ memory_of event)
+
+-- it can be opened, as the registry behind the event says
+abbrev pub CanOpen : HeldLogs → State → Event → Option LogPlace → Type 0
+CanOpen logs after event None = Unit {0}
+CanOpen logs after event (Some opens) =
+    IsOpening logs opens.place (source_at after.streams.sources opens.source)
+    × IsMemoryFor (memory_of event) (source_at after.streams.sources opens.source)
+
+-- it was opened
+abbrev pub OpensNext : HeldLogs → HeldLogs → State → Option LogPlace → Type 0
+OpensNext old new after None = new ≡ old
+OpensNext old new after (Some opens) =
+    OpensFor old new after opens.place (source_at after.streams.sources opens.source)
+
+-- the log that the event opens is open, those are closed that it closes, and then exactly the pairs read
+pub record Follows (old new : HeldLogs) (after : State) (place : Option LogPlace) (closes : List LogPlace) : Type 0 where
+  pub opened : HeldLogs
+  pub opens : OpensNext old opened after place
+  pub left :
+      new
+      ≡ record opened {
+        logs = map (rejoined_held (pairs_of after)) (filter (is_kept closes) opened.logs);
+      }

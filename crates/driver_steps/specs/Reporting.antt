@@ -1,0 +1,22 @@
+-- A turn of the receiver with the log of an image. Own rules.
+use Rattle.std.specs.Prelude.{ℕ, List, Option, Some, None}
+use Rattle.any_log.specs.Reporting.{after_report, receiver_behind, report_of}
+use Rattle.channel_uri.specs.declared.address.Address.{Address}
+use Rattle.driver_steps.specs.declared.answer.Answer.{Answer}
+use Rattle.driver_steps.specs.declared.answer.Answer.TheVariants.{Gone, Reported}
+use Rattle.driver_steps.specs.Moves.{Move, WholeLog}
+
+-- what is due goes to the publisher's address; a publication of this driver has no publisher elsewhere
+abbrev pub answer_reported : Address → Option (List (List ℕ)) → Answer
+answer_reported to None = Gone
+answer_reported to (Some datagrams) = Reported to datagrams
+
+-- by a receiver of that id; what is due counts as told, whoever gets it
+abbrev pub report_move : ℕ → ℕ → Address → WholeLog → Move
+report_move now id to log = record {
+  after = record log {
+    whole = after_report now log.recovery.receiver log.whole;
+    recovery = record log.recovery { receiver = receiver_behind now log.recovery.receiver log.whole };
+  };
+  answer = answer_reported to (report_of now id log.recovery.receiver log.whole);
+}

@@ -1,0 +1,37 @@
+-- A turn of the sender with the log of a publication. Own rules.
+use Rattle.std.specs.Prelude.{ℕ, Bool, List, Option, Some, None}
+use Rattle.any_log.specs.Sending.{after_turn, turn_of}
+use Rattle.driver_core.specs.declared.send_request.Outlet.{Outlet}
+use Rattle.driver_core.specs.declared.settings.Settings.{Settings}
+use Rattle.driver_core.specs.SendRequests.{outlets_of, sending_of}
+use Rattle.driver_core.specs.State.{State}
+use Rattle.driver_steps.specs.declared.answer.Answer.{Answer}
+use Rattle.driver_steps.specs.declared.answer.Answer.TheVariants.{Gone, Idle, Sent}
+use Rattle.driver_steps.specs.Moves.{Move, WholeLog, answered}
+use Rattle.publication_sender.specs.declared.cutting.Pace.{Pace}
+
+-- how often a sender says what
+abbrev pub pace_of : Settings → Pace
+pace_of settings = record {
+  connection_timeout = settings.connection_timeout;
+  setup_interval = settings.setup_interval;
+  heartbeat_interval = settings.heartbeat_interval;
+}
+
+-- the one datagram, and where it goes or may not go; nothing is due; the log is not sent
+abbrev pub answer_sent : List Outlet → Option (Option (List ℕ)) → Answer
+answer_sent outlets None = Gone
+answer_sent outlets (Some None) = Idle
+answer_sent outlets (Some (Some bytes)) = Sent bytes outlets
+
+-- the log moves on by what was cut, whoever gets it
+abbrev pub send_by : State → ℕ → WholeLog → Option Bool → Move
+send_by s now log None = answered log Gone
+send_by s now log (Some lingers) = record {
+  after = record log { whole = after_turn (pace_of s.settings) now log.whole };
+  answer = answer_sent (outlets_of s log.source) (turn_of (pace_of s.settings) now lingers log.whole);
+}
+
+-- as the registry says that the publication of that number lingers, and where it goes
+unfoldable pub send_move : State → ℕ → WholeLog → Move
+send_move s now log = send_by s now log (sending_of s log.source)

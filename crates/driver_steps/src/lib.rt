@@ -1,0 +1,46 @@
+//! A driver that is run step by step, with the logs of its publications and images.
+//!
+//! Each call of [`Driver`] is one step, and tells what the policy decided for it. Contracts see the logs as whole lists of
+//! frames. `offer_step`, `poll_step` and `send_step` are steps on one log, by any view of a registry.
+//!
+//! An event is told how far each log reaches and, where it is a tick, which images are silent. Then the logs follow: the one
+//! opens that the event tells, of a publication or of the image that a SETUP makes, those close that it tells, and exactly
+//! the pairs read. All memory is taken before anything is changed.
+#![tactic(auto)]
+
+mod answer;
+mod caches;
+mod cause;
+mod driver;
+mod hearing;
+mod inputs;
+mod laws;
+mod offering;
+mod open_log;
+mod open_logs;
+mod opening;
+mod polling;
+mod receiving;
+mod recovery;
+mod reporting;
+mod resending;
+mod sending;
+mod step;
+mod told;
+
+pub use answer::{Answer, Offered};
+pub use any_log::Fragment;
+pub use cause::Cause;
+pub use driver::Driver;
+pub use image_log::Insert;
+pub use laws::{
+    bytes_come_from_the_live_log, logs_follow_the_registry, offers_are_granted_exactly,
+    payloads_come_from_their_publisher, polls_are_granted_exactly, resends_come_from_the_live_log,
+    runs_take_events, sends_are_granted_exactly,
+};
+pub use offering::offer_step;
+pub use open_log::OpenLog;
+pub use polling::poll_step;
+pub use sending::send_step;
+pub use step::Step;
+pub use told::{Came, Looked, Told};

@@ -1,0 +1,91 @@
+//! A message that a client offers to a log.
+
+ghost use Rattle.any_log.specs.declared.any_log.AnyLog.TheVariants.{Term};
+ghost use Rattle.any_log.specs.Held.{Lies};
+ghost use Rattle.driver_core.specs.Cached.{AreCached};
+ghost use Rattle.driver_steps.specs.declared.answer.Answer.TheVariants.{Offered as OfferedAs};
+ghost use Rattle.driver_steps.specs.declared.answer.Offered.TheVariants.{Closed};
+ghost use Rattle.driver_steps.specs.Decided.{Decides, offer_decision};
+ghost use Rattle.driver_steps.specs.Held.{LiesAsBefore};
+ghost use Rattle.driver_steps.specs.Moves.{Does, offer_move, offers, term_held};
+ghost use Rattle.driver_steps.specs.Recovery.{Recovering};
+ghost use Rattle.std.specs.Prelude.{◌≡◌, ℕ, None};
+
+use crate::answer::{Answer, Offered};
+use crate::open_log::OpenLog;
+use crate::told::Told;
+use any_log::AnyLog;
+use decision_cache::Cache;
+use driver_core::View;
+use policy_core::Verdict;
+use term_log::TermLog;
+
+/// A message is offered to a publication's log, where the verdict is that: denied, too long, to nobody, or taken as the log
+/// can.
+fn offer_to(log: &mut TermLog, now: u64, timeout: u64, verdict: Verdict, message: &[u8]) -> Answer
+    ensures does { (source : ℕ) (recovery : Recovering) → Does (offers now timeout verdict message.now) (term_held source recovery log.old) (term_held source recovery log.new) result }
+    ensures lies { Lies (Term log.old) (Term log.new) }
+{
+    if !verdict.allow {
+        return Answer::Denied(verdict);
+    }
+    if message.len() > log.greatest_message() {
+        return Answer::Offered(Offered::TooLong);
+    }
+    if !log.connected(now, timeout) {
+        return Answer::Offered(Offered::NotConnected);
+    }
+    Answer::Offered(Offered::of(log.offer(message)))
+}
+
+/// The client's registration is with no such log.
+fn closed() -> Told
+    ensures { result ≡ record { answer = OfferedAs Closed; decision = None } }
+{
+    Told {
+        answer: Answer::Offered(Offered::Closed),
+        decision: None,
+    }
+}
+
+/// A client offers a message to the log that its registration is with, at the moment `now` in nanoseconds, as the registry
+/// that the view shows says, with the verdict from the client's cache where it is there. It wants no memory.
+///
+/// The answer is the first that applies: [`Offered::Closed`] where the client has no such registration, or one with another
+/// log, or the log is that of a remote stream; [`Answer::Denied`] by the policy of that registry; [`Offered::TooLong`];
+/// [`Offered::NotConnected`]; [`Offered::MaxPositionExceeded`]; [`Offered::BackPressured`]; [`Offered::AdminAction`], by
+/// which the rest of the term is filled; else the message is appended, and the answer is the position behind it. The decision
+/// is told where the registration is with that log, whatever comes of the message.
+#[tactic(auto, unfolding(crate::specs::Moves::offer_move))]
+pub fn offer_step<V: View>(
+    view: &V,
+    log: &mut OpenLog,
+    cache: &mut Cache,
+    now: u64,
+    client: u64,
+    registration: u64,
+    message: &[u8],
+) -> Told
+    requires { AreCached (V.shows view.now) cache.old }
+    ensures does { Does (offer_move (V.shows view.now) now client registration message.now) log.old log.new result.answer }
+    ensures decides { Decides (offer_decision (V.shows view.now) client registration) log.old result.decision }
+    ensures lies { LiesAsBefore log.old log.new }
+    ensures cached { AreCached (V.shows view.now) cache.new }
+{
+    let registry = view.registry();
+    let Some(request) = registry.offering_cached(cache, client, registration) else {
+        return closed();
+    };
+    if request.source != log.source {
+        return closed();
+    }
+    let timeout = registry.settings().connection_timeout;
+    let answer = match &mut log.log {
+        AnyLog::Term(term) => offer_to(term, now, timeout, request.decision.verdict, message),
+        AnyLog::Image(_) => Answer::Offered(Offered::Closed),
+    };
+    Told {
+        answer,
+        decision: Some(request.decision),
+    }
+}

@@ -1,0 +1,405 @@
+//! The open logs of a driver, in one arena.
+
+ghost use Rattle.any_log.specs.Whole.{rebuilt, whole};
+ghost use Rattle.driver_core.specs.Cached.{AreCached};
+ghost use Rattle.driver_core.specs.Pairs.{pairs_of as all_pairs};
+ghost use Rattle.driver_core.specs.Readers.{readers_of};
+ghost use Rattle.driver_steps.specs.Held.{AreForFirst, IsOpened, held_at, is_closed, is_kept, place_at, plots_of, rejoined_held, with_readers, without};
+ghost use Rattle.driver_steps.specs.Decided.{DecidesFirst, offer_decision, poll_decision};
+ghost use Rattle.driver_steps.specs.Hearing.{nak_move, status_move};
+ghost use Rattle.driver_steps.specs.Idents.{heard_at};
+ghost use Rattle.driver_steps.specs.declared.answer.Answer.TheVariants.{Gone, Offered as OfferedAs};
+ghost use Rattle.driver_steps.specs.declared.answer.Offered.TheVariants.{Closed};
+ghost use Rattle.driver_steps.specs.Memory.{GivesFirst};
+ghost use Rattle.driver_steps.specs.Moves.{MovesFirst, offer_move, poll_move};
+ghost use Rattle.driver_steps.specs.Plots.{IsLeastVacant, taken_pages};
+ghost use Rattle.driver_steps.specs.Receiving.{beat_move, receive_move, unheard};
+ghost use Rattle.driver_steps.specs.Reporting.{report_move};
+ghost use Rattle.driver_steps.specs.Sending.{send_move};
+ghost use Rattle.frame_codec.specs.Frames.{frames_left};
+ghost use Rattle.image_log.specs.Rebuilt.{opened};
+ghost use Rattle.log_arena.specs.Pages.{holes_of};
+ghost use Rattle.std.specs.Prelude.{◌≡◌, ℕ, ◌*◌, ◌%◌, ◌^◌, ◌<◌, ◌≤◌, [], length, is_some, map, filter, IfOk, OnOk, OnErr};
+ghost use Rattle.stream_registry.specs.LogPages.{pages_of};
+ghost use Rattle.term_log.specs.Ident.{IsIdent};
+ghost use Rattle.term_log.specs.Whole.{fresh};
+
+use crate::answer::{Answer, Offered};
+use crate::cause::Cause;
+use crate::hearing::status_step;
+use crate::offering::offer_step;
+use crate::open_log::OpenLog;
+use crate::polling::poll_step;
+use crate::receiving::{beat_step, receive_step};
+use crate::recovery::Recovery;
+use crate::reporting::report_step;
+use crate::resending::nak_step;
+use crate::sending::send_step;
+use crate::told::Told;
+use any_log::AnyLog;
+use decision_cache::Cache;
+use driver_core::{Address, Astray, Registry, View};
+use frame_codec::{Frames, Nak, StatusMessage, TermPlace};
+use image_log::{ImageLog, ImageRoom};
+use log_arena::Arena;
+use policy_core::Decision;
+use rows::Rows;
+use std::alloc::{AllocError, Global};
+use std::marker::Model;
+use stream_registry::LogPlace;
+use term_log::{Ident, LogRoom, TermLog};
+
+/// The open logs, each in a lease of one arena, of which no other page has a lease.
+///
+/// Contracts see how many pages the arena has, the logs in the order in which they were opened, and for how many of them
+/// there is room.
+#[derive(Drop)]
+pub(crate) struct OpenLogs {
+    arena: Arena,
+    logs: Vec<OpenLog>,
+}
+
+impl Model for OpenLogs {
+    ghost use Rattle.driver_steps.specs.Held.{HeldLogs, plots_of};
+    ghost use Rattle.driver_steps.specs.Plots.{AreHoused};
+    ghost use Rattle.std.specs.Vec.{vec_capacity};
+
+    ghost Value = { HeldLogs };
+
+    ghost view = { λ held. record {
+      pages = held.arena.home.pages;
+      logs = held.logs.items;
+      room = vec_capacity held.logs;
+    } };
+
+    ghost invariant = { λ held. AreHoused held.arena (plots_of held.logs.items) };
+}
+
+/// Where the first log of that source is in the list.
+fn place_of(logs: &[OpenLog], source: u64) -> Option<usize>
+    ensures { result ≡ place_at logs.now source }
+{
+    logs.iter().position(|open| open.source == source)
+}
+
+/// Whether the source is one of those that close.
+fn is_closed(closes: &[LogPlace], source: u64) -> bool
+    ensures { result ≡ is_closed closes.now source }
+{
+    closes.iter().any(|closed| closed.source == source)
+}
+
+impl OpenLogs {
+    /// No log is open yet. There are `pages` pages for all of them, from 1 to 65,536.
+    pub(crate) fn new(alloc: Global, pages: usize) -> Result<OpenLogs, AllocError>
+        requires { (0 < pages) × (pages ≤ 65536) }
+        ensures { IfOk result (λ held. held ≡ record { pages = pages; logs = []; room = 0 }) }
+    {
+        Ok(OpenLogs {
+            arena: Arena::new(alloc, pages)?,
+            logs: Vec::new(alloc),
+        })
+    }
+
+    /// The logs.
+    pub(crate) fn as_slice(&self) -> &[OpenLog]
+        ensures { result.now ≡ self.now.logs }
+    {
+        self.logs.as_slice()
+    }
+
+    /// The maximal runs of pages that no log has, each as its place and its length in bytes, ascending.
+    pub(crate) fn holes(&self) -> &[(usize, usize)]
+        ensures { result.now ≡ holes_of (taken_pages self.now.pages (plots_of self.now.logs)) }
+    {
+        self.arena.holes()
+    }
+
+    /// Whether a log of that source is open.
+    pub(crate) fn is_open(&self, source: u64) -> bool
+        ensures { result ≡ is_some (held_at self.now.logs source) }
+    {
+        place_of(self.logs.as_slice(), source).is_some()
+    }
+
+    /// Takes room for one log more.
+    pub(crate) fn reserve(&mut self) -> Result<(), AllocError>
+        ensures same { self.new ≡ record self.old { room = self.new.room } }
+        ensures room { OnOk result (length self.new.logs < self.new.room) }
+    {
+        self.logs.reserve(1)
+    }
+
+    /// Opens a log without frames behind the others, in the pages from `place` on, which is the least place for them, and
+    /// in memory that was taken before.
+    pub(crate) fn open(
+        &mut self,
+        memory: LogRoom,
+        source: u64,
+        place: u64,
+        ident: Ident,
+        recovery: Recovery,
+    )
+        requires ident { IsIdent ident }
+        requires whole { ident.term_length % 4096 ≡ 0 }
+        requires vacant { IsLeastVacant self.old.pages (plots_of self.old.logs) (pages_of ident.term_length) place }
+        requires room { length self.old.logs < self.old.room }
+        ensures { IsOpened self.old self.new source place (whole (fresh ident)) recovery }
+    {
+        let Ok(lease) = self.arena.lease(3 * ident.term_length as usize) else {
+            // the place is there
+            unreachable!()
+        };
+        let log = TermLog::open_in(memory, lease, ident);
+        self.logs.push_reserved(OpenLog {
+            source,
+            log: AnyLog::Term(log),
+            recovery,
+        });
+    }
+
+    /// Opens the log of a remote stream without frames behind the others, which joins at that position, and whose sender is
+    /// heard at the moment `now`, as [`OpenLogs::open`] opens that of a publication.
+    pub(crate) fn open_image(
+        &mut self,
+        memory: ImageRoom,
+        source: u64,
+        place: u64,
+        ident: image_log::Ident,
+        join: u64,
+        now: u64,
+        recovery: Recovery,
+    )
+        requires memory { memory ≡ 3 * ident.term_length }
+        requires terms { (65536 ≤ ident.term_length) × (ident.term_length ≤ 16777216) }
+        requires whole { ident.term_length % 4096 ≡ 0 }
+        requires join { (join % 32 ≡ 0) × (join < ident.term_length * 2 ^ 31) }
+        requires vacant { IsLeastVacant self.old.pages (plots_of self.old.logs) (pages_of ident.term_length) place }
+        requires room { length self.old.logs < self.old.room }
+        ensures { IsOpened self.old self.new source place (rebuilt (heard_at now (opened ident join))) recovery }
+    {
+        let Ok(lease) = self.arena.lease(3 * ident.term_length as usize) else {
+            // the place is there
+            unreachable!()
+        };
+        let mut log = ImageLog::open_in(memory, lease, ident, join);
+        log.heard(now);
+        self.logs.push_reserved(OpenLog {
+            source,
+            log: AnyLog::Image(log),
+            recovery,
+        });
+    }
+
+    /// Closes the log at that place of the list: its pages are free again.
+    fn close_at(&mut self, at: usize)
+        requires { at < length self.old.logs }
+        ensures { self.new ≡ record self.old { logs = without at self.old.logs } }
+    {
+        let open = self.logs.remove(at);
+        let OpenLog {
+            source: _,
+            log,
+            recovery: _,
+        } = open;
+        self.arena.give(log.close());
+    }
+
+    /// Closes these logs: their pages are free again.
+    pub(crate) fn close(&mut self, closes: &[LogPlace])
+        ensures { self.new ≡ record self.old { logs = filter (is_kept closes.now) self.old.logs } }
+    {
+        let mut at = 0;
+        while at < self.logs.len() {
+            if is_closed(closes, self.logs[at].source) {
+                self.close_at(at);
+            } else {
+                at += 1;
+            }
+        }
+    }
+
+    /// Exactly these subscriptions read the log at that place of the list.
+    fn rejoin_at(&mut self, at: usize, subscriptions: &[u64])
+        requires at { at < length self.old.logs }
+        requires few { length subscriptions.now ≤ 512 }
+        ensures { self.new ≡ record self.old { logs = with_readers at subscriptions.now self.old.logs } }
+    {
+        self.logs[at].log.rejoin(subscriptions);
+    }
+
+    /// Exactly the subscriptions read the logs that the registry says. `room` is there for those of one log.
+    pub(crate) fn rejoin(&mut self, registry: &Registry, room: &mut Rows<u64, 512>)
+        requires { (source : ℕ) → length (readers_of (all_pairs registry.now) source) ≤ 512 }
+        ensures { self.new ≡ record self.old { logs = map (rejoined_held (all_pairs registry.now)) self.old.logs } }
+    {
+        for at in 0..self.logs.len() {
+            registry.readers(self.logs[at].source, room);
+            self.rejoin_at(at, room.as_slice());
+        }
+    }
+
+    /// A client offers a message to the first log of that source, as [`offer_step`] says.
+    pub(crate) fn offer<V: View>(
+        &mut self,
+        view: &V,
+        cache: &mut Cache,
+        source: u64,
+        now: u64,
+        client: u64,
+        registration: u64,
+        message: &[u8],
+    ) -> Told
+        requires { AreCached (V.shows view.now) cache.old }
+        ensures moved { MovesFirst source (offer_move (V.shows view.now) now client registration message.now) (OfferedAs Closed) self.old self.new result.answer }
+        ensures decides { DecidesFirst source (offer_decision (V.shows view.now) client registration) result.decision self.old }
+        ensures cached { AreCached (V.shows view.now) cache.new }
+    {
+        let Some(at) = place_of(self.logs.as_slice(), source) else {
+            return Told {
+                answer: Answer::Offered(Offered::Closed),
+                decision: None,
+            };
+        };
+        offer_step(
+            view,
+            &mut self.logs[at],
+            cache,
+            now,
+            client,
+            registration,
+            message,
+        )
+    }
+
+    /// A client polls the first log of that source, as [`poll_step`] says.
+    pub(crate) fn poll<V: View>(
+        &mut self,
+        view: &V,
+        cache: &mut Cache,
+        alloc: Global,
+        source: u64,
+        client: u64,
+        subscription: u64,
+        limit: u32,
+    ) -> Result<Told, AllocError>
+        requires { AreCached (V.shows view.now) cache.old }
+        ensures moved { IfOk result (λ told. MovesFirst source (poll_move (V.shows view.now) client subscription limit) Gone self.old self.new told.answer) }
+        ensures decides { IfOk result (λ told. DecidesFirst source (poll_decision (V.shows view.now) client subscription) told.decision self.old) }
+        ensures err { OnErr result (self.new ≡ self.old) }
+        ensures without_memory { OnErr result (GivesFirst source (poll_move (V.shows view.now) client subscription limit) self.old) }
+        ensures cached { AreCached (V.shows view.now) cache.new }
+    {
+        let Some(at) = place_of(self.logs.as_slice(), source) else {
+            return Ok(Told {
+                answer: Answer::Gone,
+                decision: None,
+            });
+        };
+        poll_step(
+            view,
+            &mut self.logs[at],
+            cache,
+            alloc,
+            client,
+            subscription,
+            limit,
+        )
+    }
+
+    /// The frames of a datagram come to the first log of that source, as [`receive_step`] says.
+    pub(crate) fn receive(
+        &mut self,
+        alloc: Global,
+        source: u64,
+        now: u64,
+        frames: Frames<'_>,
+    ) -> Result<Answer, AllocError>
+        requires { AreForFirst self.old.logs source (frames_left frames) }
+        ensures moved { IfOk result (λ answer. MovesFirst source (receive_move now (frames_left frames.entry)) unheard self.old self.new answer) }
+        ensures err { OnErr result (self.new ≡ self.old) }
+        ensures without_memory { OnErr result (GivesFirst source (receive_move now (frames_left frames.entry)) self.old) }
+    {
+        let Some(at) = place_of(self.logs.as_slice(), source) else {
+            return Ok(Answer::Dropped(Cause::Astray(Astray::NoStream)));
+        };
+        receive_step(&mut self.logs[at], alloc, now, frames)
+    }
+
+    /// A heartbeat comes to the first log of that source, as [`beat_step`] says.
+    pub(crate) fn beat(&mut self, source: u64, now: u64, place: &TermPlace) -> Answer
+        ensures { MovesFirst source (beat_move now place.now) unheard self.old self.new result }
+    {
+        let Some(at) = place_of(self.logs.as_slice(), source) else {
+            return Answer::Dropped(Cause::Astray(Astray::NoStream));
+        };
+        beat_step(&mut self.logs[at], now, place)
+    }
+
+    /// A status message comes to the first log of that source, as [`status_step`] says.
+    pub(crate) fn status(&mut self, source: u64, now: u64, message: &StatusMessage) -> Answer
+        ensures { MovesFirst source (status_move now message.now) unheard self.old self.new result }
+    {
+        let Some(at) = place_of(self.logs.as_slice(), source) else {
+            return Answer::Dropped(Cause::Astray(Astray::NoStream));
+        };
+        status_step(&mut self.logs[at], now, message)
+    }
+
+    /// A NAK comes to the first log of that source, as [`nak_step`] says.
+    pub(crate) fn nak(
+        &mut self,
+        alloc: Global,
+        source: u64,
+        now: u64,
+        from: &Address,
+        nak: &Nak,
+        decision: &Decision,
+    ) -> Result<Answer, AllocError>
+        ensures moved { IfOk result (λ answer. MovesFirst source (nak_move now from.now decision.now nak.now) unheard self.old self.new answer) }
+        ensures err { OnErr result (self.new ≡ self.old) }
+        ensures without_memory { OnErr result (GivesFirst source (nak_move now from.now decision.now nak.now) self.old) }
+    {
+        let Some(at) = place_of(self.logs.as_slice(), source) else {
+            return Ok(Answer::Dropped(Cause::Astray(Astray::NoStream)));
+        };
+        nak_step(&mut self.logs[at], alloc, now, from, nak, decision)
+    }
+
+    /// The sender has a turn with the first log of that source, as [`send_step`] says.
+    pub(crate) fn send<V: View>(
+        &mut self,
+        view: &V,
+        alloc: Global,
+        source: u64,
+        now: u64,
+    ) -> Result<Answer, AllocError>
+        ensures moved { IfOk result (λ answer. MovesFirst source (send_move (V.shows view.now) now) Gone self.old self.new answer) }
+        ensures err { OnErr result (self.new ≡ self.old) }
+        ensures without_memory { OnErr result (GivesFirst source (send_move (V.shows view.now) now) self.old) }
+    {
+        let Some(at) = place_of(self.logs.as_slice(), source) else {
+            return Ok(Answer::Gone);
+        };
+        send_step(view, &mut self.logs[at], alloc, now)
+    }
+
+    /// The receiver of that id has a turn with the first log of that source, as [`report_step`] says.
+    pub(crate) fn report(
+        &mut self,
+        alloc: Global,
+        source: u64,
+        now: u64,
+        receiver_id: u64,
+        to: &Address,
+    ) -> Result<Answer, AllocError>
+        ensures moved { IfOk result (λ answer. MovesFirst source (report_move now receiver_id to.now) Gone self.old self.new answer) }
+        ensures err { OnErr result (self.new ≡ self.old) }
+        ensures without_memory { OnErr result (GivesFirst source (report_move now receiver_id to.now) self.old) }
+    {
+        let Some(at) = place_of(self.logs.as_slice(), source) else {
+            return Ok(Answer::Gone);
+        };
+        report_step(&mut self.logs[at], alloc, now, receiver_id, to)
+    }
+}

@@ -1,0 +1,166 @@
+//! The log that comes with an event: that of a publication, or of an image.
+
+ghost use Rattle.driver_core.specs.Renewal.{source_at};
+ghost use Rattle.driver_steps.specs.Held.{IsOpening, OpensFor};
+ghost use Rattle.driver_steps.specs.Idents.{ident_of, kind_over, stream_ident};
+ghost use Rattle.driver_steps.specs.Opening.{CanOpen, HasRoom, IsMemoryFor, OpensNext, memory_of, place_of, room_of, room_of_setup};
+ghost use Rattle.std.specs.Prelude.{◌≡◌, ◌<◌, IfOk, length};
+
+use crate::open_logs::OpenLogs;
+use crate::recovery::Recovery;
+use channel_uri::Media;
+use driver_core::{Event, Registry, Settings};
+use frame_codec::Setup;
+use image_log::ImageRoom;
+use std::alloc::{AllocError, Global};
+use stream_registry::{LogPlace, Origin, Source};
+use term_log::{Ident, LogKind, LogRoom};
+
+/// Over datagrams, or in shared memory.
+fn kind_over(media: Media) -> LogKind
+    ensures { result ≡ kind_over media }
+{
+    match media {
+        Media::Ipc => LogKind::Ipc,
+        Media::Udp | Media::Counter => LogKind::Udp,
+    }
+}
+
+/// What the log of the publication is made for.
+fn ident_of(settings: Settings, publication: &Source) -> Ident
+    ensures { result ≡ ident_of settings publication.now }
+{
+    Ident {
+        kind: kind_over(publication.channel.media()),
+        session: publication.session,
+        stream: publication.stream,
+        initial_term: settings.initial_term,
+        term_length: publication.measures.term_length,
+        mtu: publication.measures.mtu,
+        start: 0,
+    }
+}
+
+/// The stream of the image, whose log began with that term.
+fn stream_ident(image: &Source, initial_term: i32) -> image_log::Ident
+    ensures { result ≡ stream_ident image.now initial_term }
+{
+    image_log::Ident {
+        session_id: image.session,
+        stream_id: image.stream,
+        initial_term_id: initial_term,
+        term_length: image.measures.term_length,
+    }
+}
+
+/// The memory that a log takes.
+#[derive(Drop)]
+pub(crate) enum Memory {
+    /// That of a publication.
+    Publication(LogRoom),
+    /// That of an image.
+    Image(ImageRoom),
+}
+
+/// The log that an event opens, before it is open: its number and place, and the memory that it takes.
+#[derive(Drop)]
+pub(crate) struct Opening {
+    pub(crate) place: LogPlace,
+    pub(crate) memory: Memory,
+}
+
+/// The memory for the image that a SETUP brings.
+fn memory_of_image(alloc: Global, setup: &Setup) -> Result<Memory, AllocError>
+    ensures { IfOk result (λ memory. room_of memory ≡ room_of_setup setup.now) }
+{
+    match setup.join() {
+        Some(join) => Ok(Memory::Image(ImageRoom::new(alloc, 3 * join.term_length as usize)?)),
+        None => Ok(Memory::Publication(LogRoom::new(alloc)?)),
+    }
+}
+
+/// The memory for the log that the event brings: a SETUP brings an image, and any other event a publication.
+fn memory_of(alloc: Global, event: &Event) -> Result<Memory, AllocError>
+    ensures { IfOk result (λ memory. room_of memory ≡ memory_of event.now) }
+{
+    match event {
+        Event::Setup { setup, .. } => memory_of_image(alloc, setup),
+        _ => Ok(Memory::Publication(LogRoom::new(alloc)?)),
+    }
+}
+
+/// Takes the memory that the log takes which an event opens, if it opens one.
+pub(crate) fn prepare(
+    logs: &mut OpenLogs,
+    alloc: Global,
+    event: &Event,
+    opens: Option<LogPlace>,
+) -> Result<Option<Opening>, AllocError>
+    ensures same { logs.new ≡ record logs.old { room = logs.new.room } }
+    ensures place { IfOk result (λ opening. place_of opening ≡ opens) }
+    ensures room { IfOk result (λ opening. HasRoom logs.new event.now opening) }
+{
+    let Some(place) = opens else {
+        return Ok(None);
+    };
+    logs.reserve()?;
+    let memory = memory_of(alloc, event)?;
+    Ok(Some(Opening { place, memory }))
+}
+
+/// Opens the log of that source, if the registry has it, at that place. It takes no memory.
+fn open_for(logs: &mut OpenLogs, registry: &Registry, opening: Opening)
+    requires fits { IsOpening logs.old opening.place.place (source_at registry.now.streams.sources opening.place.source) }
+    requires memory { IsMemoryFor (room_of opening.memory) (source_at registry.now.streams.sources opening.place.source) }
+    requires room { length logs.old.logs < logs.old.room }
+    ensures { OpensFor logs.old logs.new registry.now opening.place.place (source_at registry.now.streams.sources opening.place.source) }
+{
+    let Opening { place, memory } = opening;
+    let Some(log) = registry.source(place.source) else {
+        return;
+    };
+    let recovery = Recovery::new(registry.settings());
+    match (log.origin, memory) {
+        (Origin::Published { .. }, Memory::Publication(memory)) => {
+            let ident = ident_of(registry.settings(), log);
+            logs.open(memory, log.number, place.place, ident, recovery);
+        }
+        (
+            Origin::Remote {
+                initial_term,
+                join,
+                ..
+            },
+            Memory::Image(memory),
+        ) => {
+            let ident = stream_ident(log, initial_term);
+            logs.open_image(
+                memory,
+                log.number,
+                place.place,
+                ident,
+                join,
+                registry.moment(),
+                recovery,
+            );
+        }
+        _ => unreachable!(),
+    }
+}
+
+/// Opens the log that an event opens, if it opens one. It takes no memory.
+pub(crate) fn open_next(
+    logs: &mut OpenLogs,
+    after: &Registry,
+    event: &Event,
+    opening: Option<Opening>,
+)
+    requires opens { CanOpen logs.old after.now event.now (place_of opening) }
+    requires room { HasRoom logs.old event.now opening }
+    ensures { OpensNext logs.old logs.new after.now (place_of opening) }
+{
+    match opening {
+        Some(opening) => open_for(logs, after, opening),
+        None => {}
+    }
+}

@@ -1,0 +1,75 @@
+//! A log that a client polls.
+
+ghost use Rattle.driver_core.specs.Cached.{AreCached};
+ghost use Rattle.driver_steps.specs.Decided.{Decides, poll_decision};
+ghost use Rattle.driver_steps.specs.declared.answer.Answer.TheVariants.{Gone};
+ghost use Rattle.driver_steps.specs.Held.{LiesAsBefore};
+ghost use Rattle.driver_steps.specs.Memory.{Gives};
+ghost use Rattle.driver_steps.specs.Moves.{Does, poll_move};
+ghost use Rattle.std.specs.Prelude.{◌≡◌, None, IfOk, OnErr};
+
+use crate::answer::Answer;
+use crate::open_log::OpenLog;
+use crate::told::Told;
+use decision_cache::Cache;
+use driver_core::View;
+use std::alloc::{AllocError, Global};
+
+/// No such subscription of the client reads the log.
+fn gone() -> Told
+    ensures { result ≡ record { answer = Gone; decision = None } }
+{
+    Told {
+        answer: Answer::Gone,
+        decision: None,
+    }
+}
+
+/// A client polls a log by one of its subscriptions, as the registry that the view shows says, and is given so many
+/// fragments at most. The verdict is from the client's cache where it is there.
+///
+/// The answer is the first that applies: [`Answer::Gone`] where no such subscription of the client reads the log;
+/// [`Answer::Denied`] by the policy of that registry; else the fragments from where the subscription stands, which moves on
+/// behind them. Pads are passed uncounted. The decision is told where such a subscription reads the log.
+///
+/// # Errors
+/// Nothing is changed where there is no memory for the fragments. A poll that is gone or denied takes none.
+#[tactic(auto, unfolding(crate::specs::Moves::poll_move))]
+pub fn poll_step<V: View>(
+    view: &V,
+    log: &mut OpenLog,
+    cache: &mut Cache,
+    alloc: Global,
+    client: u64,
+    subscription: u64,
+    limit: u32,
+) -> Result<Told, AllocError>
+    requires { AreCached (V.shows view.now) cache.old }
+    ensures does { IfOk result (λ told. Does (poll_move (V.shows view.now) client subscription limit) log.old log.new told.answer) }
+    ensures decides { IfOk result (λ told. Decides (poll_decision (V.shows view.now) client subscription) log.old told.decision) }
+    ensures lies { LiesAsBefore log.old log.new }
+    ensures cached { AreCached (V.shows view.now) cache.new }
+    ensures err { OnErr result (log.new ≡ log.old) }
+    ensures without_memory { OnErr result (Gives (poll_move (V.shows view.now) client subscription limit) log.old) }
+{
+    let registry = view.registry();
+    let Some(request) = registry.receiving_cached(cache, client, subscription, log.source) else {
+        return Ok(gone());
+    };
+    if log.log.pair_position(subscription).is_none() {
+        return Ok(gone());
+    }
+    if !request.decision.verdict.allow {
+        return Ok(Told {
+            answer: Answer::Denied(request.decision.verdict),
+            decision: Some(request.decision),
+        });
+    }
+    let limit = limit as usize;
+    let fragments = log.log.fragments(alloc, subscription, limit)?;
+    log.log.poll(subscription, limit);
+    Ok(Told {
+        answer: Answer::Polled(fragments),
+        decision: Some(request.decision),
+    })
+}

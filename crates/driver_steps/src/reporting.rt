@@ -1,0 +1,47 @@
+//! A turn of the receiver with an image.
+
+ghost use Rattle.driver_steps.specs.Held.{LiesAsBefore};
+ghost use Rattle.driver_steps.specs.Memory.{Gives};
+ghost use Rattle.driver_steps.specs.Moves.{Does};
+ghost use Rattle.driver_steps.specs.Reporting.{answer_reported, report_move};
+ghost use Rattle.std.specs.Prelude.{◌≡◌, IfOk, OnErr};
+
+use crate::answer::Answer;
+use crate::open_log::OpenLog;
+use byte_strings::{Bytes, Items};
+use driver_core::Address;
+use std::alloc::{AllocError, Global};
+
+/// What is due goes to the publisher's address.
+fn answer_reported(to: &Address, report: Option<Items<Bytes>>) -> Answer
+    ensures { result ≡ answer_reported to.now report }
+{
+    match report {
+        None => Answer::Gone,
+        Some(datagrams) => Answer::Reported { to: *to, datagrams },
+    }
+}
+
+/// The receiver, whose id is `receiver_id`, has a turn with an image whose publisher is at the address `to`: a NAK of the
+/// image's gap by the two delays, and a status message, where they are due. What is due counts as told, whoever gets it. The
+/// log of a publication is [`Answer::Gone`].
+///
+/// # Errors
+/// Nothing is changed where there is no memory for what is due. Where nothing is, it takes none.
+pub(crate) fn report_step(
+    log: &mut OpenLog,
+    alloc: Global,
+    now: u64,
+    receiver_id: u64,
+    to: &Address,
+) -> Result<Answer, AllocError>
+    ensures does { IfOk result (λ answer. Does (report_move now receiver_id to.now) log.old log.new answer) }
+    ensures lies { LiesAsBefore log.old log.new }
+    ensures err { OnErr result (log.new ≡ log.old) }
+    ensures without_memory { OnErr result (Gives (report_move now receiver_id to.now) log.old) }
+{
+    let report = log
+        .log
+        .report(alloc, &mut log.recovery.receiver, receiver_id, now)?;
+    Ok(answer_reported(to, report))
+}

@@ -1,0 +1,73 @@
+//! A turn of the sender with a publication.
+
+ghost use Rattle.driver_steps.specs.Held.{LiesAsBefore};
+ghost use Rattle.driver_steps.specs.Memory.{Gives};
+ghost use Rattle.driver_steps.specs.Moves.{Does};
+ghost use Rattle.driver_steps.specs.Sending.{answer_sent, pace_of, send_move};
+ghost use Rattle.std.specs.Prelude.{◌≡◌, IfOk, OnErr};
+
+use crate::answer::Answer;
+use crate::open_log::OpenLog;
+use byte_strings::{Bytes, Items};
+use driver_core::{Outlet, Settings, View};
+use publication_sender::Pace;
+use std::alloc::{AllocError, Global};
+
+/// How often a sender says what.
+fn pace_of(settings: Settings) -> Pace
+    ensures { result ≡ pace_of settings }
+{
+    Pace {
+        connection_timeout: settings.connection_timeout,
+        setup_interval: settings.setup_interval,
+        heartbeat_interval: settings.heartbeat_interval,
+    }
+}
+
+/// The one datagram, and where it goes or may not go.
+fn answer_sent(outlets: Items<Outlet>, turn: Option<Option<Bytes>>) -> Answer
+    ensures { result ≡ answer_sent outlets turn }
+{
+    match turn {
+        None => Answer::Gone,
+        Some(None) => Answer::Idle,
+        Some(Some(bytes)) => Answer::Sent { bytes, outlets },
+    }
+}
+
+/// The sender has a turn with the log of a publication over datagrams, at the moment `now` in nanoseconds, as the registry
+/// that the view shows says: one datagram, if one is due.
+///
+/// The answer is [`Answer::Gone`] where the registry has no such publication; [`Answer::Idle`] where nothing is due; else the
+/// datagram, with each destination of the publication and whether the policy of that registry lets it go there. The log moves
+/// on by what was cut, whoever gets it.
+///
+/// # Errors
+/// Nothing is changed where there is no memory for the datagram and the list of destinations. Any other answer takes none.
+#[tactic(auto, unfolding(crate::specs::Sending::send_move))]
+pub fn send_step<V: View>(
+    view: &V,
+    log: &mut OpenLog,
+    alloc: Global,
+    now: u64,
+) -> Result<Answer, AllocError>
+    ensures does { IfOk result (λ answer. Does (send_move (V.shows view.now) now) log.old log.new answer) }
+    ensures lies { LiesAsBefore log.old log.new }
+    ensures err { OnErr result (log.new ≡ log.old) }
+    ensures without_memory { OnErr result (Gives (send_move (V.shows view.now) now) log.old) }
+{
+    let registry = view.registry();
+    let Some(lingers) = registry.sending(log.source) else {
+        return Ok(Answer::Gone);
+    };
+    let pace = pace_of(registry.settings());
+    match log.log.due(now, &pace) {
+        None => Ok(Answer::Gone),
+        Some(None) => Ok(Answer::Idle),
+        Some(Some(_)) => {
+            let outlets = registry.outlets(alloc, log.source)?;
+            let turn = log.log.turn(alloc, now, &pace, lingers)?;
+            Ok(answer_sent(outlets, turn))
+        }
+    }
+}

@@ -1,5 +1,0 @@
-use Rattle.driver_world.proofs.FollowLemmas.{logs_follow}
-use Rattle.driver_world.proofs.laws.logs_follow_the_registry.Goals as goal
-
-pub returns : goal.returns
-returns c = logs_follow

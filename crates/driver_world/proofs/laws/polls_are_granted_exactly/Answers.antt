@@ -1,5 +1,0 @@
-use Rattle.driver_world.proofs.DecisionLemmas.{polls_exactly}
-use Rattle.driver_world.proofs.laws.polls_are_granted_exactly.Goals as goal
-
-pub returns : goal.returns
-returns c = polls_exactly

@@ -1,5 +1,0 @@
-use Rattle.driver_world.proofs.SendLawLemmas.{sends_exactly}
-use Rattle.driver_world.proofs.laws.sends_are_granted_exactly.Goals as goal
-
-pub returns : goal.returns
-returns c = sends_exactly
