@@ -151,6 +151,8 @@ Lines of a script:
   tick NOW                time goes on: clients and images of which nothing was heard for too long are gone
   list NOW C              client C looks at the counters that the policy shows it
   value NOW C REG         client C looks at the value of counter REG
+  audit A                 the last 4,096 decisions of actor A, and how many came before them: `conductor`, `sender`,
+                          `receiver`, or a client by its id
   # ...                   a comment; empty lines are skipped too
 Any other line answers `line N: bad line`, and ends the script.
 

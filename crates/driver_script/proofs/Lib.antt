@@ -1,3 +1,4 @@
 pub mod AnswersLemmas
+pub mod AuditLemmas
 pub mod OutputLemmas
 pub mod TurnLemmas

@@ -2,9 +2,12 @@
 use Rattle.std.proofs.Common.{◌≡◌, ℕ, List, [], ◌∷◌, ◌++◌, Option, Some, None, Result, Ok, Err, IfOk, IfErr, IfSome, OnOk, OnErr, refl, sym, ap, subst, append_assoc, append-nil}
 use Rattle.std.specs.Io.KnownBytes.{Appends}
 use Rattle.std.specs.List.{flat_map}
-use Rattle.driver_world.specs.declared.answer.Answer.{Answer}
-use Rattle.driver_world.specs.declared.answer.Answer.TheVariants.{NoMemory}
-use Rattle.driver_world.specs.declared.step.Step.{Step}
+use Rattle.driver_steps.specs.declared.answer.Answer.{Answer}
+use Rattle.driver_steps.specs.declared.answer.Answer.TheVariants.{NoMemory}
+use Rattle.driver_steps.specs.declared.step.Step.{Step}
+use Rattle.audit_ring.specs.Audit.{Kept}
+use Rattle.driver_world.specs.declared.actor.Actor.{Actor}
+use Rattle.driver_world.specs.Audits.{kept_all, kept_for}
 use Rattle.driver_world.specs.Ends.{RunEnd, IsAnswer, after, opening_end}
 use Rattle.driver_world.specs.Standing.{Held, StandsForEnd, Serves}
 use Rattle.driver_script.specs.declared.script.Ended.{Ended}
@@ -14,7 +17,7 @@ use Rattle.driver_script.specs.declared.script.Head.{Head}
 use Rattle.driver_script.specs.declared.script.Preface.{Preface}
 use Rattle.driver_script.specs.declared.script.Head.TheVariants as head
 use Rattle.script_lines.specs.declared.statements.Said.{Said}
-use Rattle.script_lines.specs.declared.statements.Said.TheVariants.{Principal, Peer, Set, Policy, Does, Bad}
+use Rattle.script_lines.specs.declared.statements.Said.TheVariants.{Principal, Peer, Set, Policy, Does, Audit, Bad}
 use Rattle.script_lines.specs.declared.statements.Statement.{Statement}
 use Rattle.driver_script.specs.Output.{AppendsFront}
 use Rattle.policy_core.specs.RuleList.{Rules}
@@ -23,7 +26,7 @@ use Rattle.policy_text.specs.declared.fault.PolicyFault.TheVariants as text
 use Rattle.policy_text.specs.Document.{policy_of}
 use Rattle.policy_text.specs.Fault.{Fails}
 use Rattle.policy_text.specs.Names.{Known}
-use Rattle.driver_script.specs.Script.{Opening, Ends, Refuses, Opens, no_preface, opening_of, Deed, Takes, deed_by, deed_of, put_in_force, Told, Answered, IsDone, IsOpeningText, IsRunning, Writes, answer_text, told_text, ended_text}
+use Rattle.driver_script.specs.Script.{Opening, Ends, Refuses, Opens, no_preface, opening_of, Deed, Takes, deed_by, deed_of, put_in_force, Told, Answered, Shown, IsDone, IsOpeningText, IsRunning, Writes, answer_text, audit_text, told_text, ended_text}
 use Rattle.driver_script.specs.Turns.{Turns, Goes, Steps, Puts, StopsAt, TakesStep, GivesUp, GivesUpStep, GivesUpPolicy, IsHead, FollowsHead, BeginsHead, WritesScript, BeginsScript, WritesFront, WritesWhole, SoFar, told_of_fault}
 use Rattle.driver_script.proofs.OutputLemmas.{appends_more}
 
@@ -83,6 +86,12 @@ turns_step names e line said step answer is answered =
     turns_told names e (after e step answer) (record { line = line; said = said }) (Answered answer)
     (done_step e line (deed_of names said) step answer is answered)
 
+-- the decisions of an actor, which are shown
+turns_shown : (names : Known) (e : RunEnd) (line : ℕ) (actor : Actor) (kept : Kept) → kept ≡ kept_for actor (kept_all e.decided) →
+    Turns names e e (record { line = line; said = Audit actor }) (audit_text kept)
+turns_shown names e line actor kept is =
+    turns_told names e e (record { line = line; said = Audit actor }) (Shown kept) (λ later others ended rest. (is, rest))
+
 -- the text of a policy that is refused, or finds no memory: nothing is changed
 done_refused : (e : RunEnd) (line : ℕ) (fault : PolicyFault) (meaning : Result Rules PolicyFault) → Fails fault meaning →
     (later : RunEnd → List Told → Type 0) (others : List Told) (ended : Ended) →
@@ -106,6 +115,7 @@ turns_refused names e line text fault is =
 -- a statement that is bad where it stands
 abbrev pub IsOutOfOrder : Said → Type 0
 IsOutOfOrder (Does step) = ⊥
+IsOutOfOrder (Audit actor) = ⊥
 IsOutOfOrder (Principal name number) = Unit {0}
 IsOutOfOrder (Peer peer) = Unit {0}
 IsOutOfOrder (Set key value) = Unit {0}
@@ -115,6 +125,7 @@ IsOutOfOrder Bad = Unit {0}
 pub writes_bad : (names : Known) (e : RunEnd) (line : ℕ) (said : Said) (rest : List Statement) → IsOutOfOrder said →
     Writes names e (record { line = line; said = said } ∷ rest) (BadLine line) (ended_text (BadLine line))
 writes_bad names e line (Does step) rest out = absurd out
+writes_bad names e line (Audit actor) rest out = absurd out
 writes_bad names e line (Principal name number) rest out = record { told = []; run = (refl, refl); text_is = refl }
 writes_bad names e line (Peer peer) rest out = record { told = []; run = (refl, refl); text_is = refl }
 writes_bad names e line (Set key value) rest out = record { told = []; run = (refl, refl); text_is = refl }
@@ -134,6 +145,11 @@ some_text_by names e line (Does step) rest (ended, text, written) = (
   ended,
   answer_text NoMemory ++ text,
   (turns_step names e line (Does step) step NoMemory refl tt).on rest ended text written,
+)
+some_text_by names e line (Audit actor) rest (ended, text, written) = (
+  ended,
+  audit_text (kept_for actor (kept_all e.decided)) ++ text,
+  (turns_shown names e line actor (kept_for actor (kept_all e.decided)) refl).on rest ended text written,
 )
 some_text_by names e line (Principal name number) rest later =
     (BadLine line, ended_text (BadLine line), writes_bad names e line (Principal name number) rest tt)
@@ -189,6 +205,13 @@ turns_of : (names : Known) (old new : Held) (line : ℕ) (said : Said) (step : S
 turns_of names old new line said step answer is served e stands =
     let s = served.on e stands in
     (after e step answer, s.1, turns_step names e line said step answer is s.0)
+
+-- the decisions of an actor that a world shows
+shown_of : (names : Known) (held : Held) (line : ℕ) (actor : Actor) (e : RunEnd) → StandsForEnd held e →
+    (next : RunEnd) × StandsForEnd held next
+    × Turns names e next (record { line = line; said = Audit actor }) (audit_text (kept_for actor held.audits))
+shown_of names held line actor e stands =
+    (e, stands, turns_shown names e line actor (kept_for actor held.audits) (ap (kept_for actor) stands.audits))
 
 pub so_far_none : (names : Known) (held : Held) (statements : List Statement) (written : Option (List ℕ)) → Appends written written [] →
     SoFar names held statements held statements written written
@@ -411,6 +434,28 @@ pub step_given_up : (r : Result (Option Ended) RunFault) (names : Known) (held :
 step_given_up (Ok ended) names held statement step before after' is gives_up = tt
 step_given_up (Err fault) names held statement step before after' is gives_up =
     statement_gives_up names held statement step before after' is gives_up
+
+pub audit_taken : (r : Result (Option Ended) RunFault) (names : Known) (held : Held) (statement : Statement) (actor : Actor) (before after' : Option (List ℕ)) →
+    statement.said ≡ Audit actor →
+    IfOk r (λ ended. (ended ≡ None) × Appends before after' (audit_text (kept_for actor held.audits))) →
+    IfOk r (λ ended. TakesStep names held held statement ended before after')
+audit_taken (Ok ended) names held statement actor before after' is taken =
+    let P : Said → Type 0 = λ said. Goes names held held (record { line = statement.line; said = said }) before after' in
+    rw taken.0
+    (subst P (sym is)
+    (goes_by names held held (record { line = statement.line; said = Audit actor }) (audit_text (kept_for actor held.audits)) before after'
+    (shown_of names held statement.line actor) taken.1))
+audit_taken (Err fault) names held statement actor before after' is taken = tt
+
+pub audit_given_up : (r : Result (Option Ended) RunFault) (names : Known) (held : Held) (statement : Statement) (actor : Actor) (before after' : Option (List ℕ)) →
+    statement.said ≡ Audit actor → OnErr r (AppendsFront before after' (audit_text (kept_for actor held.audits))) →
+    OnErr r (GivesUp names held statement before after')
+audit_given_up (Ok ended) names held statement actor before after' is begun = tt
+audit_given_up (Err fault) names held statement actor before after' is begun =
+    let P : Said → Type 0 = λ said. GivesUp names held (record { line = statement.line; said = said }) before after' in
+    subst P (sym is)
+    (gives_up_by names held held (record { line = statement.line; said = Audit actor }) (audit_text (kept_for actor held.audits)) before after'
+    (shown_of names held statement.line actor) begun)
 
 pub policy_taken : (r : Result (Option Ended) RunFault) (names : Known) (old new : Held) (statement : Statement) (text found : List ℕ) (before after' : Option (List ℕ)) →
     found ≡ text → statement.said ≡ Policy text → IfOk r (λ ended. (ended ≡ None) × Puts names old new found before after') →

@@ -3,22 +3,24 @@ use Rattle.std.specs.Prelude.{ℕ, ◌+◌, ◌/◌, ◌%◌, ℤ, List, [], ◌
 use Rattle.std.specs.Fmt.{decimal, signed_decimal}
 use Rattle.std.specs.List.{flat_map}
 use Rattle.driver_script.specs.declared.answers.AnswerLine.{AnswerLine}
-use Rattle.driver_script.specs.declared.answers.AnswerLine.TheVariants.{Attached, Full, Stopped, PolicyInForce, PolicyFull, Setup, Dropped, Beat, Status, Elicit, Sent, Withheld, PolicyRefused, Reply, Offer, Poll, Fragment, Gone, List as Lists, Counter, Value, Denied, UnknownCounter, WrongClient, NoMemory, BadLine}
+use Rattle.driver_script.specs.declared.answers.AnswerLine.TheVariants.{Attached, Full, Stopped, PolicyInForce, PolicyFull, Setup, Dropped, Beat, Status, Elicit, Sent, Withheld, PolicyRefused, Reply, Offer, Poll, Fragment, Gone, List as Lists, Counter, Value, Denied, UnknownCounter, WrongClient, Audit, Decided, NoMemory, BadLine}
 use Rattle.channel_uri.specs.Address.{address_text}
 use Rattle.channel_uri.specs.declared.address.Address.{Address}
 use Rattle.driver_core.specs.declared.setup_fault.SetupFault.{SetupFault}
 use Rattle.driver_core.specs.declared.setup_fault.SetupFault.TheVariants as fault
 use Rattle.driver_core.specs.declared.image_request.Astray.{Astray}
 use Rattle.driver_core.specs.declared.image_request.Astray.TheVariants as astray
-use Rattle.driver_world.specs.declared.cause.Cause.{Cause}
-use Rattle.driver_world.specs.declared.cause.Cause.TheVariants as cause
+use Rattle.driver_steps.specs.declared.cause.Cause.{Cause}
+use Rattle.driver_steps.specs.declared.cause.Cause.TheVariants as cause
 use Rattle.frame_codec.specs.Fault.{fault_text as unread_text}
 use Rattle.image_log.specs.declared.insert.Insert.{Insert}
 use Rattle.image_log.specs.declared.insert.Insert.TheVariants as insert
-use Rattle.driver_world.specs.declared.answer.Offered.{Offered}
-use Rattle.driver_world.specs.declared.answer.Offered.TheVariants as offered
+use Rattle.driver_steps.specs.declared.answer.Offered.{Offered}
+use Rattle.driver_steps.specs.declared.answer.Offered.TheVariants as offered
 use Rattle.frame_codec.specs.declared.flags.Flags.{Flags}
+use Rattle.policy_core.specs.declared.decision.Decision.{Decision}
 use Rattle.policy_core.specs.declared.verdict.Verdict.{Verdict}
+use Rattle.policy_core.specs.Act.{name_of}
 use Rattle.policy_core.specs.Verdict.{verdict_text}
 use Rattle.policy_text.specs.declared.fault.PolicyFault.{PolicyFault}
 use Rattle.policy_text.specs.Fault.{fault_text}
@@ -156,6 +158,21 @@ sent_line to bytes = codes "sent " ++ (address_text to ++ (codes " " ++ (hex_tex
 abbrev pub withheld_line : Address → Verdict → List ℕ
 withheld_line to verdict = codes "withheld " ++ (address_text to ++ (codes " " ++ (verdict_text verdict ++ codes "\n")))
 
+-- so many decisions of an actor, and how many came before them
+abbrev pub audit_line : ℕ → ℕ → List ℕ
+audit_line count dropped =
+    codes "audit " ++ (decimal count ++ (codes " dropped " ++ (decimal dropped ++ codes "\n")))
+
+-- one of them: for whom, what was to be done, on which stream, and the verdict
+abbrev pub decision_line : Decision → List ℕ
+decision_line decision =
+    codes "decision "
+    ++ (decimal decision.principal
+    ++ (codes " "
+    ++ (name_of decision.act
+    ++ (codes " "
+    ++ (signed_decimal decision.stream ++ (codes " " ++ (verdict_text decision.verdict ++ codes "\n")))))))
+
 -- a line that is none of a script
 abbrev pub bad_line : ℕ → List ℕ
 bad_line number = codes "line " ++ (decimal number ++ codes ": bad line\n")
@@ -186,5 +203,7 @@ line_text (Value value) = value_line value
 line_text (Denied verdict) = denial_line verdict
 line_text UnknownCounter = codes "unknown counter\n"
 line_text WrongClient = codes "wrong client\n"
+line_text (Audit count dropped) = audit_line count dropped
+line_text (Decided decision) = decision_line decision
 line_text NoMemory = codes "no memory\n"
 line_text (BadLine number) = bad_line number

@@ -1,9 +1,9 @@
 -- What the run of a script writes: a function of the script's bytes, and of which steps were refused memory.
-use Rattle.std.specs.Prelude.{◌≡◌, ℕ, Bool, true, false, List, [], ◌∷◌, ◌++◌, is_some, Option, Some, None, Result, Ok, Err, length, nat_lt, codes, if◌then◌else◌}
+use Rattle.std.specs.Prelude.{◌≡◌, ℕ, Bool, false, List, [], ◌∷◌, ◌++◌, is_some, Option, Some, None, Result, Ok, Err, length, nat_lt, codes, if◌then◌else◌}
 use Rattle.std.specs.Fmt.{decimal}
 use Rattle.std.specs.List.{flat_map, list_any}
-use Rattle.driver_world.specs.declared.answer.Answer.{Answer}
-use Rattle.driver_world.specs.declared.answer.Answer.TheVariants.{NoMemory, Attached, Full, Stopped, PolicyInForce, PolicyFull, Imaged, Received, Heard, Limited, Elicited, Idle, Sent, Resent, Reported, Dropped, Replies, Offered, Polled, Gone, Counters, Value, Denied, UnknownCounter, WrongClient}
+use Rattle.driver_steps.specs.declared.answer.Answer.{Answer}
+use Rattle.driver_steps.specs.declared.answer.Answer.TheVariants.{NoMemory, Attached, Full, Stopped, PolicyInForce, PolicyFull, Imaged, Received, Heard, Limited, Elicited, Idle, Sent, Resent, Reported, Dropped, Replies, Offered, Polled, Gone, Counters, Value, Denied, UnknownCounter, WrongClient}
 use Rattle.driver_core.specs.declared.event.Event.TheVariants.{Reload}
 use Rattle.driver_core.specs.declared.listing.ListedCounter.{ListedCounter}
 use Rattle.driver_core.specs.declared.replies.Message.{Message}
@@ -13,9 +13,12 @@ use Rattle.driver_core.specs.declared.settings.Settings.{Settings}
 use Rattle.any_log.specs.declared.fragment.Fragment.{Fragment}
 use Rattle.channel_uri.specs.Address.{is_same}
 use Rattle.channel_uri.specs.declared.address.Address.{Address}
-use Rattle.driver_world.specs.declared.step.Step.{Step}
-use Rattle.driver_world.specs.declared.step.Step.TheVariants.{Conductor}
+use Rattle.driver_steps.specs.declared.step.Step.{Step}
+use Rattle.driver_steps.specs.declared.step.Step.TheVariants.{Conductor}
 use Rattle.driver_core.specs.Replies.{layout_of}
+use Rattle.audit_ring.specs.Audit.{Kept}
+use Rattle.driver_world.specs.declared.actor.Actor.{Actor}
+use Rattle.driver_world.specs.Audits.{kept_all, kept_for}
 use Rattle.driver_world.specs.Ends.{RunEnd, IsAnswer, after, opening_end}
 use Rattle.command_codec.specs.Reply.{reply_bytes}
 use Rattle.policy_core.specs.RuleList.{Rules}
@@ -26,9 +29,9 @@ use Rattle.driver_script.specs.declared.script.Ended.{Ended}
 use Rattle.driver_script.specs.declared.script.Ended.TheVariants.{Done, BadLine}
 use Rattle.script_lines.specs.declared.statements.Said.{Said}
 use Rattle.driver_script.specs.declared.script.Preface.{Preface}
-use Rattle.script_lines.specs.declared.statements.Said.TheVariants.{Principal, Peer as PeerGiven, Set, Policy, Does, Bad}
+use Rattle.script_lines.specs.declared.statements.Said.TheVariants.{Principal, Peer as PeerGiven, Set, Policy, Does, Audit, Bad}
 use Rattle.script_lines.specs.declared.statements.Statement.{Statement}
-use Rattle.driver_script.specs.Answers.{counter_line, data_line, denial_line, dropped_line, fragment_line, list_line, offer_line, policy_line, poll_line, refusal_line, reply_text, sent_line, setup_line, status_line, value_line, withheld_line}
+use Rattle.driver_script.specs.Answers.{audit_line, counter_line, data_line, decision_line, denial_line, dropped_line, fragment_line, list_line, offer_line, policy_line, poll_line, refusal_line, reply_text, sent_line, setup_line, status_line, value_line, withheld_line}
 use Rattle.script_lines.specs.Settings.{Chosen, no_choices, choose}
 
 -- ---- the head of a script: its principals, its peers, its settings and its policy
@@ -77,6 +80,7 @@ opening_by given line (PeerGiven peer) rest later = peered given line peer later
 opening_by given line (Set key value) rest later = settled given line (choose given.choices key value) later
 opening_by given line (Policy text) rest later = opened_by given line rest (policy_of given.names text)
 opening_by given line (Does step) rest later = Refuses line
+opening_by given line (Audit actor) rest later = Refuses line
 opening_by given line Bad rest later = Refuses line
 
 abbrev pub opening_of : Preface → List Statement → Opening
@@ -86,9 +90,11 @@ opening_of given (statement ∷ rest) =
 
 -- ---- the steps of a script, with their answers
 
--- what a statement does behind the head: a step; nothing, where the text of a policy is refused; or it is bad there
+-- what a statement does behind the head: a step; nothing, where the decisions of an actor are shown, or the text of a policy
+-- is refused; or it is bad there
 pub data Deed : Type 0 where
   Takes : Step → Deed
+  Shows : Actor → Deed
   Faults : PolicyFault → Deed
   Stops : Deed
 
@@ -102,34 +108,48 @@ deed_by (Ok policy) = Takes (put_in_force policy)
 
 abbrev pub deed_of : Known → Said → Deed
 deed_of names (Does step) = Takes step
+deed_of names (Audit actor) = Shows actor
 deed_of names (Policy text) = deed_by (policy_of names text)
 deed_of names (Principal name number) = Stops
 deed_of names (PeerGiven peer) = Stops
 deed_of names (Set key value) = Stops
 deed_of names Bad = Stops
 
--- what a statement is told: the answer of a step, or why the text of a policy is refused
+-- what a statement is told: the answer of a step, what is kept of an actor's decisions, or why the text of a policy is
+-- refused
 pub data Told : Type 0 where
   Answered : Answer → Told
+  Shown : Kept → Told
   Refused : PolicyFault → Told
 
 abbrev pub IsTold : RunEnd → Step → Told → Type 0
 IsTold e step (Answered answer) = IsAnswer e step answer
+IsTold e step (Shown kept) = ⊥
 IsTold e step (Refused fault) = ⊥
 
 abbrev pub after_told : RunEnd → Step → Told → RunEnd
 after_told e step (Answered answer) = after e step answer
+after_told e step (Shown kept) = e
 after_told e step (Refused fault) = e
+
+-- of all that was decided for the actor up to there, the end is shown
+abbrev pub IsShown : RunEnd → Actor → Told → Type 0
+IsShown e actor (Answered answer) = ⊥
+IsShown e actor (Shown kept) = kept ≡ kept_for actor (kept_all e.decided)
+IsShown e actor (Refused fault) = ⊥
 
 -- a policy that is refused is no event; there may also have been no memory for its text
 abbrev pub IsRefused : PolicyFault → Told → Type 0
 IsRefused fault (Refused named) = named ≡ fault
+IsRefused fault (Shown kept) = ⊥
 IsRefused fault (Answered NoMemory) = Unit {0}
 IsRefused fault (Answered answer) = ⊥
 
 abbrev pub IsDone : RunEnd → ℕ → Deed → (RunEnd → List Told → Type 0) → List Told → Ended → Type 0
 IsDone e line (Takes step) later [] ended = ⊥
 IsDone e line (Takes step) later (told ∷ others) ended = IsTold e step told × later (after_told e step told) others
+IsDone e line (Shows actor) later [] ended = ⊥
+IsDone e line (Shows actor) later (told ∷ others) ended = IsShown e actor told × later e others
 IsDone e line (Faults fault) later [] ended = ⊥
 IsDone e line (Faults fault) later (told ∷ others) ended = IsRefused fault told × later e others
 IsDone e line Stops later all ended = (all ≡ []) × (ended ≡ BadLine line)
@@ -191,8 +211,13 @@ answer_text (Denied verdict) = denial_line verdict
 answer_text UnknownCounter = codes "unknown counter\n"
 answer_text WrongClient = codes "wrong client\n"
 
+-- a line for each decision, behind one that counts them
+abbrev pub audit_text : Kept → List ℕ
+audit_text kept = audit_line (length kept.items) kept.dropped ++ flat_map decision_line kept.items
+
 abbrev pub told_text : Told → List ℕ
 told_text (Answered answer) = answer_text answer
+told_text (Shown kept) = audit_text kept
 told_text (Refused fault) = refusal_line fault
 
 abbrev pub ended_text : Ended → List ℕ

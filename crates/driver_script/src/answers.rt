@@ -3,7 +3,7 @@ ghost use Rattle.std.specs.Prelude.{Some};
 use driver_core::{Address, Astray, SetupFault};
 use driver_world::{Cause, Insert, Offered};
 use frame_codec::Flags;
-use policy_core::Verdict;
+use policy_core::{Decision, Verdict};
 use policy_text::PolicyFault;
 use std::fmt;
 use std::fmt::Display;
@@ -262,6 +262,43 @@ impl fmt::Display for WithheldLine {
     }
 }
 
+/// The line above the decisions of an actor.
+#[derive(Clone, Copy)]
+struct AuditLine {
+    count: u64,
+    dropped: u64,
+}
+
+impl fmt::Display for AuditLine {
+    ghost use Rattle.driver_script.specs.Answers.{audit_line};
+
+    ghost output = { λ line. Some (audit_line line.count line.dropped) };
+
+    fn fmt<W: fmt::Write>(&self, f: &mut fmt::Formatter<W>) -> fmt::Result {
+        let count = self.count;
+        let dropped = self.dropped;
+        writeln!(f, "audit {count} dropped {dropped}")
+    }
+}
+
+/// The line of a decision.
+#[derive(Clone, Copy)]
+struct DecisionLine(Decision);
+
+impl fmt::Display for DecisionLine {
+    ghost use Rattle.driver_script.specs.Answers.{decision_line};
+
+    ghost output = { λ line. Some (decision_line line.0) };
+
+    fn fmt<W: fmt::Write>(&self, f: &mut fmt::Formatter<W>) -> fmt::Result {
+        let principal = self.0.principal;
+        let act = self.0.act.name();
+        let stream = self.0.stream;
+        let verdict = self.0.verdict;
+        writeln!(f, "decision {principal} {act} {stream} {verdict}")
+    }
+}
+
 /// The line that says which line is bad.
 #[derive(Clone, Copy)]
 struct BadLine(u64);
@@ -411,6 +448,13 @@ pub enum AnswerLine<'a> {
     UnknownCounter,
     /// The client is not attached.
     WrongClient,
+    /// So many decisions of an actor are shown, and so many came before them.
+    Audit {
+        count: u64,
+        dropped: u64,
+    },
+    /// One of these decisions.
+    Decided(Decision),
     /// There was no memory for the step, which changed nothing.
     NoMemory,
     /// The line of this number is no line of a script, and ends it.
@@ -469,6 +513,8 @@ impl fmt::Display for AnswerLine<'_> {
             AnswerLine::Denied(verdict) => DenialLine(verdict).fmt(f),
             AnswerLine::UnknownCounter => f.write_str("unknown counter\n"),
             AnswerLine::WrongClient => f.write_str("wrong client\n"),
+            AnswerLine::Audit { count, dropped } => AuditLine { count, dropped }.fmt(f),
+            AnswerLine::Decided(decision) => DecisionLine(decision).fmt(f),
             AnswerLine::NoMemory => f.write_str("no memory\n"),
             AnswerLine::BadLine(number) => BadLine(number).fmt(f),
         }

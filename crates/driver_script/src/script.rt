@@ -1,9 +1,11 @@
 ghost use Rattle.driver_core.specs.Replies.{layout_of};
 ghost use Rattle.command_codec.specs.Reply.{reply_bytes};
-ghost use Rattle.driver_script.specs.Answers.{data_line, line_text, list_line, policy_line, poll_line, sent_line, setup_line, withheld_line, word_behind};
+ghost use Rattle.audit_ring.specs.Audit.{Kept};
+ghost use Rattle.driver_world.specs.Audits.{IsAuditOf, kept_for};
+ghost use Rattle.driver_script.specs.Answers.{data_line, decision_line, line_text, list_line, policy_line, poll_line, sent_line, setup_line, withheld_line, word_behind};
 ghost use Rattle.driver_script.specs.Ends.{OfAnswering, OfRunning};
 ghost use Rattle.driver_script.specs.Output.{AppendsFront};
-ghost use Rattle.driver_script.specs.Script.{message_text, counter_text, fragment_text, outlet_text, outlets_text, sent_text, answer_text, told_text, ended_text, is_peer_at, may_peer, no_preface};
+ghost use Rattle.driver_script.specs.Script.{audit_text, message_text, counter_text, fragment_text, outlet_text, outlets_text, sent_text, answer_text, told_text, ended_text, is_peer_at, may_peer, no_preface};
 ghost use Rattle.std.specs.Io.KnownBytes.{Appends};
 ghost use Rattle.std.specs.List.{flat_map, list_any};
 ghost use Rattle.driver_script.specs.declared.script.Ended.TheVariants.{BadLine};
@@ -14,7 +16,7 @@ ghost use Rattle.script_lines.specs.Statements.{statements_of};
 ghost use Rattle.script_lines.specs.Left.{left};
 ghost use Rattle.driver_script.specs.Script.{opening_of};
 ghost use Rattle.driver_script.specs.Turns.{TakesHead, IsHead, Steps, GivesUpStep, Puts, GivesUpPolicy, told_of_fault, TakesStep, GivesUp, WritesWhole, WritesFront, FollowsHead, BeginsHead, WritesScript, BeginsScript, IsBegun, IsUnread};
-ghost use Rattle.std.specs.Prelude.{◌≡◌, ◌<◌, ◌≤◌, ◌++◌, [], Some, None, Err, IfOk, IfErr, IfSome, OnOk, OnErr, length};
+ghost use Rattle.std.specs.Prelude.{◌≡◌, ◌<◌, ◌≤◌, ◌++◌, [], Some, None, Err, IfOk, IfErr, IfSome, OnOk, OnErr, length, option_copied};
 ghost use Rattle.std.specs.String.{string_bytes};
 
 use crate::answers::{AnswerLine, InsertWord};
@@ -22,9 +24,10 @@ use crate::ends::{Source, Target};
 use crate::fault::RunFault;
 use crate::input::read_input;
 use crate::output::write_whole;
+use audit_ring::Audit;
 use byte_strings::{Bytes, Items, Text};
 use driver_core::{Address, Event, ListedCounter, Message, Outlet, Peer};
-use driver_world::{Answer, Fragment, Insert, Step, World};
+use driver_world::{Actor, Answer, Fragment, Insert, Step, World};
 use policy_text::{Names, PolicyFault};
 use script_lines::settings::Choices;
 use script_lines::statements::{LIMIT, Said, Statement, Statements};
@@ -428,6 +431,7 @@ fn take_head(
         Said::Set { key, value } => take_setting(preface, line, key, value.as_str()),
         Said::Policy(text) => open_world(alloc, preface, line, text.as_str()),
         Said::Does(_) => Ok(Some(Head::Refused(line))),
+        Said::Audit(_) => Ok(Some(Head::Refused(line))),
         Said::Bad => Ok(Some(Head::Refused(line))),
     }
 }
@@ -547,6 +551,63 @@ fn go_on_by_step<W: Target>(
     Ok(None)
 }
 
+/// Appends the line of each decision.
+#[tactic(auto, unfolding(crate::specs::Answers::line_text))]
+fn push_decisions(text: &mut String, audit: &Audit) -> Result<(), AllocError>
+    ensures { OnOk result (string_bytes text.new ≡ string_bytes text.old ++ flat_map decision_line audit.now.items) }
+{
+    for decision in audit.items() {
+        let line = AnswerLine::Decided(*decision);
+        write!(text, "{line}")?;
+    }
+    Ok(())
+}
+
+/// The text of an actor's last decisions.
+#[tactic(auto, unfolding(crate::specs::Answers::line_text))]
+fn text_of_kept(alloc: Global, audit: &Audit) -> Result<String, AllocError>
+    ensures { IfOk result (λ text. string_bytes text ≡ audit_text audit.now) }
+{
+    let count = audit.items().len() as u64;
+    let dropped = audit.dropped();
+    let mut text = text_of_line(alloc, AnswerLine::Audit { count, dropped })?;
+    push_decisions(&mut text, audit)?;
+    Ok(text)
+}
+
+/// The text of an audit. An actor that has none decided nothing.
+#[tactic(auto, unfolding(crate::specs::Answers::line_text))]
+fn text_of_audit(alloc: Global, audit: Option<&Audit>) -> Result<String, AllocError>
+    ensures { IfOk result (λ text. (kept : Kept) → IsAuditOf (option_copied audit.entry) kept → string_bytes text ≡ audit_text kept) }
+{
+    match audit {
+        Some(audit) => text_of_kept(alloc, audit),
+        None => text_of_line(
+            alloc,
+            AnswerLine::Audit {
+                count: 0,
+                dropped: 0,
+            },
+        ),
+    }
+}
+
+/// Writes what is kept of the actor's decisions, and goes on.
+fn go_on_by_audit<W: Target>(
+    alloc: Global,
+    world: &World,
+    actor: Actor,
+    writer: &mut W,
+) -> Result<Option<Ended>, RunFault>
+    ensures ok { IfOk result (λ ended. (ended ≡ None) × Appends (W.contents writer.old) (W.contents writer.new) (audit_text (kept_for actor world.now.audits))) }
+    ensures err { OnErr result (AppendsFront (W.contents writer.old) (W.contents writer.new) (audit_text (kept_for actor world.now.audits))) }
+    ensures begun { IfErr result (OfAnswering W.may_fail) }
+{
+    let text = text_of_audit(alloc, world.audit(actor))?;
+    write_whole(writer, text.as_bytes())?;
+    Ok(None)
+}
+
 /// Takes the text of a policy, writes its answer, and goes on.
 fn go_on_by_policy<W: Target>(
     alloc: Global,
@@ -588,6 +649,7 @@ fn take_step<W: Target>(
     let Statement { line, said } = statement;
     match said {
         Said::Does(step) => go_on_by_step(alloc, world, &step, writer),
+        Said::Audit(actor) => go_on_by_audit(alloc, world, actor, writer),
         Said::Policy(text) => go_on_by_policy(alloc, names, world, text.as_str(), writer),
         Said::Principal { .. } => stop_at(alloc, line, writer),
         Said::Peer(_) => stop_at(alloc, line, writer),

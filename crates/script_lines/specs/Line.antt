@@ -5,11 +5,13 @@ use Rattle.std.specs.List.{list_all}
 use Rattle.std.specs.Option.{option_map}
 use Rattle.std.specs.Str.{bytes_eq}
 use Rattle.driver_core.specs.declared.event.Event.TheVariants.{Attach, Command, Tick}
-use Rattle.driver_world.specs.declared.step.Step.{Step}
-use Rattle.driver_world.specs.declared.step.Step.TheVariants.{Conductor, Packet, Offer, Poll, Send, Image, List as Lists, Value}
+use Rattle.driver_steps.specs.declared.step.Step.{Step}
+use Rattle.driver_steps.specs.declared.step.Step.TheVariants.{Conductor, Packet, Offer, Poll, Send, Image, List as Lists, Value}
+use Rattle.driver_world.specs.declared.actor.Actor.{Actor}
+use Rattle.driver_world.specs.declared.actor.Actor.TheVariants as actors
 use Rattle.channel_uri.specs.Address.{address_of}
 use Rattle.script_lines.specs.declared.line.Line.{Line}
-use Rattle.script_lines.specs.declared.line.Line.TheVariants.{Skipped, Principal, Peer, Set, Policy, Does, Bad}
+use Rattle.script_lines.specs.declared.line.Line.TheVariants.{Skipped, Principal, Peer, Set, Policy, Does, Audit, Bad}
 use Rattle.script_lines.specs.Hex.{◌>>=◌, hex_of}
 use Rattle.script_lines.specs.Number.{number_of, small_number_of}
 use Rattle.script_lines.specs.Pieces.{pieces}
@@ -149,6 +151,18 @@ value_of fields =
     number_of words.2 >>= λ number.
     Some (Value now client number)
 
+-- a client by its id, and any other actor by its word
+unfoldable pub actor_of : List ℕ → Option Actor
+actor_of word =
+    if bytes_eq word (codes "conductor") then Some actors.Conductor
+    else if bytes_eq word (codes "sender") then Some actors.Sender
+    else if bytes_eq word (codes "receiver") then Some actors.Receiver
+    else option_map actors.Client (number_of word)
+
+-- `audit A`
+abbrev pub audit_of : List (List ℕ) → Option Line
+audit_of fields = one fields >>= λ word. option_map Audit (actor_of word)
+
 -- the first word says how the others are read: those of a step that keeps no bytes
 unfoldable pub plain_step_by : List ℕ → List (List ℕ) → Option Step
 plain_step_by word fields =
@@ -176,6 +190,7 @@ said_by word fields =
     else if bytes_eq word (codes "peer") then peer_of fields
     else if bytes_eq word (codes "set") then set_of fields
     else if bytes_eq word (codes "policy") then policy_of fields
+    else if bytes_eq word (codes "audit") then audit_of fields
     else option_map Does (step_by word fields)
 
 abbrev pub said_in : List (List ℕ) → Option Line

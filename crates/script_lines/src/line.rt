@@ -1,4 +1,4 @@
-ghost use Rattle.script_lines.specs.Line.{is_plain, line_of, or_bad, said_by, step_by, plain_step_by, one, two, three, four, five, name_of, principal_of, peer_of, set_of, policy_of, attach_of, command_of, offer_of, packet_of, tick_of, poll_of, send_of, image_of, list_of, value_of, keeps_fields};
+ghost use Rattle.script_lines.specs.Line.{is_plain, line_of, or_bad, said_by, step_by, plain_step_by, one, two, three, four, five, name_of, principal_of, peer_of, set_of, policy_of, attach_of, command_of, offer_of, packet_of, tick_of, poll_of, send_of, image_of, list_of, value_of, actor_of, audit_of, keeps_fields};
 ghost use Rattle.script_lines.specs.LineFault.{Gives, HasMemory};
 ghost use Rattle.script_lines.specs.Pieces.{pieces, pieces_behind};
 ghost use Rattle.script_lines.specs.declared.line.LineFault.TheVariants.{NoMemory};
@@ -11,7 +11,7 @@ use crate::pieces::first_piece;
 use byte_strings::Text;
 use channel_uri::address_of;
 use driver_core::{Event, Peer, Received};
-use driver_world::Step;
+use driver_world::{Actor, Step};
 use std::alloc::{AllocError, AllocFailed, Global};
 
 /// What a line of a script says.
@@ -29,6 +29,8 @@ pub enum Line {
     Policy,
     /// A step of the run.
     Does(Step),
+    /// `audit A`: the last decisions of this actor are shown.
+    Audit(Actor),
     /// It is no line of a script.
     Bad,
 }
@@ -317,6 +319,31 @@ fn value_of(fields: Option<&str>) -> Option<Step>
     })
 }
 
+/// The actor that a word names.
+#[tactic(auto, unfolding(crate::specs::Line::actor_of))]
+fn actor_of(word: &str) -> Option<Actor>
+    ensures { result ≡ actor_of word.now }
+{
+    if word == "conductor" {
+        return Some(Actor::Conductor);
+    }
+    if word == "sender" {
+        return Some(Actor::Sender);
+    }
+    if word == "receiver" {
+        return Some(Actor::Receiver);
+    }
+    let client = number(word)?;
+    Some(Actor::Client(client))
+}
+
+fn audit_of(fields: Option<&str>) -> Option<Line>
+    ensures { result ≡ audit_of (pieces_behind 32 (option_copied fields.entry)) }
+{
+    let actor = actor_of(one_word(fields)?)?;
+    Some(Line::Audit(actor))
+}
+
 /// What the words of a step say that keeps no bytes.
 #[tactic(auto, unfolding(crate::specs::Line::plain_step_by))]
 fn plain_step_by(word: &str, fields: Option<&str>) -> Option<Step>
@@ -380,6 +407,9 @@ fn said_by(alloc: Global, word: &str, fields: Option<&str>) -> Result<Line, Line
     }
     if word == "policy" {
         return policy_of(fields).ok_or(LineFault::Bad);
+    }
+    if word == "audit" {
+        return audit_of(fields).ok_or(LineFault::Bad);
     }
     let step = step_by(alloc, word, fields)?;
     Ok(Line::Does(step))

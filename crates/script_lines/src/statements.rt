@@ -5,7 +5,7 @@ use crate::line::{Line, plain_text, read_line};
 use crate::pieces::first_of_bytes;
 use byte_strings::Text;
 use driver_core::Peer;
-use driver_world::Step;
+use driver_world::{Actor, Step};
 use std::alloc::{AllocError, Global};
 
 /// The most bytes that a script may have.
@@ -24,6 +24,8 @@ pub enum Said {
     Policy(Text),
     /// A step of the run.
     Does(Step),
+    /// The last decisions of this actor are shown.
+    Audit(Actor),
     /// It is no statement, or none at this place. No other follows it.
     Bad,
 }
@@ -148,6 +150,7 @@ impl<'a> Statements<'a> {
             })),
             Line::Policy => Ok(Some(self.take_policy(alloc, number)?)),
             Line::Does(_) => Ok(Some(self.refuse(number))),
+            Line::Audit(_) => Ok(Some(self.refuse(number))),
             Line::Bad => Ok(Some(self.refuse(number))),
         }
     }
@@ -168,6 +171,10 @@ impl<'a> Statements<'a> {
             Line::Does(step) => Ok(Some(Statement {
                 line: number,
                 said: Said::Does(step),
+            })),
+            Line::Audit(actor) => Ok(Some(Statement {
+                line: number,
+                said: Said::Audit(actor),
             })),
             Line::Policy => Ok(Some(self.take_policy(alloc, number)?)),
             Line::Principal { .. } => Ok(Some(self.refuse(number))),

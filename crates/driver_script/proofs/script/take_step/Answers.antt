@@ -1,4 +1,4 @@
-use Rattle.driver_script.proofs.TurnLemmas.{step_taken, step_given_up, policy_taken, policy_given_up, bad_taken, bad_given_up}
+use Rattle.driver_script.proofs.TurnLemmas.{step_taken, step_given_up, audit_taken, audit_given_up, policy_taken, policy_given_up, bad_taken, bad_given_up}
 use Rattle.driver_script.proofs.script.take_step.Goals as goal
 
 pub returns-in-Does-clause-ok : goal.returns-in-Does-clause-ok
@@ -8,6 +8,14 @@ returns-in-Does-clause-ok g c =
 pub returns-in-Does-clause-err : goal.returns-in-Does-clause-err
 returns-in-Does-clause-err g c =
     step_given_up c.go_on_by_step.result _ _ c.args.statement c.in-Does.step _ _ c.in-Does.is c.go_on_by_step.ensures.err
+
+pub returns-in-Audit-clause-ok : goal.returns-in-Audit-clause-ok
+returns-in-Audit-clause-ok g c =
+    audit_taken c.go_on_by_audit.result _ _ c.args.statement c.in-Audit.actor _ _ c.in-Audit.is c.go_on_by_audit.ensures.ok
+
+pub returns-in-Audit-clause-err : goal.returns-in-Audit-clause-err
+returns-in-Audit-clause-err g c =
+    audit_given_up c.go_on_by_audit.result _ _ c.args.statement c.in-Audit.actor _ _ c.in-Audit.is c.go_on_by_audit.ensures.err
 
 pub returns-in-Policy-clause-ok : goal.returns-in-Policy-clause-ok
 returns-in-Policy-clause-ok g c =
