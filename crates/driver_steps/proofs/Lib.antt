@@ -21,6 +21,7 @@ mod RegisteringLemmas
 pub mod ResendLemmas
 pub mod RunLemmas
 pub mod SendLemmas
+pub mod SeenLemmas
 pub mod SendLawLemmas
 mod SourceLemmas
 pub mod StandLemmas

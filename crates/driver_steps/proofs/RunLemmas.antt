@@ -240,7 +240,7 @@ offers_told now timeout verdict message log (whole kept) =
     (told_cond (not (is_connected kept now timeout)) _ _ tt tt))
 offers_told now timeout verdict message log (rebuilt kept) = tt
 
-offer_told : (s : State) (now : ℕ) (message : List ℕ) (log : WholeLog) (request : Option LogRequest) →
+pub offer_told : (s : State) (now : ℕ) (message : List ℕ) (log : WholeLog) (request : Option LogRequest) →
     IsTold (offer_under s now message log request).answer
 offer_told s now message log None = tt
 offer_told s now message log (Some request) =

@@ -127,11 +127,14 @@ moved_on e source move absent (Some log) = record {
 unfoldable pub on_log : RunEnd → ℕ → (WholeLog → Move) → Answer → Moved
 on_log e source move absent = moved_on e source move absent (log_at e.logs source)
 
--- an offer goes to the log that the client's registration is with
+-- an offer goes to the log that the client's registration is with by that registry
+abbrev pub on_offered_by : State → RunEnd → ℕ → ℕ → ℕ → List ℕ → Option LogRequest → Moved
+on_offered_by s e now client registration message None = record { after = e; answer = OfferedAs Closed }
+on_offered_by s e now client registration message (Some request) =
+    on_log e request.source (offer_move s now client registration message) (OfferedAs Closed)
+
 abbrev pub on_offered : RunEnd → ℕ → ℕ → ℕ → List ℕ → Option LogRequest → Moved
-on_offered e now client registration message None = record { after = e; answer = OfferedAs Closed }
-on_offered e now client registration message (Some request) =
-    on_log e request.source (offer_move e.registry now client registration message) (OfferedAs Closed)
+on_offered e now client registration message request = on_offered_by e.registry e now client registration message request
 
 -- ---- an event
 
@@ -191,10 +194,12 @@ on_packet e now local from (Ok (status fields)) =
 -- ---- a turn of the receiver with an image
 
 -- what is due goes to the address of its publisher
+abbrev pub on_report_by : State → RunEnd → ℕ → ℕ → Option Address → Moved
+on_report_by s e now source None = record { after = e; answer = IsGone }
+on_report_by s e now source (Some to) = on_log e source (report_move now s.settings.receiver_id to) IsGone
+
 abbrev pub on_report : RunEnd → ℕ → ℕ → Option Address → Moved
-on_report e now source None = record { after = e; answer = IsGone }
-on_report e now source (Some to) =
-    on_log e source (report_move now e.registry.settings.receiver_id to) IsGone
+on_report e now source to = on_report_by e.registry e now source to
 
 -- ---- any step
 

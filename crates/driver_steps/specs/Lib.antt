@@ -19,5 +19,6 @@ pub mod Registered
 pub mod Reporting
 pub mod ResendLaws
 pub mod SendLaws
+pub mod Seen
 pub mod Sending
 pub mod Standing

@@ -1,6 +1,6 @@
 ghost use Rattle.frame_codec.specs.Frames.{frames_left};
 ghost use Rattle.frame_codec.specs.Sound.{AreOfOneTerm, AreTold};
-ghost use Rattle.std.specs.Prelude.{◌≡◌, ℕ, ◌≤◌, length, Some, None, if◌then◌else◌, IfOk, OnOk, OnErr};
+ghost use Rattle.std.specs.Prelude.{◌≡◌, ℕ, ◌≤◌, length, None, IfOk, OnOk, OnErr};
 ghost use Rattle.driver_core.specs.Conduct.{conduct, outcome_of};
 ghost use Rattle.driver_core.specs.ImageRequests.{image_for};
 ghost use Rattle.driver_core.specs.Listing.{value};
@@ -10,11 +10,11 @@ ghost use Rattle.driver_core.specs.Soundness.{AreSettings, IsSound, MovesLogs};
 ghost use Rattle.driver_steps.specs.Ends.{inputs_of};
 ghost use Rattle.driver_core.specs.Readers.{readers_of};
 ghost use Rattle.driver_steps.specs.Held.{inputs_held};
-ghost use Rattle.driver_steps.specs.declared.answer.Answer.TheVariants.{NoMemory};
 ghost use Rattle.driver_steps.specs.declared.told.Came.TheVariants.{Told as CameTold};
 ghost use Rattle.driver_steps.specs.Opening.{CanOpen, Follows, HasRoom, place_of};
 
-use crate::answer::{Answer, Offered};
+use crate::answer::Answer;
+use crate::by_view::{nak_by, offer_by, poll_by, report_by, send_by, status_by};
 use crate::caches::{CACHES, caches};
 use crate::cause::Cause;
 use crate::inputs::inputs_of;
@@ -24,14 +24,13 @@ use crate::opening::{Opening, open_next, prepare};
 use crate::told::{Came, Looked, Told};
 use decision_cache::Cache;
 use driver_core::{
-    Address, Astray, Entry, Event, LogRequest, Outcome, Peer, Registry, Settings,
-    cached_verdicts_stay_right,
+    Address, Astray, Entry, Event, Outcome, Peer, Registry, Settings, cached_verdicts_stay_right,
 };
 use frame_codec::{
     Datagram, Frames, Nak, Packet, Setup, StatusMessage, TermPlace, frames_are_of_one_term,
     frames_are_told,
 };
-use policy_core::{Decision, Policy};
+use policy_core::Policy;
 use rows::Rows;
 use std::alloc::{AllocError, Global};
 use std::marker::Model;
@@ -40,8 +39,8 @@ use stream_registry::LogPlace;
 /// A driver that is run step by step.
 #[derive(Drop)]
 pub struct Driver {
-    registry: Registry,
-    logs: OpenLogs,
+    pub(crate) registry: Registry,
+    pub(crate) logs: OpenLogs,
     /// Room for the subscriptions that read one log.
     room: Rows<u64, 512>,
     /// What clients were told of offers and polls, each by its own cache.
@@ -74,7 +73,7 @@ fn plan_for(
 }
 
 /// The source number of the image of that place's session and stream, for a datagram that came to `local` from `from`.
-fn image_of(
+pub(crate) fn image_of(
     registry: &Registry,
     local: &Address,
     from: &Address,
@@ -83,20 +82,6 @@ fn image_of(
     ensures { result ≡ image_for registry.now local.now from.now place.session_id place.stream_id }
 {
     registry.image_for(local, from, place.session_id, place.stream_id)
-}
-
-/// The source number of the publication that a status message is for.
-fn publication_of(registry: &Registry, message: &StatusMessage) -> Option<u64>
-    ensures { result ≡ publication_for registry.now message.now.session_id message.now.stream_id }
-{
-    registry.publication_for(message.session_id, message.stream_id)
-}
-
-/// Of which publication a NAK from that address asks for frames, and whether the policy in force lets it have them.
-fn asked_by(registry: &Registry, from: &Address, nak: &Nak) -> Option<LogRequest>
-    ensures { result ≡ resending_of registry.now from.now nak.now.session_id nak.now.stream_id }
-{
-    registry.resending(from, nak.session_id, nak.stream_id)
 }
 
 /// The logs follow an event that left this registry: the log that it opens is opened before those are closed that it
@@ -119,25 +104,8 @@ fn follow(
     logs.rejoin(after, room);
 }
 
-/// A step was refused memory.
-fn refused() -> Told
-    ensures { result ≡ record { answer = NoMemory; decision = None } }
-{
-    Told {
-        answer: Answer::NoMemory,
-        decision: None,
-    }
-}
-
-/// The decision on a NAK, where the publication's log is open.
-fn decision_where(is_open: bool, decision: Decision) -> Option<Decision>
-    ensures { result ≡ (if is_open then Some decision else None) }
-{
-    if is_open { Some(decision) } else { None }
-}
-
 /// No policy is asked of the datagram.
-fn undecided(answer: Answer) -> Came
+pub(crate) fn undecided(answer: Answer) -> Came
     ensures { result ≡ CameTold (record { answer = answer; decision = None }) }
 {
     Came::Told(Told {
@@ -244,10 +212,7 @@ impl Driver {
     fn status(&mut self, now: u64, message: &StatusMessage) -> Answer
         ensures { ServesAs self.old self.new (λ e. on_told e now message.now (publication_for e.registry message.now.session_id message.now.stream_id)) result }
     {
-        match publication_of(&self.registry, message) {
-            Some(source) => self.logs.status(source, now, message),
-            None => Answer::Dropped(Cause::Astray(Astray::NoStream)),
-        }
+        status_by(&self.registry, &mut self.logs, now, message)
     }
 
     /// A NAK came from the address `from`, for the publication of its session and stream. The decision is told where that
@@ -256,44 +221,21 @@ impl Driver {
         ensures serves { ServesAs self.old self.new (λ e. on_asked e now from.now nak.now (resending_of e.registry from.now nak.now.session_id nak.now.stream_id)) result.answer }
         ensures decides { DecidesUnless self.old (λ e. nak_decided e from.now nak.now) result.answer result.decision }
     {
-        let Some(request) = asked_by(&self.registry, from, nak) else {
-            return Told {
-                answer: Answer::Dropped(Cause::Astray(Astray::NoStream)),
-                decision: None,
-            };
-        };
-        let decision = decision_where(self.logs.is_open(request.source), request.decision);
-        match self
-            .logs
-            .nak(alloc, request.source, now, from, nak, &request.decision)
-        {
-            Ok(answer) => Told { answer, decision },
-            Err(_) => refused(),
-        }
+        nak_by(&self.registry, &mut self.logs, alloc, now, from, nak)
     }
 
     /// The sender has a turn with a publication.
     pub fn send(&mut self, alloc: Global, now: u64, source: u64) -> Answer
         ensures { Serves self.old self.new (Send now source) result }
     {
-        match self.logs.send(&self.registry, alloc, source, now) {
-            Ok(answer) => answer,
-            Err(_) => Answer::NoMemory,
-        }
+        send_by(&self.registry, &mut self.logs, alloc, now, source)
     }
 
     /// The receiver has a turn with an image.
     pub fn report(&mut self, alloc: Global, now: u64, source: u64) -> Answer
         ensures { Serves self.old self.new (Image now source) result }
     {
-        let Some(to) = self.registry.publisher_of(source) else {
-            return Answer::Gone;
-        };
-        let receiver_id = self.registry.settings().receiver_id;
-        match self.logs.report(alloc, source, now, receiver_id, &to) {
-            Ok(answer) => answer,
-            Err(_) => Answer::NoMemory,
-        }
+        report_by(&self.registry, &mut self.logs, alloc, now, source)
     }
 
     /// A datagram came to the address `local`, from the address `from`: the frames of data and a heartbeat go to the image of
@@ -329,17 +271,10 @@ impl Driver {
         ensures serves { Serves self.old self.new (Offer now client registration message.now) result.answer }
         ensures decides { DecidesAs self.old (λ e. offer_decided e client registration) result.decision }
     {
-        let Some(source) = self.registry.source_offered(client, registration) else {
-            return Told {
-                answer: Answer::Offered(Offered::Closed),
-                decision: None,
-            };
-        };
-        let cache = &mut self.caches[(client % CACHES) as usize];
-        self.logs.offer(
+        offer_by(
             &self.registry,
-            cache,
-            source,
+            &mut self.logs,
+            &mut self.caches[(client % CACHES) as usize],
             now,
             client,
             registration,
@@ -360,20 +295,16 @@ impl Driver {
         ensures serves { Serves self.old self.new (Poll _now client subscription source limit) result.answer }
         ensures decides { DecidesUnless self.old (λ e. poll_decided e client subscription source) result.answer result.decision }
     {
-        let cache = &mut self.caches[(client % CACHES) as usize];
-        let Ok(told) = self.logs.poll(
+        poll_by(
             &self.registry,
-            cache,
+            &mut self.logs,
+            &mut self.caches[(client % CACHES) as usize],
             alloc,
-            source,
             client,
             subscription,
+            source,
             limit,
         )
-        else {
-            return refused();
-        };
-        told
     }
 
     /// A client looks at the counters that it may see, and is told by what the others are left out.

@@ -9,6 +9,8 @@
 #![tactic(auto)]
 
 mod answer;
+mod asking;
+mod by_view;
 mod caches;
 mod cause;
 mod driver;
@@ -24,12 +26,14 @@ mod receiving;
 mod recovery;
 mod reporting;
 mod resending;
+mod seeing;
 mod sending;
 mod step;
 mod told;
 
 pub use answer::{Answer, Offered};
 pub use any_log::Fragment;
+pub use asking::Asks;
 pub use cause::Cause;
 pub use driver::Driver;
 pub use image_log::Insert;

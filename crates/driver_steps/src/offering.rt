@@ -2,7 +2,6 @@
 
 ghost use Rattle.any_log.specs.declared.any_log.AnyLog.TheVariants.{Term};
 ghost use Rattle.any_log.specs.Held.{Lies};
-ghost use Rattle.driver_core.specs.Cached.{AreCached};
 ghost use Rattle.driver_steps.specs.declared.answer.Answer.TheVariants.{Offered as OfferedAs};
 ghost use Rattle.driver_steps.specs.declared.answer.Offered.TheVariants.{Closed};
 ghost use Rattle.driver_steps.specs.Decided.{Decides, offer_decision};
@@ -12,10 +11,10 @@ ghost use Rattle.driver_steps.specs.Recovery.{Recovering};
 ghost use Rattle.std.specs.Prelude.{◌≡◌, ℕ, None};
 
 use crate::answer::{Answer, Offered};
+use crate::asking::Asks;
 use crate::open_log::OpenLog;
 use crate::told::Told;
 use any_log::AnyLog;
-use decision_cache::Cache;
 use driver_core::View;
 use policy_core::Verdict;
 use term_log::TermLog;
@@ -49,7 +48,7 @@ fn closed() -> Told
 }
 
 /// A client offers a message to the log that its registration is with, at the moment `now` in nanoseconds, as the registry
-/// that the view shows says, with the verdict from the client's cache where it is there. It wants no memory.
+/// that the view shows says, with the verdict of whom it asks, as the client's cache. It wants no memory.
 ///
 /// The answer is the first that applies: [`Offered::Closed`] where the client has no such registration, or one with another
 /// log, or the log is that of a remote stream; [`Answer::Denied`] by the policy of that registry; [`Offered::TooLong`];
@@ -57,23 +56,23 @@ fn closed() -> Told
 /// which the rest of the term is filled; else the message is appended, and the answer is the position behind it. The decision
 /// is told where the registration is with that log, whatever comes of the message.
 #[tactic(auto, unfolding(crate::specs::Moves::offer_move))]
-pub fn offer_step<V: View>(
+pub fn offer_step<V: View, A: Asks>(
     view: &V,
     log: &mut OpenLog,
-    cache: &mut Cache,
+    asker: &mut A,
     now: u64,
     client: u64,
     registration: u64,
     message: &[u8],
 ) -> Told
-    requires { AreCached (V.shows view.now) cache.old }
+    requires { A.is_right asker.old (V.shows view.now) }
     ensures does { Does (offer_move (V.shows view.now) now client registration message.now) log.old log.new result.answer }
     ensures decides { Decides (offer_decision (V.shows view.now) client registration) log.old result.decision }
     ensures lies { LiesAsBefore log.old log.new }
-    ensures cached { AreCached (V.shows view.now) cache.new }
+    ensures right { A.is_right asker.new (V.shows view.now) }
 {
     let registry = view.registry();
-    let Some(request) = registry.offering_cached(cache, client, registration) else {
+    let Some(request) = asker.offering(registry, client, registration) else {
         return closed();
     };
     if request.source != log.source {

@@ -1,7 +1,6 @@
 //! The open logs of a driver, in one arena.
 
 ghost use Rattle.any_log.specs.Whole.{rebuilt, whole};
-ghost use Rattle.driver_core.specs.Cached.{AreCached};
 ghost use Rattle.driver_core.specs.Pairs.{pairs_of as all_pairs};
 ghost use Rattle.driver_core.specs.Readers.{readers_of};
 ghost use Rattle.driver_steps.specs.Held.{AreForFirst, IsOpened, held_at, is_closed, is_kept, place_at, plots_of, rejoined_held, with_readers, without};
@@ -25,6 +24,7 @@ ghost use Rattle.term_log.specs.Ident.{IsIdent};
 ghost use Rattle.term_log.specs.Whole.{fresh};
 
 use crate::answer::{Answer, Offered};
+use crate::asking::Asks;
 use crate::cause::Cause;
 use crate::hearing::status_step;
 use crate::offering::offer_step;
@@ -37,7 +37,6 @@ use crate::resending::nak_step;
 use crate::sending::send_step;
 use crate::told::Told;
 use any_log::AnyLog;
-use decision_cache::Cache;
 use driver_core::{Address, Astray, Registry, View};
 use frame_codec::{Frames, Nak, StatusMessage, TermPlace};
 use image_log::{ImageLog, ImageRoom};
@@ -240,20 +239,20 @@ impl OpenLogs {
     }
 
     /// A client offers a message to the first log of that source, as [`offer_step`] says.
-    pub(crate) fn offer<V: View>(
+    pub(crate) fn offer<V: View, A: Asks>(
         &mut self,
         view: &V,
-        cache: &mut Cache,
+        asker: &mut A,
         source: u64,
         now: u64,
         client: u64,
         registration: u64,
         message: &[u8],
     ) -> Told
-        requires { AreCached (V.shows view.now) cache.old }
+        requires { A.is_right asker.old (V.shows view.now) }
         ensures moved { MovesFirst source (offer_move (V.shows view.now) now client registration message.now) (OfferedAs Closed) self.old self.new result.answer }
         ensures decides { DecidesFirst source (offer_decision (V.shows view.now) client registration) result.decision self.old }
-        ensures cached { AreCached (V.shows view.now) cache.new }
+        ensures right { A.is_right asker.new (V.shows view.now) }
     {
         let Some(at) = place_of(self.logs.as_slice(), source) else {
             return Told {
@@ -264,7 +263,7 @@ impl OpenLogs {
         offer_step(
             view,
             &mut self.logs[at],
-            cache,
+            asker,
             now,
             client,
             registration,
@@ -273,22 +272,22 @@ impl OpenLogs {
     }
 
     /// A client polls the first log of that source, as [`poll_step`] says.
-    pub(crate) fn poll<V: View>(
+    pub(crate) fn poll<V: View, A: Asks>(
         &mut self,
         view: &V,
-        cache: &mut Cache,
+        asker: &mut A,
         alloc: Global,
         source: u64,
         client: u64,
         subscription: u64,
         limit: u32,
     ) -> Result<Told, AllocError>
-        requires { AreCached (V.shows view.now) cache.old }
+        requires { A.is_right asker.old (V.shows view.now) }
         ensures moved { IfOk result (λ told. MovesFirst source (poll_move (V.shows view.now) client subscription limit) Gone self.old self.new told.answer) }
         ensures decides { IfOk result (λ told. DecidesFirst source (poll_decision (V.shows view.now) client subscription) told.decision self.old) }
         ensures err { OnErr result (self.new ≡ self.old) }
         ensures without_memory { OnErr result (GivesFirst source (poll_move (V.shows view.now) client subscription limit) self.old) }
-        ensures cached { AreCached (V.shows view.now) cache.new }
+        ensures right { A.is_right asker.new (V.shows view.now) }
     {
         let Some(at) = place_of(self.logs.as_slice(), source) else {
             return Ok(Told {
@@ -299,7 +298,7 @@ impl OpenLogs {
         poll_step(
             view,
             &mut self.logs[at],
-            cache,
+            asker,
             alloc,
             client,
             subscription,

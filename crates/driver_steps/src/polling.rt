@@ -1,6 +1,5 @@
 //! A log that a client polls.
 
-ghost use Rattle.driver_core.specs.Cached.{AreCached};
 ghost use Rattle.driver_steps.specs.Decided.{Decides, poll_decision};
 ghost use Rattle.driver_steps.specs.declared.answer.Answer.TheVariants.{Gone};
 ghost use Rattle.driver_steps.specs.Held.{LiesAsBefore};
@@ -9,9 +8,9 @@ ghost use Rattle.driver_steps.specs.Moves.{Does, poll_move};
 ghost use Rattle.std.specs.Prelude.{◌≡◌, None, IfOk, OnErr};
 
 use crate::answer::Answer;
+use crate::asking::Asks;
 use crate::open_log::OpenLog;
 use crate::told::Told;
-use decision_cache::Cache;
 use driver_core::View;
 use std::alloc::{AllocError, Global};
 
@@ -26,7 +25,7 @@ fn gone() -> Told
 }
 
 /// A client polls a log by one of its subscriptions, as the registry that the view shows says, and is given so many
-/// fragments at most. The verdict is from the client's cache where it is there.
+/// fragments at most. The verdict is that of whom it asks, as the client's cache.
 ///
 /// The answer is the first that applies: [`Answer::Gone`] where no such subscription of the client reads the log;
 /// [`Answer::Denied`] by the policy of that registry; else the fragments from where the subscription stands, which moves on
@@ -35,25 +34,25 @@ fn gone() -> Told
 /// # Errors
 /// Nothing is changed where there is no memory for the fragments. A poll that is gone or denied takes none.
 #[tactic(auto, unfolding(crate::specs::Moves::poll_move))]
-pub fn poll_step<V: View>(
+pub fn poll_step<V: View, A: Asks>(
     view: &V,
     log: &mut OpenLog,
-    cache: &mut Cache,
+    asker: &mut A,
     alloc: Global,
     client: u64,
     subscription: u64,
     limit: u32,
 ) -> Result<Told, AllocError>
-    requires { AreCached (V.shows view.now) cache.old }
+    requires { A.is_right asker.old (V.shows view.now) }
     ensures does { IfOk result (λ told. Does (poll_move (V.shows view.now) client subscription limit) log.old log.new told.answer) }
     ensures decides { IfOk result (λ told. Decides (poll_decision (V.shows view.now) client subscription) log.old told.decision) }
     ensures lies { LiesAsBefore log.old log.new }
-    ensures cached { AreCached (V.shows view.now) cache.new }
+    ensures right { A.is_right asker.new (V.shows view.now) }
     ensures err { OnErr result (log.new ≡ log.old) }
     ensures without_memory { OnErr result (Gives (poll_move (V.shows view.now) client subscription limit) log.old) }
 {
     let registry = view.registry();
-    let Some(request) = registry.receiving_cached(cache, client, subscription, log.source) else {
+    let Some(request) = asker.receiving(registry, client, subscription, log.source) else {
         return Ok(gone());
     };
     if log.log.pair_position(subscription).is_none() {

@@ -24,7 +24,7 @@ returns over c =
           c.in-Some.request at.0 c.in_ok-fragments.fragments asked at.1 allowed copies refl refl c.poll.ensures.whole;
       decides = read_decides (over.V.View.shows c.args.view.now) c.args.client c.args.subscription held c.in-Some.request at.0 asked at.1;
       lies = held_lies c.log.inside.source c.log.inside.recovery c.log.inside.recovery c.log.inside.log c.poll.new.self c.poll.ensures.lies;
-      cached = search rules;
+      right = search rules;
       err = tt;
       without_memory = tt;
     }

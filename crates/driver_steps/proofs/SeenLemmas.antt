@@ -1,0 +1,192 @@
+-- Steps by whichever registry is shown: what they do to the open logs, and so to a driver.
+use Rattle.std.proofs.Common.{◌≡◌, ℕ, ◌==◌, not, nat_lt, length, Bool, true, false, List, Option, Some, None, if◌then◌else◌, Result, Ok, Err, ◌∷◌, refl, sym, ap, subst, ◌∙◌}
+use Rattle.std.proofs.lemmas.Bool.{eqb-true}
+use Rattle.std.specs.Option.{option_map}
+use Rattle.any_log.specs.Whole.{AnyWhole, whole, rebuilt, position_in}
+use Rattle.driver_core.specs.declared.log_request.LogRequest.{LogRequest}
+use Rattle.driver_core.specs.LogRequests.{offering_of, receiving_of}
+use Rattle.driver_core.specs.declared.image_request.Astray.{Astray}
+use Rattle.driver_core.specs.declared.image_request.Astray.TheVariants.{NoStream}
+use Rattle.driver_core.specs.ImageRequests.{image_for}
+use Rattle.driver_core.specs.State.{State}
+use Rattle.channel_uri.specs.declared.address.Address.{Address}
+use Rattle.frame_codec.specs.declared.header.TermPlace.{TermPlace}
+use Rattle.frame_codec.specs.Frame.{Sent}
+use Rattle.driver_steps.specs.Receiving.{receive_move, unheard}
+use Rattle.driver_steps.specs.declared.answer.Answer.{Answer}
+use Rattle.driver_steps.specs.declared.answer.Answer.TheVariants.{NoMemory, Offered as OfferedAs}
+use Rattle.driver_steps.specs.declared.answer.Offered.TheVariants.{Closed}
+use Rattle.driver_steps.specs.declared.step.Step.{Step}
+use Rattle.driver_steps.specs.declared.step.Step.TheVariants.{Offer}
+use Rattle.driver_steps.specs.Ends.{RunEnd, Moved, IsAnswerOf, after_by, log_at, moved, moved_on, on_image, on_log, on_offered_by}
+use Rattle.driver_steps.specs.Held.{HeldLogs}
+use Rattle.driver_steps.specs.Memory.{GivesFirst, HasMemoryBy, is_listed, takes_memory}
+use Rattle.driver_steps.specs.Moves.{Move, MovesFirst, WholeLog, offer_move, offer_to, offer_under, poll_move}
+use Rattle.driver_steps.specs.Seen.{KeepMatch, LogsServe, Sees, frames_seen, image_seen, moved_seen, seen_takes, still_there}
+use Rattle.driver_steps.specs.Standing.{Held, Serves, ServesAs, StandsForEnd}
+use Rattle.driver_steps.proofs.RunLemmas.{IsTold, first_refused, first_served, offer_told, poll_told}
+use Rattle.driver_steps.proofs.StandLemmas.{match_moved}
+use Rattle.policy_core.specs.declared.verdict.Verdict.{Verdict}
+use Rattle.term_log.specs.Log.{greatest_message}
+use Rattle.term_log.specs.Whole.{is_connected}
+
+-- ---- on the open logs
+
+-- what goes to the first log of a source
+pub logs_served : (old new : HeldLogs) (what : RunEnd → Moved) (source : ℕ) (move : WholeLog → Move) (absent answer : Answer) →
+    ((e : RunEnd) → what e ≡ on_log e source move absent) → IsTold absent → ((log : WholeLog) → IsTold (move log).answer) →
+    MovesFirst source move absent old new answer → LogsServe old new what answer
+logs_served old new what source move absent answer goes none some moves =
+    record { on = λ s. first_served s old new what source move absent answer (λ e same. goes e) none some moves }
+
+-- it finds no memory
+pub logs_refused : (old new : HeldLogs) (what : RunEnd → Moved) (source : ℕ) (move : WholeLog → Move) (absent : Answer) →
+    ((e : RunEnd) → what e ≡ on_log e source move absent) → new ≡ old → GivesFirst source move old → LogsServe old new what NoMemory
+logs_refused old new what source move absent goes same gives =
+    record { on = λ s. first_refused s old new what source move absent (λ e same'. goes e) same gives }
+
+pub logs_kept : (old new : HeldLogs) (source : ℕ) (move : WholeLog → Move) (absent answer : Answer) →
+    MovesFirst source move absent old new answer → KeepMatch old new
+logs_kept old new source move absent answer moves =
+    record { on = λ s matches. match_moved s source move absent answer old new matches moves }
+
+-- ---- which log
+
+pub offered_goes : (s : State) (e : RunEnd) (now client registration : ℕ) (message : List ℕ) (request : Option LogRequest) (source : ℕ) →
+    option_map (λ request. request.source) request ≡ Some source →
+    on_offered_by s e now client registration message request
+    ≡ on_log e source (offer_move s now client registration message) (OfferedAs Closed)
+offered_goes s e now client registration message None source is = absurd (cc)
+offered_goes s e now client registration message (Some request) source is =
+    let same : request.source ≡ source = cc in
+    ap (λ n. on_log e n (offer_move s now client registration message) (OfferedAs Closed)) same
+
+pub offer_is_told : (s : State) (now client registration : ℕ) (message : List ℕ) (log : WholeLog) →
+    IsTold (offer_move s now client registration message log).answer
+unfolding offer_move
+offer_is_told s now client registration message log = offer_told s now message log (offering_of s client registration)
+
+pub poll_is_told : (s : State) (client subscription limit : ℕ) (log : WholeLog) →
+    IsTold (poll_move s client subscription limit log).answer
+unfolding poll_move
+poll_is_told s client subscription limit log =
+    poll_told subscription limit log (receiving_of s client subscription log.source) (position_in log.whole subscription)
+
+-- ---- an offer takes no memory
+
+unlisted_cond : (b : Bool) (one other : Move) → is_listed one.answer ≡ false → is_listed other.answer ≡ false →
+    is_listed (if b then one else other).answer ≡ false
+unlisted_cond true one other none nor = none
+unlisted_cond false one other none nor = nor
+
+offers_unlisted : (now timeout : ℕ) (verdict : Verdict) (message : List ℕ) (log : WholeLog) (w : AnyWhole) →
+    is_listed (offer_to now timeout verdict message log w).answer ≡ false
+offers_unlisted now timeout verdict message log (whole kept) =
+    unlisted_cond (not verdict.allow) _ _ refl
+    (unlisted_cond (nat_lt (greatest_message kept.ident) (length message)) _ _ refl
+    (unlisted_cond (not (is_connected kept now timeout)) _ _ refl refl))
+offers_unlisted now timeout verdict message log (rebuilt kept) = refl
+
+offer_unlisted : (s : State) (now : ℕ) (message : List ℕ) (log : WholeLog) (request : Option LogRequest) →
+    is_listed (offer_under s now message log request).answer ≡ false
+offer_unlisted s now message log None = refl
+offer_unlisted s now message log (Some request) =
+    unlisted_cond (not (request.source == log.source)) _ _ refl
+    (offers_unlisted now s.settings.connection_timeout request.decision.verdict message log log.whole)
+
+moved_unlisted : (e : RunEnd) (source : ℕ) (move : WholeLog → Move) (absent : Answer) (there : Option WholeLog) →
+    is_listed absent ≡ false → ((log : WholeLog) → is_listed (move log).answer ≡ false) →
+    is_listed (moved_on e source move absent there).answer ≡ false
+moved_unlisted e source move absent None none some = none
+moved_unlisted e source move absent (Some log) none some = some log
+
+offered_unlisted : (s : State) (e : RunEnd) (now client registration : ℕ) (message : List ℕ) (request : Option LogRequest) →
+    is_listed (on_offered_by s e now client registration message request).answer ≡ false
+unfolding on_log offer_move
+offered_unlisted s e now client registration message None = refl
+offered_unlisted s e now client registration message (Some request) =
+    moved_unlisted e request.source (offer_move s now client registration message) (OfferedAs Closed) (log_at e.logs request.source) refl
+    (λ log. offer_unlisted s now message log (offering_of s client registration))
+
+-- ---- a driver, by its newest registry
+
+abbrev pub held_by : State → HeldLogs → Held
+held_by s logs = record { registry = s; logs = logs.logs }
+
+abbrev IsMoved : Held → RunEnd → Moved → Answer → Type 0
+IsMoved new e what answer = IsAnswerOf what answer × StandsForEnd new (after_by e what answer)
+
+pub as_newest : (s : State) (old new : HeldLogs) (what that : RunEnd → Moved) (answer : Answer) →
+    ((e : RunEnd) → s ≡ e.registry → what e ≡ that e) → LogsServe old new what answer → ServesAs (held_by s old) (held_by s new) that answer
+as_newest s old new what that answer goes serves = record {
+  on = λ e stands. subst (λ (m : Moved). IsMoved (held_by s new) e m answer) (goes e stands.registry) ((serves.on s).on e stands);
+  without_memory = λ e stands.
+      subst (λ (m : Moved). HasMemoryBy (is_listed m.answer) answer) (goes e stands.registry) ((serves.on s).without_memory e stands);
+}
+
+-- a step that takes memory where it gives a list
+pub step_newest : (s : State) (old new : HeldLogs) (what : RunEnd → Moved) (step : Step) (answer : Answer) →
+    ((e : RunEnd) → s ≡ e.registry → what e ≡ moved e step) → ((e : RunEnd) → takes_memory e step ≡ is_listed (moved e step).answer) →
+    LogsServe old new what answer → Serves (held_by s old) (held_by s new) step answer
+step_newest s old new what step answer goes takes serves =
+    let newest : ServesAs (held_by s old) (held_by s new) (λ e. moved e step) answer = as_newest s old new what (λ e. moved e step) answer goes serves in
+    record {
+      on = λ e stands. newest.on e stands;
+      without_memory = λ e stands. rw (takes e) (newest.without_memory e stands);
+    }
+
+pub offer_newest : (s : State) (old new : HeldLogs) (now client registration : ℕ) (message : List ℕ) (answer : Answer) →
+    LogsServe old new (λ e. on_offered_by s e now client registration message (offering_of s client registration)) answer →
+    Serves (held_by s old) (held_by s new) (Offer now client registration message) answer
+offer_newest s old new now client registration message answer serves = record {
+  on = λ e stands.
+      subst (λ (t : State). IsMoved (held_by s new) e (on_offered_by t e now client registration message (offering_of t client registration)) answer)
+      stands.registry ((serves.on s).on e stands);
+  without_memory = λ e stands.
+      subst (λ b. HasMemoryBy b answer) (offered_unlisted s e now client registration message (offering_of s client registration))
+      ((serves.on s).without_memory e stands);
+}
+
+-- ---- by an older registry
+
+pub step_seen : (older s : State) (old new : HeldLogs) (step : Step) (answer : Answer) →
+    ((e : RunEnd) → HasMemoryBy (is_listed (moved_seen older e step).answer) answer → seen_takes older e step answer) →
+    LogsServe old new (λ e. moved_seen older e step) answer → Sees older (held_by s old) (held_by s new) step answer
+step_seen older s old new step answer takes serves = record {
+  on = λ e stands. (serves.on s).on e stands;
+  without_memory = λ e stands. takes e ((serves.on s).without_memory e stands);
+}
+
+pub offer_seen : (older s : State) (old new : HeldLogs) (now client registration : ℕ) (message : List ℕ) (answer : Answer) →
+    LogsServe old new (λ e. on_offered_by older e now client registration message (offering_of older client registration)) answer →
+    Sees older (held_by s old) (held_by s new) (Offer now client registration message) answer
+offer_seen older s old new now client registration message answer serves =
+    step_seen older s old new (Offer now client registration message) answer
+    (λ e has. subst (λ b. HasMemoryBy b answer) (offered_unlisted older e now client registration message (offering_of older client registration)) has)
+    serves
+
+-- ---- an image that is still there
+
+there_now : (older newest : Result ℕ Astray) (source : ℕ) → still_there older newest ≡ Ok source → newest ≡ Ok source
+there_now (Err why) newest source is = absurd (cc is)
+there_now (Ok one) (Err why) source is = absurd (cc is)
+there_now (Ok one) (Ok other) source is = by (one == other) refl is
+  where
+    by : (b : Bool) → (one == other) ≡ b → (let r : Result ℕ Astray = if b then Ok one else Err NoStream in r) ≡ Ok source →
+        (let r : Result ℕ Astray = Ok other in r) ≡ Ok source
+    by true equal is = let same : one ≡ other = eqb-true one other equal in ap Ok (sym same) ∙ is
+    by false equal is = absurd (cc is)
+
+-- frames are of the stream of the first one
+pub frames_go : (older : State) (e : RunEnd) (now : ℕ) (local from : Address) (sent later : List Sent) (frame : Sent) (source : ℕ) →
+    sent ≡ frame ∷ later → image_seen older e local from frame.header.place ≡ Ok source →
+    frames_seen older e now local from sent ≡ on_log e source (receive_move now sent) unheard
+frames_go older e now local from sent later frame source is there =
+    subst (λ (all : List Sent). frames_seen older e now local from all ≡ on_log e source (receive_move now all) unheard) (sym is)
+    (ap (on_image e (receive_move now (frame ∷ later))) there)
+
+pub image_there : (older s : State) (local from : Address) (place : TermPlace) (source : ℕ) →
+    still_there (image_for older local from place.session_id place.stream_id) (image_for s local from place.session_id place.stream_id) ≡ Ok source →
+    image_for s local from place.session_id place.stream_id ≡ Ok source
+image_there older s local from place source is =
+    there_now (image_for older local from place.session_id place.stream_id) (image_for s local from place.session_id place.stream_id) source is

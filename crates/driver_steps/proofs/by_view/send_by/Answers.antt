@@ -1,0 +1,19 @@
+use Rattle.std.proofs.Common.{refl}
+use Rattle.driver_steps.specs.declared.answer.Answer.TheVariants.{Gone}
+use Rattle.driver_steps.specs.Sending.{send_move}
+use Rattle.driver_steps.proofs.SeenLemmas.{logs_kept, logs_refused, logs_served}
+use Rattle.driver_steps.proofs.SendLemmas.{move_told}
+use Rattle.driver_steps.proofs.by_view.send_by.Goals as goal
+
+pub returns-in-Ok-clause-serves : goal.returns-in-Ok-clause-serves
+returns-in-Ok-clause-serves g c =
+    let s = g.V.View.shows c.args.view.now in
+    logs_served _ _ _ c.args.source (send_move s c.args.now) Gone _ (λ e. refl) tt (λ log. move_told s c.args.now log) c.in-Ok.ensures.moved
+
+pub returns-in-Ok-clause-kept : goal.returns-in-Ok-clause-kept
+returns-in-Ok-clause-kept g c = logs_kept _ _ c.args.source _ _ _ c.in-Ok.ensures.moved
+
+pub returns-in-Err-clause-serves : goal.returns-in-Err-clause-serves
+returns-in-Err-clause-serves g c =
+    logs_refused _ _ _ c.args.source (send_move (g.V.View.shows c.args.view.now) c.args.now) Gone (λ e. refl) c.in-Err.ensures.err
+    c.in-Err.ensures.without_memory
