@@ -1,5 +1,5 @@
 -- Steps that go by an older registry: what they leave of the logs as they stand now, and what they are answered. Own rules.
-use Rattle.std.specs.Prelude.{◌≡◌, ℕ, ◌==◌, false, List, [], ◌∷◌, Option, Result, Ok, Err, if◌then◌else◌}
+use Rattle.std.specs.Prelude.{◌≡◌, ℕ, ◌==◌, false, List, [], ◌∷◌, Result, Ok, Err, if◌then◌else◌}
 use Rattle.channel_uri.specs.declared.address.Address.{Address}
 use Rattle.driver_core.specs.declared.event.Event.TheVariants.{Setup as SetUp}
 use Rattle.driver_core.specs.declared.image_request.Astray.{Astray}

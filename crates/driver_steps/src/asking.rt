@@ -14,7 +14,12 @@ pub trait Asks {
     ghost is_right: { Self → State → Type 0 };
 
     /// As [`Registry::offering`].
-    fn offering(&mut self, registry: &Registry, client: u64, registration: u64) -> Option<LogRequest>
+    fn offering(
+        &mut self,
+        registry: &Registry,
+        client: u64,
+        registration: u64,
+    ) -> Option<LogRequest>
         requires { is_right self.old registry.now }
         ensures asked { result ≡ offering_of registry.now client registration }
         ensures right { is_right self.new registry.now };

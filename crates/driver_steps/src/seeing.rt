@@ -22,7 +22,8 @@ use crate::driver::{Driver, image_of, undecided};
 use crate::told::{Came, Looked, Told};
 use driver_core::{Address, Astray, Registry, View};
 use frame_codec::{
-    Datagram, Frames, Nak, Packet, StatusMessage, TermPlace, frames_are_of_one_term, frames_are_told,
+    Datagram, Frames, Nak, Packet, StatusMessage, TermPlace, frames_are_of_one_term,
+    frames_are_told,
 };
 use std::alloc::Global;
 
@@ -56,7 +57,15 @@ impl Driver {
         ensures sees { Sees (V.shows view.now) self.old self.new (Offer now client registration message.now) result.answer }
         ensures decides { DecidesAs (under self.old (V.shows view.now)) (λ e. offer_decided e client registration) result.decision }
     {
-        offer_by(view, &mut self.logs, &mut Uncached, now, client, registration, message)
+        offer_by(
+            view,
+            &mut self.logs,
+            &mut Uncached,
+            now,
+            client,
+            registration,
+            message,
+        )
     }
 
     /// As [`Driver::poll`], by the registry that the view shows.
@@ -143,7 +152,13 @@ impl Driver {
         let Some(frame) = left.next() else {
             return Answer::Dropped(Cause::Astray(Astray::NoStream));
         };
-        match image_seen_of(view.registry(), &self.registry, local, from, frame.header.place) {
+        match image_seen_of(
+            view.registry(),
+            &self.registry,
+            local,
+            from,
+            frame.header.place,
+        ) {
             Ok(source) => match self.logs.receive(alloc, source, now, frames) {
                 Ok(answer) => answer,
                 Err(_) => Answer::NoMemory,

@@ -20,7 +20,7 @@ returns-in-Ok g c =
     let place = c.args.place.now in
     let what : RunEnd → Moved = λ e. on_image e (beat_move c.args.now place) (image_seen older e c.args.local.now c.args.from.now place) in
     let is : still_there (image_for older c.args.local.now c.args.from.now place.session_id place.stream_id)
-        (image_for c.self.inside.registry c.args.local.now c.args.from.now place.session_id place.stream_id)
+    (image_for c.self.inside.registry c.args.local.now c.args.from.now place.session_id place.stream_id)
     ≡ Ok c.in-Ok.source =
     rw (← c.registry.ensures) (sym c.image_seen_of.ensures ∙ c.in-Ok.is) in
     rw (← c.self.view_is)

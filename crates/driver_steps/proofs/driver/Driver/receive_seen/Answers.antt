@@ -1,6 +1,5 @@
-use Rattle.std.proofs.Common.{◌≡◌, Ok, refl, sym, ◌∙◌}
+use Rattle.std.proofs.Common.{◌≡◌, Ok, sym, ◌∙◌}
 use Rattle.driver_core.specs.ImageRequests.{image_for}
-use Rattle.driver_core.specs.State.{State}
 use Rattle.driver_steps.specs.Ends.{RunEnd, Moved}
 use Rattle.driver_steps.specs.Moves.{Move, WholeLog}
 use Rattle.driver_steps.specs.Receiving.{receive_move, unheard}
@@ -19,7 +18,7 @@ receive-requires g c =
     let older = g.V.View.shows c.args.view.now in
     let frame : Sent = sent c.in-Some.frame in
     let is : still_there (image_for older c.args.local.now c.args.from.now frame.header.place.session_id frame.header.place.stream_id)
-        (image_for c.self.inside.registry c.args.local.now c.args.from.now frame.header.place.session_id frame.header.place.stream_id)
+    (image_for c.self.inside.registry c.args.local.now c.args.from.now frame.header.place.session_id frame.header.place.stream_id)
     ≡ Ok c.in-Ok.source =
     rw (← c.registry.ensures) (sym c.image_seen_of.ensures ∙ c.in-Ok.is) in
     are_for_first c.self.inside.registry c.self.inside.logs c.args.local.now c.args.from.now (frames_left c.args.frames)
@@ -48,7 +47,7 @@ returns-after-receive g c =
     let what : RunEnd → Moved = λ e. frames_seen older e c.args.now local from all in
     let move : WholeLog → Move = receive_move c.args.now all in
     let is : still_there (image_for older local from frame.header.place.session_id frame.header.place.stream_id)
-        (image_for s local from frame.header.place.session_id frame.header.place.stream_id)
+    (image_for s local from frame.header.place.session_id frame.header.place.stream_id)
     ≡ Ok c.in-Ok.source =
     rw (← c.registry.ensures) (sym c.image_seen_of.ensures ∙ c.in-Ok.is) in
     rw (← c.self.view_is)
