@@ -28,7 +28,10 @@ use Rattle.driver_steps.specs.declared.answer.Offered.TheVariants.{Closed}
 use Rattle.driver_steps.specs.declared.step.Step.{Step}
 use Rattle.driver_steps.specs.declared.step.Step.TheVariants.{Conductor, Packet, Offer as Offers, Poll as Polls, Image, List as Lists, Send, Value}
 use Rattle.driver_steps.specs.CarryingLaws.{carried_for, carried_on, carried_by, carried_in, IsCarried, PayloadsComeFromTheirPublisher}
-use Rattle.driver_steps.specs.Ends.{RunEnd, opening_end, log_at, moved_on, on_image, on_log, on_offered, on_packet, moved, after, IsAnswer, AreAnswers, end_of}
+use Rattle.driver_steps.specs.Ends.{RunEnd, Moved, opening_end, log_at, moved_on, on_image, on_log, on_offered_by}
+use Rattle.driver_steps.specs.Runs.{Reading, AreAnswers, IsAnswerTo, end_of, left_by, moved_to, read_by}
+use Rattle.driver_steps.specs.Seen.{image_seen, moved_seen, packet_seen}
+use Rattle.driver_steps.proofs.ReadLemmas.{by_seen, holds_by}
 use Rattle.driver_steps.specs.Idents.{begins_by}
 use Rattle.driver_steps.specs.Moves.{WholeLog, Move, offer_to, offer_under, offer_move, poll_under, poll_move}
 use Rattle.driver_steps.specs.Receiving.{beat_move, receive_move, unheard}
@@ -248,123 +251,129 @@ quiet_holds carried e source move absent quiet holds =
     (still_carried (carried log.source) log.whole) there.holds)
     holds
 
-packet_holds : (more : ℕ → List (List ℕ)) (e : RunEnd) (now : ℕ) (local from : Address) (read : Result Content BadPacket) →
-    IsCarriedFor more (λ source. carried_on e source local from read) (on_packet e now local from read).answer →
-    All (Holds more) e.logs → All (Holds more) (on_packet e now local from read).after.logs
-packet_holds more e now local from (Err fault) comes holds = holds
-packet_holds more e now local from (Ok (frames [])) comes holds = holds
-packet_holds more e now local from (Ok (frames (frame ∷ later))) comes holds =
-    receive_holds more e now (frame ∷ later)
-    (image_for e.registry local from frame.header.place.session_id frame.header.place.stream_id) comes holds
-packet_holds more e now local from (Ok (beat header)) comes holds =
-    beat_holds more e now header.place
-    (image_for e.registry local from header.place.session_id header.place.stream_id) holds
-packet_holds more e now local from (Ok (setup fields)) comes holds =
+packet_holds : (more : ℕ → List (List ℕ)) (s : State) (e : RunEnd) (now : ℕ) (local from : Address) (read : Result Content BadPacket) →
+    IsCarriedFor more (λ source. carried_on s e source local from read) (packet_seen s e now local from read).answer →
+    All (Holds more) e.logs → All (Holds more) (packet_seen s e now local from read).after.logs
+packet_holds more s e now local from (Err fault) comes holds = holds
+packet_holds more s e now local from (Ok (frames [])) comes holds = holds
+packet_holds more s e now local from (Ok (frames (frame ∷ later))) comes holds =
+    receive_holds more e now (frame ∷ later) (image_seen s e local from frame.header.place) comes holds
+packet_holds more s e now local from (Ok (beat header)) comes holds =
+    beat_holds more e now header.place (image_seen s e local from header.place) holds
+packet_holds more s e now local from (Ok (setup fields)) comes holds =
     event_keeps (Holds more) e (SetUp now local from fields) (holds_kept more) holds
-packet_holds more e now local from (Ok (nak fields)) comes holds =
+packet_holds more s e now local from (Ok (nak fields)) comes holds =
     asked_cases (λ what. All (Holds more) what.after.logs) e now from fields
     (λ source move quiet. quiet_holds more e source move unheard quiet holds) (λ cause. holds)
-    (resending_of e.registry from fields.session_id fields.stream_id)
-packet_holds more e now local from (Ok (status fields)) comes holds =
+    (resending_of s from fields.session_id fields.stream_id)
+packet_holds more s e now local from (Ok (status fields)) comes holds =
     told_cases (λ what. All (Holds more) what.after.logs) e now fields
     (λ source move quiet. quiet_holds more e source move unheard quiet holds) (λ cause. holds)
-    (publication_for e.registry fields.session_id fields.stream_id)
+    (publication_for s fields.session_id fields.stream_id)
 
-offer_holds : (more : ℕ → List (List ℕ)) (e : RunEnd) (now client registration : ℕ) (message : List ℕ)
+offer_holds : (more : ℕ → List (List ℕ)) (s : State) (e : RunEnd) (now client registration : ℕ) (message : List ℕ)
     (o : Option LogRequest) → All (Holds more) e.logs →
-    All (Holds more) (on_offered e now client registration message o).after.logs
+    All (Holds more) (on_offered_by s e now client registration message o).after.logs
 unfolding offer_move
-offer_holds more e now client registration message None holds = holds
-offer_holds more e now client registration message (Some request) holds =
-    log_keeps (Holds more) e request.source (offer_move e.registry now client registration message) (OfferedAs Closed)
+offer_holds more s e now client registration message None holds = holds
+offer_holds more s e now client registration message (Some request) holds =
+    log_keeps (Holds more) e request.source (offer_move s now client registration message) (OfferedAs Closed)
     (λ log found there.
-    offer_under_holds more e.registry now message log (offering_of e.registry client registration) there.holds)
+    offer_under_holds more s now message log (offering_of s client registration) there.holds)
     holds
 
-poll_holds : (more : ℕ → List (List ℕ)) (e : RunEnd) (client subscription source limit : ℕ) → All (Holds more) e.logs →
-    All (Holds more) (on_log e source (poll_move e.registry client subscription limit) IsGone).after.logs
+poll_holds : (more : ℕ → List (List ℕ)) (s : State) (e : RunEnd) (client subscription source limit : ℕ) → All (Holds more) e.logs →
+    All (Holds more) (on_log e source (poll_move s client subscription limit) IsGone).after.logs
 unfolding poll_move
-poll_holds more e client subscription source limit holds =
-    log_keeps (Holds more) e source (poll_move e.registry client subscription limit) IsGone
+poll_holds more s e client subscription source limit holds =
+    log_keeps (Holds more) e source (poll_move s client subscription limit) IsGone
     (λ log found there.
-    poll_under_holds more subscription limit log (receiving_of e.registry client subscription log.source)
+    poll_under_holds more subscription limit log (receiving_of s client subscription log.source)
     (position_in log.whole subscription) there.holds)
     holds
 
 -- what was carried before a step, and by it
-abbrev carried_with : (ℕ → List (List ℕ)) → RunEnd → Step → Answer → ℕ → List (List ℕ)
-carried_with carried e step answer source = carried source ++ carried_by e source step answer
+abbrev pub carried_with : (ℕ → List (List ℕ)) → State → RunEnd → Step → Answer → ℕ → List (List ℕ)
+carried_with carried s e step answer source = carried source ++ carried_by s e source step answer
 
-moved_holds : (carried : ℕ → List (List ℕ)) (e : RunEnd) (step : Step) →
-    All (Holds (carried_with carried e step (moved e step).answer)) e.logs →
-    All (Holds (carried_with carried e step (moved e step).answer)) (moved e step).after.logs
-moved_holds carried e (Packet now local from bytes) holds =
+moved_holds : (carried : ℕ → List (List ℕ)) (s : State) (e : RunEnd) (step : Step) →
+    All (Holds (carried_with carried s e step (moved_seen s e step).answer)) e.logs →
+    All (Holds (carried_with carried s e step (moved_seen s e step).answer)) (moved_seen s e step).after.logs
+moved_holds carried s e (Packet now local from bytes) holds =
     let step : Step = Packet now local from bytes in
-    let answer : Answer = (moved e step).answer in
-    packet_holds (carried_with carried e step answer) e now local from (packet_of bytes)
+    let answer : Answer = (moved_seen s e step).answer in
+    packet_holds (carried_with carried s e step answer) s e now local from (packet_of bytes)
     (λ words is source one has.
-    Contains-append_right (carried source) (carried_by e source step answer) one
-    (subst (λ (told : Answer). Contains (carried_by e source step told) one) (sym is) has))
+    Contains-append_right (carried source) (carried_by s e source step answer) one
+    (subst (λ (told : Answer). Contains (carried_by s e source step told) one) (sym is) has))
     holds
-moved_holds carried e (Conductor event) holds =
+moved_holds carried s e (Conductor event) holds =
     let step : Step = Conductor event in
-    let more : ℕ → List (List ℕ) = carried_with carried e step (moved e step).answer in
+    let more : ℕ → List (List ℕ) = carried_with carried s e step (moved_seen s e step).answer in
     event_keeps (Holds more) e event (holds_kept more) holds
-moved_holds carried e (Offers now client registration message) holds =
+moved_holds carried s e (Offers now client registration message) holds =
     let step : Step = Offers now client registration message in
-    offer_holds (carried_with carried e step (moved e step).answer) e now client registration message
-    (offering_of e.registry client registration) holds
-moved_holds carried e (Polls now client subscription source limit) holds =
+    offer_holds (carried_with carried s e step (moved_seen s e step).answer) s e now client registration message
+    (offering_of s client registration) holds
+moved_holds carried s e (Polls now client subscription source limit) holds =
     let step : Step = Polls now client subscription source limit in
-    poll_holds (carried_with carried e step (moved e step).answer) e client subscription source limit holds
-moved_holds carried e (Send now source) holds =
+    poll_holds (carried_with carried s e step (moved_seen s e step).answer) s e client subscription source limit holds
+moved_holds carried s e (Send now source) holds =
     let step : Step = Send now source in
-    quiet_holds (carried_with carried e step (moved e step).answer) e source (send_move e.registry now) IsGone
-    (send_quiet e.registry now) holds
-moved_holds carried e (Image now source) holds =
+    quiet_holds (carried_with carried s e step (moved_seen s e step).answer) e source (send_move s now) IsGone
+    (send_quiet s now) holds
+moved_holds carried s e (Image now source) holds =
     let step : Step = Image now source in
-    let more : ℕ → List (List ℕ) = carried_with carried e step (moved e step).answer in
-    report_cases (λ what. All (Holds more) what.after.logs) e now source holds
-    (λ move quiet. quiet_holds more e source move IsGone quiet holds) (publisher_of e.registry source)
-moved_holds carried e (Lists now client) holds = holds
-moved_holds carried e (Value now client number) holds = holds
+    let more : ℕ → List (List ℕ) = carried_with carried s e step (moved_seen s e step).answer in
+    report_cases (λ what. All (Holds more) what.after.logs) s e now source holds
+    (λ move quiet. quiet_holds more e source move IsGone quiet holds) (publisher_of s source)
+moved_holds carried s e (Lists now client) holds = holds
+moved_holds carried s e (Value now client number) holds = holds
 
-with_more : (carried : ℕ → List (List ℕ)) (e : RunEnd) (step : Step) (answer : Answer) → All (Holds carried) e.logs →
-    All (Holds (carried_with carried e step answer)) e.logs
-with_more carried e step answer holds =
-    all_more carried (carried_with carried e step answer)
-    (λ source bytes has. Contains-append_left (carried source) (carried_by e source step answer) bytes has) e.logs holds
+with_more : (carried : ℕ → List (List ℕ)) (s : State) (e : RunEnd) (step : Step) (answer : Answer) → All (Holds carried) e.logs →
+    All (Holds (carried_with carried s e step answer)) e.logs
+with_more carried s e step answer holds =
+    all_more carried (carried_with carried s e step answer)
+    (λ source bytes has. Contains-append_left (carried source) (carried_by s e source step answer) bytes has) e.logs holds
 
-step_holds : (carried : ℕ → List (List ℕ)) (e : RunEnd) (step : Step) (answer : Answer) → IsAnswer e step answer →
-    All (Holds carried) e.logs → All (Holds (carried_with carried e step answer)) (after e step answer).logs
-step_holds carried e step answer is holds =
-    step_either (λ told end. All (Holds (carried_with carried e step told)) end.logs) e (moved e step) answer is
-    (with_more carried e step NoMemory holds)
-    (moved_holds carried e step (with_more carried e step (moved e step).answer holds))
+-- what holds of what a step comes to
+abbrev Came : (ℕ → List (List ℕ)) → State → RunEnd → Step → Moved → Type 0
+Came carried s e step what = All (Holds (carried_with carried s e step what.answer)) what.after.logs
+
+step_holds : (carried : ℕ → List (List ℕ)) (e : RunEnd) (reading : Reading) (answer : Answer) → IsAnswerTo e reading answer →
+    All (Holds carried) e.logs →
+    All (Holds (carried_with carried (read_by e reading.older) e reading.step answer)) (left_by e reading answer).logs
+step_holds carried e reading answer is holds =
+    let s : State = read_by e reading.older in
+    step_either (λ told end. All (Holds (carried_with carried s e reading.step told)) end.logs) e (moved_to e reading) answer is
+    (with_more carried s e reading.step NoMemory holds)
+    (holds_by (Came carried s e reading.step) e reading.older reading.step
+    (moved_holds carried s e reading.step (with_more carried s e reading.step (moved_seen s e reading.step).answer holds)))
 
 -- ---- runs
 
 -- what was carried before a run, and in it
-abbrev carried_behind : (ℕ → List (List ℕ)) → RunEnd → List Step → List Answer → ℕ → List (List ℕ)
-carried_behind carried e steps answers source = carried source ++ carried_in e source steps answers
+abbrev carried_behind : (ℕ → List (List ℕ)) → RunEnd → List Reading → List Answer → ℕ → List (List ℕ)
+carried_behind carried e readings answers source = carried source ++ carried_in e source readings answers
 
-run_holds : (carried : ℕ → List (List ℕ)) (e : RunEnd) (steps : List Step) (answers : List Answer) →
-    AreAnswers e steps answers → All (Holds carried) e.logs →
-    All (Holds (carried_behind carried e steps answers)) (end_of e steps answers).logs
+run_holds : (carried : ℕ → List (List ℕ)) (e : RunEnd) (readings : List Reading) (answers : List Answer) →
+    AreAnswers e readings answers → All (Holds carried) e.logs →
+    All (Holds (carried_behind carried e readings answers)) (end_of e readings answers).logs
 run_holds carried e [] [] are holds =
     all_more carried (carried_behind carried e [] [])
     (λ source bytes has. Contains-append_left (carried source) [] bytes has) e.logs holds
 run_holds carried e [] (answer ∷ answers) are holds = absurd are
-run_holds carried e (step ∷ steps) [] are holds = absurd are
-run_holds carried e (step ∷ steps) (answer ∷ answers) are holds =
-    let next : RunEnd = after e step answer in
-    let now : ℕ → List (List ℕ) = carried_with carried e step answer in
-    all_more (carried_behind now next steps answers) (carried_behind carried e (step ∷ steps) (answer ∷ answers))
+run_holds carried e (reading ∷ readings) [] are holds = absurd are
+run_holds carried e (reading ∷ readings) (answer ∷ answers) are holds =
+    let next : RunEnd = left_by e reading answer in
+    let s : State = read_by e reading.older in
+    let now : ℕ → List (List ℕ) = carried_with carried s e reading.step answer in
+    all_more (carried_behind now next readings answers) (carried_behind carried e (reading ∷ readings) (answer ∷ answers))
     (λ source bytes has.
     subst (λ (all : List (List ℕ)). Contains all bytes)
-    (append_assoc (carried source) (carried_by e source step answer) (carried_in next source steps answers)) has)
-    (end_of next steps answers).logs
-    (run_holds now next steps answers are.1 (step_holds carried e step answer are.0 holds))
+    (append_assoc (carried source) (carried_by s e source reading.step answer) (carried_in next source readings answers)) has)
+    (end_of next readings answers).logs
+    (run_holds now next readings answers are.1 (step_holds carried e reading answer are.0 holds))
 
 -- ---- what a poll gives then
 
@@ -400,19 +409,19 @@ unfolding image_polled
 image_carried carried r subscription limit are =
     from_carried carried r subscription limit (position_of r.pairs subscription) are
 
-poll_carried : (carried : ℕ → List (List ℕ)) (e : RunEnd) (client subscription source limit : ℕ)
+poll_carried : (carried : ℕ → List (List ℕ)) (s : State) (e : RunEnd) (client subscription source limit : ℕ)
     (fragments : List Fragment) (log : WholeLog) (r : Rebuilt) → log_at e.logs source ≡ Some log →
     log.whole ≡ rebuilt r → All (Holds carried) e.logs →
-    Polled fragments ≡ (on_log e source (poll_move e.registry client subscription limit) IsGone).answer →
+    Polled fragments ≡ (on_log e source (poll_move s client subscription limit) IsGone).answer →
     All (IsCarried (carried source)) fragments
 unfolding on_log poll_move
-poll_carried carried e client subscription source limit fragments log r found same holds is =
-    let move : WholeLog → Move = poll_move e.registry client subscription limit in
+poll_carried carried s e client subscription source limit fragments log r found same holds is =
+    let move : WholeLog → Move = poll_move s client subscription limit in
     let there = found_log (Holds carried) source log e.logs holds found in
     let told : Polled fragments ≡ (move log).answer =
     is ∙ ap (λ (o : Option WholeLog). (moved_on e source move IsGone o).answer) found in
     let gives =
-    poll_gives subscription limit log (receiving_of e.registry client subscription log.source)
+    poll_gives subscription limit log (receiving_of s client subscription log.source)
     (position_in log.whole subscription) fragments refl told in
     let given : fragments ≡ (any_polled (rebuilt r) subscription limit).fragments =
     gives.given_is ∙ ap (λ (w : AnyWhole). (any_polled w subscription limit).fragments) same in
@@ -428,7 +437,11 @@ unfolding opening_end
 opening_holds settings policy peers = All-nil (Holds (λ source. []))
 
 pub payloads_come : PayloadsComeFromTheirPublisher
-payloads_come settings policy peers steps answers now client subscription source limit fragments log r are found same is =
+payloads_come settings policy peers readings answers older now client subscription source limit fragments log r are found same is =
     let first : RunEnd = opening_end settings policy peers in
-    poll_carried (λ n. carried_in first n steps answers) (end_of first steps answers) client subscription source limit
-    fragments log r found same (run_holds (λ n. []) first steps answers are (opening_holds settings policy peers)) is
+    let last : RunEnd = end_of first readings answers in
+    let s : State = read_by last older in
+    let told : Polled fragments ≡ (moved_seen s last (Polls now client subscription source limit)).answer =
+    is ∙ sym (ap (λ (what : Moved). what.answer) (by_seen last older (Polls now client subscription source limit))) in
+    poll_carried (λ n. carried_in first n readings answers) s last client subscription source limit
+    fragments log r found same (run_holds (λ n. []) first readings answers are (opening_holds settings policy peers)) told

@@ -7,7 +7,6 @@ use Rattle.driver_core.specs.declared.peer.Peer.{Peer}
 use Rattle.driver_core.specs.declared.settings.Settings.{Settings}
 use Rattle.driver_core.specs.Conduct.{outcome_of, state_after, state_of}
 use Rattle.driver_core.specs.declared.image_request.Astray.{Astray}
-use Rattle.driver_core.specs.ImageRequests.{image_for}
 use Rattle.driver_core.specs.Listing.{list, value}
 use Rattle.driver_core.specs.LogRequests.{offering_of}
 use Rattle.driver_core.specs.PublicationRequests.{publication_for, publisher_of, resending_of}
@@ -19,7 +18,10 @@ use Rattle.driver_steps.specs.declared.answer.Offered.TheVariants.{Closed}
 use Rattle.driver_steps.specs.declared.step.Step.{Step}
 use Rattle.driver_steps.specs.declared.step.Step.TheVariants.{Conductor, Packet, Offer, Poll, Image, List as Lists, Send, Value}
 use Rattle.driver_steps.specs.Answers.{answer_of, answer_listed, answer_shown}
-use Rattle.driver_steps.specs.Ends.{RunEnd, opening_end, inputs_of, log_at, moved_on, on_asked, on_image, on_log, on_offered, on_packet, on_report, on_told, conducted, moved, after, IsAnswer, end_of}
+use Rattle.driver_steps.specs.Ends.{RunEnd, Moved, after_by, opening_end, inputs_of, log_at, moved_on, on_asked, on_image, on_log, on_offered_by, on_report_by, on_told, conducted, moved, IsAnswer}
+use Rattle.driver_steps.specs.Runs.{Reading, end_of, left_by, moved_to, read_by}
+use Rattle.driver_steps.specs.Seen.{image_seen, moved_seen, packet_seen}
+use Rattle.driver_steps.proofs.ReadLemmas.{holds_by}
 use Rattle.driver_steps.specs.Hearing.{nak_move, status_move}
 use Rattle.driver_steps.specs.Laws.{event_in, event_of, taken_by, taken_from, registry_of, IsTold, TakesEvents, RunsTakeEvents}
 use Rattle.driver_steps.specs.Moves.{WholeLog, Move, offer_move, poll_move}
@@ -35,18 +37,19 @@ use Rattle.policy_core.specs.RuleList.{Rules}
 -- ---- what holds along runs
 
 -- a step leaves what it comes to, or all as it was
-pub after_both : (P : RunEnd → Type 0) (e : RunEnd) (step : Step) (answer : Answer) → P e → P (moved e step).after →
-    P (after e step answer)
-after_both P e step NoMemory same moves = same
-after_both P e step answer same moves = moves
+pub after_both : (P : RunEnd → Type 0) (e : RunEnd) (what : Moved) (answer : Answer) → P e → P what.after → P (after_by e what answer)
+after_both P e what NoMemory same moves = same
+after_both P e what answer same moves = moves
 
--- what each step keeps, each run keeps
-pub run_keeps : (P : RunEnd → Type 0) → ((e : RunEnd) (step : Step) → P e → P (moved e step).after) →
-    (e : RunEnd) (steps : List Step) (answers : List Answer) → P e → P (end_of e steps answers)
+-- what each step keeps, whichever registry it goes by, each run keeps
+pub run_keeps : (P : RunEnd → Type 0) → ((s : State) (e : RunEnd) (step : Step) → P e → P (moved_seen s e step).after) →
+    (e : RunEnd) (readings : List Reading) (answers : List Answer) → P e → P (end_of e readings answers)
 run_keeps P keeps e [] answers holds = holds
-run_keeps P keeps e (step ∷ steps) [] holds = holds
-run_keeps P keeps e (step ∷ steps) (answer ∷ answers) holds =
-    run_keeps P keeps (after e step answer) steps answers (after_both P e step answer holds (keeps e step holds))
+run_keeps P keeps e (reading ∷ readings) [] holds = holds
+run_keeps P keeps e (reading ∷ readings) (answer ∷ answers) holds =
+    run_keeps P keeps (left_by e reading answer) readings answers
+    (after_both P e (moved_to e reading) answer holds
+    (holds_by (λ what. P what.after) e reading.older reading.step (keeps (read_by e reading.older) e reading.step holds)))
 
 -- ---- the registry that a step leaves
 
@@ -56,20 +59,13 @@ move_keeps_registry e source move absent None = refl
 move_keeps_registry e source move absent (Some log) = refl
 
 -- an offer leaves the registry as it was
-pub offer_keeps_registry : (e : RunEnd) (now client registration : ℕ) (message : List ℕ) (o : Option LogRequest) →
-    (on_offered e now client registration message o).after.registry ≡ e.registry
+pub offer_keeps_registry : (s : State) (e : RunEnd) (now client registration : ℕ) (message : List ℕ) (o : Option LogRequest) →
+    (on_offered_by s e now client registration message o).after.registry ≡ e.registry
 unfolding on_log
-offer_keeps_registry e now client registration message None = refl
-offer_keeps_registry e now client registration message (Some request) =
-    move_keeps_registry e request.source (offer_move e.registry now client registration message) (OfferedAs Closed)
+offer_keeps_registry s e now client registration message None = refl
+offer_keeps_registry s e now client registration message (Some request) =
+    move_keeps_registry e request.source (offer_move s now client registration message) (OfferedAs Closed)
     (log_at e.logs request.source)
-
--- and so does a poll
-pub poll_keeps_registry : (e : RunEnd) (client subscription source limit : ℕ) →
-    (on_log e source (poll_move e.registry client subscription limit) IsGone).after.registry ≡ e.registry
-unfolding on_log
-poll_keeps_registry e client subscription source limit =
-    move_keeps_registry e source (poll_move e.registry client subscription limit) IsGone (log_at e.logs source)
 
 -- and so does what comes to a log
 pub log_keeps_registry : (e : RunEnd) (source : ℕ) (move : WholeLog → Move) (absent : Answer) →
@@ -93,48 +89,46 @@ told_keeps_registry : (e : RunEnd) (now : ℕ) (fields : StatusMessage) (source 
 told_keeps_registry e now fields None = refl
 told_keeps_registry e now fields (Some source) = log_keeps_registry e source (status_move now fields) unheard
 
-pub report_keeps_registry : (e : RunEnd) (now source : ℕ) (to : Option Address) →
-    (on_report e now source to).after.registry ≡ e.registry
-report_keeps_registry e now source None = refl
-report_keeps_registry e now source (Some to) =
-    log_keeps_registry e source (report_move now e.registry.settings.receiver_id to) IsGone
+pub report_keeps_registry : (s : State) (e : RunEnd) (now source : ℕ) (to : Option Address) →
+    (on_report_by s e now source to).after.registry ≡ e.registry
+report_keeps_registry s e now source None = refl
+report_keeps_registry s e now source (Some to) =
+    log_keeps_registry e source (report_move now s.settings.receiver_id to) IsGone
 
 -- of datagrams, SETUPs alone are events
-packet_takes_event : (e : RunEnd) (now : ℕ) (local from : Address) (read : Result Content BadPacket) →
-    (on_packet e now local from read).after.registry ≡ state_of e.registry (event_in e now local from read)
+packet_takes_event : (s : State) (e : RunEnd) (now : ℕ) (local from : Address) (read : Result Content BadPacket) →
+    (packet_seen s e now local from read).after.registry ≡ state_of e.registry (event_in e now local from read)
 unfolding conducted
-packet_takes_event e now local from (Err fault) = refl
-packet_takes_event e now local from (Ok (frames [])) = refl
-packet_takes_event e now local from (Ok (frames (frame ∷ later))) =
-    image_keeps_registry e (receive_move now (frame ∷ later))
-    (image_for e.registry local from frame.header.place.session_id frame.header.place.stream_id)
-packet_takes_event e now local from (Ok (beat header)) =
-    image_keeps_registry e (beat_move now header.place)
-    (image_for e.registry local from header.place.session_id header.place.stream_id)
-packet_takes_event e now local from (Ok (setup fields)) = refl
-packet_takes_event e now local from (Ok (nak fields)) =
-    asked_keeps_registry e now from fields (resending_of e.registry from fields.session_id fields.stream_id)
-packet_takes_event e now local from (Ok (status fields)) =
-    told_keeps_registry e now fields (publication_for e.registry fields.session_id fields.stream_id)
+packet_takes_event s e now local from (Err fault) = refl
+packet_takes_event s e now local from (Ok (frames [])) = refl
+packet_takes_event s e now local from (Ok (frames (frame ∷ later))) =
+    image_keeps_registry e (receive_move now (frame ∷ later)) (image_seen s e local from frame.header.place)
+packet_takes_event s e now local from (Ok (beat header)) =
+    image_keeps_registry e (beat_move now header.place) (image_seen s e local from header.place)
+packet_takes_event s e now local from (Ok (setup fields)) = refl
+packet_takes_event s e now local from (Ok (nak fields)) =
+    asked_keeps_registry e now from fields (resending_of s from fields.session_id fields.stream_id)
+packet_takes_event s e now local from (Ok (status fields)) =
+    told_keeps_registry e now fields (publication_for s fields.session_id fields.stream_id)
 
 -- any step leaves the registry that its events leave
-moved_takes : (e : RunEnd) (step : Step) → (moved e step).after.registry ≡ state_of e.registry (event_of e step)
+moved_takes : (s : State) (e : RunEnd) (step : Step) → (moved_seen s e step).after.registry ≡ state_of e.registry (event_of e step)
 unfolding conducted
-moved_takes e (Conductor event) = refl
-moved_takes e (Packet now local from bytes) = packet_takes_event e now local from (packet_of bytes)
-moved_takes e (Offer now client registration message) =
-    offer_keeps_registry e now client registration message (offering_of e.registry client registration)
-moved_takes e (Poll now client subscription source limit) =
-    poll_keeps_registry e client subscription source limit
-moved_takes e (Send now source) = log_keeps_registry e source (send_move e.registry now) IsGone
-moved_takes e (Image now source) = report_keeps_registry e now source (publisher_of e.registry source)
-moved_takes e (Lists now client) = refl
-moved_takes e (Value now client number) = refl
+moved_takes s e (Conductor event) = refl
+moved_takes s e (Packet now local from bytes) = packet_takes_event s e now local from (packet_of bytes)
+moved_takes s e (Offer now client registration message) =
+    offer_keeps_registry s e now client registration message (offering_of s client registration)
+moved_takes s e (Poll now client subscription source limit) =
+    log_keeps_registry e source (poll_move s client subscription limit) IsGone
+moved_takes s e (Send now source) = log_keeps_registry e source (send_move s now) IsGone
+moved_takes s e (Image now source) = report_keeps_registry s e now source (publisher_of s source)
+moved_takes s e (Lists now client) = refl
+moved_takes s e (Value now client number) = refl
 
-step_takes : (e : RunEnd) (step : Step) (answer : Answer) →
-    (after e step answer).registry ≡ state_of e.registry (taken_by e step answer)
-step_takes e step NoMemory = refl
-step_takes e step answer = moved_takes e step
+step_takes : (e : RunEnd) (step : Step) (what : Moved) (answer : Answer) → what.after.registry ≡ state_of e.registry (event_of e step) →
+    (after_by e what answer).registry ≡ state_of e.registry (taken_by e step answer)
+step_takes e step what NoMemory is = refl
+step_takes e step what answer is = is
 
 -- ---- the registry that a run leaves
 
@@ -143,15 +137,18 @@ state_of_both : (s : State) (events more : List (Event × Inputs)) →
 state_of_both s [] more = refl
 state_of_both s (event ∷ events) more = state_of_both (state_after s event.0 event.1) events more
 
-pub run_takes : (e : RunEnd) (steps : List Step) (answers : List Answer) →
-    (end_of e steps answers).registry ≡ state_of e.registry (taken_from e steps answers)
+pub run_takes : (e : RunEnd) (readings : List Reading) (answers : List Answer) →
+    (end_of e readings answers).registry ≡ state_of e.registry (taken_from e readings answers)
 run_takes e [] answers = refl
-run_takes e (step ∷ steps) [] = refl
-run_takes e (step ∷ steps) (answer ∷ answers) =
-    let more : List (Event × Inputs) = taken_from (after e step answer) steps answers in
-    run_takes (after e step answer) steps answers
-    ∙ ap (λ (s : State). state_of s more) (step_takes e step answer)
-    ∙ sym (state_of_both e.registry (taken_by e step answer) more)
+run_takes e (reading ∷ readings) [] = refl
+run_takes e (reading ∷ readings) (answer ∷ answers) =
+    let more : List (Event × Inputs) = taken_from (left_by e reading answer) readings answers in
+    let is : (moved_to e reading).after.registry ≡ state_of e.registry (event_of e reading.step) =
+    holds_by (λ what. what.after.registry ≡ state_of e.registry (event_of e reading.step)) e reading.older reading.step
+    (moved_takes (read_by e reading.older) e reading.step) in
+    run_takes (left_by e reading answer) readings answers
+    ∙ ap (λ (s : State). state_of s more) (step_takes e reading.step (moved_to e reading) answer is)
+    ∙ sym (state_of_both e.registry (taken_by e reading.step answer) more)
 
 -- ---- what comes next
 
@@ -181,8 +178,8 @@ unfolding opening_end
 opening_is settings policy peers = refl
 
 pub runs_take : RunsTakeEvents
-runs_take settings policy peers steps answers =
+runs_take settings policy peers readings answers =
     let first : RunEnd = opening_end settings policy peers in
-    end_takes (end_of first steps answers) (registry_of settings policy peers steps answers)
-    (run_takes first steps answers
-    ∙ ap (λ (s : State). state_of s (taken_from first steps answers)) (opening_is settings policy peers))
+    end_takes (end_of first readings answers) (registry_of settings policy peers readings answers)
+    (run_takes first readings answers
+    ∙ ap (λ (s : State). state_of s (taken_from first readings answers)) (opening_is settings policy peers))

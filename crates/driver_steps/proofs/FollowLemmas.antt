@@ -36,7 +36,8 @@ use Rattle.driver_steps.specs.declared.answer.Answer.TheVariants.{Offered as Off
 use Rattle.driver_steps.specs.declared.answer.Offered.TheVariants.{Closed}
 use Rattle.driver_steps.specs.declared.step.Step.{Step}
 use Rattle.driver_steps.specs.declared.step.Step.TheVariants.{Conductor, Packet, Offer, Poll, Image, List as Lists, Send, Value}
-use Rattle.driver_steps.specs.Ends.{RunEnd, opening_end, inputs_of, begun, opened_for, stays_open, rejoined_log, logs_after, log_at, with_log, moved_on, on_log, on_offered, conducted, moved}
+use Rattle.driver_steps.specs.Ends.{RunEnd, opening_end, inputs_of, begun, opened_for, stays_open, rejoined_log, logs_after, log_at, with_log, moved_on, on_log, on_offered_by, conducted}
+use Rattle.driver_steps.specs.Seen.{moved_seen}
 use Rattle.driver_core.specs.Readers.{readers_of}
 use Rattle.driver_steps.specs.Held.{is_closed}
 use Rattle.driver_steps.specs.Laws.{AtEachEnd, made_for, made_as, LogsFollow, LogsFollowTheRegistry}
@@ -249,22 +250,22 @@ move_follows e source move absent (Some log) found alike follows =
       };
     }
 
-offer_follows : (e : RunEnd) (now client registration : ℕ) (message : List ℕ) (o : Option LogRequest) → Follows e →
-    Follows (on_offered e now client registration message o).after
+offer_follows : (s : State) (e : RunEnd) (now client registration : ℕ) (message : List ℕ) (o : Option LogRequest) → Follows e →
+    Follows (on_offered_by s e now client registration message o).after
 unfolding on_log offer_move
-offer_follows e now client registration message None follows = follows
-offer_follows e now client registration message (Some request) follows =
-    move_follows e request.source (offer_move e.registry now client registration message) (OfferedAs Closed)
+offer_follows s e now client registration message None follows = follows
+offer_follows s e now client registration message (Some request) follows =
+    move_follows e request.source (offer_move s now client registration message) (OfferedAs Closed)
     (log_at e.logs request.source) refl
-    (λ log. offer_alike e.registry now message log (offering_of e.registry client registration)) follows
+    (λ log. offer_alike s now message log (offering_of s client registration)) follows
 
-poll_follows : (e : RunEnd) (client subscription source limit : ℕ) → Follows e →
-    Follows (on_log e source (poll_move e.registry client subscription limit) IsGone).after
+poll_follows : (s : State) (e : RunEnd) (client subscription source limit : ℕ) → Follows e →
+    Follows (on_log e source (poll_move s client subscription limit) IsGone).after
 unfolding on_log poll_move
-poll_follows e client subscription source limit follows =
-    move_follows e source (poll_move e.registry client subscription limit) IsGone (log_at e.logs source) refl
+poll_follows s e client subscription source limit follows =
+    move_follows e source (poll_move s client subscription limit) IsGone (log_at e.logs source) refl
     (λ log.
-    poll_alike subscription limit log (receiving_of e.registry client subscription log.source)
+    poll_alike subscription limit log (receiving_of s client subscription log.source)
     (position_in log.whole subscription))
     follows
 
@@ -300,10 +301,10 @@ taken_follows e event follows =
     event_follows e.registry (conduct e.registry event inputs) e.logs (moves_logs e.registry event inputs follows.sound)
     follows.logs
 
-step_follows : (e : RunEnd) (step : Step) → Follows e → Follows (moved e step).after
-step_follows e (Conductor event) follows = taken_follows e event follows
-step_follows e (Packet now local from bytes) follows =
-    packet_cases (λ what. Follows what.after) e now local from (record {
+step_follows : (s : State) (e : RunEnd) (step : Step) → Follows e → Follows (moved_seen s e step).after
+step_follows s e (Conductor event) follows = taken_follows e event follows
+step_follows s e (Packet now local from bytes) follows =
+    packet_cases (λ what. Follows what.after) s e now local from (record {
       drops = λ cause. follows;
       receives = λ source sent.
           log_follows e source (receive_move now sent) unheard (receive_alike now sent) follows;
@@ -311,17 +312,17 @@ step_follows e (Packet now local from bytes) follows =
       asks = λ source move quiet. log_follows e source move unheard (quiet_alike move quiet) follows;
       sets_up = λ fields. taken_follows e (SetUp now local from fields) follows;
     }) (packet_of bytes)
-step_follows e (Offer now client registration message) follows =
-    offer_follows e now client registration message (offering_of e.registry client registration) follows
-step_follows e (Poll now client subscription source limit) follows =
-    poll_follows e client subscription source limit follows
-step_follows e (Send now source) follows =
-    log_follows e source (send_move e.registry now) IsGone (quiet_alike (send_move e.registry now) (send_quiet e.registry now)) follows
-step_follows e (Image now source) follows =
-    report_cases (λ what. Follows what.after) e now source follows
-    (λ move quiet. log_follows e source move IsGone (quiet_alike move quiet) follows) (publisher_of e.registry source)
-step_follows e (Lists now client) follows = follows
-step_follows e (Value now client number) follows = follows
+step_follows s e (Offer now client registration message) follows =
+    offer_follows s e now client registration message (offering_of s client registration) follows
+step_follows s e (Poll now client subscription source limit) follows =
+    poll_follows s e client subscription source limit follows
+step_follows s e (Send now source) follows =
+    log_follows e source (send_move s now) IsGone (quiet_alike (send_move s now) (send_quiet s now)) follows
+step_follows s e (Image now source) follows =
+    report_cases (λ what. Follows what.after) s e now source follows
+    (λ move quiet. log_follows e source move IsGone (quiet_alike move quiet) follows) (publisher_of s source)
+step_follows s e (Lists now client) follows = follows
+step_follows s e (Value now client number) follows = follows
 
 opening_follows : (settings : Settings) (policy : Rules) (peers : List Peer) → AreSettings settings →
     Follows (opening_end settings policy peers)
@@ -335,10 +336,10 @@ opening_follows settings policy peers sound =
 
 -- at the end of every run the registry is sound, too
 pub ends_follow : AtEachEnd Follows
-ends_follow settings policy peers steps answers sound are =
-    run_keeps Follows step_follows (opening_end settings policy peers) steps answers
+ends_follow settings policy peers readings answers sound are =
+    run_keeps Follows step_follows (opening_end settings policy peers) readings answers
     (opening_follows settings policy peers sound)
 
 pub logs_follow : LogsFollowTheRegistry
-logs_follow settings policy peers steps answers sound are =
-    (ends_follow settings policy peers steps answers sound are).logs
+logs_follow settings policy peers readings answers sound are =
+    (ends_follow settings policy peers readings answers sound are).logs

@@ -15,6 +15,7 @@ pub mod MatchLemmas
 pub mod MoveLemmas
 pub mod PacketLemmas
 pub mod QuietLemmas
+pub mod ReadLemmas
 pub mod ReaderLemmas
 pub mod RegisteredLemmas
 mod RegisteringLemmas

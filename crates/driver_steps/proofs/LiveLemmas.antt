@@ -37,7 +37,10 @@ use Rattle.driver_steps.specs.declared.answer.Offered.TheVariants.{At as PutAt, 
 use Rattle.driver_steps.specs.declared.step.Step.{Step}
 use Rattle.driver_steps.specs.declared.step.Step.TheVariants.{Conductor, Packet, Offer as Offers, Poll as Polls, Image, List as Lists, Send, Value}
 use Rattle.driver_steps.specs.Answers.{offered_as}
-use Rattle.driver_steps.specs.Ends.{RunEnd, opening_end, inputs_of, begun, opened_for, stays_open, rejoined_log, logs_after, log_at, with_log, Moved, moved_on, on_log, on_offered, conducted, moved, after_by, after, IsAnswerOf, IsAnswer, AreAnswers, end_of}
+use Rattle.driver_steps.specs.Ends.{RunEnd, opening_end, inputs_of, begun, opened_for, stays_open, rejoined_log, logs_after, log_at, with_log, Moved, moved_on, on_log, conducted, after_by, IsAnswerOf, on_offered_by}
+use Rattle.driver_steps.specs.Runs.{Reading, AreAnswers, IsAnswerTo, end_of, left_by, moved_to, read_by}
+use Rattle.driver_steps.specs.Seen.{moved_seen}
+use Rattle.driver_steps.proofs.ReadLemmas.{by_seen, holds_by}
 use Rattle.driver_core.specs.Readers.{readers_of}
 use Rattle.driver_steps.specs.Idents.{begins_by, begins_of}
 use Rattle.driver_steps.specs.Laws.{frames_for, put_into, granted_by, granted_in, AreNext, AreNextWhole, AreNextIn, ComeFromLog, BytesComeFromTheLiveLog}
@@ -422,20 +425,19 @@ put_into_found : (e : RunEnd) (message : List ℕ) (request : LogRequest) (log :
 put_into_found e message request log found source_is allows =
     rw (source_is, eq-eqb request.source request.source refl, allows, found) refl
 
-offer_found_owns : (granted more : ℕ → List Frame) (e : RunEnd) (now client registration : ℕ) (message : List ℕ)
-    (request : LogRequest) (o : Option WholeLog) → offering_of e.registry client registration ≡ Some request →
+offer_found_owns : (granted more : ℕ → List Frame) (s : State) (e : RunEnd) (now client registration : ℕ) (message : List ℕ)
+    (request : LogRequest) (o : Option WholeLog) → offering_of s client registration ≡ Some request →
     log_at e.logs request.source ≡ o → IsMore granted more →
     IsPutInto more e message (Some request)
-    (moved_on e request.source (offer_move e.registry now client registration message) (OfferedAs Closed) o).answer →
+    (moved_on e request.source (offer_move s now client registration message) (OfferedAs Closed) o).answer →
     All (Owns granted) e.logs →
     All (Owns more)
-    (moved_on e request.source (offer_move e.registry now client registration message) (OfferedAs Closed) o).after.logs
+    (moved_on e request.source (offer_move s now client registration message) (OfferedAs Closed) o).after.logs
 unfolding offer_move
-offer_found_owns granted more e now client registration message request None asked found is puts owned =
+offer_found_owns granted more s e now client registration message request None asked found is puts owned =
     all_more granted more is e.logs owned
-offer_found_owns granted more e now client registration message request (Some log) asked found is puts owned =
+offer_found_owns granted more s e now client registration message request (Some log) asked found is puts owned =
     let there = found_log (Owns granted) request.source log e.logs owned found in
-    let s : State = e.registry in
     all_with (Owns more) request.source _ e.logs (all_more granted more is e.logs owned)
     (offer_under_owns granted more s now message log (offering_of s client registration) is there.holds
     (λ position answer frame has.
@@ -445,40 +447,40 @@ offer_found_owns granted more e now client registration message request (Some lo
     let same = put_into_found e message request log found there.source_is allows in
     puts position answer log.source frame (subst (λ (fs : List Frame). Contains fs frame) (sym same) has)))
 
-offer_owns : (granted more : ℕ → List Frame) (e : RunEnd) (now client registration : ℕ) (message : List ℕ)
-    (o : Option LogRequest) → offering_of e.registry client registration ≡ o → IsMore granted more →
-    IsPutInto more e message o (on_offered e now client registration message o).answer → All (Owns granted) e.logs →
-    All (Owns more) (on_offered e now client registration message o).after.logs
+offer_owns : (granted more : ℕ → List Frame) (s : State) (e : RunEnd) (now client registration : ℕ) (message : List ℕ)
+    (o : Option LogRequest) → offering_of s client registration ≡ o → IsMore granted more →
+    IsPutInto more e message o (on_offered_by s e now client registration message o).answer → All (Owns granted) e.logs →
+    All (Owns more) (on_offered_by s e now client registration message o).after.logs
 unfolding on_log
-offer_owns granted more e now client registration message None asked is puts owned =
+offer_owns granted more s e now client registration message None asked is puts owned =
     all_more granted more is e.logs owned
-offer_owns granted more e now client registration message (Some request) asked is puts owned =
-    offer_found_owns granted more e now client registration message request (log_at e.logs request.source) asked refl is
+offer_owns granted more s e now client registration message (Some request) asked is puts owned =
+    offer_found_owns granted more s e now client registration message request (log_at e.logs request.source) asked refl is
     puts owned
 
-poll_owns : (granted : ℕ → List Frame) (e : RunEnd) (client subscription source limit : ℕ) → All (Owns granted) e.logs →
-    All (Owns granted) (on_log e source (poll_move e.registry client subscription limit) IsGone).after.logs
+poll_owns : (granted : ℕ → List Frame) (s : State) (e : RunEnd) (client subscription source limit : ℕ) → All (Owns granted) e.logs →
+    All (Owns granted) (on_log e source (poll_move s client subscription limit) IsGone).after.logs
 unfolding poll_move
-poll_owns granted e client subscription source limit owned =
-    log_keeps (Owns granted) e source (poll_move e.registry client subscription limit) IsGone
+poll_owns granted s e client subscription source limit owned =
+    log_keeps (Owns granted) e source (poll_move s client subscription limit) IsGone
     (λ log found there.
-    poll_under_owns granted subscription limit log (receiving_of e.registry client subscription log.source)
+    poll_under_owns granted subscription limit log (receiving_of s client subscription log.source)
     (position_in log.whole subscription) there.holds) owned
 
 -- what was granted before a step, and by it
-abbrev granted_with : (ℕ → List Frame) → RunEnd → Step → Answer → ℕ → List Frame
-granted_with granted e step answer source = granted source ++ granted_by e source step answer
+abbrev pub granted_with : (ℕ → List Frame) → State → RunEnd → Step → Answer → ℕ → List Frame
+granted_with granted s e step answer source = granted source ++ granted_by s e source step answer
 
-with_is_more : (granted : ℕ → List Frame) (e : RunEnd) (step : Step) (answer : Answer) →
-    IsMore granted (granted_with granted e step answer)
-with_is_more granted e step answer source frame has =
-    Contains-append_left (granted source) (granted_by e source step answer) frame has
+with_is_more : (granted : ℕ → List Frame) (s : State) (e : RunEnd) (step : Step) (answer : Answer) →
+    IsMore granted (granted_with granted s e step answer)
+with_is_more granted s e step answer source frame has =
+    Contains-append_left (granted source) (granted_by s e source step answer) frame has
 
 -- a step that puts nothing into a log
-still_owns : (granted : ℕ → List Frame) (e : RunEnd) (step : Step) (answer : Answer) (logs : List WholeLog) →
-    All (Owns granted) logs → All (Owns (granted_with granted e step answer)) logs
-still_owns granted e step answer logs owned =
-    all_more granted (granted_with granted e step answer) (with_is_more granted e step answer) logs owned
+still_owns : (granted : ℕ → List Frame) (s : State) (e : RunEnd) (step : Step) (answer : Answer) (logs : List WholeLog) →
+    All (Owns granted) logs → All (Owns (granted_with granted s e step answer)) logs
+still_owns granted s e step answer logs owned =
+    all_more granted (granted_with granted s e step answer) (with_is_more granted s e step answer) logs owned
 
 -- a publication's log begins without frames, and who reads a log changes none of them
 owns_kept : (granted : ℕ → List Frame) → IsKept (Owns granted)
@@ -533,50 +535,50 @@ quiet_owns granted e source move absent quiet owned =
     (still_any (granted log.source) log.whole) there.holds)
     owned
 
-moved_owns : (granted : ℕ → List Frame) (e : RunEnd) (step : Step) → All (Owns granted) e.logs →
-    All (Owns (granted_with granted e step (moved e step).answer)) (moved e step).after.logs
-moved_owns granted e (Packet now local from bytes) owned =
+moved_owns : (granted : ℕ → List Frame) (s : State) (e : RunEnd) (step : Step) → All (Owns granted) e.logs →
+    All (Owns (granted_with granted s e step (moved_seen s e step).answer)) (moved_seen s e step).after.logs
+moved_owns granted s e (Packet now local from bytes) owned =
     let step : Step = Packet now local from bytes in
-    still_owns granted e step (moved e step).answer (moved e step).after.logs
-    (packet_cases (λ what. All (Owns granted) what.after.logs) e now local from (record {
+    still_owns granted s e step (moved_seen s e step).answer (moved_seen s e step).after.logs
+    (packet_cases (λ what. All (Owns granted) what.after.logs) s e now local from (record {
       drops = λ cause. owned;
       receives = λ source sent. receive_owns granted e source now sent owned;
       hears = λ source place. beat_owns granted e source now place owned;
       asks = λ source move quiet. quiet_owns granted e source move unheard quiet owned;
       sets_up = λ fields. event_keeps (Owns granted) e (SetUp now local from fields) (owns_kept granted) owned;
     }) (packet_of bytes))
-moved_owns granted e (Conductor event) owned =
+moved_owns granted s e (Conductor event) owned =
     let step : Step = Conductor event in
-    still_owns granted e step (moved e step).answer (moved e step).after.logs
+    still_owns granted s e step (moved_seen s e step).answer (moved_seen s e step).after.logs
     (event_keeps (Owns granted) e event (owns_kept granted) owned)
-moved_owns granted e (Offers now client registration message) owned =
+moved_owns granted s e (Offers now client registration message) owned =
     let step : Step = Offers now client registration message in
-    let answer : Answer = (moved e step).answer in
-    offer_owns granted (granted_with granted e step answer) e now client registration message
-    (offering_of e.registry client registration) refl (with_is_more granted e step answer)
+    let answer : Answer = (moved_seen s e step).answer in
+    offer_owns granted (granted_with granted s e step answer) s e now client registration message
+    (offering_of s client registration) refl (with_is_more granted s e step answer)
     (λ position is source frame has.
-    Contains-append_right (granted source) (granted_by e source step answer) frame
-    (subst (λ (a : Answer). Contains (granted_by e source step a) frame) (sym is) has))
+    Contains-append_right (granted source) (granted_by s e source step answer) frame
+    (subst (λ (a : Answer). Contains (granted_by s e source step a) frame) (sym is) has))
     owned
-moved_owns granted e (Polls now client subscription source limit) owned =
+moved_owns granted s e (Polls now client subscription source limit) owned =
     let step : Step = Polls now client subscription source limit in
-    still_owns granted e step (moved e step).answer (moved e step).after.logs
-    (poll_owns granted e client subscription source limit owned)
-moved_owns granted e (Send now source) owned =
+    still_owns granted s e step (moved_seen s e step).answer (moved_seen s e step).after.logs
+    (poll_owns granted s e client subscription source limit owned)
+moved_owns granted s e (Send now source) owned =
     let step : Step = Send now source in
-    still_owns granted e step (moved e step).answer (moved e step).after.logs
-    (quiet_owns granted e source (send_move e.registry now) IsGone (send_quiet e.registry now) owned)
-moved_owns granted e (Image now source) owned =
+    still_owns granted s e step (moved_seen s e step).answer (moved_seen s e step).after.logs
+    (quiet_owns granted e source (send_move s now) IsGone (send_quiet s now) owned)
+moved_owns granted s e (Image now source) owned =
     let step : Step = Image now source in
-    still_owns granted e step (moved e step).answer (moved e step).after.logs
-    (report_cases (λ what. All (Owns granted) what.after.logs) e now source owned
-    (λ move quiet. quiet_owns granted e source move IsGone quiet owned) (publisher_of e.registry source))
-moved_owns granted e (Lists now client) owned =
+    still_owns granted s e step (moved_seen s e step).answer (moved_seen s e step).after.logs
+    (report_cases (λ what. All (Owns granted) what.after.logs) s e now source owned
+    (λ move quiet. quiet_owns granted e source move IsGone quiet owned) (publisher_of s source))
+moved_owns granted s e (Lists now client) owned =
     let step : Step = Lists now client in
-    still_owns granted e step (moved e step).answer e.logs owned
-moved_owns granted e (Value now client number) owned =
+    still_owns granted s e step (moved_seen s e step).answer e.logs owned
+moved_owns granted s e (Value now client number) owned =
     let step : Step = Value now client number in
-    still_owns granted e step (moved e step).answer e.logs owned
+    still_owns granted s e step (moved_seen s e step).answer e.logs owned
 
 -- a step leaves and is answered what it comes to
 told_either : (P : Answer → RunEnd → Type 0) (what : Moved) (answer : Answer) → answer ≡ what.answer →
@@ -589,35 +591,43 @@ pub step_either : (P : Answer → RunEnd → Type 0) (e : RunEnd) (what : Moved)
 step_either P e what NoMemory is stays moves = stays
 step_either P e what answer is stays moves = told_either P what answer is moves
 
-step_owns : (granted : ℕ → List Frame) (e : RunEnd) (step : Step) (answer : Answer) → IsAnswer e step answer →
-    All (Owns granted) e.logs → All (Owns (granted_with granted e step answer)) (after e step answer).logs
-step_owns granted e step answer is owned =
-    step_either (λ told end. All (Owns (granted_with granted e step told)) end.logs) e (moved e step) answer is
-    (still_owns granted e step NoMemory e.logs owned) (moved_owns granted e step owned)
+-- those of the step that came to that
+abbrev Came : (ℕ → List Frame) → State → RunEnd → Step → Moved → Type 0
+Came granted s e step what = All (Owns (granted_with granted s e step what.answer)) what.after.logs
+
+step_owns : (granted : ℕ → List Frame) (e : RunEnd) (reading : Reading) (answer : Answer) → IsAnswerTo e reading answer →
+    All (Owns granted) e.logs →
+    All (Owns (granted_with granted (read_by e reading.older) e reading.step answer)) (left_by e reading answer).logs
+step_owns granted e reading answer is owned =
+    let s : State = read_by e reading.older in
+    step_either (λ told end. All (Owns (granted_with granted s e reading.step told)) end.logs) e (moved_to e reading) answer is
+    (still_owns granted s e reading.step NoMemory e.logs owned)
+    (holds_by (Came granted s e reading.step) e reading.older reading.step (moved_owns granted s e reading.step owned))
 
 -- ---- runs
 
 -- what was granted before a run, and in it
-abbrev granted_behind : (ℕ → List Frame) → RunEnd → List Step → List Answer → ℕ → List Frame
-granted_behind granted e steps answers source = granted source ++ granted_in e source steps answers
+abbrev granted_behind : (ℕ → List Frame) → RunEnd → List Reading → List Answer → ℕ → List Frame
+granted_behind granted e readings answers source = granted source ++ granted_in e source readings answers
 
-run_owns : (granted : ℕ → List Frame) (e : RunEnd) (steps : List Step) (answers : List Answer) →
-    AreAnswers e steps answers →
-    All (Owns granted) e.logs → All (Owns (granted_behind granted e steps answers)) (end_of e steps answers).logs
+run_owns : (granted : ℕ → List Frame) (e : RunEnd) (readings : List Reading) (answers : List Answer) →
+    AreAnswers e readings answers →
+    All (Owns granted) e.logs → All (Owns (granted_behind granted e readings answers)) (end_of e readings answers).logs
 run_owns granted e [] [] are owned =
     all_more granted (granted_behind granted e [] [])
     (λ source frame has. Contains-append_left (granted source) [] frame has) e.logs owned
 run_owns granted e [] (answer ∷ answers) are owned = absurd are
-run_owns granted e (step ∷ steps) [] are owned = absurd are
-run_owns granted e (step ∷ steps) (answer ∷ answers) are owned =
-    let next : RunEnd = after e step answer in
-    let now : ℕ → List Frame = granted_with granted e step answer in
-    all_more (granted_behind now next steps answers) (granted_behind granted e (step ∷ steps) (answer ∷ answers))
+run_owns granted e (reading ∷ readings) [] are owned = absurd are
+run_owns granted e (reading ∷ readings) (answer ∷ answers) are owned =
+    let next : RunEnd = left_by e reading answer in
+    let s : State = read_by e reading.older in
+    let now : ℕ → List Frame = granted_with granted s e reading.step answer in
+    all_more (granted_behind now next readings answers) (granted_behind granted e (reading ∷ readings) (answer ∷ answers))
     (λ source frame has.
     subst (λ (fs : List Frame). Contains fs frame)
-    (append_assoc (granted source) (granted_by e source step answer) (granted_in next source steps answers)) has)
-    (end_of next steps answers).logs
-    (run_owns now next steps answers are.1 (step_owns granted e step answer are.0 owned))
+    (append_assoc (granted source) (granted_by s e source reading.step answer) (granted_in next source readings answers)) has)
+    (end_of next readings answers).logs
+    (run_owns now next readings answers are.1 (step_owns granted e reading answer are.0 owned))
 
 -- ---- what a poll gives then
 
@@ -722,16 +732,16 @@ poll_gives subscription limit log (Some request) (Some at) fragments stood is =
           (λ _ other. absurd (cc other)) (λ _ same. cc same) is;
     }
 
-poll_comes : (granted : ℕ → List Frame) (e : RunEnd) (client subscription source limit : ℕ) (fragments : List Fragment)
+poll_comes : (granted : ℕ → List Frame) (s : State) (e : RunEnd) (client subscription source limit : ℕ) (fragments : List Fragment)
     (o : Option WholeLog) → log_at e.logs source ≡ o → All (Owns granted) e.logs →
-    Polled fragments ≡ (moved_on e source (poll_move e.registry client subscription limit) IsGone o).answer →
+    Polled fragments ≡ (moved_on e source (poll_move s client subscription limit) IsGone o).answer →
     ComeFromLog e source subscription limit (granted source) fragments
 unfolding poll_move
-poll_comes granted e client subscription source limit fragments None found owned is = absurd (cc is)
-poll_comes granted e client subscription source limit fragments (Some log) found owned is =
+poll_comes granted s e client subscription source limit fragments None found owned is = absurd (cc is)
+poll_comes granted s e client subscription source limit fragments (Some log) found owned is =
     let there = found_log (Owns granted) source log e.logs owned found in
     let gives =
-    poll_gives subscription limit log (receiving_of e.registry client subscription log.source)
+    poll_gives subscription limit log (receiving_of s client subscription log.source)
     (position_in log.whole subscription) fragments refl is in
     record {
       log = log;
@@ -748,9 +758,12 @@ opening_owns settings policy peers = All-nil (Owns (λ source. []))
 
 pub bytes_come : BytesComeFromTheLiveLog
 unfolding on_log
-bytes_come settings policy peers steps answers now client subscription source limit fragments are is =
+bytes_come settings policy peers readings answers older now client subscription source limit fragments are is =
     let first : RunEnd = opening_end settings policy peers in
-    let last : RunEnd = end_of first steps answers in
-    poll_comes (λ n. granted_in first n steps answers) last client subscription source limit fragments
+    let last : RunEnd = end_of first readings answers in
+    let s : State = read_by last older in
+    let told : Polled fragments ≡ (moved_seen s last (Polls now client subscription source limit)).answer =
+    is ∙ sym (ap (λ (what : Moved). what.answer) (by_seen last older (Polls now client subscription source limit))) in
+    poll_comes (λ n. granted_in first n readings answers) s last client subscription source limit fragments
     (log_at last.logs source) refl
-    (run_owns (λ n. []) first steps answers are (opening_owns settings policy peers)) is
+    (run_owns (λ n. []) first readings answers are (opening_owns settings policy peers)) told

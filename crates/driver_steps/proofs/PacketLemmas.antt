@@ -6,11 +6,12 @@ use Rattle.driver_core.specs.declared.event.Event.TheVariants.{Setup as SetUp}
 use Rattle.driver_core.specs.declared.image_request.Astray.{Astray}
 use Rattle.driver_core.specs.declared.image_request.Astray.TheVariants.{NoStream}
 use Rattle.driver_core.specs.declared.log_request.LogRequest.{LogRequest}
-use Rattle.driver_core.specs.ImageRequests.{image_for}
 use Rattle.driver_core.specs.PublicationRequests.{publication_for, resending_of}
 use Rattle.driver_steps.specs.declared.cause.Cause.{Cause}
 use Rattle.driver_steps.specs.declared.cause.Cause.TheVariants.{Astray as IsAstray, Unread}
-use Rattle.driver_steps.specs.Ends.{RunEnd, Moved, conducted, dropped, on_asked, on_image, on_log, on_packet, on_told}
+use Rattle.driver_core.specs.State.{State}
+use Rattle.driver_steps.specs.Ends.{RunEnd, Moved, conducted, dropped, on_asked, on_image, on_log, on_told}
+use Rattle.driver_steps.specs.Seen.{image_seen, packet_seen}
 use Rattle.driver_steps.specs.Hearing.{nak_move, status_move}
 use Rattle.driver_steps.specs.Moves.{WholeLog, Move}
 use Rattle.driver_steps.proofs.QuietLemmas.{IsQuiet, nak_quiet, status_quiet}
@@ -56,22 +57,21 @@ pub told_cases : (P : Moved → Type 0) (e : RunEnd) (now : ℕ) (fields : Statu
 told_cases P e now fields asks drops None = drops (IsAstray NoStream)
 told_cases P e now fields asks drops (Some source) = asks source (status_move now fields) (status_quiet now fields)
 
-pub packet_cases : (P : Moved → Type 0) (e : RunEnd) (now : ℕ) (local from : Address) → PacketCases P e now local from →
-    (read : Result Content BadPacket) → P (on_packet e now local from read)
-packet_cases P e now local from cases (Err fault) = cases.drops (Unread fault)
-packet_cases P e now local from cases (Ok (frames [])) = cases.drops (IsAstray NoStream)
-packet_cases P e now local from cases (Ok (frames (frame ∷ later))) =
+pub packet_cases : (P : Moved → Type 0) (s : State) (e : RunEnd) (now : ℕ) (local from : Address) → PacketCases P e now local from →
+    (read : Result Content BadPacket) → P (packet_seen s e now local from read)
+packet_cases P s e now local from cases (Err fault) = cases.drops (Unread fault)
+packet_cases P s e now local from cases (Ok (frames [])) = cases.drops (IsAstray NoStream)
+packet_cases P s e now local from cases (Ok (frames (frame ∷ later))) =
     image_cases P e (receive_move now (frame ∷ later)) (λ source. cases.receives source (frame ∷ later)) cases.drops
-    (image_for e.registry local from frame.header.place.session_id frame.header.place.stream_id)
-packet_cases P e now local from cases (Ok (beat header)) =
+    (image_seen s e local from frame.header.place)
+packet_cases P s e now local from cases (Ok (beat header)) =
     image_cases P e (beat_move now header.place) (λ source. cases.hears source header.place) cases.drops
-    (image_for e.registry local from header.place.session_id header.place.stream_id)
-packet_cases P e now local from cases (Ok (setup fields)) = cases.sets_up fields
-packet_cases P e now local from cases (Ok (nak fields)) =
-    asked_cases P e now from fields cases.asks cases.drops
-    (resending_of e.registry from fields.session_id fields.stream_id)
-packet_cases P e now local from cases (Ok (status fields)) =
-    told_cases P e now fields cases.asks cases.drops (publication_for e.registry fields.session_id fields.stream_id)
+    (image_seen s e local from header.place)
+packet_cases P s e now local from cases (Ok (setup fields)) = cases.sets_up fields
+packet_cases P s e now local from cases (Ok (nak fields)) =
+    asked_cases P e now from fields cases.asks cases.drops (resending_of s from fields.session_id fields.stream_id)
+packet_cases P s e now local from cases (Ok (status fields)) =
+    told_cases P e now fields cases.asks cases.drops (publication_for s fields.session_id fields.stream_id)
 
 -- ---- a log is made for the same then, and the same read it
 

@@ -6,7 +6,7 @@ use Rattle.channel_uri.specs.declared.address.Address.{Address}
 use Rattle.driver_core.specs.SendRequests.{sending_of}
 use Rattle.driver_core.specs.State.{State}
 use Rattle.driver_steps.specs.declared.answer.Answer.TheVariants.{Gone as IsGone}
-use Rattle.driver_steps.specs.Ends.{RunEnd, Moved, on_log, on_report}
+use Rattle.driver_steps.specs.Ends.{RunEnd, Moved, on_log, on_report_by}
 use Rattle.driver_steps.specs.Hearing.{nak_move, status_move}
 use Rattle.driver_steps.specs.Moves.{WholeLog, Move}
 use Rattle.driver_steps.specs.Reporting.{report_move}
@@ -52,9 +52,9 @@ send_quiet s now log = send_still s now log (sending_of s log.source)
 -- ---- a turn of the receiver
 
 -- there is no such image, or its log moves so
-pub report_cases : (P : Moved → Type 0) (e : RunEnd) (now source : ℕ) →
+pub report_cases : (P : Moved → Type 0) (s : State) (e : RunEnd) (now source : ℕ) →
     P (record { after = e; answer = IsGone }) → ((move : WholeLog → Move) → IsQuiet move → P (on_log e source move IsGone)) →
-    (to : Option Address) → P (on_report e now source to)
-report_cases P e now source stays moves None = stays
-report_cases P e now source stays moves (Some to) =
-    moves (report_move now e.registry.settings.receiver_id to) (report_quiet now e.registry.settings.receiver_id to)
+    (to : Option Address) → P (on_report_by s e now source to)
+report_cases P s e now source stays moves None = stays
+report_cases P s e now source stays moves (Some to) =
+    moves (report_move now s.settings.receiver_id to) (report_quiet now s.settings.receiver_id to)

@@ -18,12 +18,14 @@ use Rattle.driver_steps.specs.declared.answer.Answer.TheVariants.{Gone as IsGone
 use Rattle.driver_steps.specs.Sending.{send_move}
 use Rattle.driver_steps.specs.declared.step.Step.{Step}
 use Rattle.driver_steps.specs.declared.step.Step.TheVariants.{Conductor, Packet, Offer, Poll, Image, List as Lists, Send, Value}
-use Rattle.driver_steps.specs.Ends.{RunEnd, conducted, inputs_of, moved, opening_end}
+use Rattle.driver_steps.specs.Ends.{RunEnd, conducted, inputs_of, opening_end}
+use Rattle.driver_steps.specs.Moves.{poll_move}
+use Rattle.driver_steps.specs.Seen.{moved_seen}
 use Rattle.driver_steps.specs.Laws.{AtEachEnd}
 use Rattle.driver_steps.specs.Receiving.{beat_move, receive_move, unheard}
 use Rattle.frame_codec.specs.Datagram.{packet_of}
 use Rattle.driver_steps.specs.Registered.{AreRegistered, IsPublishedBy, IsWith}
-use Rattle.driver_steps.proofs.EndLemmas.{log_keeps_registry, offer_keeps_registry, poll_keeps_registry, report_keeps_registry, run_keeps}
+use Rattle.driver_steps.proofs.EndLemmas.{log_keeps_registry, offer_keeps_registry, report_keeps_registry, run_keeps}
 use Rattle.driver_steps.proofs.PacketLemmas.{packet_cases}
 use Rattle.driver_steps.proofs.RegisteringLemmas.{registered_after}
 use Rattle.policy_core.specs.RuleList.{Rules}
@@ -47,24 +49,24 @@ event_keeps e event keeps =
       registered = registered_after e.registry event inputs keeps.sound keeps.registered;
     }
 
-step_keeps : (e : RunEnd) (step : Step) → Keeps e.registry → Keeps (moved e step).after.registry
-step_keeps e (Conductor event) keeps = event_keeps e event keeps
-step_keeps e (Packet now local from bytes) keeps =
-    packet_cases (λ what. Keeps what.after.registry) e now local from (record {
+step_keeps : (s : State) (e : RunEnd) (step : Step) → Keeps e.registry → Keeps (moved_seen s e step).after.registry
+step_keeps s e (Conductor event) keeps = event_keeps e event keeps
+step_keeps s e (Packet now local from bytes) keeps =
+    packet_cases (λ what. Keeps what.after.registry) s e now local from (record {
       drops = λ cause. keeps;
       receives = λ source sent. rw (log_keeps_registry e source (receive_move now sent) unheard) keeps;
       hears = λ source place. rw (log_keeps_registry e source (beat_move now place) unheard) keeps;
       asks = λ source move quiet. rw (log_keeps_registry e source move unheard) keeps;
       sets_up = λ fields. event_keeps e (SetUp now local from fields) keeps;
     }) (packet_of bytes)
-step_keeps e (Offer now client registration message) keeps =
-    rw (offer_keeps_registry e now client registration message (offering_of e.registry client registration)) keeps
-step_keeps e (Poll now client subscription source limit) keeps =
-    rw (poll_keeps_registry e client subscription source limit) keeps
-step_keeps e (Send now source) keeps = rw (log_keeps_registry e source (send_move e.registry now) IsGone) keeps
-step_keeps e (Image now source) keeps = rw (report_keeps_registry e now source (publisher_of e.registry source)) keeps
-step_keeps e (Lists now client) keeps = keeps
-step_keeps e (Value now client number) keeps = keeps
+step_keeps s e (Offer now client registration message) keeps =
+    rw (offer_keeps_registry s e now client registration message (offering_of s client registration)) keeps
+step_keeps s e (Poll now client subscription source limit) keeps =
+    rw (log_keeps_registry e source (poll_move s client subscription limit) IsGone) keeps
+step_keeps s e (Send now source) keeps = rw (log_keeps_registry e source (send_move s now) IsGone) keeps
+step_keeps s e (Image now source) keeps = rw (report_keeps_registry s e now source (publisher_of s source)) keeps
+step_keeps s e (Lists now client) keeps = keeps
+step_keeps s e (Value now client number) keeps = keeps
 
 opening_keeps : (settings : Settings) (policy : Rules) (peers : List Peer) → AreSettings settings →
     Keeps (opening_end settings policy peers).registry
@@ -78,16 +80,16 @@ abbrev EndKeeps : RunEnd → Type 0
 EndKeeps e = Keeps e.registry
 
 ends_keep : AtEachEnd EndKeeps
-ends_keep settings policy peers steps answers sound are =
-    run_keeps EndKeeps step_keeps (opening_end settings policy peers) steps answers (opening_keeps settings policy peers sound)
+ends_keep settings policy peers readings answers sound are =
+    run_keeps EndKeeps step_keeps (opening_end settings policy peers) readings answers (opening_keeps settings policy peers sound)
 
 -- at the end of every run registrations are with publications
 abbrev pub EndRegistered : RunEnd → Type 0
 EndRegistered e = AreRegistered e.registry
 
 pub ends_registered : AtEachEnd EndRegistered
-ends_registered settings policy peers steps answers sound are =
-    (ends_keep settings policy peers steps answers sound are).registered
+ends_registered settings policy peers readings answers sound are =
+    (ends_keep settings policy peers readings answers sound are).registered
 
 -- ---- the publication of a registration
 

@@ -1,17 +1,19 @@
 -- What a poll gives of a remote publisher's stream came in datagrams of that publisher. Own rules.
-use Rattle.std.specs.Prelude.{◌≡◌, ℕ, ◌==◌, List, [], ◌∷◌, ◌++◌, map, All, Contains, drop, Some, Result, Ok, Err, if◌then◌else◌}
+use Rattle.std.specs.Prelude.{◌≡◌, ℕ, ◌==◌, List, [], ◌∷◌, ◌++◌, map, All, Contains, drop, Option, Some, Result, Ok, Err, if◌then◌else◌}
 use Rattle.any_log.specs.declared.fragment.Fragment.{Fragment}
 use Rattle.any_log.specs.Whole.{rebuilt}
 use Rattle.channel_uri.specs.declared.address.Address.{Address}
 use Rattle.driver_core.specs.declared.image_request.Astray.{Astray}
 use Rattle.driver_core.specs.declared.peer.Peer.{Peer}
 use Rattle.driver_core.specs.declared.settings.Settings.{Settings}
-use Rattle.driver_core.specs.ImageRequests.{image_for}
+use Rattle.driver_core.specs.State.{State}
 use Rattle.driver_steps.specs.declared.answer.Answer.{Answer}
 use Rattle.driver_steps.specs.declared.answer.Answer.TheVariants.{Polled, Received}
 use Rattle.driver_steps.specs.declared.step.Step.{Step}
 use Rattle.driver_steps.specs.declared.step.Step.TheVariants.{Packet, Poll}
-use Rattle.driver_steps.specs.Ends.{RunEnd, opening_end, log_at, after, IsAnswer, AreAnswers, end_of}
+use Rattle.driver_steps.specs.Ends.{RunEnd, opening_end, log_at}
+use Rattle.driver_steps.specs.Runs.{Reading, AreAnswers, IsAnswerTo, end_of, left_by, read_by}
+use Rattle.driver_steps.specs.Seen.{image_seen}
 use Rattle.driver_steps.specs.Moves.{WholeLog}
 use Rattle.frame_codec.specs.declared.fault.BadPacket.{BadPacket}
 use Rattle.frame_codec.specs.declared.flags.Flags.{Flags}
@@ -29,29 +31,29 @@ carried_for (Ok image) source sent = if image == source then map (λ frame. fram
 carried_for (Err why) source sent = []
 
 -- Frames of one datagram are for the image of the first one's session and stream at that endpoint, where they come from
--- its publisher's address.
-abbrev pub carried_together : RunEnd → ℕ → Address → Address → List Sent → List (List ℕ)
-carried_together e source local from [] = []
-carried_together e source local from (frame ∷ later) =
-    carried_for (image_for e.registry local from frame.header.place.session_id frame.header.place.stream_id) source
-    (frame ∷ later)
+-- its publisher's address, and it is still there.
+abbrev pub carried_together : State → RunEnd → ℕ → Address → Address → List Sent → List (List ℕ)
+carried_together s e source local from [] = []
+carried_together s e source local from (frame ∷ later) =
+    carried_for (image_seen s e local from frame.header.place) source (frame ∷ later)
 
 -- heartbeats, SETUPs, and what can't be read carry nothing
-abbrev pub carried_on : RunEnd → ℕ → Address → Address → Result Content BadPacket → List (List ℕ)
-carried_on e source local from (Ok (frames sent)) = carried_together e source local from sent
-carried_on e source local from read = []
+abbrev pub carried_on : State → RunEnd → ℕ → Address → Address → Result Content BadPacket → List (List ℕ)
+carried_on s e source local from (Ok (frames sent)) = carried_together s e source local from sent
+carried_on s e source local from read = []
 
--- those of a step: a datagram that was received
-abbrev pub carried_by : RunEnd → ℕ → Step → Answer → List (List ℕ)
-carried_by e source (Packet now local from bytes) (Received words) = carried_on e source local from (packet_of bytes)
-carried_by e source step answer = []
+-- those of a step by that registry: a datagram that was received
+abbrev pub carried_by : State → RunEnd → ℕ → Step → Answer → List (List ℕ)
+carried_by s e source (Packet now local from bytes) (Received words) = carried_on s e source local from (packet_of bytes)
+carried_by s e source step answer = []
 
 -- and those of a run
-abbrev pub carried_in : RunEnd → ℕ → List Step → List Answer → List (List ℕ)
+abbrev pub carried_in : RunEnd → ℕ → List Reading → List Answer → List (List ℕ)
 carried_in e source [] answers = []
-carried_in e source (step ∷ steps) [] = []
-carried_in e source (step ∷ steps) (answer ∷ answers) =
-    carried_by e source step answer ++ carried_in (after e step answer) source steps answers
+carried_in e source (reading ∷ readings) [] = []
+carried_in e source (reading ∷ readings) (answer ∷ answers) =
+    carried_by (read_by e reading.older) e source reading.step answer
+    ++ carried_in (left_by e reading answer) source readings answers
 
 -- ---- what a poll gives
 
@@ -66,12 +68,13 @@ pub record IsCarried (carried : List (List ℕ)) (part : Fragment) : Type 0 wher
   pub flags_are : part.flags ≡ flags_in bytes
   pub payload_is : part.payload ≡ drop 32 bytes
 
--- of an image's log, after any run
+-- of an image's log, after any run, whichever registry the poll goes by
 abbrev pub PayloadsComeFromTheirPublisher : Type 0
 PayloadsComeFromTheirPublisher =
-    (settings : Settings) (policy : Rules) (peers : List Peer) (steps : List Step) (answers : List Answer)
-    (now client subscription source limit : ℕ) (fragments : List Fragment) (log : WholeLog) (r : Rebuilt) →
-    AreAnswers (opening_end settings policy peers) steps answers →
-    log_at (end_of (opening_end settings policy peers) steps answers).logs source ≡ Some log → log.whole ≡ rebuilt r →
-    IsAnswer (end_of (opening_end settings policy peers) steps answers) (Poll now client subscription source limit) (Polled fragments) →
-    All (IsCarried (carried_in (opening_end settings policy peers) source steps answers)) fragments
+    (settings : Settings) (policy : Rules) (peers : List Peer) (readings : List Reading) (answers : List Answer)
+    (older : Option State) (now client subscription source limit : ℕ) (fragments : List Fragment) (log : WholeLog) (r : Rebuilt) →
+    AreAnswers (opening_end settings policy peers) readings answers →
+    log_at (end_of (opening_end settings policy peers) readings answers).logs source ≡ Some log → log.whole ≡ rebuilt r →
+    IsAnswerTo (end_of (opening_end settings policy peers) readings answers)
+    (record { older = older; step = Poll now client subscription source limit }) (Polled fragments) →
+    All (IsCarried (carried_in (opening_end settings policy peers) source readings answers)) fragments

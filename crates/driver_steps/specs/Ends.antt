@@ -229,16 +229,3 @@ IsAnswerOf what answer = answer ≡ what.answer
 
 abbrev pub IsAnswer : RunEnd → Step → Answer → Type 0
 IsAnswer e step answer = IsAnswerOf (moved e step) answer
-
--- the answers of a list of steps, each given where the ones before it left off
-abbrev pub AreAnswers : RunEnd → List Step → List Answer → Type 0
-AreAnswers e [] [] = Unit {0}
-AreAnswers e [] (answer ∷ answers) = ⊥
-AreAnswers e (step ∷ steps) [] = ⊥
-AreAnswers e (step ∷ steps) (answer ∷ answers) = IsAnswer e step answer × AreAnswers (after e step answer) steps answers
-
--- where they leave off
-abbrev pub end_of : RunEnd → List Step → List Answer → RunEnd
-end_of e [] answers = e
-end_of e (step ∷ steps) [] = e
-end_of e (step ∷ steps) (answer ∷ answers) = end_of (after e step answer) steps answers

@@ -26,7 +26,8 @@ use Rattle.driver_steps.specs.declared.answer.Offered.TheVariants.{At, Closed, T
 use Rattle.driver_steps.specs.declared.step.Step.{Step}
 use Rattle.driver_steps.specs.declared.step.Step.TheVariants.{Conductor, Packet, Offer, Poll, Send, Image, List as Lists, Value}
 use Rattle.driver_steps.specs.Answers.{answer_of, answer_listed, answer_shown, offered_as}
-use Rattle.driver_steps.specs.Ends.{RunEnd, Moved, opening_end, inputs_of, log_at, with_log, moved, after, IsAnswer, AreAnswers, end_of}
+use Rattle.driver_steps.specs.Ends.{RunEnd, Moved, opening_end, inputs_of, log_at, with_log, moved, IsAnswer}
+use Rattle.driver_steps.specs.Runs.{Reading, AreAnswers, IsAnswerTo, end_of, left_by, read_by}
 use Rattle.driver_core.specs.Readers.{readers_of}
 use Rattle.driver_steps.specs.Idents.{made_of}
 use Rattle.driver_steps.specs.Moves.{WholeLog}
@@ -56,9 +57,9 @@ use Rattle.term_log.specs.Whole.{Whole, answer_to, is_connected, offered, polled
 -- whatever happened since a driver was opened with sound settings
 abbrev pub AtEachEnd : (RunEnd → Type 0) → Type 0
 AtEachEnd P =
-    (settings : Settings) (policy : Rules) (peers : List Peer) (steps : List Step) (answers : List Answer) →
-    AreSettings settings → AreAnswers (opening_end settings policy peers) steps answers →
-    P (end_of (opening_end settings policy peers) steps answers)
+    (settings : Settings) (policy : Rules) (peers : List Peer) (readings : List Reading) (answers : List Answer) →
+    AreSettings settings → AreAnswers (opening_end settings policy peers) readings answers →
+    P (end_of (opening_end settings policy peers) readings answers)
 
 -- ---- the registry of a run
 
@@ -89,16 +90,16 @@ taken_at events answer = events
 abbrev pub taken_by : RunEnd → Step → Answer → List (Event × Inputs)
 taken_by e step answer = taken_at (event_of e step) answer
 
-abbrev pub taken_from : RunEnd → List Step → List Answer → List (Event × Inputs)
+abbrev pub taken_from : RunEnd → List Reading → List Answer → List (Event × Inputs)
 taken_from e [] answers = []
-taken_from e (step ∷ steps) [] = []
-taken_from e (step ∷ steps) (answer ∷ answers) =
-    taken_by e step answer ++ taken_from (after e step answer) steps answers
+taken_from e (reading ∷ readings) [] = []
+taken_from e (reading ∷ readings) (answer ∷ answers) =
+    taken_by e reading.step answer ++ taken_from (left_by e reading answer) readings answers
 
 -- the registry after the events that a run took
-abbrev pub registry_of : Settings → Rules → List Peer → List Step → List Answer → State
-registry_of settings policy peers steps answers =
-    state_of (opened settings policy peers) (taken_from (opening_end settings policy peers) steps answers)
+abbrev pub registry_of : Settings → Rules → List Peer → List Reading → List Answer → State
+registry_of settings policy peers readings answers =
+    state_of (opened settings policy peers) (taken_from (opening_end settings policy peers) readings answers)
 
 -- whoever is not refused memory is told that
 abbrev pub IsTold : Answer → Answer → Type 0
@@ -122,9 +123,9 @@ pub record TakesEvents (e : RunEnd) (s : State) : Type 0 where
 -- what is said of all lists of events holds of runs
 abbrev pub RunsTakeEvents : Type 0
 RunsTakeEvents =
-    (settings : Settings) (policy : Rules) (peers : List Peer) (steps : List Step) (answers : List Answer) →
-    TakesEvents (end_of (opening_end settings policy peers) steps answers)
-    (registry_of settings policy peers steps answers)
+    (settings : Settings) (policy : Rules) (peers : List Peer) (readings : List Reading) (answers : List Answer) →
+    TakesEvents (end_of (opening_end settings policy peers) readings answers)
+    (registry_of settings policy peers readings answers)
 
 -- ---- the logs of a run
 
@@ -284,18 +285,20 @@ put_into e source message None = []
 put_into e source message (Some request) =
     if request.source == source && request.decision.verdict.allow then frames_in (log_at e.logs source) message else []
 
--- those of a step: an allowed offer that was answered a position has put its frames into the log
-abbrev pub granted_by : RunEnd → ℕ → Step → Answer → List Frame
-granted_by e source (Offer now client registration message) (OfferedAs (At position)) =
-    put_into e source message (offering_of e.registry client registration)
-granted_by e source step answer = []
+-- those of a step by that registry: an offer that its policy allows, and that was answered a position, has put its frames into
+-- the log
+abbrev pub granted_by : State → RunEnd → ℕ → Step → Answer → List Frame
+granted_by s e source (Offer now client registration message) (OfferedAs (At position)) =
+    put_into e source message (offering_of s client registration)
+granted_by s e source step answer = []
 
 -- and those of a run
-abbrev pub granted_in : RunEnd → ℕ → List Step → List Answer → List Frame
+abbrev pub granted_in : RunEnd → ℕ → List Reading → List Answer → List Frame
 granted_in e source [] answers = []
-granted_in e source (step ∷ steps) [] = []
-granted_in e source (step ∷ steps) (answer ∷ answers) =
-    granted_by e source step answer ++ granted_in (after e step answer) source steps answers
+granted_in e source (reading ∷ readings) [] = []
+granted_in e source (reading ∷ readings) (answer ∷ answers) =
+    granted_by (read_by e reading.older) e source reading.step answer
+    ++ granted_in (left_by e reading answer) source readings answers
 
 -- A poll of a publication's log: the frames go on from where the subscription stands, as many as it takes, until so many
 -- fragments were given or there are no more. What they carry is given, in their order, each frame's once: pads carry
@@ -333,11 +336,13 @@ pub record ComeFromLog (e : RunEnd) (source subscription limit : ℕ) (granted :
   pub live : log_at e.logs source ≡ Some log
   pub next : AreNextIn granted subscription limit given log.whole
 
+-- whichever registry the poll goes by
 abbrev pub BytesComeFromTheLiveLog : Type 0
 BytesComeFromTheLiveLog =
-    (settings : Settings) (policy : Rules) (peers : List Peer) (steps : List Step) (answers : List Answer)
-    (now client subscription source limit : ℕ) (fragments : List Fragment) →
-    AreAnswers (opening_end settings policy peers) steps answers →
-    IsAnswer (end_of (opening_end settings policy peers) steps answers) (Poll now client subscription source limit) (Polled fragments) →
-    ComeFromLog (end_of (opening_end settings policy peers) steps answers) source subscription limit
-    (granted_in (opening_end settings policy peers) source steps answers) fragments
+    (settings : Settings) (policy : Rules) (peers : List Peer) (readings : List Reading) (answers : List Answer)
+    (older : Option State) (now client subscription source limit : ℕ) (fragments : List Fragment) →
+    AreAnswers (opening_end settings policy peers) readings answers →
+    IsAnswerTo (end_of (opening_end settings policy peers) readings answers)
+    (record { older = older; step = Poll now client subscription source limit }) (Polled fragments) →
+    ComeFromLog (end_of (opening_end settings policy peers) readings answers) source subscription limit
+    (granted_in (opening_end settings policy peers) source readings answers) fragments

@@ -19,6 +19,7 @@ pub mod Registered
 pub mod Reporting
 pub mod ResendLaws
 pub mod SendLaws
+pub mod Runs
 pub mod Seen
 pub mod Sending
 pub mod Standing
