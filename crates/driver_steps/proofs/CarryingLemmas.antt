@@ -12,7 +12,6 @@ use Rattle.driver_core.specs.declared.image_request.Astray.{Astray}
 use Rattle.driver_core.specs.declared.log_request.LogRequest.{LogRequest}
 use Rattle.driver_core.specs.declared.peer.Peer.{Peer}
 use Rattle.driver_core.specs.declared.settings.Settings.{Settings}
-use Rattle.driver_core.specs.ImageRequests.{image_for}
 use Rattle.driver_core.specs.LogRequests.{offering_of, receiving_of}
 use Rattle.driver_core.specs.PublicationRequests.{publication_for, publisher_of, resending_of}
 use Rattle.driver_core.specs.Readers.{readers_of}

@@ -9,14 +9,14 @@ use Rattle.driver_core.specs.LogRequests.{offering_of, receiving_of}
 use Rattle.driver_core.specs.PublicationRequests.{resending_of}
 use Rattle.driver_core.specs.State.{State}
 use Rattle.driver_steps.specs.declared.answer.Answer.{Answer}
-use Rattle.driver_steps.specs.declared.answer.Answer.TheVariants.{NoMemory, Gone}
+use Rattle.driver_steps.specs.declared.answer.Answer.TheVariants.{Gone}
 use Rattle.driver_steps.specs.Decided.{Decides, DecidesAs, DecidesFirst, DecidesHeld, DecidesUnless, decision_in, decision_on, nak_decided, offer_decided, offer_decision, poll_decided, poll_decision, poll_decision_by}
 use Rattle.driver_steps.specs.Ends.{RunEnd, log_at}
 use Rattle.driver_steps.specs.Held.{HeldLog, HeldLogs, held_at, place_at}
 use Rattle.driver_steps.specs.Hearing.{nak_move}
 use Rattle.driver_steps.specs.Moves.{WholeLog, MovesFirst, poll_move}
 use Rattle.driver_steps.specs.Receiving.{unheard}
-use Rattle.driver_steps.specs.Standing.{Held, StandAll}
+use Rattle.driver_steps.specs.Standing.{StandAll}
 use Rattle.driver_steps.proofs.HeldLemmas.{found_at, found_nowhere}
 use Rattle.driver_steps.proofs.RunLemmas.{IsTold, asked_told, first_told, poll_told, sourced, told_unless}
 use Rattle.driver_steps.proofs.StandLemmas.{StandAt, stand_at}
@@ -124,15 +124,6 @@ decided_first e source decide decision old all decides =
 
 -- ---- a step, for each end that the driver stands for
 
--- an offer of a registration that is not there is not decided
-pub offer_undecided : (held : Held) (client registration : ℕ) → offering_of held.registry client registration ≡ None →
-    DecidesAs held (λ e. offer_decided e client registration) None
-offer_undecided held client registration none = record {
-  on = λ e stands.
-      let absent : offering_of e.registry client registration ≡ None = rw (← stands.registry) none in
-      rw absent refl;
-}
-
 -- an offer to the first log of the registration's source
 pub offer_decided_first : (registry : State) (old : HeldLogs) (client registration source : ℕ) (decision : Option Decision) →
     option_map (λ request. request.source) (offering_of registry client registration) ≡ Some source →
@@ -161,20 +152,6 @@ poll_decided_first registry old new client subscription source limit answer deci
       let there : DecidesFirst source (poll_decision e.registry client subscription) decision old = rw (← stands.registry) decides in
       rw (told_unless answer (poll_decided e client subscription source) is_told)
       (decided_first e source (poll_decision e.registry client subscription) decision old stands.logs there);
-}
-
--- it is refused memory
-pub undecided_refused : (held : Held) (what : RunEnd → Option Decision) → DecidesUnless held what NoMemory None
-undecided_refused held what = record { on = λ e stands. refl }
-
--- a NAK of no stream is not decided
-pub nak_undecided : (held : Held) (from : Address) (fields : Nak) →
-    resending_of held.registry from fields.session_id fields.stream_id ≡ None →
-    DecidesUnless held (λ e. nak_decided e from fields) unheard None
-nak_undecided held from fields none = record {
-  on = λ e stands.
-      let absent : resending_of e.registry from fields.session_id fields.stream_id ≡ None = rw (← stands.registry) none in
-      rw absent refl;
 }
 
 open_found : (decision : Option Decision) (found : Option HeldLog) (there : Option WholeLog) → StandAt found there →

@@ -1,39 +1,25 @@
 -- Runs are put together of steps.
-use Rattle.std.proofs.Common.{◌≡◌, ℕ, ◌==◌, not, nat_lt, Bool, true, false, List, [], ◌∷◌, length, Option, Some, None, Ok, Err, if◌then◌else◌, refl, subst, sym}
+use Rattle.std.proofs.Common.{◌≡◌, ℕ, ◌==◌, not, nat_lt, Bool, true, false, List, ◌∷◌, length, Option, Some, None, Ok, if◌then◌else◌, refl, subst, sym}
 use Rattle.std.specs.Option.{option_map}
-use Rattle.any_log.specs.Whole.{AnyWhole, whole, rebuilt, position_in}
+use Rattle.any_log.specs.Whole.{AnyWhole, whole, rebuilt}
 use Rattle.driver_core.specs.declared.event.Event.{Event}
 use Rattle.driver_core.specs.declared.log_request.LogRequest.{LogRequest}
 use Rattle.driver_core.specs.declared.outcome.Outcome.{Outcome}
 use Rattle.driver_core.specs.declared.outcome.Response.{Response}
 use Rattle.driver_core.specs.declared.outcome.Response.TheVariants as response
 use Rattle.driver_core.specs.declared.replies.Message.{Message}
-use Rattle.driver_core.specs.LogRequests.{offering_of, receiving_of}
 use Rattle.driver_core.specs.State.{State}
 use Rattle.driver_steps.specs.declared.answer.Answer.{Answer}
 use Rattle.driver_steps.specs.declared.answer.Answer.TheVariants.{NoMemory, Attached, Full, Stopped, PolicyInForce, PolicyFull, Imaged, Dropped, Replies, Offered as OfferedAs, Polled, Gone as IsGone, Counters, Value as ValueIs, Denied, UnknownCounter, WrongClient, Received, Heard, Limited, Elicited, Idle, Sent as SentTo, Resent, Reported}
-use Rattle.driver_steps.specs.declared.answer.Offered.TheVariants.{Closed}
 use Rattle.driver_steps.specs.declared.step.Step.{Step}
-use Rattle.driver_steps.specs.declared.step.Step.TheVariants.{Conductor, Packet, Offer, Poll}
-use Rattle.driver_steps.specs.declared.cause.Cause.{Cause}
-use Rattle.driver_steps.specs.declared.cause.Cause.TheVariants.{Astray as IsAstray, Unread}
-use Rattle.driver_core.specs.declared.event.Event.TheVariants.{Setup as SetUp}
-use Rattle.driver_core.specs.declared.image_request.Astray.{Astray}
-use Rattle.driver_core.specs.declared.image_request.Astray.TheVariants.{NoStream}
+use Rattle.driver_steps.specs.declared.step.Step.TheVariants.{Conductor}
 use Rattle.driver_core.specs.ImageRequests.{image_for}
-use Rattle.driver_steps.specs.Receiving.{beat_move, receive_move, unheard}
+use Rattle.driver_steps.specs.Receiving.{receive_move, unheard}
 use Rattle.channel_uri.specs.declared.address.Address.{Address}
-use Rattle.frame_codec.specs.declared.fault.BadPacket.{BadPacket}
-use Rattle.frame_codec.specs.declared.header.Header.{Header}
 use Rattle.frame_codec.specs.declared.header.TermPlace.{TermPlace}
-use Rattle.frame_codec.specs.declared.nak.Nak.{Nak}
-use Rattle.frame_codec.specs.declared.setup.Setup.{Setup}
-use Rattle.frame_codec.specs.declared.status_message.StatusMessage.{StatusMessage}
-use Rattle.frame_codec.specs.Datagram.{frames, beat, nak, status, setup, packet_of}
 use Rattle.frame_codec.specs.Frame.{Sent}
 use Rattle.any_log.specs.declared.asking.NakReply.{NakReply}
 use Rattle.any_log.specs.declared.asking.NakReply.TheVariants as replies
-use Rattle.driver_core.specs.PublicationRequests.{publication_for, resending_of}
 use Rattle.driver_steps.specs.Hearing.{answer_asked, answer_heard}
 use Rattle.driver_steps.specs.Reporting.{answer_reported}
 use Rattle.driver_steps.specs.Sending.{answer_sent, pace_of, send_by}
@@ -43,10 +29,10 @@ use Rattle.driver_core.specs.SendRequests.{outlets_of}
 use Rattle.publication_sender.specs.declared.hearing.StatusAnswer.{StatusAnswer}
 use Rattle.publication_sender.specs.declared.hearing.StatusAnswer.TheVariants as statuses
 use Rattle.driver_steps.specs.Answers.{answered_by, answer_of}
-use Rattle.driver_steps.specs.Ends.{RunEnd, Moved, IsAnswerOf, after_by, dropped, moved, moved_on, on_asked, on_frames, on_log, on_stream, on_told, log_at, conducted}
+use Rattle.driver_steps.specs.Ends.{RunEnd, Moved, IsAnswerOf, after_by, moved, moved_on, on_frames, on_log, on_stream, log_at, conducted}
 use Rattle.driver_steps.specs.Held.{HeldLogs}
 use Rattle.driver_steps.specs.Memory.{GivesFirst, HasMemoryBy, is_listed, takes_memory}
-use Rattle.driver_steps.specs.Moves.{WholeLog, Move, MovesFirst, offer_move, offer_to, offer_under, poll_move, poll_under}
+use Rattle.driver_steps.specs.Moves.{WholeLog, Move, MovesFirst, offer_to, offer_under, poll_under}
 use Rattle.driver_steps.specs.Standing.{StandAll, Held, StandsForEnd, Takes, Serves, ServesAs}
 use Rattle.driver_steps.specs.Decided.{decided_unless}
 use Rattle.policy_core.specs.declared.decision.Decision.{Decision}
@@ -210,7 +196,7 @@ answered_told response.PolicyFull replies = tt
 answered_told (response.Imaged number) replies = tt
 answered_told (response.Dropped fault) replies = tt
 
--- ---- an event, and want of memory
+-- ---- an event
 
 -- an event that was taken serves the conductor's step
 pub event_served : (old new : Held) (event : Event) (outcome : Outcome) → Takes old new event outcome →
@@ -220,11 +206,6 @@ event_served old new event outcome takes =
     served old new (Conductor event) (answer_of outcome) (λ e stands.
     let taken = takes.on e stands in
     record { is_told = answered_told outcome.response outcome.replies; given = rw taken.0 refl; stands = taken.1 })
-
--- a step that is refused memory leaves all as it was
-refusal_served : (old new : Held) (step : Step) → new ≡ old → ((e : RunEnd) → StandsForEnd old e → takes_memory e step ≡ true) →
-    Serves old new step NoMemory
-refusal_served old new step same takes = record { on = λ e stands. (tt, rw same stands); without_memory = takes }
 
 -- ---- a step on one log
 
@@ -267,150 +248,11 @@ first_told e old new source move absent answer none some all moves =
     rw (moves_first e source move absent answer old new all moves).0
     (moved_told e source move absent (log_at e.logs source) none some)
 
--- the registration is not there, so the offer leaves all as it was
-pub closed_served : (held : Held) (now client registration : ℕ) (message : List ℕ) →
-    offering_of held.registry client registration ≡ None →
-    Serves held held (Offer now client registration message) (OfferedAs Closed)
-closed_served held now client registration message none =
-    served held held (Offer now client registration message) (OfferedAs Closed) (λ e stands.
-    let asked : offering_of e.registry client registration ≡ None = rw (← stands.registry) none in
-    let left : (moved e (Offer now client registration message)).after ≡ e = rw asked refl in
-    record { is_told = tt; given = rw asked refl; stands = rw left stands })
-
--- an offer to the first log of the registration's source serves the client's step
-pub offer_served : (registry : State) (old new : HeldLogs) (now client registration : ℕ) (message : List ℕ) (request : LogRequest) (answer : Answer) →
-    offering_of registry client registration ≡ Some request →
-    MovesFirst request.source (offer_move registry now client registration message) (OfferedAs Closed) old new answer →
-    Serves (record { registry = registry; logs = old.logs }) (record { registry = registry; logs = new.logs })
-    (Offer now client registration message) answer
-unfolding on_log offer_move
-offer_served registry old new now client registration message request answer is moves =
-    served (record { registry = registry; logs = old.logs }) (record { registry = registry; logs = new.logs })
-    (Offer now client registration message) answer (λ e stands.
-    let asked : offering_of e.registry client registration ≡ Some request = rw (← stands.registry) is in
-    let there : MovesFirst request.source (offer_move e.registry now client registration message) (OfferedAs Closed) old new answer =
-    rw (← stands.registry) moves in
-    let made = moves_first e request.source (offer_move e.registry now client registration message) (OfferedAs Closed) answer old new stands.logs there in
-    let is_told : IsTold answer =
-    rw made.0
-    (moved_told e request.source (offer_move e.registry now client registration message) (OfferedAs Closed) (log_at e.logs request.source) tt
-    (λ log. offer_told e.registry now message log (offering_of e.registry client registration))) in
-    let left : (moved e (Offer now client registration message)).after
-    ≡ (moved_on e request.source (offer_move e.registry now client registration message) (OfferedAs Closed) (log_at e.logs request.source)).after =
-    rw asked refl in
-    record {
-      is_told = is_told;
-      given = rw asked made.0;
-      stands = rw left (record { registry = rw made.2 stands.registry; logs = made.1 });
-    })
-
 -- who is asked of the log of that source asks something of it
 pub sourced : (asked : Option LogRequest) (source : ℕ) → option_map (λ request. request.source) asked ≡ Some source →
     (request : LogRequest) × (asked ≡ Some request) × (request.source ≡ source)
 sourced None source is = absurd (cc)
 sourced (Some request) source is = (request, refl, cc)
-
-pub unsourced : (asked : Option LogRequest) → option_map (λ request. request.source) asked ≡ None → asked ≡ None
-unsourced None is = refl
-unsourced (Some request) is = absurd (cc)
-
--- the same, where the source alone was looked for
-pub sourced_served : (registry : State) (old new : HeldLogs) (now client registration : ℕ) (message : List ℕ) (source : ℕ) (answer : Answer) →
-    option_map (λ request. request.source) (offering_of registry client registration) ≡ Some source →
-    MovesFirst source (offer_move registry now client registration message) (OfferedAs Closed) old new answer →
-    Serves (record { registry = registry; logs = old.logs }) (record { registry = registry; logs = new.logs })
-    (Offer now client registration message) answer
-sourced_served registry old new now client registration message source answer is moves =
-    let found = sourced (offering_of registry client registration) source is in
-    let there : MovesFirst found.0.source (offer_move registry now client registration message) (OfferedAs Closed) old new answer =
-    rw found.2 moves in
-    offer_served registry old new now client registration message found.0 answer found.1 there
-
--- a poll of the first log of the source serves the client's step
-pub poll_served : (registry : State) (old new : HeldLogs) (now client subscription source limit : ℕ) (answer : Answer) →
-    MovesFirst source (poll_move registry client subscription limit) IsGone old new answer →
-    Serves (record { registry = registry; logs = old.logs }) (record { registry = registry; logs = new.logs })
-    (Poll now client subscription source limit) answer
-unfolding on_log poll_move
-poll_served registry old new now client subscription source limit answer moves =
-    served (record { registry = registry; logs = old.logs }) (record { registry = registry; logs = new.logs })
-    (Poll now client subscription source limit) answer (λ e stands.
-    let there : MovesFirst source (poll_move e.registry client subscription limit) IsGone old new answer =
-    rw (← stands.registry) moves in
-    let made = moves_first e source (poll_move e.registry client subscription limit) IsGone answer old new stands.logs there in
-    let is_told : IsTold answer =
-    rw made.0
-    (moved_told e source (poll_move e.registry client subscription limit) IsGone (log_at e.logs source) tt
-    (λ log. poll_told subscription limit log (receiving_of e.registry client subscription log.source) (position_in log.whole subscription))) in
-    record { is_told = is_told; given = made.0; stands = record { registry = rw made.2 stands.registry; logs = made.1 } })
-
--- a poll for whose fragments there is no memory serves it too
-pub poll_refused : (registry : State) (old new : HeldLogs) (now client subscription source limit : ℕ) → new ≡ old →
-    GivesFirst source (poll_move registry client subscription limit) old →
-    Serves (record { registry = registry; logs = old.logs }) (record { registry = registry; logs = new.logs })
-    (Poll now client subscription source limit) NoMemory
-unfolding on_log
-poll_refused registry old new now client subscription source limit same gives =
-    refusal_served (record { registry = registry; logs = old.logs }) (record { registry = registry; logs = new.logs })
-    (Poll now client subscription source limit) (rw same refl) (λ e stands.
-    let there : GivesFirst source (poll_move e.registry client subscription limit) old = rw (← stands.registry) gives in
-    gives_first e source (poll_move e.registry client subscription limit) IsGone old.logs stands.logs there)
-
--- ---- a datagram
-
--- a datagram serves its step by what its bytes hold
-pub packet_served : (old new : Held) (now : ℕ) (local from : Address) (bytes : List ℕ) (sent : List Sent) (answer : Answer) →
-    packet_of bytes ≡ Ok (frames sent) → ServesAs old new (λ e. on_frames e now local from sent) answer →
-    Serves old new (Packet now local from bytes) answer
-packet_served old new now local from bytes sent answer is serves = record {
-  on = λ e stands. rw is (serves.on e stands);
-  without_memory = λ e stands. rw is (serves.without_memory e stands);
-}
-
-pub beat_served : (old new : Held) (now : ℕ) (local from : Address) (bytes : List ℕ) (header : Header) (answer : Answer) →
-    packet_of bytes ≡ Ok (beat header) →
-    ServesAs old new (λ e. on_stream e local from header.place (beat_move now header.place)) answer →
-    Serves old new (Packet now local from bytes) answer
-beat_served old new now local from bytes header answer is serves = record {
-  on = λ e stands. rw is (serves.on e stands);
-  without_memory = λ e stands. rw is (serves.without_memory e stands);
-}
-
-pub setup_served : (old new : Held) (now : ℕ) (local from : Address) (bytes : List ℕ) (fields : Setup) (answer : Answer) →
-    packet_of bytes ≡ Ok (setup fields) → Serves old new (Conductor (SetUp now local from fields)) answer →
-    Serves old new (Packet now local from bytes) answer
-setup_served old new now local from bytes fields answer is serves = record {
-  on = λ e stands. rw is (serves.on e stands);
-  without_memory = λ e stands. rw is (serves.without_memory e stands);
-}
-
--- one that is dropped
-drop_stands : (held : Held) (e : RunEnd) (cause : Cause) → StandsForEnd held e → DoesAs held (dropped e cause) (Dropped cause)
-drop_stands held e cause stands = record { is_told = tt; given = refl; stands = stands }
-
-pub fault_served : (held : Held) (now : ℕ) (local from : Address) (bytes : List ℕ) (fault : BadPacket) →
-    packet_of bytes ≡ Err fault → Serves held held (Packet now local from bytes) (Dropped (Unread fault))
-fault_served held now local from bytes fault is =
-    served held held (Packet now local from bytes) (Dropped (Unread fault))
-    (λ e stands. rw is (drop_stands held e (Unread fault) stands))
-
-pub nak_served : (old new : Held) (now : ℕ) (local from : Address) (bytes : List ℕ) (fields : Nak) (answer : Answer) →
-    packet_of bytes ≡ Ok (nak fields) →
-    ServesAs old new (λ e. on_asked e now from fields (resending_of e.registry from fields.session_id fields.stream_id)) answer →
-    Serves old new (Packet now local from bytes) answer
-nak_served old new now local from bytes fields answer is serves = record {
-  on = λ e stands. rw is (serves.on e stands);
-  without_memory = λ e stands. rw is (serves.without_memory e stands);
-}
-
-pub status_served : (old new : Held) (now : ℕ) (local from : Address) (bytes : List ℕ) (fields : StatusMessage) (answer : Answer) →
-    packet_of bytes ≡ Ok (status fields) →
-    ServesAs old new (λ e. on_told e now fields (publication_for e.registry fields.session_id fields.stream_id)) answer →
-    Serves old new (Packet now local from bytes) answer
-status_served old new now local from bytes fields answer is serves = record {
-  on = λ e stands. rw is (serves.on e stands);
-  without_memory = λ e stands. rw is (serves.without_memory e stands);
-}
 
 -- ---- what goes to the first log of a source, which the registry names
 
@@ -439,22 +281,6 @@ first_refused registry old new what source move absent goes same gives = record 
   on = λ e stands. (tt, rw same stands);
   without_memory = λ e stands. rw (goes e stands.registry) (gives_first e source move absent old.logs stands.logs gives);
 }
-
--- a step of its own that does so
-pub step_served : (old new : Held) (step : Step) (answer : Answer) →
-    ((e : RunEnd) → takes_memory e step ≡ is_listed (moved e step).answer) →
-    ServesAs old new (λ e. moved e step) answer → Serves old new step answer
-step_served old new step answer takes serves = record {
-  on = λ e stands. serves.on e stands;
-  without_memory = λ e stands. rw (takes e) (serves.without_memory e stands);
-}
-
--- nothing is there to which it could go
-pub absent_served : (held : Held) (what : RunEnd → Moved) (absent : Answer) → IsTold absent →
-    ((e : RunEnd) → held.registry ≡ e.registry → what e ≡ record { after = e; answer = absent }) → ServesAs held held what absent
-absent_served held what absent none is =
-    served_as held held what absent (λ e stands.
-    rw (is e stands.registry) (record { is_told = none; given = refl; stands = stands }))
 
 pub heard_told : (heard : Option StatusAnswer) → IsTold (answer_heard heard)
 heard_told None = tt
@@ -503,15 +329,6 @@ stream_served registry old new local from place move source answer is told_by mo
     rw there
     (record { is_told = is_told; given = made.0; stands = record { registry = rw made.2 stands.registry; logs = made.1 } }))
 
--- it is for no image
-pub astray_served : (held : Held) (local from : Address) (place : TermPlace) (move : WholeLog → Move) (why : Astray) →
-    image_for held.registry local from place.session_id place.stream_id ≡ Err why →
-    ServesAs held held (λ e. on_stream e local from place move) (Dropped (IsAstray why))
-astray_served held local from place move why is =
-    served_as held held (λ e. on_stream e local from place move) (Dropped (IsAstray why)) (λ e stands.
-    let there : image_for e.registry local from place.session_id place.stream_id ≡ Err why = rw (← stands.registry) is in
-    rw there (drop_stands held e (IsAstray why) stands))
-
 -- there is no memory for its words
 pub stream_refused : (registry : State) (old new : HeldLogs) (local from : Address) (place : TermPlace) (move : WholeLog → Move)
     (source : ℕ) → image_for registry local from place.session_id place.stream_id ≡ Ok source → new ≡ old →
@@ -535,10 +352,3 @@ frames_served old new now local from sent later frame answer is serves =
     subst (λ (all : List Sent). ServesAs old new (λ e. on_frames e now local from all) answer) (sym is)
     (subst (λ (all : List Sent).
     ServesAs old new (λ e. on_stream e local from frame.header.place (receive_move now all)) answer) is serves)
-
-pub no_frames_served : (held : Held) (now : ℕ) (local from : Address) (sent : List Sent) → sent ≡ [] →
-    ServesAs held held (λ e. on_frames e now local from sent) (Dropped (IsAstray NoStream))
-no_frames_served held now local from sent is =
-    subst (λ (all : List Sent). ServesAs held held (λ e. on_frames e now local from all) (Dropped (IsAstray NoStream))) (sym is)
-    (served_as held held (λ e. dropped e (IsAstray NoStream)) (Dropped (IsAstray NoStream))
-    (λ e stands. drop_stands held e (IsAstray NoStream) stands))

@@ -1,4 +1,5 @@
-//! What holds over every run: each function does nothing, and its clause is the law.
+//! What holds over every run, each of whose steps goes by the newest registry or by an older one: each function does
+//! nothing, and its clause is the law.
 
 ghost use Rattle.driver_steps.specs.CarryingLaws.{PayloadsComeFromTheirPublisher};
 ghost use Rattle.driver_steps.specs.ResendLaws.{ResendsComeFromTheLiveLog};
@@ -44,14 +45,15 @@ pub fn sends_are_granted_exactly()
 
 /// What a poll gives is what the next frames carry of the log that was asked for, which is open: from where the subscription
 /// stood on, in their order, each once, as many as it asked for while there were some. Each fragment of a publication's log
-/// was put into it by an offer that the policy in force allowed.
+/// was put into it by an offer that the policy allowed of the registry by which it went. It makes no difference by which
+/// registry the poll goes.
 pub fn bytes_come_from_the_live_log()
     ensures { BytesComeFromTheLiveLog }
 {}
 
 /// Each fragment that a poll gives of an image's log is what a frame holds that a datagram brought: a datagram that came
 /// earlier in the run to the image's endpoint, of its session and stream, from the address at which its publisher is. So a
-/// poll gives nothing that came from another address.
+/// poll gives nothing that came from another address, by whichever registry it goes.
 pub fn payloads_come_from_their_publisher()
     ensures { PayloadsComeFromTheirPublisher }
 {}

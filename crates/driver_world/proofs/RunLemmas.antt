@@ -1,10 +1,11 @@
 -- Runs are put together of steps, and each is one of its driver.
-use Rattle.std.proofs.Common.{◌≡◌, List, [], ◌∷◌, ◌++◌, refl, ap, subst, sym, ◌∙◌}
+use Rattle.std.proofs.Common.{◌≡◌, List, [], ◌∷◌, ◌++◌, map, refl, ap, subst, sym, ◌∙◌}
 use Rattle.driver_core.specs.declared.peer.Peer.{Peer}
 use Rattle.driver_core.specs.declared.settings.Settings.{Settings}
 use Rattle.driver_steps.specs.declared.answer.Answer.{Answer}
 use Rattle.driver_steps.specs.declared.step.Step.{Step}
 use Rattle.driver_steps.specs.Ends as driver
+use Rattle.driver_steps.specs.Runs as runs
 use Rattle.driver_world.specs.Ends.{RunEnd, opening_end, moved, after, IsAnswer, AreAnswers, end_of, HaveMemory}
 use Rattle.driver_world.specs.Laws.{IsDriversRun}
 use Rattle.driver_world.specs.Standing.{Held, Serves, Runs, Continues}
@@ -94,8 +95,8 @@ is_drivers e step answer =
     answer
 
 record Follows (e : RunEnd) (d : driver.RunEnd) (steps : List Step) (answers : List Answer) : Type 0 where
-  are : driver.AreAnswers d steps answers
-  ends : (end_of e steps answers).driver ≡ driver.end_of d steps answers
+  are : runs.AreAnswers d (map runs.newest steps) answers
+  ends : (end_of e steps answers).driver ≡ runs.end_of d (map runs.newest steps) answers
 
 follows : (e : RunEnd) (d : driver.RunEnd) (steps : List Step) (answers : List Answer) → e.driver ≡ d → AreAnswers e steps answers →
     Follows e d steps answers
