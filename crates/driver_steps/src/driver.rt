@@ -24,7 +24,7 @@ use crate::opening::{Opening, open_next, prepare};
 use crate::told::{Came, Looked, Told};
 use decision_cache::Cache;
 use driver_core::{
-    Address, Astray, Entry, Event, Outcome, Peer, Registry, Settings, cached_verdicts_stay_right,
+    Address, Astray, Entry, Event, Peer, Registry, Settings, cached_verdicts_stay_right,
 };
 use frame_codec::{
     Datagram, Frames, Nak, Packet, Setup, StatusMessage, TermPlace, frames_are_of_one_term,
@@ -152,9 +152,19 @@ impl Driver {
         self.logs.holes()
     }
 
-    /// The conductor takes an event, and the logs follow. All memory that this wants is taken before anything is changed.
-    pub fn take(&mut self, alloc: Global, event: &Event) -> Result<Outcome, AllocError>
-        ensures taken { IfOk result (λ outcome. Takes self.old self.new event.now outcome) }
+    /// The newest registry.
+    pub fn registry(&self) -> &Registry
+        ensures { result.now ≡ self.now.registry }
+    {
+        &self.registry
+    }
+
+    /// The conductor takes an event, and the logs follow. All memory that this wants is taken before anything is changed. What
+    /// is handed back is the event with what the logs said at it, and all that it tells.
+    pub fn take(&mut self, alloc: Global, event: &Event) -> Result<Entry, AllocError>
+        ensures taken { IfOk result (λ entry. Takes self.old self.new event.now entry.outcome) }
+        ensures event_is { IfOk result (λ entry. entry.event ≡ event.now) }
+        ensures inputs_are { IfOk result (λ entry. entry.inputs ≡ inputs_held self.old.registry event.now self.old.logs) }
         ensures err { OnErr result (self.new ≡ self.old) }
     {
         cached_verdicts_stay_right();
@@ -169,7 +179,7 @@ impl Driver {
             opening,
             entry.outcome.closes.as_slice(),
         );
-        Ok(entry.outcome)
+        Ok(entry)
     }
 
     /// The frames of a datagram came to the address `local`, from the address `from`.
