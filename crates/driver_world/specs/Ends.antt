@@ -1,8 +1,9 @@
 -- What stands at the end of a run: the driver, all that was decided for each actor, the registries that the run went through,
 -- and which of them each actor looked at last. Own rules.
-use Rattle.std.specs.Prelude.{◌≡◌, ℕ, List, [], ◌∷◌, ◌++◌, Option, Some, None, if◌then◌else◌}
+use Rattle.std.specs.Prelude.{◌≡◌, ℕ, ◌+◌, List, [], ◌∷◌, ◌++◌, Option, Some, None, if◌then◌else◌}
 use Rattle.driver_core.specs.declared.event.Event.{Event}
 use Rattle.driver_core.specs.declared.event.Event.TheVariants.{Setup as SetUp}
+use Rattle.driver_core.specs.declared.event.Inputs.{Inputs}
 use Rattle.driver_core.specs.declared.peer.Peer.{Peer}
 use Rattle.driver_core.specs.declared.settings.Settings.{Settings}
 use Rattle.driver_core.specs.Conduct.{outcome_of}
@@ -18,7 +19,7 @@ use Rattle.driver_world.specs.declared.actor.Actor.{Actor}
 use Rattle.driver_world.specs.declared.actor.Actor.TheVariants.{Conductor, Sender, Receiver, Client}
 use Rattle.driver_world.specs.declared.reading.Reading.{Reading}
 use Rattle.driver_world.specs.Audits.{Decided, decided_by, nothing_decided}
-use Rattle.driver_world.specs.Views.{Past, Seat, Seats, actor_of, at_moment, attached_at, is_out, moment_of, newest_of, no_seats, older_at, seat_of, seated, view_or}
+use Rattle.driver_world.specs.Views.{Past, Seats, actor_of, at_moment, attached_at, is_out, moment_of, newest_of, no_seats, older_at, seat_of, seated, view_or}
 use Rattle.policy_core.specs.RuleList.{Rules}
 
 pub record RunEnd : Type 0 where

@@ -1,4 +1,6 @@
 pub mod Audits
 pub mod Ends
 pub mod Laws
+pub mod Memory
 pub mod Standing
+pub mod Views

@@ -10,6 +10,7 @@ use Rattle.driver_core.specs.State.{State}
 use Rattle.driver_steps.specs.declared.step.Step.{Step}
 use Rattle.driver_steps.specs.declared.step.Step.TheVariants as steps
 use Rattle.driver_world.specs.declared.actor.Actor.{Actor}
+use Rattle.driver_world.specs.declared.seats.Seat.{Seat}
 use Rattle.driver_world.specs.declared.actor.Actor.TheVariants.{Conductor, Sender, Receiver, Client}
 use Rattle.frame_codec.specs.declared.fault.BadPacket.{BadPacket}
 use Rattle.frame_codec.specs.Datagram.{Content, nak, setup, status, packet_of}
@@ -50,11 +51,6 @@ actor_of (steps.List now client) = Client client
 actor_of (steps.Value now client number) = Client client
 
 -- ---- where an actor stands
-
--- which registry it looked at last, and the greatest moment of its steps; 0, where there was none
-pub record Seat : Type 0 where
-  pub view : ℕ
-  pub moment : ℕ
 
 -- of the sender, the receiver, and of each client that ever attached, by its id
 pub record Seats : Type 0 where

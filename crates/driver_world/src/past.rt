@@ -69,11 +69,10 @@ impl Registries {
         ensures { IfOk result (λ registry. registry ≡ registry_at self.now.past k) }
     {
         let mut registry = self.opened.copy(alloc)?;
-        for (at, one) in self.taken.as_slice().iter().enumerate() {
-            if at as u64 >= k {
-                break;
-            }
-            registry.step(alloc, &one.0, &one.1)?;
+        let mut at = 0;
+        while at < self.taken.len() && (at as u64) < k {
+            registry.step(alloc, &self.taken[at].0, &self.taken[at].1)?;
+            at += 1;
         }
         Ok(registry)
     }

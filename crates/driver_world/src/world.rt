@@ -1,23 +1,28 @@
 ghost use Rattle.driver_core.specs.Soundness.{AreSettings};
-ghost use Rattle.std.specs.Prelude.{◌≡◌, option_copied, IfOk, OnErr};
+ghost use Rattle.std.specs.Prelude.{◌≡◌, ◌<◌, length, Some, None, option_copied, IfOk, IfErr, OnOk, OnErr};
 
 use crate::actor::Actor;
 use crate::audits::Audits;
+use crate::past::Registries;
+use crate::reading::Reading;
+use crate::seats::{AllSeats, Seat};
 use audit_ring::Audit;
 use byte_strings::Items;
 use channel_uri::Address;
-use driver_core::{Event, Peer, Settings};
-use driver_steps::{Answer, Came, Driver, Step};
-use frame_codec::Setup;
+use driver_core::{Entry, Event, Peer, Registry, Settings};
+use driver_steps::{Answer, Came, Driver, Step, Told};
+use frame_codec::{Datagram, Packet, Setup};
 use policy_core::Policy;
 use std::alloc::{AllocError, Global};
 use std::marker::Model;
 
-/// A driver that is run step by step, with what was decided for each actor.
+/// A driver that is run step by step, with what was decided for each actor, and the registries that they look at.
 #[derive(Drop)]
 pub struct World {
     driver: Driver,
     audits: Audits,
+    past: Registries,
+    seats: AllSeats,
 }
 
 impl Model for World {
@@ -25,16 +30,33 @@ impl Model for World {
 
     ghost Value = { Held };
 
-    ghost view = { λ world. record { driver = world.driver; audits = world.audits.audits } };
+    ghost view = { λ world. record {
+      driver = world.driver;
+      audits = world.audits.audits;
+      past = world.past.past;
+      seats = world.seats.seats;
+    } };
+}
+
+/// What an actor looks at.
+#[derive(Drop)]
+struct Look {
+    /// The number of the registry.
+    view: u64,
+    /// That registry, where it is not the newest.
+    older: Option<Registry>,
+    /// The greatest moment of the actor's steps so far.
+    moment: u64,
 }
 
 impl World {
     ghost use Rattle.driver_core.specs.declared.event.Event.TheVariants.{Setup as SetUp};
     ghost use Rattle.driver_steps.specs.Standing.{pages_of_logs};
-    ghost use Rattle.driver_steps.specs.declared.step.Step.TheVariants.{Conductor, Packet as Packets, Offer, Poll, Send, List as Lists, Value};
+    ghost use Rattle.driver_steps.specs.declared.step.Step.TheVariants.{Conductor, Packet as Packets, Offer, Poll, Send, Image, List as Lists, Value};
     ghost use Rattle.driver_world.specs.Audits.{IsAuditOf, kept_for};
     ghost use Rattle.driver_world.specs.Ends.{opening_end};
-    ghost use Rattle.driver_world.specs.Standing.{StandsForEnd, Serves, Runs, Continues};
+    ghost use Rattle.driver_world.specs.Standing.{StandsForEnd, Serves, Runs, Continues, IsLook, IsNoLook, Sits};
+    ghost use Rattle.driver_world.specs.Views.{newest_of, seat_of};
     ghost use Rattle.log_arena.specs.Pages.{holes_of};
 
     /// A world in which nothing happened yet.
@@ -48,9 +70,13 @@ impl World {
         requires { AreSettings settings }
         ensures { IfOk result (λ world. StandsForEnd world (opening_end settings policy peers.now)) }
     {
+        let driver = Driver::new(alloc, settings, policy, peers)?;
+        let opened = driver.registry().copy(alloc)?;
         Ok(World {
-            driver: Driver::new(alloc, settings, policy, peers)?,
+            driver,
             audits: Audits::new(alloc)?,
+            past: Registries::new(alloc, opened),
+            seats: AllSeats::new(alloc),
         })
     }
 
@@ -62,187 +88,62 @@ impl World {
         self.driver.holes()
     }
 
-    /// The conductor takes an event.
-    fn conduct(&mut self, alloc: Global, event: &Event) -> Answer
-        ensures { Serves self.old self.new (Conductor event.now) result }
+    /// The number of the newest registry. The opened one is 0, and each event that was taken makes one more.
+    pub fn newest(&self) -> u64
+        ensures { result ≡ newest_of self.now.past }
     {
-        let Ok(audit) = self.audits.make_room(alloc) else {
-            return Answer::NoMemory;
-        };
-        match self.driver.take(alloc, event) {
-            Ok(outcome) => {
-                self.audits.tell_event(&outcome, audit);
-                Answer::of(outcome)
-            }
-            Err(_) => {
-                self.audits.put_back(audit);
-                Answer::NoMemory
-            }
-        }
+        self.past.newest()
     }
 
-    /// A SETUP came to the address `local`, from the address `from`. An event is large, so other datagrams come to none.
-    #[inline(never)]
-    fn set_up(
-        &mut self,
-        alloc: Global,
-        now: u64,
-        local: &Address,
-        from: &Address,
-        setup: Setup,
-    ) -> Answer
-        ensures { Serves self.old self.new (Conductor (SetUp now local.now from.now setup)) result }
+    /// The number of the registry that the actor looked at last: a step of its own names none before that. The conductor's is
+    /// the newest.
+    pub fn view(&self, actor: Actor) -> u64
+        ensures { result ≡ (seat_of actor self.now.seats).view }
     {
-        let event = Event::Setup {
-            now,
-            local: *local,
-            from: *from,
-            setup,
-        };
-        self.conduct(alloc, &event)
+        self.seats.get(actor).view
     }
 
-    /// A datagram came to the address `local`, from the address `from`: a SETUP is an event; the frames of data and a
-    /// heartbeat go to the image of that address, session and stream, where they are from its publisher; a NAK and a status
-    /// message go to the publication of their session and stream, whatever address they came to.
-    pub fn packet(
-        &mut self,
-        alloc: Global,
-        now: u64,
-        local: &Address,
-        from: &Address,
-        bytes: &[u8],
-    ) -> Answer
-        ensures { Serves self.old self.new (Packets now local.now from.now bytes.now) result }
-    {
-        match self.driver.datagram(alloc, now, local, from, bytes) {
-            Came::SetUp(setup) => self.set_up(alloc, now, local, from, setup),
-            Came::Told(told) => {
-                self.audits.tell_sender(told.decision);
-                told.answer
-            }
-        }
-    }
-
-    /// A client offers a message. It takes no memory.
-    fn offer(&mut self, now: u64, client: u64, registration: u64, message: &[u8]) -> Answer
-        ensures { Serves self.old self.new (Offer now client registration message.now) result }
-    {
-        let told = self.driver.offer(now, client, registration, message);
-        self.audits.tell_client(client, told.decision);
-        told.answer
-    }
-
-    /// A client polls a log.
-    fn poll(
-        &mut self,
-        alloc: Global,
-        now: u64,
-        client: u64,
-        subscription: u64,
-        source: u64,
-        limit: u32,
-    ) -> Answer
-        ensures { Serves self.old self.new (Poll now client subscription source limit) result }
-    {
-        let told = self
-            .driver
-            .poll(alloc, now, client, subscription, source, limit);
-        self.audits.tell_client(client, told.decision);
-        told.answer
-    }
-
-    /// The sender has a turn with a publication.
-    fn send(&mut self, alloc: Global, now: u64, source: u64) -> Answer
-        ensures { Serves self.old self.new (Send now source) result }
-    {
-        let answer = self.driver.send(alloc, now, source);
-        self.audits.tell_sent(&answer);
-        answer
-    }
-
-    /// A client looks at the counters that it may see.
-    fn list(&mut self, alloc: Global, now: u64, client: u64) -> Answer
-        ensures { Serves self.old self.new (Lists now client) result }
-    {
-        let looked = self.driver.list(alloc, now, client);
-        self.audits.tell_denials(client, looked.denials.as_slice());
-        looked.answer
-    }
-
-    /// A client looks at one counter. It takes no memory.
-    fn value(&mut self, now: u64, client: u64, number: u64) -> Answer
-        ensures { Serves self.old self.new (Value now client number) result }
-    {
-        let told = self.driver.value(now, client, number);
-        self.audits.tell_client(client, told.decision);
-        told.answer
-    }
-
-    /// Takes one step. No offer, no look at one counter and no poll that is gone or denied is answered
-    /// [`Answer::NoMemory`].
-    pub fn step(&mut self, alloc: Global, step: &Step) -> Answer
-        ensures { Serves self.old self.new step.now result }
-    {
-        match step {
-            Step::Conductor(event) => self.conduct(alloc, event),
-            Step::Packet {
-                now,
-                local,
-                from,
-                bytes,
-            } => self.packet(alloc, *now, local, from, bytes.as_slice()),
-            Step::Offer {
-                now,
-                client,
-                registration,
-                message,
-            } => self.offer(*now, *client, *registration, message.as_slice()),
-            Step::Poll {
-                now,
-                client,
-                subscription,
-                source,
-                limit,
-            } => self.poll(alloc, *now, *client, *subscription, *source, *limit),
-            Step::Send { now, source } => self.send(alloc, *now, *source),
-            Step::Image { now, source } => self.driver.report(alloc, *now, *source),
-            Step::List { now, client } => self.list(alloc, *now, *client),
-            Step::Value {
-                now,
-                client,
-                number,
-            } => self.value(*now, *client, *number),
-        }
-    }
-
-    /// Takes the steps in their order, and gives the answer of each. For every run that led to this world, the answers
-    /// continue that run; only steps that may take memory are answered [`Answer::NoMemory`].
+    /// What the actor looks at, where it names that registry, or the newest.
     ///
     /// # Errors
-    /// Where there is no memory for the list of answers, no step is taken.
-    pub fn run(&mut self, alloc: Global, steps: &[Step]) -> Result<Items<Answer>, AllocError>
-        ensures runs { IfOk result (λ answers. Runs self.old self.new steps.now answers) }
-        ensures continues { IfOk result (λ answers. Continues self.old self.new steps.now answers) }
-        ensures err { OnErr result (self.new ≡ self.old) }
+    /// The answer of the step, where it may not look there, or there is no memory for the registry.
+    fn look(&self, alloc: Global, actor: Actor, view: Option<u64>) -> Result<Look, Answer>
+        ensures ok { IfOk result (λ look. IsLook self.now.past (seat_of actor self.now.seats) view look) }
+        ensures err { IfErr result (λ answer. IsNoLook self.now.past (seat_of actor self.now.seats) view answer) }
     {
-        let mut answers = Vec::with_capacity(alloc, steps.len())?;
-        for step in steps {
-            let answer = self.step(alloc, step);
-            match answers.push(answer) {
-                Ok(()) => {}
-                Err(_) => unreachable!(),
-            }
+        let seat = self.seats.get(actor);
+        let newest = self.past.newest();
+        let view = view.unwrap_or(newest);
+        if view < seat.view || newest < view {
+            return Err(Answer::BadStep);
         }
-        Ok(Items::from(answers))
+        let older = if view == newest {
+            None
+        } else {
+            match self.past.registry_at(alloc, view) {
+                Ok(registry) => Some(registry),
+                Err(_) => return Err(Answer::NoMemory),
+            }
+        };
+        Ok(Look {
+            view,
+            older,
+            moment: seat.moment,
+        })
     }
 
-    /// The last 4,096 decisions of the actor, and how many came before them: of the conductor those on commands and on pairs
-    /// that come or that a policy takes away, of the sender those on destinations and NAKs, of a client those on its offers and
-    /// polls, and on counters that it is not shown. `None` of a client that no attach named, for which nothing was decided.
-    pub fn audit(&self, actor: Actor) -> Option<&Audit>
-        ensures { IsAuditOf (option_copied result) (kept_for actor self.now.audits) }
+    /// The actor took a step by that look, at that moment. One that was refused memory leaves it where it stood.
+    fn sit(&mut self, actor: Actor, look: &Look, now: u64, answer: &Answer)
+        ensures { Sits self.old self.new actor look.now.view now answer.now }
     {
-        self.audits.of(actor)
+        if !matches!(answer, Answer::NoMemory) {
+            self.seats.set(
+                actor,
+                Seat {
+                    view: look.view,
+                    moment: now,
+                },
+            );
+        }
     }
 }
