@@ -1,4 +1,6 @@
 pub mod AnswerLemmas
 pub mod AuditLemmas
+pub mod PlaceLemmas
 pub mod RunLemmas
 pub mod ServeLemmas
+pub mod ViewLemmas

@@ -71,7 +71,8 @@ impl Registries {
         let mut registry = self.opened.copy(alloc)?;
         let mut at = 0;
         while at < self.taken.len() && (at as u64) < k {
-            registry.step(alloc, &self.taken[at].0, &self.taken[at].1)?;
+            let one = &self.taken[at];
+            registry.step(alloc, &one.0, &one.1)?;
             at += 1;
         }
         Ok(registry)

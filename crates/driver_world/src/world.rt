@@ -1,5 +1,6 @@
 ghost use Rattle.driver_core.specs.Soundness.{AreSettings};
-ghost use Rattle.std.specs.Prelude.{◌≡◌, ◌<◌, length, Some, None, option_copied, IfOk, IfErr, OnOk, OnErr};
+ghost use Rattle.audit_ring.specs.Audit.{kept_of};
+ghost use Rattle.std.specs.Prelude.{◌≡◌, [], Some, None, option_copied, IfOk, IfErr, OnOk, OnErr};
 
 use crate::actor::Actor;
 use crate::audits::Audits;
@@ -145,5 +146,87 @@ impl World {
                 },
             );
         }
+    }
+
+    /// Takes the memory that an event wants beside the driver's.
+    fn make_room(&mut self, alloc: Global) -> Result<Audit, AllocError>
+        ensures same { self.new ≡ self.old }
+        ensures empty { IfOk result (λ audit. audit ≡ kept_of []) }
+    {
+        self.past.make_room()?;
+        self.seats.make_room()?;
+        self.audits.make_room(alloc)
+    }
+
+    /// An event was taken: all that it decided is told, a client that it attaches has an audit and a seat, and the event is kept.
+    fn keep(&mut self, entry: Entry, audit: Audit) -> Answer {
+        let Entry {
+            event,
+            inputs,
+            outcome,
+        } = entry;
+        self.audits.tell_event(&outcome, audit);
+        self.past.push(event, inputs);
+        self.seats.attach(outcome.response, self.past.newest());
+        Answer::of(outcome)
+    }
+
+    /// The conductor takes an event.
+    fn conduct(&mut self, alloc: Global, event: &Event) -> Answer
+        ensures { Serves self.old self.new (record { view = None; step = Conductor event.now }) result }
+    {
+        let Ok(audit) = self.make_room(alloc) else {
+            return Answer::NoMemory;
+        };
+        match self.driver.take(alloc, event) {
+            Ok(entry) => self.keep(entry, audit),
+            Err(_) => {
+                self.audits.put_back(audit);
+                Answer::NoMemory
+            }
+        }
+    }
+
+    /// A client offers a message.
+    fn offer(
+        &mut self,
+        alloc: Global,
+        view: Option<u64>,
+        now: u64,
+        client: u64,
+        registration: u64,
+        message: &[u8],
+    ) -> Answer
+        ensures { Serves self.old self.new (record { view = view; step = Offer now client registration message.now }) result }
+    {
+        let actor = Actor::Client(client);
+        let look = match self.look(alloc, actor, view) {
+            Ok(look) => look,
+            Err(answer) => return answer,
+        };
+        let now = now.max(look.moment);
+        let told = self
+            .driver
+            .offer_read(look.older.as_ref(), now, client, registration, message);
+        self.audits.tell_client(client, told.decision);
+        self.sit(actor, &look, now, &told.answer);
+        told.answer
+    }
+
+    /// The sender has a turn with a publication.
+    fn send(&mut self, alloc: Global, view: Option<u64>, now: u64, source: u64) -> Answer
+        ensures { Serves self.old self.new (record { view = view; step = Send now source }) result }
+    {
+        let look = match self.look(alloc, Actor::Sender, view) {
+            Ok(look) => look,
+            Err(answer) => return answer,
+        };
+        let now = now.max(look.moment);
+        let answer = self
+            .driver
+            .send_read(look.older.as_ref(), alloc, now, source);
+        self.audits.tell_sent(&answer);
+        self.sit(Actor::Sender, &look, now, &answer);
+        answer
     }
 }
