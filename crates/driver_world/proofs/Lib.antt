@@ -1,5 +1,6 @@
 pub mod AnswerLemmas
 pub mod AuditLemmas
+pub mod OpeningLemmas
 pub mod PlaceLemmas
 pub mod RunLemmas
 pub mod ServeLemmas
