@@ -154,6 +154,9 @@ Lines of a script:
   audit A                 the last 4,096 decisions of actor A, and how many came before them: `conductor`, `sender`,
                           `receiver`, or a client by its id
   # ...                   a comment; empty lines are skipped too
+A line offer, poll, send, image, list or value, and a packet that is no SETUP, may end in ` @K`: it goes by the registry
+behind event K instead of the newest one, but by none before the one that the same client, the sender or the receiver
+went by last.
 Any other line answers `line N: bad line`, and ends the script.
 
 Status: 0 when the script ended; 1 after a bad line, and after `aeron_policyd: FAULT` on standard error (cannot read

@@ -1,6 +1,6 @@
 -- What receivers ask of a log by status messages and NAKs (Aeron Transport Protocol Specification, flow control by status
 -- messages, loss recovery). Only the log of a publication is asked. What is done on them is this project's own.
-use Rattle.std.specs.Prelude.{◌≡◌, ℕ, Bool, true, false, not, List, [], ◌∷◌, Option, Some, None, if◌then◌else◌}
+use Rattle.std.specs.Prelude.{◌≡◌, ℕ, Bool, true, false, not, Option, Some, None, if◌then◌else◌}
 use Rattle.any_log.specs.declared.any_log.AnyLog.{AnyLog}
 use Rattle.any_log.specs.declared.asking.NakReply.{NakReply}
 use Rattle.any_log.specs.declared.asking.NakReply.TheVariants.{Denied, Empty, OutOfWindow, Lingering, Busy, Resent}
@@ -30,11 +30,6 @@ after_status now message (whole w) = whole (heard_of now message w)
 after_status now message (rebuilt r) = rebuilt r
 
 -- ---- a NAK
-
--- the first of the datagrams is taken; none where none is left
-abbrev pub TakesNext : List (List ℕ) → List (List ℕ) → Option (List ℕ) → Type 0
-TakesNext old new None = old ≡ []
-TakesNext old new (Some bytes) = old ≡ bytes ∷ new
 
 -- the gate's word; what it grants is sent again
 abbrev pub reply_by : Nak → Whole → Word → NakReply

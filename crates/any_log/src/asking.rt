@@ -1,6 +1,6 @@
 //! What receivers ask of a publication's log, by status messages and NAKs.
 
-ghost use Rattle.any_log.specs.Asking.{Hears, IsGranted, IsToResend, Keeps, Replies, RepliesTo, TakesNext, after_status};
+ghost use Rattle.any_log.specs.Asking.{Hears, IsGranted, IsToResend, Keeps, Replies, RepliesTo, after_status};
 ghost use Rattle.any_log.specs.Held.{Lies};
 ghost use Rattle.any_log.specs.Whole.{Carries};
 ghost use Rattle.publication_sender.specs.Resending.{ResendsOver, gate_after, asking_of};
@@ -10,7 +10,7 @@ use crate::any_log::AnyLog;
 use byte_strings::{Bytes, Items};
 use frame_codec::{Nak, StatusMessage};
 use policy_core::{Decision, Verdict};
-use publication_sender::{Datagrams, NakAnswer, StatusAnswer, receive_nak, receive_status};
+use publication_sender::{Datagrams, NakAnswer, StatusAnswer, note_nak, receive_status};
 use retransmit_gate::Gate;
 use std::alloc::{AllocError, Global};
 use term_log::TermLog;
@@ -32,49 +32,31 @@ pub enum NakReply {
     Resent(Items<Bytes>),
 }
 
-/// A copy of the next datagram, if one is left.
-fn copy_of_next(alloc: Global, left: &mut Datagrams<'_>) -> Result<Option<Bytes>, AllocError>
-    ensures { IfOk result (λ copy. TakesNext left.old.datagrams left.new.datagrams copy) }
-{
-    if left.is_done() {
-        return Ok(None);
-    }
-    let mut room = Vec::from_elem(alloc, 0u8, left.mtu())?;
-    match left.next_into(room.as_mut_slice()) {
-        Some(size) => {
-            room.truncate(size);
-            Ok(Some(Bytes::from(room)))
-        }
-        None => Ok(None),
-    }
-}
-
 /// Copies of the datagrams, in their order.
 fn copies_of(alloc: Global, datagrams: Datagrams<'_>) -> Result<Items<Bytes>, AllocError>
     ensures { IfOk result (λ copies. copies ≡ datagrams.entry.datagrams) }
 {
     let mut left = datagrams;
     let mut copies = Items::new(alloc);
-    while let Some(copy) = copy_of_next(alloc, &mut left)? {
-        copies.push(copy)?;
+    while let Some(copy) = left.next_copy(alloc)? {
+        copies.push(Bytes::from(copy))?;
     }
     Ok(copies)
 }
 
-/// What becomes of a NAK of the log's session and stream. The gate is changed where there is memory for what is sent again.
+/// What becomes of a NAK of the log's session and stream.
 fn reply(
     log: &TermLog,
     alloc: Global,
-    gate: &mut Gate,
+    gate: &Gate,
     now: u64,
     nak: &Nak,
     decision: &Decision,
 ) -> Result<NakReply, AllocError>
-    ensures reply { IfOk result (λ reply. RepliesTo decision.now now nak.now gate.old log.now reply) }
-    ensures gate { gate.new ≡ gate_after decision.now.verdict.allow gate.old (asking_of now log.now nak.now) }
-    ensures without_memory { OnErr result (IsGranted decision.now now nak.now gate.old log.now) }
+    ensures reply { IfOk result (λ reply. RepliesTo decision.now now nak.now gate.now log.now reply) }
+    ensures without_memory { OnErr result (IsGranted decision.now now nak.now gate.now log.now) }
 {
-    match receive_nak(log, gate, now, nak, decision) {
+    match publication_sender::answer_nak(log, gate, now, nak, decision) {
         NakAnswer::Denied(decision) => Ok(NakReply::Denied(decision.verdict)),
         NakAnswer::Empty => Ok(NakReply::Empty),
         NakAnswer::OutOfWindow => Ok(NakReply::OutOfWindow),
@@ -121,9 +103,8 @@ impl AnyLog {
         let AnyLog::Term(log) = self else {
             return Ok(None);
         };
-        let mut asked = gate.copy();
-        let reply = reply(log, alloc, &mut asked, now, nak, decision)?;
-        *gate = asked;
+        let reply = reply(log, alloc, gate, now, nak, decision)?;
+        note_nak(log, gate, now, nak, decision);
         Ok(Some(reply))
     }
 }

@@ -1,12 +1,12 @@
 -- The run of a script is put together of its statements.
-use Rattle.std.proofs.Common.{◌≡◌, ℕ, List, [], ◌∷◌, ◌++◌, Option, Some, None, Result, Ok, Err, IfOk, IfErr, IfSome, OnOk, OnErr, refl, sym, ap, subst, append_assoc, append-nil}
+use Rattle.std.proofs.Common.{◌≡◌, ℕ, true, false, List, [], ◌∷◌, ◌++◌, Option, Some, None, Result, Ok, Err, IfOk, IfErr, IfSome, OnErr, refl, sym, ap, subst, ◌∙◌, append_assoc, append-nil}
 use Rattle.std.specs.Io.KnownBytes.{Appends}
 use Rattle.std.specs.List.{flat_map}
 use Rattle.driver_steps.specs.declared.answer.Answer.{Answer}
-use Rattle.driver_steps.specs.declared.answer.Answer.TheVariants.{NoMemory}
-use Rattle.driver_steps.specs.declared.step.Step.{Step}
+use Rattle.driver_steps.specs.declared.answer.Answer.TheVariants.{BadStep, NoMemory}
 use Rattle.audit_ring.specs.Audit.{Kept}
 use Rattle.driver_world.specs.declared.actor.Actor.{Actor}
+use Rattle.driver_world.specs.declared.reading.Reading.{Reading}
 use Rattle.driver_world.specs.Audits.{kept_all, kept_for}
 use Rattle.driver_world.specs.Ends.{RunEnd, IsAnswer, after, opening_end}
 use Rattle.driver_world.specs.Standing.{Held, StandsForEnd, Serves}
@@ -26,8 +26,8 @@ use Rattle.policy_text.specs.declared.fault.PolicyFault.TheVariants as text
 use Rattle.policy_text.specs.Document.{policy_of}
 use Rattle.policy_text.specs.Fault.{Fails}
 use Rattle.policy_text.specs.Names.{Known}
-use Rattle.driver_script.specs.Script.{Opening, Ends, Refuses, Opens, no_preface, opening_of, Deed, Takes, deed_by, deed_of, put_in_force, Told, Answered, Shown, IsDone, IsOpeningText, IsRunning, Writes, answer_text, audit_text, told_text, ended_text}
-use Rattle.driver_script.specs.Turns.{Turns, Goes, Steps, Puts, StopsAt, TakesStep, GivesUp, GivesUpStep, GivesUpPolicy, IsHead, FollowsHead, BeginsHead, WritesScript, BeginsScript, WritesFront, WritesWhole, SoFar, told_of_fault}
+use Rattle.driver_script.specs.Script.{Opening, Ends, Refuses, Opens, no_preface, opening_of, Deed, Takes, deed_by, deed_of, put_in_force, Told, Answered, Shown, IsDone, IsOpeningText, IsRunning, IsToldBy, Writes, is_bad_step, answer_text, audit_text, told_text, ended_text}
+use Rattle.driver_script.specs.Turns.{Turns, Goes, Steps, StopsAt, TakesStep, GivesUp, GivesUpStep, IsHead, FollowsHead, BeginsHead, WritesScript, BeginsScript, WritesFront, WritesWhole, SoFar, told_of_fault}
 use Rattle.driver_script.proofs.OutputLemmas.{appends_more}
 
 -- ---- writing
@@ -71,20 +71,30 @@ turns_told names e next statement told done =
           };
     }
 
+-- an answer is told, unless the step is bad
+told_of : (e : RunEnd) (reading : Reading) (answer : Answer) → is_bad_step answer ≡ false → IsAnswer e reading answer →
+    IsToldBy e reading answer
+told_of e reading BadStep good is = absurd (cc)
+told_of e reading answer good is = is
+
+bad_is : (answer : Answer) → is_bad_step answer ≡ true → answer ≡ BadStep
+bad_is BadStep bad = refl
+bad_is answer bad = absurd (cc)
+
 -- a step with its answer
-done_step : (e : RunEnd) (line : ℕ) (deed : Deed) (step : Step) (answer : Answer) → deed ≡ Takes step →
-    IsAnswer e step answer → (later : RunEnd → List Told → Type 0) (others : List Told) (ended : Ended) →
-    later (after e step answer) others → IsDone e line deed later (Answered answer ∷ others) ended
-done_step e line deed step answer is answered later others ended rest =
+done_step : (e : RunEnd) (line : ℕ) (deed : Deed) (reading : Reading) (answer : Answer) → deed ≡ Takes reading →
+    IsToldBy e reading answer → (later : RunEnd → List Told → Type 0) (others : List Told) (ended : Ended) →
+    later (after e reading answer) others → IsDone e line deed later (Answered answer ∷ others) ended
+done_step e line deed reading answer is answered later others ended rest =
     let P : Deed → Type 0 = λ those. IsDone e line those later (Answered answer ∷ others) ended in
     subst P (sym is) (answered, rest)
 
-pub turns_step : (names : Known) (e : RunEnd) (line : ℕ) (said : Said) (step : Step) (answer : Answer) →
-    deed_of names said ≡ Takes step → IsAnswer e step answer →
-    Turns names e (after e step answer) (record { line = line; said = said }) (answer_text answer)
-turns_step names e line said step answer is answered =
-    turns_told names e (after e step answer) (record { line = line; said = said }) (Answered answer)
-    (done_step e line (deed_of names said) step answer is answered)
+pub turns_step : (names : Known) (e : RunEnd) (line : ℕ) (said : Said) (reading : Reading) (answer : Answer) →
+    deed_of names said ≡ Takes reading → IsToldBy e reading answer →
+    Turns names e (after e reading answer) (record { line = line; said = said }) (answer_text answer)
+turns_step names e line said reading answer is answered =
+    turns_told names e (after e reading answer) (record { line = line; said = said }) (Answered answer)
+    (done_step e line (deed_of names said) reading answer is answered)
 
 -- the decisions of an actor, which are shown
 turns_shown : (names : Known) (e : RunEnd) (line : ℕ) (actor : Actor) (kept : Kept) → kept ≡ kept_for actor (kept_all e.decided) →
@@ -114,7 +124,7 @@ turns_refused names e line text fault is =
 
 -- a statement that is bad where it stands
 abbrev pub IsOutOfOrder : Said → Type 0
-IsOutOfOrder (Does step) = ⊥
+IsOutOfOrder (Does reading) = ⊥
 IsOutOfOrder (Audit actor) = ⊥
 IsOutOfOrder (Principal name number) = Unit {0}
 IsOutOfOrder (Peer peer) = Unit {0}
@@ -124,13 +134,21 @@ IsOutOfOrder Bad = Unit {0}
 
 pub writes_bad : (names : Known) (e : RunEnd) (line : ℕ) (said : Said) (rest : List Statement) → IsOutOfOrder said →
     Writes names e (record { line = line; said = said } ∷ rest) (BadLine line) (ended_text (BadLine line))
-writes_bad names e line (Does step) rest out = absurd out
+writes_bad names e line (Does reading) rest out = absurd out
 writes_bad names e line (Audit actor) rest out = absurd out
 writes_bad names e line (Principal name number) rest out = record { told = []; run = (refl, refl); text_is = refl }
 writes_bad names e line (Peer peer) rest out = record { told = []; run = (refl, refl); text_is = refl }
 writes_bad names e line (Set key value) rest out = record { told = []; run = (refl, refl); text_is = refl }
 writes_bad names e line (Policy text) rest out = absurd out
 writes_bad names e line Bad rest out = record { told = []; run = (refl, refl); text_is = refl }
+
+-- a step that is bad where it stands
+writes_bad_step : (names : Known) (e : RunEnd) (line : ℕ) (said : Said) (reading : Reading) (rest : List Statement) →
+    deed_of names said ≡ Takes reading → IsAnswer e reading BadStep →
+    Writes names e (record { line = line; said = said } ∷ rest) (BadLine line) (ended_text (BadLine line))
+writes_bad_step names e line said reading rest is bad =
+    let P : Deed → Type 0 = λ those. IsDone e line those (λ next more. IsRunning names next rest more (BadLine line)) [] (BadLine line) in
+    record { told = []; run = subst P (sym is) (bad, refl); text_is = refl }
 
 -- what has no memory is told so, and leaves all as it was
 done_without : (e : RunEnd) (line : ℕ) (meaning : Result Rules PolicyFault) (later : RunEnd → List Told → Type 0) (others : List Told)
@@ -141,10 +159,10 @@ done_without e line (Err fault) later others ended rest = (tt, rest)
 some_text_by : (names : Known) (e : RunEnd) (line : ℕ) (said : Said) (rest : List Statement) →
     ((ended : Ended) × (text : List ℕ) × Writes names e rest ended text) →
     (ended : Ended) × (text : List ℕ) × Writes names e (record { line = line; said = said } ∷ rest) ended text
-some_text_by names e line (Does step) rest (ended, text, written) = (
+some_text_by names e line (Does reading) rest (ended, text, written) = (
   ended,
   answer_text NoMemory ++ text,
-  (turns_step names e line (Does step) step NoMemory refl tt).on rest ended text written,
+  (turns_step names e line (Does reading) reading NoMemory refl tt).on rest ended text written,
 )
 some_text_by names e line (Audit actor) rest (ended, text, written) = (
   ended,
@@ -199,12 +217,12 @@ gives_up_by names old new statement front before after' turns begun =
     }
 
 -- a step that a world took
-turns_of : (names : Known) (old new : Held) (line : ℕ) (said : Said) (step : Step) (answer : Answer) →
-    deed_of names said ≡ Takes step → Serves old new step answer → (e : RunEnd) → StandsForEnd old e →
+turns_of : (names : Known) (old new : Held) (line : ℕ) (said : Said) (reading : Reading) (answer : Answer) →
+    deed_of names said ≡ Takes reading → is_bad_step answer ≡ false → Serves old new reading answer → (e : RunEnd) → StandsForEnd old e →
     (next : RunEnd) × StandsForEnd new next × Turns names e next (record { line = line; said = said }) (answer_text answer)
-turns_of names old new line said step answer is served e stands =
+turns_of names old new line said reading answer is good served e stands =
     let s = served.on e stands in
-    (after e step answer, s.1, turns_step names e line said step answer is s.0)
+    (after e reading answer, s.1, turns_step names e line said reading answer is (told_of e reading answer good s.0))
 
 -- the decisions of an actor that a world shows
 shown_of : (names : Known) (held : Held) (line : ℕ) (actor : Actor) (e : RunEnd) → StandsForEnd held e →
@@ -247,14 +265,14 @@ so_far_done names start all held before after' so_far =
 
 pub so_far_stops : (names : Known) (start : Held) (all : List Statement) (held : Held) (statement : Statement) (rest : List Statement) (ended : Ended)
     (before between after' : Option (List ℕ)) →
-    SoFar names start all held (statement ∷ rest) before between → StopsAt names statement ended between after' →
+    SoFar names start all held (statement ∷ rest) before between → StopsAt names held statement ended between after' →
     WritesWhole names start all ended before after'
 so_far_stops names start all held statement rest ended before between after' so_far stops =
     record {
       on = λ e stands.
           let (next, stands', on) = so_far.on e stands in (
             so_far.front ++ stops.text,
-            on ended stops.text (stops.on next rest),
+            on ended stops.text (stops.on next stands' rest),
             appends_more before between after' so_far.front stops.text so_far.appended stops.appended,
           );
     }
@@ -291,72 +309,105 @@ so_far_front names start all held left before after' so_far =
     }
 
 -- what writing an answer came to, as what the step came to
-pub step_goes : (r : Result (Unit {0}) RunFault) (old new : Held) (step : Step) (answer : Answer) (before after' : Option (List ℕ)) →
-    Serves old new step answer → OnOk r (Appends before after' (answer_text answer)) →
-    OnOk r (Steps old new step before after')
-step_goes (Ok x) old new step answer before after' served appended =
-    record {
-      on = λ names line said is.
+pub step_goes : (r : Result (Option Ended) RunFault) (old new : Held) (line : ℕ) (reading : Reading) (answer : Answer) (before after' : Option (List ℕ)) →
+    Serves old new reading answer → is_bad_step answer ≡ false →
+    IfOk r (λ ended. (ended ≡ None) × Appends before after' (answer_text answer)) →
+    IfOk r (λ ended. Steps old new line reading ended before after')
+step_goes (Ok ended) old new line reading answer before after' served good taken =
+    rw taken.0 (record {
+      on = λ names said is.
           goes_by names old new (record { line = line; said = said }) (answer_text answer) before after'
-          (turns_of names old new line said step answer is served) appended;
-    }
-step_goes (Err fault) old new step answer before after' served appended = tt
+          (turns_of names old new line said reading answer is good served) taken.1;
+    })
+step_goes (Err fault) old new line reading answer before after' served good taken = tt
 
-pub step_gives_up : (r : Result (Unit {0}) RunFault) (old new : Held) (step : Step) (answer : Answer) (before after' : Option (List ℕ)) →
-    Serves old new step answer → OnErr r (AppendsFront before after' (answer_text answer)) →
-    OnErr r (GivesUpStep old step before after')
-step_gives_up (Ok x) old new step answer before after' served begun = tt
-step_gives_up (Err fault) old new step answer before after' served begun =
+pub step_gives_up : (r : Result (Option Ended) RunFault) (old new : Held) (line : ℕ) (reading : Reading) (answer : Answer) (before after' : Option (List ℕ)) →
+    Serves old new reading answer → is_bad_step answer ≡ false → OnErr r (AppendsFront before after' (answer_text answer)) →
+    OnErr r (GivesUpStep old line reading before after')
+step_gives_up (Ok ended) old new line reading answer before after' served good begun = tt
+step_gives_up (Err fault) old new line reading answer before after' served good begun =
     record {
-      on = λ names line said is.
+      on = λ names said is.
           gives_up_by names old new (record { line = line; said = said }) (answer_text answer) before after'
-          (turns_of names old new line said step answer is served) begun;
+          (turns_of names old new line said reading answer is good served) begun;
+    }
+
+-- a step that is bad, and whose line was written, or a front of it
+bad_on : (old new : Held) (reading : Reading) (answer : Answer) → Serves old new reading answer → is_bad_step answer ≡ true →
+    (e : RunEnd) → StandsForEnd old e → IsAnswer e reading BadStep
+bad_on old new reading answer served bad e stands =
+    let P : Answer → Type 0 = λ those. IsAnswer e reading those in
+    subst P (bad_is answer bad) (served.on e stands).0
+
+pub step_stops : (r : Result (Option Ended) RunFault) (old new : Held) (line : ℕ) (reading : Reading) (answer : Answer) (before after' : Option (List ℕ)) →
+    Serves old new reading answer → is_bad_step answer ≡ true →
+    IfOk r (λ ended. (ended ≡ Some (BadLine line)) × Appends before after' (ended_text (BadLine line))) →
+    IfOk r (λ ended. Steps old new line reading ended before after')
+step_stops (Ok ended) old new line reading answer before after' served bad taken =
+    rw taken.0 (record {
+      on = λ names said is. record {
+        text = ended_text (BadLine line);
+        appended = taken.1;
+        on = λ e stands rest. writes_bad_step names e line said reading rest is (bad_on old new reading answer served bad e stands);
+      };
+    })
+step_stops (Err fault) old new line reading answer before after' served bad taken = tt
+
+pub step_stops_short : (r : Result (Option Ended) RunFault) (old new : Held) (line : ℕ) (reading : Reading) (answer : Answer) (before after' : Option (List ℕ)) →
+    Serves old new reading answer → is_bad_step answer ≡ true → OnErr r (AppendsFront before after' (ended_text (BadLine line))) →
+    OnErr r (GivesUpStep old line reading before after')
+step_stops_short (Ok ended) old new line reading answer before after' served bad begun = tt
+step_stops_short (Err fault) old new line reading answer before after' served bad begun =
+    record {
+      on = λ names said is. record {
+        on = λ rest. record {
+          on = λ e stands. (
+            BadLine line,
+            ended_text (BadLine line),
+            writes_bad_step names e line said reading rest is (bad_on old new reading answer served bad e stands),
+            begun,
+          );
+        };
+      };
     }
 
 -- a policy that is put in force is a step
-pub policy_goes : (r : Result (Unit {0}) RunFault) (names : Known) (old new : Held) (text : List ℕ) (policy : Rules) (before after' : Option (List ℕ)) →
-    policy_of names text ≡ Ok policy → OnOk r (Steps old new (put_in_force policy) before after') →
-    OnOk r (Puts names old new text before after')
-policy_goes (Ok x) names old new text policy before after' is steps =
-    record { on = λ line. steps.on names line (Policy text) (rw is refl) }
-policy_goes (Err fault) names old new text policy before after' is steps = tt
+pub policy_goes : (r : Result (Option Ended) RunFault) (names : Known) (old new : Held) (line : ℕ) (text : List ℕ) (policy : Rules) (before after' : Option (List ℕ)) →
+    policy_of names text ≡ Ok policy → IfOk r (λ ended. Steps old new line (put_in_force policy) ended before after') →
+    IfOk r (λ ended. TakesStep names old new (record { line = line; said = Policy text }) ended before after')
+policy_goes (Ok ended) names old new line text policy before after' is steps = steps.on names (Policy text) (rw is refl)
+policy_goes (Err fault) names old new line text policy before after' is steps = tt
 
-pub policy_gives_up : (r : Result (Unit {0}) RunFault) (names : Known) (old : Held) (text : List ℕ) (policy : Rules) (before after' : Option (List ℕ)) →
-    policy_of names text ≡ Ok policy → OnErr r (GivesUpStep old (put_in_force policy) before after') →
-    OnErr r (GivesUpPolicy names old text before after')
-policy_gives_up (Ok x) names old text policy before after' is gives_up = tt
-policy_gives_up (Err fault) names old text policy before after' is gives_up =
-    record { on = λ line. gives_up.on names line (Policy text) (rw is refl) }
+pub policy_gives_up : (r : Result (Option Ended) RunFault) (names : Known) (old : Held) (line : ℕ) (text : List ℕ) (policy : Rules) (before after' : Option (List ℕ)) →
+    policy_of names text ≡ Ok policy → OnErr r (GivesUpStep old line (put_in_force policy) before after') →
+    OnErr r (GivesUp names old (record { line = line; said = Policy text }) before after')
+policy_gives_up (Ok ended) names old line text policy before after' is gives_up = tt
+policy_gives_up (Err fault) names old line text policy before after' is gives_up = gives_up.on names (Policy text) (rw is refl)
 
 -- one that is refused is none
-pub refusal_goes : (r : Result (Unit {0}) RunFault) (names : Known) (held : Held) (text : List ℕ) (fault : PolicyFault) (before after' : Option (List ℕ)) →
-    Fails fault (policy_of names text) → OnOk r (Appends before after' (told_text (told_of_fault fault))) →
-    OnOk r (Puts names held held text before after')
-refusal_goes (Ok x) names held text fault before after' is appended =
-    record {
-      on = λ line.
-          goes_by names held held (record { line = line; said = Policy text }) (told_text (told_of_fault fault)) before after'
-          (λ e stands. (e, stands, turns_refused names e line text fault is)) appended;
-    }
-refusal_goes (Err error) names held text fault before after' is appended = tt
+pub refusal_goes : (r : Result (Option Ended) RunFault) (names : Known) (held : Held) (line : ℕ) (text : List ℕ) (fault : PolicyFault) (before after' : Option (List ℕ)) →
+    Fails fault (policy_of names text) → IfOk r (λ ended. (ended ≡ None) × Appends before after' (told_text (told_of_fault fault))) →
+    IfOk r (λ ended. TakesStep names held held (record { line = line; said = Policy text }) ended before after')
+refusal_goes (Ok ended) names held line text fault before after' is taken =
+    rw taken.0
+    (goes_by names held held (record { line = line; said = Policy text }) (told_text (told_of_fault fault)) before after'
+    (λ e stands. (e, stands, turns_refused names e line text fault is)) taken.1)
+refusal_goes (Err error) names held line text fault before after' is taken = tt
 
-pub refusal_gives_up : (r : Result (Unit {0}) RunFault) (names : Known) (held : Held) (text : List ℕ) (fault : PolicyFault) (before after' : Option (List ℕ)) →
+pub refusal_gives_up : (r : Result (Option Ended) RunFault) (names : Known) (held : Held) (line : ℕ) (text : List ℕ) (fault : PolicyFault) (before after' : Option (List ℕ)) →
     Fails fault (policy_of names text) → OnErr r (AppendsFront before after' (told_text (told_of_fault fault))) →
-    OnErr r (GivesUpPolicy names held text before after')
-refusal_gives_up (Ok x) names held text fault before after' is begun = tt
-refusal_gives_up (Err error) names held text fault before after' is begun =
-    record {
-      on = λ line.
-          gives_up_by names held held (record { line = line; said = Policy text }) (told_text (told_of_fault fault)) before after'
-          (λ e stands. (e, stands, turns_refused names e line text fault is)) begun;
-    }
+    OnErr r (GivesUp names held (record { line = line; said = Policy text }) before after')
+refusal_gives_up (Ok ended) names held line text fault before after' is begun = tt
+refusal_gives_up (Err error) names held line text fault before after' is begun =
+    gives_up_by names held held (record { line = line; said = Policy text }) (told_text (told_of_fault fault)) before after'
+    (λ e stands. (e, stands, turns_refused names e line text fault is)) begun
 
 -- a statement that is bad where it stands, and whose line was written, or a front of it
-pub stops_bad : (names : Known) (line : ℕ) (said : Said) (before after' : Option (List ℕ)) → IsOutOfOrder said →
+pub stops_bad : (names : Known) (held : Held) (line : ℕ) (said : Said) (before after' : Option (List ℕ)) → IsOutOfOrder said →
     Appends before after' (ended_text (BadLine line)) →
-    StopsAt names (record { line = line; said = said }) (BadLine line) before after'
-stops_bad names line said before after' out appended =
-    record { text = ended_text (BadLine line); appended = appended; on = λ e rest. writes_bad names e line said rest out }
+    StopsAt names held (record { line = line; said = said }) (BadLine line) before after'
+stops_bad names held line said before after' out appended =
+    record { text = ended_text (BadLine line); appended = appended; on = λ e stands rest. writes_bad names e line said rest out }
 
 pub gives_up_bad : (names : Known) (held : Held) (line : ℕ) (said : Said) (before after' : Option (List ℕ)) → IsOutOfOrder said →
     AppendsFront before after' (ended_text (BadLine line)) →
@@ -387,33 +438,6 @@ pub if_some : {A : Type 0} (P : A → Type 0) (o : Option A) → ((x : A) → P 
 if_some P None all = tt
 if_some P (Some x) all = all x
 
--- the same of a statement that says so
-pub statement_goes : (names : Known) (old new : Held) (statement : Statement) (step : Step) (before after' : Option (List ℕ)) →
-    statement.said ≡ Does step → Steps old new step before after' → Goes names old new statement before after'
-statement_goes names old new statement step before after' is steps =
-    let P : Said → Type 0 = λ said. Goes names old new (record { line = statement.line; said = said }) before after' in
-    subst P (sym is) (steps.on names statement.line (Does step) refl)
-
-pub statement_gives_up : (names : Known) (held : Held) (statement : Statement) (step : Step) (before after' : Option (List ℕ)) →
-    statement.said ≡ Does step → GivesUpStep held step before after' → GivesUp names held statement before after'
-statement_gives_up names held statement step before after' is gives_up =
-    let P : Said → Type 0 = λ said. GivesUp names held (record { line = statement.line; said = said }) before after' in
-    subst P (sym is) (gives_up.on names statement.line (Does step) refl)
-
-pub statement_puts : (names : Known) (old new : Held) (statement : Statement) (text found : List ℕ) (before after' : Option (List ℕ)) →
-    found ≡ text → statement.said ≡ Policy text → Puts names old new found before after' → Goes names old new statement before after'
-statement_puts names old new statement text found before after' same is puts =
-    let P : Said → Type 0 = λ said. Goes names old new (record { line = statement.line; said = said }) before after' in
-    let Q : List ℕ → Type 0 = λ those. Puts names old new those before after' in
-    subst P (sym is) ((subst Q same puts).on statement.line)
-
-pub statement_gives_up_policy : (names : Known) (held : Held) (statement : Statement) (text found : List ℕ) (before after' : Option (List ℕ)) →
-    found ≡ text → statement.said ≡ Policy text → GivesUpPolicy names held found before after' → GivesUp names held statement before after'
-statement_gives_up_policy names held statement text found before after' same is gives_up =
-    let P : Said → Type 0 = λ said. GivesUp names held (record { line = statement.line; said = said }) before after' in
-    let Q : List ℕ → Type 0 = λ those. GivesUpPolicy names held those before after' in
-    subst P (sym is) ((subst Q same gives_up).on statement.line)
-
 pub statement_bad : (names : Known) (held : Held) (statement : Statement) (said : Said) (before after' : Option (List ℕ)) →
     statement.said ≡ said → IsOutOfOrder said → AppendsFront before after' (ended_text (BadLine statement.line)) →
     GivesUp names held statement before after'
@@ -422,18 +446,20 @@ statement_bad names held statement said before after' is out begun =
     subst P (sym is) (gives_up_bad names held statement.line said before after' out begun)
 
 -- what taking a statement came to
-pub step_taken : (r : Result (Option Ended) RunFault) (names : Known) (old new : Held) (statement : Statement) (step : Step) (before after' : Option (List ℕ)) →
-    statement.said ≡ Does step → IfOk r (λ ended. (ended ≡ None) × Steps old new step before after') →
+pub step_taken : (r : Result (Option Ended) RunFault) (names : Known) (old new : Held) (statement : Statement) (reading : Reading) (before after' : Option (List ℕ)) →
+    statement.said ≡ Does reading → IfOk r (λ ended. Steps old new statement.line reading ended before after') →
     IfOk r (λ ended. TakesStep names old new statement ended before after')
-step_taken (Ok ended) names old new statement step before after' is taken =
-    rw taken.0 (statement_goes names old new statement step before after' is taken.1)
-step_taken (Err fault) names old new statement step before after' is taken = tt
+step_taken (Ok ended) names old new statement reading before after' is taken =
+    let P : Said → Type 0 = λ said. TakesStep names old new (record { line = statement.line; said = said }) ended before after' in
+    subst P (sym is) (taken.on names (Does reading) refl)
+step_taken (Err fault) names old new statement reading before after' is taken = tt
 
-pub step_given_up : (r : Result (Option Ended) RunFault) (names : Known) (held : Held) (statement : Statement) (step : Step) (before after' : Option (List ℕ)) →
-    statement.said ≡ Does step → OnErr r (GivesUpStep held step before after') → OnErr r (GivesUp names held statement before after')
-step_given_up (Ok ended) names held statement step before after' is gives_up = tt
-step_given_up (Err fault) names held statement step before after' is gives_up =
-    statement_gives_up names held statement step before after' is gives_up
+pub step_given_up : (r : Result (Option Ended) RunFault) (names : Known) (held : Held) (statement : Statement) (reading : Reading) (before after' : Option (List ℕ)) →
+    statement.said ≡ Does reading → OnErr r (GivesUpStep held statement.line reading before after') → OnErr r (GivesUp names held statement before after')
+step_given_up (Ok ended) names held statement reading before after' is gives_up = tt
+step_given_up (Err fault) names held statement reading before after' is gives_up =
+    let P : Said → Type 0 = λ said. GivesUp names held (record { line = statement.line; said = said }) before after' in
+    subst P (sym is) (gives_up.on names (Does reading) refl)
 
 pub audit_taken : (r : Result (Option Ended) RunFault) (names : Known) (held : Held) (statement : Statement) (actor : Actor) (before after' : Option (List ℕ)) →
     statement.said ≡ Audit actor →
@@ -458,26 +484,30 @@ audit_given_up (Err fault) names held statement actor before after' is begun =
     (shown_of names held statement.line actor) begun)
 
 pub policy_taken : (r : Result (Option Ended) RunFault) (names : Known) (old new : Held) (statement : Statement) (text found : List ℕ) (before after' : Option (List ℕ)) →
-    found ≡ text → statement.said ≡ Policy text → IfOk r (λ ended. (ended ≡ None) × Puts names old new found before after') →
+    found ≡ text → statement.said ≡ Policy text →
+    IfOk r (λ ended. TakesStep names old new (record { line = statement.line; said = Policy found }) ended before after') →
     IfOk r (λ ended. TakesStep names old new statement ended before after')
 policy_taken (Ok ended) names old new statement text found before after' same is taken =
-    rw taken.0 (statement_puts names old new statement text found before after' same is taken.1)
+    let P : Said → Type 0 = λ said. TakesStep names old new (record { line = statement.line; said = said }) ended before after' in
+    subst P (ap Policy same ∙ sym is) taken
 policy_taken (Err fault) names old new statement text found before after' same is taken = tt
 
 pub policy_given_up : (r : Result (Option Ended) RunFault) (names : Known) (held : Held) (statement : Statement) (text found : List ℕ) (before after' : Option (List ℕ)) →
-    found ≡ text → statement.said ≡ Policy text → OnErr r (GivesUpPolicy names held found before after') →
+    found ≡ text → statement.said ≡ Policy text →
+    OnErr r (GivesUp names held (record { line = statement.line; said = Policy found }) before after') →
     OnErr r (GivesUp names held statement before after')
 policy_given_up (Ok ended) names held statement text found before after' same is gives_up = tt
 policy_given_up (Err fault) names held statement text found before after' same is gives_up =
-    statement_gives_up_policy names held statement text found before after' same is gives_up
+    let P : Said → Type 0 = λ said. GivesUp names held (record { line = statement.line; said = said }) before after' in
+    subst P (ap Policy same ∙ sym is) gives_up
 
 pub bad_taken : (r : Result (Option Ended) RunFault) (names : Known) (held : Held) (statement : Statement) (said : Said) (before after' : Option (List ℕ)) →
     statement.said ≡ said → IsOutOfOrder said →
     IfOk r (λ ended. (ended ≡ Some (BadLine statement.line)) × Appends before after' (ended_text (BadLine statement.line))) →
     IfOk r (λ ended. TakesStep names held held statement ended before after')
 bad_taken (Ok ended) names held statement said before after' is out taken =
-    let P : Said → Type 0 = λ those. StopsAt names (record { line = statement.line; said = those }) (BadLine statement.line) before after' in
-    rw taken.0 (subst P (sym is) (stops_bad names statement.line said before after' out taken.1))
+    let P : Said → Type 0 = λ those. StopsAt names held (record { line = statement.line; said = those }) (BadLine statement.line) before after' in
+    rw taken.0 (subst P (sym is) (stops_bad names held statement.line said before after' out taken.1))
 bad_taken (Err fault) names held statement said before after' is out taken = tt
 
 pub bad_given_up : (r : Result (Option Ended) RunFault) (names : Known) (held : Held) (statement : Statement) (said : Said) (before after' : Option (List ℕ)) →

@@ -1,9 +1,9 @@
 -- What the run of a script writes: a function of the script's bytes, and of which steps were refused memory.
-use Rattle.std.specs.Prelude.{◌≡◌, ℕ, Bool, false, List, [], ◌∷◌, ◌++◌, is_some, Option, Some, None, Result, Ok, Err, length, nat_lt, codes, if◌then◌else◌}
+use Rattle.std.specs.Prelude.{◌≡◌, ℕ, Bool, false, true, List, [], ◌∷◌, ◌++◌, is_some, Option, Some, None, Result, Ok, Err, length, nat_lt, codes, if◌then◌else◌}
 use Rattle.std.specs.Fmt.{decimal}
 use Rattle.std.specs.List.{flat_map, list_any}
 use Rattle.driver_steps.specs.declared.answer.Answer.{Answer}
-use Rattle.driver_steps.specs.declared.answer.Answer.TheVariants.{NoMemory, Attached, Full, Stopped, PolicyInForce, PolicyFull, Imaged, Received, Heard, Limited, Elicited, Idle, Sent, Resent, Reported, Dropped, Replies, Offered, Polled, Gone, Counters, Value, Denied, UnknownCounter, WrongClient}
+use Rattle.driver_steps.specs.declared.answer.Answer.TheVariants.{NoMemory, Attached, Full, Stopped, PolicyInForce, PolicyFull, Imaged, Received, Heard, Limited, Elicited, Idle, Sent, Resent, Reported, Dropped, Replies, Offered, Polled, Gone, Counters, Value, Denied, UnknownCounter, WrongClient, BadStep}
 use Rattle.driver_core.specs.declared.event.Event.TheVariants.{Reload}
 use Rattle.driver_core.specs.declared.listing.ListedCounter.{ListedCounter}
 use Rattle.driver_core.specs.declared.replies.Message.{Message}
@@ -13,11 +13,11 @@ use Rattle.driver_core.specs.declared.settings.Settings.{Settings}
 use Rattle.any_log.specs.declared.fragment.Fragment.{Fragment}
 use Rattle.channel_uri.specs.Address.{is_same}
 use Rattle.channel_uri.specs.declared.address.Address.{Address}
-use Rattle.driver_steps.specs.declared.step.Step.{Step}
 use Rattle.driver_steps.specs.declared.step.Step.TheVariants.{Conductor}
 use Rattle.driver_core.specs.Replies.{layout_of}
 use Rattle.audit_ring.specs.Audit.{Kept}
 use Rattle.driver_world.specs.declared.actor.Actor.{Actor}
+use Rattle.driver_world.specs.declared.reading.Reading.{Reading}
 use Rattle.driver_world.specs.Audits.{kept_all, kept_for}
 use Rattle.driver_world.specs.Ends.{RunEnd, IsAnswer, after, opening_end}
 use Rattle.command_codec.specs.Reply.{reply_bytes}
@@ -79,7 +79,7 @@ opening_by given line (Principal name number) rest later = named given line name
 opening_by given line (PeerGiven peer) rest later = peered given line peer later
 opening_by given line (Set key value) rest later = settled given line (choose given.choices key value) later
 opening_by given line (Policy text) rest later = opened_by given line rest (policy_of given.names text)
-opening_by given line (Does step) rest later = Refuses line
+opening_by given line (Does reading) rest later = Refuses line
 opening_by given line (Audit actor) rest later = Refuses line
 opening_by given line Bad rest later = Refuses line
 
@@ -93,21 +93,21 @@ opening_of given (statement ∷ rest) =
 -- what a statement does behind the head: a step; nothing, where the decisions of an actor are shown, or the text of a policy
 -- is refused; or it is bad there
 pub data Deed : Type 0 where
-  Takes : Step → Deed
+  Takes : Reading → Deed
   Shows : Actor → Deed
   Faults : PolicyFault → Deed
   Stops : Deed
 
 -- a policy is put in force by an event, whose moment is that of the registry: no moment is before 0
-abbrev pub put_in_force : Rules → Step
-put_in_force policy = Conductor (Reload 0 policy)
+abbrev pub put_in_force : Rules → Reading
+put_in_force policy = record { view = None; step = Conductor (Reload 0 policy) }
 
 abbrev pub deed_by : Result Rules PolicyFault → Deed
 deed_by (Err fault) = Faults fault
 deed_by (Ok policy) = Takes (put_in_force policy)
 
 abbrev pub deed_of : Known → Said → Deed
-deed_of names (Does step) = Takes step
+deed_of names (Does reading) = Takes reading
 deed_of names (Audit actor) = Shows actor
 deed_of names (Policy text) = deed_by (policy_of names text)
 deed_of names (Principal name number) = Stops
@@ -122,15 +122,24 @@ pub data Told : Type 0 where
   Shown : Kept → Told
   Refused : PolicyFault → Told
 
-abbrev pub IsTold : RunEnd → Step → Told → Type 0
-IsTold e step (Answered answer) = IsAnswer e step answer
-IsTold e step (Shown kept) = ⊥
-IsTold e step (Refused fault) = ⊥
+-- a step that names a registry at which its actor may not look is told nothing: its line is bad
+abbrev pub is_bad_step : Answer → Bool
+is_bad_step BadStep = true
+is_bad_step answer = false
 
-abbrev pub after_told : RunEnd → Step → Told → RunEnd
-after_told e step (Answered answer) = after e step answer
-after_told e step (Shown kept) = e
-after_told e step (Refused fault) = e
+abbrev pub IsToldBy : RunEnd → Reading → Answer → Type 0
+IsToldBy e reading BadStep = ⊥
+IsToldBy e reading answer = IsAnswer e reading answer
+
+abbrev pub IsTold : RunEnd → Reading → Told → Type 0
+IsTold e reading (Answered answer) = IsToldBy e reading answer
+IsTold e reading (Shown kept) = ⊥
+IsTold e reading (Refused fault) = ⊥
+
+abbrev pub after_told : RunEnd → Reading → Told → RunEnd
+after_told e reading (Answered answer) = after e reading answer
+after_told e reading (Shown kept) = e
+after_told e reading (Refused fault) = e
 
 -- of all that was decided for the actor up to there, the end is shown
 abbrev pub IsShown : RunEnd → Actor → Told → Type 0
@@ -146,8 +155,8 @@ IsRefused fault (Answered NoMemory) = Unit {0}
 IsRefused fault (Answered answer) = ⊥
 
 abbrev pub IsDone : RunEnd → ℕ → Deed → (RunEnd → List Told → Type 0) → List Told → Ended → Type 0
-IsDone e line (Takes step) later [] ended = ⊥
-IsDone e line (Takes step) later (told ∷ others) ended = IsTold e step told × later (after_told e step told) others
+IsDone e line (Takes reading) later [] ended = IsAnswer e reading BadStep × (ended ≡ BadLine line)
+IsDone e line (Takes reading) later (told ∷ others) ended = IsTold e reading told × later (after_told e reading told) others
 IsDone e line (Shows actor) later [] ended = ⊥
 IsDone e line (Shows actor) later (told ∷ others) ended = IsShown e actor told × later e others
 IsDone e line (Faults fault) later [] ended = ⊥
@@ -210,6 +219,7 @@ answer_text (Value value) = value_line value
 answer_text (Denied verdict) = denial_line verdict
 answer_text UnknownCounter = codes "unknown counter\n"
 answer_text WrongClient = codes "wrong client\n"
+answer_text BadStep = []
 
 -- a line for each decision, behind one that counts them
 abbrev pub audit_text : Kept → List ℕ

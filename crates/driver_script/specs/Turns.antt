@@ -4,7 +4,7 @@ use Rattle.std.specs.Io.KnownBytes.{Appends}
 use Rattle.driver_steps.specs.declared.answer.Answer.TheVariants.{NoMemory}
 use Rattle.driver_core.specs.declared.peer.Peer.{Peer}
 use Rattle.driver_core.specs.declared.settings.Settings.{Settings}
-use Rattle.driver_steps.specs.declared.step.Step.{Step}
+use Rattle.driver_world.specs.declared.reading.Reading.{Reading}
 use Rattle.driver_world.specs.Ends.{RunEnd, opening_end}
 use Rattle.driver_world.specs.Standing.{Held, StandsForEnd}
 use Rattle.policy_core.specs.RuleList.{Rules}
@@ -19,7 +19,6 @@ use Rattle.driver_script.specs.declared.script.Preface.{Preface}
 use Rattle.driver_script.specs.declared.fault.RunFault.{RunFault}
 use Rattle.driver_script.specs.declared.fault.RunFault.TheVariants as fault
 use Rattle.script_lines.specs.declared.statements.Said.{Said}
-use Rattle.script_lines.specs.declared.statements.Said.TheVariants.{Policy}
 use Rattle.script_lines.specs.declared.statements.Statement.{Statement}
 use Rattle.driver_script.specs.Output.{AppendsFront}
 use Rattle.driver_script.specs.Script.{Opening, Ends, Refuses, Opens, opening_of, Takes, deed_of, Told, Answered, Refused, Writes, IsScriptText, ended_text}
@@ -68,24 +67,20 @@ pub record Goes (names : Known) (old new : Held) (statement : Statement) (before
   pub appended : Appends before after front
   pub on : (e : RunEnd) → StandsForEnd old e → (next : RunEnd) × StandsForEnd new next × Turns names e next statement front
 
--- the same of a step, whatever statement it is
-pub record Steps (old new : Held) (step : Step) (before after : Option (List ℕ)) : Type 0 where
-  pub on : (names : Known) (line : ℕ) (said : Said) → deed_of names said ≡ Takes step →
-      Goes names old new (record { line = line; said = said }) before after
-
--- the same of the text of a policy, on whatever line it begins
-pub record Puts (names : Known) (old new : Held) (text : List ℕ) (before after : Option (List ℕ)) : Type 0 where
-  pub on : (line : ℕ) → Goes names old new (record { line = line; said = Policy text }) before after
-
 -- the statement is bad here, and its text ends the run
-pub record StopsAt (names : Known) (statement : Statement) (ended : Ended) (before after : Option (List ℕ)) : Type 0 where
+pub record StopsAt (names : Known) (held : Held) (statement : Statement) (ended : Ended) (before after : Option (List ℕ)) : Type 0 where
   pub text : List ℕ
   pub appended : Appends before after text
-  pub on : (e : RunEnd) (rest : List Statement) → Writes names e (statement ∷ rest) ended text
+  pub on : (e : RunEnd) → StandsForEnd held e → (rest : List Statement) → Writes names e (statement ∷ rest) ended text
 
 abbrev pub TakesStep : Known → Held → Held → Statement → Option Ended → Option (List ℕ) → Option (List ℕ) → Type 0
 TakesStep names old new statement None before after = Goes names old new statement before after
-TakesStep names old new statement (Some ended) before after = StopsAt names statement ended before after
+TakesStep names old new statement (Some ended) before after = StopsAt names old statement ended before after
+
+-- the same of a step at that line, whatever statement it is
+pub record Steps (old new : Held) (line : ℕ) (reading : Reading) (ended : Option Ended) (before after : Option (List ℕ)) : Type 0 where
+  pub on : (names : Known) (said : Said) → deed_of names said ≡ Takes reading →
+      TakesStep names old new (record { line = line; said = said }) ended before after
 
 -- a front of a text that the statements write from there on was written
 pub record WritesFront (names : Known) (held : Held) (statements : List Statement) (before after : Option (List ℕ)) : Type 0 where
@@ -95,12 +90,9 @@ pub record WritesFront (names : Known) (held : Held) (statements : List Statemen
 pub record GivesUp (names : Known) (held : Held) (statement : Statement) (before after : Option (List ℕ)) : Type 0 where
   pub on : (rest : List Statement) → WritesFront names held (statement ∷ rest) before after
 
-pub record GivesUpStep (held : Held) (step : Step) (before after : Option (List ℕ)) : Type 0 where
-  pub on : (names : Known) (line : ℕ) (said : Said) → deed_of names said ≡ Takes step →
+pub record GivesUpStep (held : Held) (line : ℕ) (reading : Reading) (before after : Option (List ℕ)) : Type 0 where
+  pub on : (names : Known) (said : Said) → deed_of names said ≡ Takes reading →
       GivesUp names held (record { line = line; said = said }) before after
-
-pub record GivesUpPolicy (names : Known) (held : Held) (text : List ℕ) (before after : Option (List ℕ)) : Type 0 where
-  pub on : (line : ℕ) → GivesUp names held (record { line = line; said = Policy text }) before after
 
 -- the text that the statements write from there on was written
 pub record WritesWhole (names : Known) (held : Held) (statements : List Statement) (ended : Ended) (before after : Option (List ℕ)) : Type 0 where

@@ -5,7 +5,7 @@ ghost use Rattle.driver_world.specs.Audits.{IsAuditOf, kept_for};
 ghost use Rattle.driver_script.specs.Answers.{data_line, decision_line, line_text, list_line, policy_line, poll_line, sent_line, setup_line, withheld_line, word_behind};
 ghost use Rattle.driver_script.specs.Ends.{OfAnswering, OfRunning};
 ghost use Rattle.driver_script.specs.Output.{AppendsFront};
-ghost use Rattle.driver_script.specs.Script.{audit_text, message_text, counter_text, fragment_text, outlet_text, outlets_text, sent_text, answer_text, told_text, ended_text, is_peer_at, may_peer, no_preface};
+ghost use Rattle.driver_script.specs.Script.{audit_text, message_text, counter_text, fragment_text, outlet_text, outlets_text, sent_text, answer_text, is_bad_step, told_text, ended_text, is_peer_at, may_peer, no_preface};
 ghost use Rattle.std.specs.Io.KnownBytes.{Appends};
 ghost use Rattle.std.specs.List.{flat_map, list_any};
 ghost use Rattle.driver_script.specs.declared.script.Ended.TheVariants.{BadLine};
@@ -15,7 +15,7 @@ ghost use Rattle.script_lines.specs.declared.statements.TheConstants.{LIMIT};
 ghost use Rattle.script_lines.specs.Statements.{statements_of};
 ghost use Rattle.script_lines.specs.Left.{left};
 ghost use Rattle.driver_script.specs.Script.{opening_of};
-ghost use Rattle.driver_script.specs.Turns.{TakesHead, IsHead, Steps, GivesUpStep, Puts, GivesUpPolicy, told_of_fault, TakesStep, GivesUp, WritesWhole, WritesFront, FollowsHead, BeginsHead, WritesScript, BeginsScript, IsBegun, IsUnread};
+ghost use Rattle.driver_script.specs.Turns.{TakesHead, IsHead, Steps, GivesUpStep, told_of_fault, TakesStep, GivesUp, WritesWhole, WritesFront, FollowsHead, BeginsHead, WritesScript, BeginsScript, IsBegun, IsUnread};
 ghost use Rattle.std.specs.Prelude.{◌≡◌, ◌<◌, ◌≤◌, ◌++◌, [], Some, None, Err, IfOk, IfErr, IfSome, OnOk, OnErr, length, option_copied};
 ghost use Rattle.std.specs.String.{string_bytes};
 
@@ -27,7 +27,7 @@ use crate::output::write_whole;
 use audit_ring::Audit;
 use byte_strings::{Bytes, Items, Text};
 use driver_core::{Address, Event, ListedCounter, Message, Outlet, Peer};
-use driver_world::{Actor, Answer, Fragment, Insert, Step, World};
+use driver_world::{Actor, Answer, Fragment, Insert, Reading, Step, World};
 use policy_text::{Names, PolicyFault};
 use script_lines::settings::Choices;
 use script_lines::statements::{LIMIT, Said, Statement, Statements};
@@ -284,6 +284,8 @@ fn text_of(alloc: Global, answer: &Answer) -> Result<String, AllocError>
         Answer::Denied(verdict) => text_of_line(alloc, AnswerLine::Denied(*verdict)),
         Answer::UnknownCounter => text_of_line(alloc, AnswerLine::UnknownCounter),
         Answer::WrongClient => text_of_line(alloc, AnswerLine::WrongClient),
+        // (its line is bad)
+        Answer::BadStep => Ok(String::new(alloc)),
     }
 }
 
@@ -465,29 +467,55 @@ fn write_bad_line<W: Target>(alloc: Global, line: u64, writer: &mut W) -> Result
     Ok(Ended::BadLine(line))
 }
 
-/// Writes the text of an answer.
-fn write_answer<W: Target>(alloc: Global, answer: &Answer, writer: &mut W) -> Result<(), RunFault>
-    ensures ok { OnOk result (Appends (W.contents writer.old) (W.contents writer.new) (answer_text answer.now)) }
+/// Writes that a line is bad, at which the script ends.
+fn stop_at<W: Target>(alloc: Global, line: u64, writer: &mut W) -> Result<Option<Ended>, RunFault>
+    ensures ok { IfOk result (λ ended. (ended ≡ Some (BadLine line)) × Appends (W.contents writer.old) (W.contents writer.new) (ended_text (BadLine line))) }
+    ensures err { OnErr result (AppendsFront (W.contents writer.old) (W.contents writer.new) (ended_text (BadLine line))) }
+    ensures begun { IfErr result (OfAnswering W.may_fail) }
+{
+    let ended = write_bad_line(alloc, line, writer)?;
+    Ok(Some(ended))
+}
+
+/// Writes the text of an answer, and goes on.
+fn go_on_by_answer<W: Target>(
+    alloc: Global,
+    answer: &Answer,
+    writer: &mut W,
+) -> Result<Option<Ended>, RunFault>
+    ensures ok { IfOk result (λ ended. (ended ≡ None) × Appends (W.contents writer.old) (W.contents writer.new) (answer_text answer.now)) }
     ensures err { OnErr result (AppendsFront (W.contents writer.old) (W.contents writer.new) (answer_text answer.now)) }
     ensures begun { IfErr result (OfAnswering W.may_fail) }
 {
     let text = text_of(alloc, answer)?;
-    write_whole(writer, text.as_bytes())
+    write_whole(writer, text.as_bytes())?;
+    Ok(None)
 }
 
-/// Takes a step, and writes its answer.
-fn answer_step<W: Target>(
+/// Whether the step named a registry at which its actor may not look.
+fn is_bad_step(answer: &Answer) -> bool
+    ensures { result ≡ is_bad_step answer.now }
+{
+    matches!(answer, Answer::BadStep)
+}
+
+/// Takes the step of a line, and writes its answer; or that the line is bad, at which the script ends.
+fn go_on_by_step<W: Target>(
     alloc: Global,
     world: &mut World,
-    step: &Step,
+    line: u64,
+    reading: &Reading,
     writer: &mut W,
-) -> Result<(), RunFault>
-    ensures ok { OnOk result (Steps world.old world.new step.now (W.contents writer.old) (W.contents writer.new)) }
-    ensures err { OnErr result (GivesUpStep world.old step.now (W.contents writer.old) (W.contents writer.new)) }
+) -> Result<Option<Ended>, RunFault>
+    ensures ok { IfOk result (λ ended. Steps world.old world.new line reading.now ended (W.contents writer.old) (W.contents writer.new)) }
+    ensures err { OnErr result (GivesUpStep world.old line reading.now (W.contents writer.old) (W.contents writer.new)) }
     ensures begun { IfErr result (OfAnswering W.may_fail) }
 {
-    let answer = world.step(alloc, step);
-    write_answer(alloc, &answer, writer)
+    let answer = world.step(alloc, reading);
+    if is_bad_step(&answer) {
+        return stop_at(alloc, line, writer);
+    }
+    go_on_by_answer(alloc, &answer, writer)
 }
 
 /// The text of a policy's refusal, or that there was no memory for it.
@@ -501,54 +529,42 @@ fn refusal_of(alloc: Global, fault: PolicyFault) -> Result<String, AllocError>
     }
 }
 
-/// Writes why the text of a policy is refused.
-fn write_refusal<W: Target>(
+/// Writes why the text of a policy is refused, and goes on.
+fn go_on_by_refusal<W: Target>(
     alloc: Global,
     fault: PolicyFault,
     writer: &mut W,
-) -> Result<(), RunFault>
-    ensures ok { OnOk result (Appends (W.contents writer.old) (W.contents writer.new) (told_text (told_of_fault fault))) }
+) -> Result<Option<Ended>, RunFault>
+    ensures ok { IfOk result (λ ended. (ended ≡ None) × Appends (W.contents writer.old) (W.contents writer.new) (told_text (told_of_fault fault))) }
     ensures err { OnErr result (AppendsFront (W.contents writer.old) (W.contents writer.new) (told_text (told_of_fault fault))) }
     ensures begun { IfErr result (OfAnswering W.may_fail) }
 {
     let text = refusal_of(alloc, fault)?;
-    write_whole(writer, text.as_bytes())
+    write_whole(writer, text.as_bytes())?;
+    Ok(None)
 }
 
 /// Puts the policy that a text is in force, and writes the answer; or why the text is refused, which is no event.
-fn take_policy<W: Target>(
+fn go_on_by_policy<W: Target>(
     alloc: Global,
     names: &Names,
     world: &mut World,
+    line: u64,
     text: &str,
     writer: &mut W,
-) -> Result<(), RunFault>
-    ensures ok { OnOk result (Puts names.now world.old world.new text.now (W.contents writer.old) (W.contents writer.new)) }
-    ensures err { OnErr result (GivesUpPolicy names.now world.old text.now (W.contents writer.old) (W.contents writer.new)) }
+) -> Result<Option<Ended>, RunFault>
+    ensures ok { IfOk result (λ ended. TakesStep names.now world.old world.new (record { line = line; said = Policy text.now }) ended (W.contents writer.old) (W.contents writer.new)) }
+    ensures err { OnErr result (GivesUp names.now world.old (record { line = line; said = Policy text.now }) (W.contents writer.old) (W.contents writer.new)) }
     ensures begun { IfErr result (OfAnswering W.may_fail) }
 {
     match policy_text::read(alloc, text, names) {
         Ok(policy) => {
             let step = Step::Conductor(Event::Reload { now: 0, policy });
-            answer_step(alloc, world, &step, writer)
+            let reading = Reading::newest(step);
+            go_on_by_step(alloc, world, line, &reading, writer)
         }
-        Err(fault) => write_refusal(alloc, fault, writer),
+        Err(fault) => go_on_by_refusal(alloc, fault, writer),
     }
-}
-
-/// Takes a step, writes its answer, and goes on.
-fn go_on_by_step<W: Target>(
-    alloc: Global,
-    world: &mut World,
-    step: &Step,
-    writer: &mut W,
-) -> Result<Option<Ended>, RunFault>
-    ensures ok { IfOk result (λ ended. (ended ≡ None) × Steps world.old world.new step.now (W.contents writer.old) (W.contents writer.new)) }
-    ensures err { OnErr result (GivesUpStep world.old step.now (W.contents writer.old) (W.contents writer.new)) }
-    ensures begun { IfErr result (OfAnswering W.may_fail) }
-{
-    answer_step(alloc, world, step, writer)?;
-    Ok(None)
 }
 
 /// Appends the line of each decision.
@@ -608,32 +624,6 @@ fn go_on_by_audit<W: Target>(
     Ok(None)
 }
 
-/// Takes the text of a policy, writes its answer, and goes on.
-fn go_on_by_policy<W: Target>(
-    alloc: Global,
-    names: &Names,
-    world: &mut World,
-    text: &str,
-    writer: &mut W,
-) -> Result<Option<Ended>, RunFault>
-    ensures ok { IfOk result (λ ended. (ended ≡ None) × Puts names.now world.old world.new text.now (W.contents writer.old) (W.contents writer.new)) }
-    ensures err { OnErr result (GivesUpPolicy names.now world.old text.now (W.contents writer.old) (W.contents writer.new)) }
-    ensures begun { IfErr result (OfAnswering W.may_fail) }
-{
-    take_policy(alloc, names, world, text, writer)?;
-    Ok(None)
-}
-
-/// Writes that a line is bad, at which the script ends.
-fn stop_at<W: Target>(alloc: Global, line: u64, writer: &mut W) -> Result<Option<Ended>, RunFault>
-    ensures ok { IfOk result (λ ended. (ended ≡ Some (BadLine line)) × Appends (W.contents writer.old) (W.contents writer.new) (ended_text (BadLine line))) }
-    ensures err { OnErr result (AppendsFront (W.contents writer.old) (W.contents writer.new) (ended_text (BadLine line))) }
-    ensures begun { IfErr result (OfAnswering W.may_fail) }
-{
-    let ended = write_bad_line(alloc, line, writer)?;
-    Ok(Some(ended))
-}
-
 /// Takes one statement behind the head: a step, a policy, or what is bad there.
 fn take_step<W: Target>(
     alloc: Global,
@@ -648,9 +638,9 @@ fn take_step<W: Target>(
 {
     let Statement { line, said } = statement;
     match said {
-        Said::Does(step) => go_on_by_step(alloc, world, &step, writer),
+        Said::Does(reading) => go_on_by_step(alloc, world, line, &reading, writer),
         Said::Audit(actor) => go_on_by_audit(alloc, world, actor, writer),
-        Said::Policy(text) => go_on_by_policy(alloc, names, world, text.as_str(), writer),
+        Said::Policy(text) => go_on_by_policy(alloc, names, world, line, text.as_str(), writer),
         Said::Principal { .. } => stop_at(alloc, line, writer),
         Said::Peer(_) => stop_at(alloc, line, writer),
         Said::Set { .. } => stop_at(alloc, line, writer),

@@ -19,7 +19,7 @@ use Rattle.driver_steps.specs.declared.step.Step.{Step}
 use Rattle.driver_steps.specs.declared.step.Step.TheVariants.{Conductor, Packet, Offer, Poll, Image, List as Lists, Send, Value}
 use Rattle.driver_steps.specs.Answers.{answer_of, answer_listed, answer_shown}
 use Rattle.driver_steps.specs.Ends.{RunEnd, Moved, after_by, opening_end, inputs_of, log_at, moved_on, on_asked, on_image, on_log, on_offered_by, on_report_by, on_told, conducted, moved, IsAnswer}
-use Rattle.driver_steps.specs.Runs.{Reading, end_of, left_by, moved_to, read_by}
+use Rattle.driver_steps.specs.Runs.{Reading, end_of, left_by, moved_by, moved_to, read_by}
 use Rattle.driver_steps.specs.Seen.{image_seen, moved_seen, packet_seen}
 use Rattle.driver_steps.proofs.ReadLemmas.{holds_by}
 use Rattle.driver_steps.specs.Hearing.{nak_move, status_move}
@@ -125,6 +125,12 @@ moved_takes s e (Image now source) = report_keeps_registry s e now source (publi
 moved_takes s e (Lists now client) = refl
 moved_takes s e (Value now client number) = refl
 
+pub reading_takes : (e : RunEnd) (older : Option State) (step : Step) →
+    (moved_by e older step).after.registry ≡ state_of e.registry (event_of e step)
+reading_takes e older step =
+    holds_by (λ what. what.after.registry ≡ state_of e.registry (event_of e step)) e older step
+    (moved_takes (read_by e older) e step)
+
 step_takes : (e : RunEnd) (step : Step) (what : Moved) (answer : Answer) → what.after.registry ≡ state_of e.registry (event_of e step) →
     (after_by e what answer).registry ≡ state_of e.registry (taken_by e step answer)
 step_takes e step what NoMemory is = refl
@@ -132,7 +138,7 @@ step_takes e step what answer is = is
 
 -- ---- the registry that a run leaves
 
-state_of_both : (s : State) (events more : List (Event × Inputs)) →
+pub state_of_both : (s : State) (events more : List (Event × Inputs)) →
     state_of s (events ++ more) ≡ state_of (state_of s events) more
 state_of_both s [] more = refl
 state_of_both s (event ∷ events) more = state_of_both (state_after s event.0 event.1) events more
@@ -143,11 +149,9 @@ run_takes e [] answers = refl
 run_takes e (reading ∷ readings) [] = refl
 run_takes e (reading ∷ readings) (answer ∷ answers) =
     let more : List (Event × Inputs) = taken_from (left_by e reading answer) readings answers in
-    let is : (moved_to e reading).after.registry ≡ state_of e.registry (event_of e reading.step) =
-    holds_by (λ what. what.after.registry ≡ state_of e.registry (event_of e reading.step)) e reading.older reading.step
-    (moved_takes (read_by e reading.older) e reading.step) in
     run_takes (left_by e reading answer) readings answers
-    ∙ ap (λ (s : State). state_of s more) (step_takes e reading.step (moved_to e reading) answer is)
+    ∙ ap (λ (s : State). state_of s more)
+    (step_takes e reading.step (moved_to e reading) answer (reading_takes e reading.older reading.step))
     ∙ sym (state_of_both e.registry (taken_by e reading.step answer) more)
 
 -- ---- what comes next
@@ -172,7 +176,7 @@ end_takes e s is = record {
       (answered_told e (Value now client number) answer answered);
 }
 
-opening_is : (settings : Settings) (policy : Rules) (peers : List Peer) →
+pub opening_is : (settings : Settings) (policy : Rules) (peers : List Peer) →
     (opening_end settings policy peers).registry ≡ opened settings policy peers
 unfolding opening_end
 opening_is settings policy peers = refl

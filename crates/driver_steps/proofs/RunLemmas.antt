@@ -10,7 +10,7 @@ use Rattle.driver_core.specs.declared.outcome.Response.TheVariants as response
 use Rattle.driver_core.specs.declared.replies.Message.{Message}
 use Rattle.driver_core.specs.State.{State}
 use Rattle.driver_steps.specs.declared.answer.Answer.{Answer}
-use Rattle.driver_steps.specs.declared.answer.Answer.TheVariants.{NoMemory, Attached, Full, Stopped, PolicyInForce, PolicyFull, Imaged, Dropped, Replies, Offered as OfferedAs, Polled, Gone as IsGone, Counters, Value as ValueIs, Denied, UnknownCounter, WrongClient, Received, Heard, Limited, Elicited, Idle, Sent as SentTo, Resent, Reported}
+use Rattle.driver_steps.specs.declared.answer.Answer.TheVariants.{NoMemory, Attached, Full, Stopped, PolicyInForce, PolicyFull, Imaged, Dropped, Replies, Offered as OfferedAs, Polled, Gone as IsGone, Counters, Value as ValueIs, Denied, UnknownCounter, WrongClient, BadStep, Received, Heard, Limited, Elicited, Idle, Sent as SentTo, Resent, Reported}
 use Rattle.driver_steps.specs.declared.step.Step.{Step}
 use Rattle.driver_steps.specs.declared.step.Step.TheVariants.{Conductor}
 use Rattle.driver_core.specs.ImageRequests.{image_for}
@@ -69,6 +69,7 @@ IsTold (ValueIs number) = Unit {0}
 IsTold (Denied verdict) = Unit {0}
 IsTold UnknownCounter = Unit {0}
 IsTold WrongClient = Unit {0}
+IsTold BadStep = Unit {0}
 
 -- a step that is told such an answer tells what was decided
 pub told_unless : (answer : Answer) (decision : Option Decision) → IsTold answer → decided_unless answer decision ≡ decision
@@ -97,6 +98,7 @@ told_unless (ValueIs number) decision is_told = refl
 told_unless (Denied verdict) decision is_told = refl
 told_unless UnknownCounter decision is_told = refl
 told_unless WrongClient decision is_told = refl
+told_unless BadStep decision is_told = refl
 
 -- such an answer leaves what is left
 told : (e : RunEnd) (what : Moved) (answer : Answer) → IsTold answer → answer ≡ what.answer →
@@ -126,6 +128,7 @@ told e what (ValueIs number) is_told is = (is, refl)
 told e what (Denied verdict) is_told is = (is, refl)
 told e what UnknownCounter is_told is = (is, refl)
 told e what WrongClient is_told is = (is, refl)
+told e what BadStep is_told is = (is, refl)
 
 -- such an answer asks for no memory
 told_has : (takes : Bool) (answer : Answer) → IsTold answer → HasMemoryBy takes answer
@@ -154,6 +157,7 @@ told_has takes (ValueIs number) is_told = tt
 told_has takes (Denied verdict) is_told = tt
 told_has takes UnknownCounter is_told = tt
 told_has takes WrongClient is_told = tt
+told_has takes BadStep is_told = tt
 
 -- what such an answer says, for each end that the world stands for
 record DoesAs (new : Held) (what : Moved) (answer : Answer) : Type 0 where

@@ -13,6 +13,7 @@ pub mod Memory
 pub mod Moves
 pub mod Opening
 pub mod Plots
+pub mod Reads
 pub mod Receiving
 pub mod Recovery
 pub mod Registered

@@ -108,6 +108,9 @@ pub enum Answer {
     UnknownCounter,
     /// The client that looks is not attached.
     WrongClient,
+    /// The step named a registry that its actor may not look at: one behind the last that it looked at, or past the newest; or
+    /// it is the conductor's, who names none. Only a world answers so, and it changed nothing.
+    BadStep,
 }
 
 impl Answer {

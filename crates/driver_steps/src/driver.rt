@@ -24,10 +24,10 @@ use crate::opening::{Opening, open_next, prepare};
 use crate::told::{Came, Looked, Told};
 use decision_cache::Cache;
 use driver_core::{
-    Address, Astray, Entry, Event, Outcome, Peer, Registry, Settings, cached_verdicts_stay_right,
+    Address, Astray, Entry, Event, Peer, Registry, Settings, cached_verdicts_stay_right,
 };
 use frame_codec::{
-    Datagram, Frames, Nak, Packet, Setup, StatusMessage, TermPlace, frames_are_of_one_term,
+    BadPacket, Frames, Nak, Packet, Setup, StatusMessage, TermPlace, frames_are_of_one_term,
     frames_are_told,
 };
 use policy_core::Policy;
@@ -122,6 +122,8 @@ impl Driver {
     ghost use Rattle.driver_steps.specs.Decided.{DecidesAs, DecidesUnless, LeavesOut, nak_decided, offer_decided, poll_decided, shown_decision};
     ghost use Rattle.driver_steps.specs.Standing.{StandsForEnd, Serves, ServesAs, Takes, pages_of_logs};
     ghost use Rattle.driver_steps.specs.declared.step.Step.TheVariants.{Offer, Poll, Send, Image, List as Lists, Value};
+    ghost use Rattle.frame_codec.specs.Datagram.{content, packet_of};
+    ghost use Rattle.frame_codec.specs.Steps.{Equals};
     ghost use Rattle.log_arena.specs.Pages.{holes_of};
 
     /// A driver to which nothing happened yet.
@@ -152,9 +154,19 @@ impl Driver {
         self.logs.holes()
     }
 
-    /// The conductor takes an event, and the logs follow. All memory that this wants is taken before anything is changed.
-    pub fn take(&mut self, alloc: Global, event: &Event) -> Result<Outcome, AllocError>
-        ensures taken { IfOk result (λ outcome. Takes self.old self.new event.now outcome) }
+    /// The newest registry.
+    pub fn registry(&self) -> &Registry
+        ensures { result.now ≡ self.now.registry }
+    {
+        &self.registry
+    }
+
+    /// The conductor takes an event, and the logs follow. All memory that this wants is taken before anything is changed. What
+    /// is handed back is the event with what the logs said at it, and all that it tells.
+    pub fn take(&mut self, alloc: Global, event: &Event) -> Result<Entry, AllocError>
+        ensures taken { IfOk result (λ entry. Takes self.old self.new event.now entry.outcome) }
+        ensures event_is { IfOk result (λ entry. entry.event ≡ event.now) }
+        ensures inputs_are { IfOk result (λ entry. entry.inputs ≡ inputs_held self.old.registry event.now self.old.logs) }
         ensures err { OnErr result (self.new ≡ self.old) }
     {
         cached_verdicts_stay_right();
@@ -169,7 +181,7 @@ impl Driver {
             opening,
             entry.outcome.closes.as_slice(),
         );
-        Ok(entry.outcome)
+        Ok(entry)
     }
 
     /// The frames of a datagram came to the address `local`, from the address `from`.
@@ -241,18 +253,21 @@ impl Driver {
     /// A datagram came to the address `local`, from the address `from`: the frames of data and a heartbeat go to the image of
     /// that address, session and stream, where they are from its publisher; a NAK and a status message go to the publication of
     /// their session and stream, whatever address they came to. A SETUP is an event: it is handed back, and nothing is
-    /// changed.
+    /// changed. `read` is what [`Datagram::read`](frame_codec::Datagram::read) says of the bytes: whoever calls asked it whose step
+    /// this is.
     pub fn datagram(
         &mut self,
         alloc: Global,
         now: u64,
         local: &Address,
         from: &Address,
-        bytes: &[u8],
+        _bytes: &[u8],
+        read: Result<Packet<'_>, BadPacket>,
     ) -> Came
-        ensures { Comes self.old self.new now local.now from.now bytes.now result }
+        requires { Equals content read (packet_of _bytes.now) }
+        ensures { Comes self.old self.new now local.now from.now _bytes.now result }
     {
-        match Datagram::read(bytes) {
+        match read {
             Err(fault) => undecided(Answer::Dropped(Cause::Unread(fault))),
             Ok(Packet::Data(frames)) => {
                 frames_are_told();

@@ -22,6 +22,7 @@ mod open_log;
 mod open_logs;
 mod opening;
 mod polling;
+mod reading;
 mod receiving;
 mod recovery;
 mod reporting;

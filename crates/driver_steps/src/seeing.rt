@@ -10,8 +10,10 @@ ghost use Rattle.driver_steps.specs.Ends.{on_asked, on_image, on_told};
 ghost use Rattle.driver_steps.specs.Seen.{ComesSeen, Sees, frames_seen, image_seen, still_there, under};
 ghost use Rattle.driver_steps.specs.Standing.{ServesAs};
 ghost use Rattle.driver_core.specs.ImageRequests.{image_for};
+ghost use Rattle.frame_codec.specs.Datagram.{content, packet_of};
 ghost use Rattle.frame_codec.specs.Frames.{frames_left};
 ghost use Rattle.frame_codec.specs.Sound.{AreOfOneTerm, AreTold};
+ghost use Rattle.frame_codec.specs.Steps.{Equals};
 ghost use Rattle.std.specs.Prelude.{◌≡◌};
 
 use crate::answer::Answer;
@@ -22,7 +24,7 @@ use crate::driver::{Driver, image_of, undecided};
 use crate::told::{Came, Looked, Told};
 use driver_core::{Address, Astray, Registry, View};
 use frame_codec::{
-    Datagram, Frames, Nak, Packet, StatusMessage, TermPlace, frames_are_of_one_term,
+    BadPacket, Frames, Nak, Packet, StatusMessage, TermPlace, frames_are_of_one_term,
     frames_are_told,
 };
 use std::alloc::Global;
@@ -215,11 +217,13 @@ impl Driver {
         now: u64,
         local: &Address,
         from: &Address,
-        bytes: &[u8],
+        _bytes: &[u8],
+        read: Result<Packet<'_>, BadPacket>,
     ) -> Came
-        ensures { ComesSeen (V.shows view.now) self.old self.new now local.now from.now bytes.now result }
+        requires { Equals content read (packet_of _bytes.now) }
+        ensures { ComesSeen (V.shows view.now) self.old self.new now local.now from.now _bytes.now result }
     {
-        match Datagram::read(bytes) {
+        match read {
             Err(fault) => undecided(Answer::Dropped(Cause::Unread(fault))),
             Ok(Packet::Data(frames)) => {
                 frames_are_told();

@@ -1,12 +1,11 @@
--- The audits of clients: the first of an id, and what it is told.
-use Rattle.std.proofs.Common.{◌≡◌, ℕ, suc, ◌+◌, ◌<◌, ◌≤◌, ◌==◌, Bool, true, false, not, cond, List, [], ◌∷◌, ◌++◌, length, get_or, find, map, Option, Some, None, refl, sym, ap, subst, ◌∙◌, arith}
-use Rattle.std.specs.Prelude.{nat_lt, slice_set}
-use Rattle.std.specs.List.{position_or_len}
-use Rattle.std.proofs.lemmas.Bool.{ltb-true, ltb-false}
+-- The audits of clients, and what they are told.
+use Rattle.std.proofs.Common.{◌≡◌, ℕ, ◌==◌, Bool, true, false, cond, List, [], ◌∷◌, ◌++◌, get_or, find, map, Option, Some, None, refl, sym, ap, subst, ◌∙◌}
+use Rattle.std.specs.Prelude.{slice_set}
 use Rattle.std.proofs.lemmas.List.{append-nil}
 use Rattle.audit_ring.specs.Audit.{Kept, kept_of}
 use Rattle.driver_world.specs.declared.actor.Actor.TheVariants as Actor
 use Rattle.driver_world.specs.Audits.{Audits, Tells, kept_all, kept_client, place_at, told, told_client}
+use Rattle.driver_world.proofs.PlaceLemmas.{changed, client_at, found_at, found_nowhere}
 use Rattle.policy_core.specs.declared.decision.Decision.{Decision}
 
 abbrev pub Client : Type 0
@@ -15,81 +14,8 @@ Client = ℕ × Kept
 abbrev pub Whole : Type 0
 Whole = ℕ × List Decision
 
--- ---- the first of an id
-
-abbrev pub client_at : List Client → ℕ → Option Client
-client_at clients id = find (λ client. client.0 == id) clients
-
 abbrev pub whole_at : List Whole → ℕ → Option Whole
 whole_at all id = find (λ client. client.0 == id) all
-
--- it keeps that now
-abbrev pub changed : ℕ → Kept → List Client → List Client
-changed id new [] = []
-changed id new (client ∷ others) = cond (client.0 == id) ((client.0, new) ∷ others) (client ∷ changed id new others)
-
-record Points (clients : List Client) (found : Option Client) (with_new : Kept → List Client) (at : ℕ) : Type 0 where
-  there : at < length clients → (d : Client) → found ≡ Some (get_or clients at d)
-  written : at < length clients → (new : Kept) (d : Client) → with_new new ≡ slice_set clients at ((get_or clients at d).0, new)
-  past : length clients ≤ at → found ≡ None
-
-first_step : (b : Bool) (first : Client) (clients : List Client) (found : Option Client) (with_new : Kept → List Client) (at : ℕ)
-    → Points clients found with_new at
-    → Points (first ∷ clients) (cond b (Some first) found) (λ new. cond b ((first.0, new) ∷ clients) (first ∷ with_new new))
-    (cond (not b) (1 + at) 0)
-first_step true first clients found with_new at rest = record {
-  there = λ l d. refl;
-  written = λ l new d. refl;
-  past = λ l. absurd (omega arith);
-}
-first_step false first clients found with_new at rest = record {
-  there = λ l d. rest.there (omega arith) d ∙ ap (λ n. Some (get_or (first ∷ clients) n d)) (let e : suc at ≡ 1 + at = omega arith in e);
-  written = λ l new d.
-      ap (λ t. first ∷ t) (rest.written (omega arith) new d)
-      ∙ ap (λ n. slice_set (first ∷ clients) n ((get_or (first ∷ clients) n d).0, new)) (let e : suc at ≡ 1 + at = omega arith in e);
-  past = λ l. rest.past (omega arith);
-}
-
-points : (clients : List Client) (id : ℕ)
-    → Points clients (client_at clients id) (λ new. changed id new clients) (position_or_len (λ client. client.0 == id) clients)
-points [] id = record { there = λ l d. absurd (omega arith); written = λ l new d. absurd (omega arith); past = λ l. refl }
-points (first ∷ clients) id =
-    first_step (first.0 == id) first clients (client_at clients id) (λ new. changed id new clients)
-    (position_or_len (λ client. client.0 == id) clients) (points clients id)
-
-abbrev number_of : Option ℕ → ℕ
-number_of None = 0
-number_of (Some n) = n
-
-pub found_at : (clients : List Client) (id at : ℕ) → place_at clients id ≡ Some at
-    → (at < length clients) × ((d : Client) → client_at clients id ≡ Some (get_or clients at d))
-    × ((new : Kept) (d : Client) → changed id new clients ≡ slice_set clients at ((get_or clients at d).0, new))
-found_at clients id at is = by (nat_lt n (length clients)) refl is
-  where
-    n : ℕ
-    n = position_or_len (λ client. client.0 == id) clients
-
-    by : (b : Bool) → nat_lt n (length clients) ≡ b → cond b (Some n) None ≡ Some at
-        → (at < length clients) × ((d : Client) → client_at clients id ≡ Some (get_or clients at d))
-        × ((new : Kept) (d : Client) → changed id new clients ≡ slice_set clients at ((get_or clients at d).0, new))
-    by true low e =
-        let same : n ≡ at = ap number_of e in
-        let within : n < length clients = ltb-true n (length clients) low in
-        let told = points clients id in
-        subst (λ k. (k < length clients) × ((d : Client) → client_at clients id ≡ Some (get_or clients k d))
-        × ((new : Kept) (d : Client) → changed id new clients ≡ slice_set clients k ((get_or clients k d).0, new))) same
-        (within, told.there within, told.written within)
-    by false low e = absurd (cc)
-
-pub found_nowhere : (clients : List Client) (id : ℕ) → place_at clients id ≡ None → client_at clients id ≡ None
-found_nowhere clients id is = by (nat_lt n (length clients)) refl is
-  where
-    n : ℕ
-    n = position_or_len (λ client. client.0 == id) clients
-
-    by : (b : Bool) → nat_lt n (length clients) ≡ b → cond b (Some n) None ≡ None → client_at clients id ≡ None
-    by true low e = absurd (cc)
-    by false low e = (points clients id).past (ltb-false n (length clients) low)
 
 -- ---- of all that was decided
 

@@ -1,32 +1,46 @@
--- A step that serves the driver serves the world, where the actors are told what was decided.
-use Rattle.std.proofs.Common.{◌≡◌, ℕ, false, List, [], Option, None, Result, Ok, Err, refl, sym, ap, subst, ◌∙◌}
+-- A step that serves the driver serves the world, where its actor looks at a registry that it may look at, and the actors are
+-- told what was decided.
+use Rattle.std.proofs.Common.{◌≡◌, ℕ, ◌+◌, ◌==◌, max, false, true, List, [], ◌∷◌, ◌++◌, length-append, Option, Some, None, Result, Ok, Err, ⊎_elim, refl, sym, ap, subst, ◌∙◌}
 use Rattle.channel_uri.specs.declared.address.Address.{Address}
 use Rattle.driver_core.specs.declared.event.Event.{Event}
 use Rattle.driver_core.specs.declared.event.Event.TheVariants.{Setup as SetUp}
+use Rattle.driver_core.specs.declared.event.Inputs.{Inputs}
 use Rattle.driver_core.specs.declared.outcome.Outcome.{Outcome}
 use Rattle.driver_core.specs.declared.outcome.Response.{Response}
 use Rattle.driver_core.specs.declared.outcome.Response.TheVariants as response
 use Rattle.driver_core.specs.declared.replies.Message.{Message}
+use Rattle.driver_core.specs.Conduct.{outcome_of}
 use Rattle.driver_core.specs.LeftOut.{left_out}
 use Rattle.driver_core.specs.Listing.{value}
 use Rattle.driver_core.specs.State.{State}
 use Rattle.driver_steps.specs.declared.answer.Answer.{Answer}
-use Rattle.driver_steps.specs.declared.answer.Answer.TheVariants.{NoMemory}
+use Rattle.driver_steps.specs.declared.answer.Answer.TheVariants.{BadStep, NoMemory}
 use Rattle.driver_steps.specs.declared.step.Step.{Step}
-use Rattle.driver_steps.specs.declared.step.Step.TheVariants.{Conductor, Packet, Offer, Poll, Send, Image, List as Lists, Value}
+use Rattle.driver_steps.specs.declared.step.Step.TheVariants.{Conductor as Conducts, Packet, Offer, Poll, Send, Image, List as Lists, Value}
 use Rattle.driver_steps.specs.declared.told.Came.TheVariants as came
 use Rattle.driver_steps.specs.declared.told.Told.{Told}
 use Rattle.driver_steps.specs.Answers.{answer_of, answered_by}
 use Rattle.driver_steps.specs.Coming.{ComesAs, content_decided}
 use Rattle.driver_steps.specs.Decided.{DecidesAs, DecidesUnless, LeavesOut, decided_unless, denials_unless, offer_decided, poll_decided, shown_decision}
-use Rattle.driver_steps.specs.Ends.{RunEnd as DriverEnd, moved as driver_moved, after as driver_after, IsAnswer as DriverAnswers}
+use Rattle.driver_steps.specs.Ends.{RunEnd as DriverEnd, IsAnswerOf as DriverAnswers, after_by as driver_after, conducted as driver_conducted, inputs_of, log_at, moved as driver_moved, moved_on, on_log, on_packet}
+use Rattle.driver_steps.specs.Held.{inputs_held}
+use Rattle.driver_steps.specs.Laws.{event_in}
 use Rattle.driver_steps.specs.Memory.{HasMemoryBy}
+use Rattle.driver_steps.specs.Moves.{Move, WholeLog}
+use Rattle.driver_steps.specs.Reads.{ComesRead, Reads, held_seen, looks_at, reads_take}
+use Rattle.driver_steps.specs.Runs.{moved_by, read_by}
+use Rattle.driver_steps.specs.Sending.{send_move}
+use Rattle.driver_steps.specs.Seen.{ComesSeenAs, Sees}
 use Rattle.driver_steps.specs.Standing.{Held as HeldDriver, StandsForEnd as DriverStands, Serves as DriverServes, Takes}
-use Rattle.driver_steps.proofs.RunLemmas.{event_served}
-use Rattle.driver_world.specs.declared.actor.Actor.TheVariants.{Client, Sender}
+use Rattle.driver_steps.proofs.TakeLemmas.{inputs_stand}
+use Rattle.driver_world.specs.declared.actor.Actor.{Actor}
+use Rattle.driver_world.specs.declared.actor.Actor.TheVariants.{Client, Conductor, Receiver, Sender}
+use Rattle.driver_world.specs.declared.world.Look.{Look}
 use Rattle.driver_world.specs.Audits.{Audits, Decided, Tells, decided_by, decided_by_content, decided_by_outcome, kept_all, told, told_one, told_sent}
-use Rattle.driver_world.specs.Ends.{RunEnd, moved, after, IsAnswer}
-use Rattle.driver_world.specs.Standing.{Held, StandsForEnd, Serves}
+use Rattle.driver_world.specs.Ends.{RunEnd, Moved, IsAnswerOf, after_by, bad, conducted, looked, looked_at, moved, moved_as, seats_by, seen_by}
+use Rattle.driver_world.specs.Memory.{has_as, looked_has}
+use Rattle.driver_world.specs.Standing.{Held, IsLook, IsNoLook, Serves, Sits, StandsForEnd, seats_left}
+use Rattle.driver_world.specs.Views.{Looks, Past, Seats, actor_of, at_moment, attached_at, is_out, moment_of, newest_of, older_at, reader_of, seat_of, seated, view_or}
 use Rattle.driver_world.proofs.AnswerLemmas.{Other, by_answer}
 use Rattle.driver_world.proofs.AuditLemmas.{untold}
 use Rattle.frame_codec.specs.declared.fault.BadPacket.{BadPacket}
@@ -34,77 +48,200 @@ use Rattle.frame_codec.specs.declared.setup.Setup.{Setup}
 use Rattle.frame_codec.specs.Datagram.{Content, frames, beat, nak, status, setup, packet_of}
 use Rattle.policy_core.specs.declared.decision.Decision.{Decision}
 
--- what is kept where a step is refused memory, and where it is told any other answer
-pub record Keeps (old new : Held) (step : Step) (answer : Answer) (e : RunEnd) : Type 0 where
-  pub refused : answer ≡ NoMemory → new.audits ≡ old.audits
+-- ---- who looks at a registry
+
+moved_looked : (e : RunEnd) (actor : Actor) (view : Option ℕ) (step : Step) → Looks actor →
+    moved_as e actor view step ≡ looked_at e actor (view_or (newest_of e.past) view) step
+moved_looked e Conductor view step looks = absurd looks
+moved_looked e Sender view step looks = refl
+moved_looked e Receiver view step looks = refl
+moved_looked e (Client id) view step looks = refl
+
+has_looked : (e : RunEnd) (actor : Actor) (view : Option ℕ) (step : Step) (answer : Answer) → Looks actor →
+    looked_has e (at_moment (seat_of actor e.seats).moment step) answer (older_at e.past (view_or (newest_of e.past) view)) →
+    has_as e actor view step answer
+has_looked e Conductor view step answer looks has = absurd looks
+has_looked e Sender view step answer looks has = has
+has_looked e Receiver view step answer looks has = has
+has_looked e (Client id) view step answer looks has = has
+
+-- what such a step comes to
+looked_there : (e : RunEnd) (actor : Actor) (view : Option ℕ) (step : Step) (look : Look) → Looks actor →
+    IsLook e.past (seat_of actor e.seats) view look →
+    moved_as e actor view step ≡ looked e actor look.view (at_moment look.moment step)
+looked_there e actor view step look looks is =
+    moved_looked e actor view step looks
+    ∙ ap (λ k. looked_at e actor k step) (sym is.view_is)
+    ∙ rw is.within (ap (λ m. looked e actor look.view (at_moment m step)) (sym is.moment_is))
+
+has_there : (e : RunEnd) (actor : Actor) (view : Option ℕ) (step : Step) (look : Look) (answer : Answer) → Looks actor →
+    IsLook e.past (seat_of actor e.seats) view look → looked_has e (at_moment look.moment step) answer look.older →
+    has_as e actor view step answer
+has_there e actor view step look answer looks is has =
+    has_looked e actor view step answer looks
+    (rw (← is.moment_is, ← is.view_is, ← is.older_is) has)
+
+-- the same of a world that is that one
+pub look_in : (held now : Held) (actor : Actor) (view : Option ℕ) (look : Look) → held ≡ now →
+    IsLook now.past (seat_of actor now.seats) view look → IsLook held.past (seat_of actor held.seats) view look
+look_in held now actor view look same is =
+    subst (λ (h : Held). IsLook h.past (seat_of actor h.seats) view look) (sym same) is
+
+-- ---- one who may not look there
+
+bad_looked : (e : RunEnd) (actor : Actor) (view : Option ℕ) (step : Step) → Looks actor →
+    is_out (newest_of e.past) (seat_of actor e.seats) (view_or (newest_of e.past) view) ≡ true →
+    moved_as e actor view step ≡ bad e
+bad_looked e actor view step looks out = moved_looked e actor view step looks ∙ rw out refl
+
+-- want of memory is no answer
+bad_has : (e : RunEnd) (step : Step) (older : Option State) → looked_has e step BadStep older
+bad_has e step None = tt
+bad_has e step (Some older) = tt
+
+pub not_looked : (held : Held) (actor : Actor) (view : Option ℕ) (step : Step) (answer : Answer) → actor_of step ≡ actor → Looks actor →
+    IsNoLook held.past (seat_of actor held.seats) view answer →
+    Serves held held (record { view = view; step = step }) answer
+not_looked held actor view step answer is looks none =
+    ⊎_elim (λ out. record {
+      on = λ e stands.
+          let at : is_out (newest_of e.past) (seat_of actor e.seats) (view_or (newest_of e.past) view) ≡ true =
+          rw (← stands.past, ← stands.seats) out.1 in
+          let comes : moved e (record { view = view; step = step }) ≡ bad e = rw is (bad_looked e actor view step looks at) in
+          rw (out.0) (rw comes (refl, stands));
+      without_memory = λ e stands.
+          rw (out.0, is) (has_looked e actor view step BadStep looks (bad_has e (at_moment (seat_of actor e.seats).moment step) (older_at e.past (view_or (newest_of e.past) view))));
+    })
+    (λ refused. record {
+      on = λ e stands. rw (refused.0) (tt, stands);
+      without_memory = λ e stands.
+          let older : (view_or (newest_of e.past) view == newest_of e.past) ≡ false = rw (← stands.past) refused.2 in
+          rw (is) (has_looked e actor view step answer looks (rw older tt));
+    })
+    none
+
+-- ---- a step by that registry
+
+-- what is kept where the step is refused memory, and where it is told any other answer
+pub record Keeps (old : Held) (left : Audits) (older : Option State) (step : Step) (answer : Answer) (e : RunEnd) : Type 0 where
+  pub refused : answer ≡ NoMemory → left ≡ old.audits
   pub told :
-      Other answer → answer ≡ (driver_moved e.driver step).answer →
-      new.audits ≡ kept_all (decided_by e.driver step e.decided)
+      Other answer → answer ≡ (moved_by e.driver older step).answer →
+      left ≡ kept_all (decided_by (seen_by e.driver older) step e.decided)
 
 -- so the world serves
-Serving : (new : Held) (step : Step) (e : RunEnd) (old : Held) → Answer → Type 0
-Serving new step e old answer =
-    DriverAnswers e.driver step answer → DriverStands new.driver (driver_after e.driver step answer) →
-    Keeps old new step answer e → IsAnswer e step answer × StandsForEnd new (after e step answer)
+Serving : (old : Held) (driver : HeldDriver) (left : Audits) (actor : Actor) (k : ℕ) (step : Step) (e : RunEnd) → Answer → Type 0
+Serving old driver left actor k step e answer =
+    DriverAnswers (moved_by e.driver (older_at e.past k) step) answer →
+    DriverStands driver (driver_after e.driver (moved_by e.driver (older_at e.past k) step) answer) →
+    Keeps old left (older_at e.past k) step answer e →
+    IsAnswerOf (looked e actor k step) answer
+    × StandsForEnd (record {
+      driver = driver;
+      audits = left;
+      past = old.past;
+      seats = seats_left actor (record { view = k; moment = moment_of step }) answer old.seats;
+    }) (after_by e (looked e actor k step) answer)
 
-serving : (old new : Held) (step : Step) (e : RunEnd) → StandsForEnd old e → (answer : Answer) → Serving new step e old answer
+serving : (old : Held) (driver : HeldDriver) (left : Audits) (actor : Actor) (k : ℕ) (step : Step) (e : RunEnd) → StandsForEnd old e →
+    (answer : Answer) → Serving old driver left actor k step e answer
 unfolding Serving
-serving old new step e stands answer =
-    by_answer (Serving new step e old)
-    (λ is left keeps. (tt, record { driver = left; audits = keeps.refused refl ∙ stands.audits }))
-    (λ one other is left keeps.
-    let same : one ≡ (driver_moved e.driver step).answer = other.drivers (driver_moved e.driver step) is in
-    let there : DriverStands new.driver (driver_moved e.driver step).after =
-    subst (λ (d : DriverEnd). DriverStands new.driver d) (other.driver_left e.driver (driver_moved e.driver step)) left in (
-      other.for_world (moved e step) same,
-      subst (λ (next : RunEnd). StandsForEnd new next) (sym (other.left e (moved e step)))
-          (record { driver = there; audits = keeps.told other same }),
+serving old driver left actor k step e stands answer =
+    by_answer (Serving old driver left actor k step e)
+    (λ is there keeps. (tt, record { driver = there; audits = keeps.refused refl ∙ stands.audits; past = stands.past; seats = stands.seats }))
+    (λ one other is there keeps.
+    let same : one ≡ (moved_by e.driver (older_at e.past k) step).answer = other.drivers (moved_by e.driver (older_at e.past k) step) is in
+    let stays : DriverStands driver (moved_by e.driver (older_at e.past k) step).after =
+    subst (λ (d : DriverEnd). DriverStands driver d) (other.driver_left e.driver (moved_by e.driver (older_at e.past k) step)) there in (
+      other.for_world (looked e actor k step) same,
+      subst (λ (next : RunEnd). StandsForEnd (record {
+        driver = driver;
+        audits = left;
+        past = old.past;
+        seats = seats_left actor (record { view = k; moment = moment_of step }) one old.seats;
+      }) next) (sym (other.left e (looked e actor k step)))
+          (record {
+            driver = stays;
+            audits = keeps.told other same;
+            past = stands.past;
+            seats =
+                other.seats actor (record { view = k; moment = moment_of step }) old.seats
+                ∙ ap (λ (s : Seats). seated actor (record { view = k; moment = moment_of step }) s) stands.seats;
+          }),
     ))
     answer
 
-pub world_served : (old new : Held) (step : Step) (answer : Answer) → DriverServes old.driver new.driver step answer →
-    ((e : RunEnd) → StandsForEnd old e → Keeps old new step answer e) → Serves old new step answer
+-- the driver's memory
+takes_memory : (e : RunEnd) (step : Step) (answer : Answer) (older : Option State) → reads_take older e.driver step answer →
+    looked_has e step answer older
+takes_memory e step answer None has = has
+takes_memory e step answer (Some older) has = tt
+
+-- the world of which that is left
+abbrev pub left_of : Held → HeldDriver → Audits → Held
+left_of old driver left = record old { driver = driver; audits = left }
+
+pub looked_served : (old new : Held) (driver : HeldDriver) (left : Audits) (actor : Actor) (view : Option ℕ) (step : Step) (look : Look)
+    (answer : Answer) → actor_of step ≡ actor → Looks actor → IsLook old.past (seat_of actor old.seats) view look →
+    Reads look.older old.driver driver (at_moment look.moment step) answer →
+    ((e : RunEnd) → StandsForEnd old e → Keeps old left look.older (at_moment look.moment step) answer e) →
+    Sits (left_of old driver left) new actor look.view (moment_of (at_moment look.moment step)) answer →
+    Serves old new (record { view = view; step = step }) answer
 unfolding Serving
-world_served old new step answer serves keeps = record {
+looked_served old new driver left actor view step look answer actor_is looks is reads keeps sits = record {
   on = λ e stands.
-      let done = serves.on e.driver stands.driver in
-      serving old new step e stands answer done.0 done.1 (keeps e stands);
-  without_memory = λ e stands. serves.without_memory e.driver stands.driver;
+      let here : IsLook e.past (seat_of actor e.seats) view look = rw (← stands.past, ← stands.seats) is in
+      let comes : moved e (record { view = view; step = step }) ≡ looked e actor look.view (at_moment look.moment step) =
+      rw actor_is (looked_there e actor view step look looks here) in
+      let done = reads.on e.driver stands.driver in
+      let kept : Keeps old left (older_at e.past look.view) (at_moment look.moment step) answer e = rw (← here.older_is) (keeps e stands) in
+      let served = serving old driver left actor look.view (at_moment look.moment step) e stands answer
+      (rw (← here.older_is) done.0) (rw (← here.older_is) done.1) kept in
+      rw (comes, sits) served;
+  without_memory = λ e stands.
+      let here : IsLook e.past (seat_of actor e.seats) view look = rw (← stands.past, ← stands.seats) is in
+      rw actor_is
+      (has_there e actor view step look answer looks here
+      (takes_memory e (at_moment look.moment step) answer look.older (reads.without_memory e.driver stands.driver)));
 }
 
--- ---- a step by which nothing is told
+-- ---- what its actor sees
 
-quiet_served : (old new : HeldDriver) (audits : Audits) (step : Step) (answer : Answer) →
-    ((e : DriverEnd) (all : Decided) → decided_by e step all ≡ all) → DriverServes old new step answer →
-    Serves (record { driver = old; audits = audits }) (record { driver = new; audits = audits }) step answer
-quiet_served old new audits step answer quiet serves =
-    world_served (record { driver = old; audits = audits }) (record { driver = new; audits = audits }) step answer serves
-    (λ e stands. record {
-      refused = λ is. refl;
-      told = λ other is. rw (quiet e.driver e.decided) stands.audits;
-    })
+seen_stands : (held : HeldDriver) (older : Option State) (e : DriverEnd) → DriverStands held e →
+    DriverStands (held_seen held older) (seen_by e older)
+seen_stands held None e stands = record { registry = stands.registry; logs = stands.logs }
+seen_stands held (Some older) e stands = record { registry = refl; logs = stands.logs }
 
-pub image_served : (old new : HeldDriver) (audits : Audits) (now source : ℕ) (answer : Answer) → DriverServes old new (Image now source) answer →
-    Serves (record { driver = old; audits = audits }) (record { driver = new; audits = audits }) (Image now source) answer
-unfolding decided_by
-image_served old new audits now source answer serves = quiet_served old new audits (Image now source) answer (λ e all. refl) serves
+seen_state : (held : HeldDriver) (older : Option State) (e : DriverEnd) → DriverStands held e → looks_at held older ≡ read_by e older
+seen_state held None e stands = stands.registry
+seen_state held (Some older) e stands = refl
 
 -- ---- an offer
 
 wants : (answer : Answer) → HasMemoryBy false answer → answer ≡ NoMemory → ⊥
 wants answer has is = let no : HasMemoryBy false NoMemory = subst (HasMemoryBy false) is has in absurd (cc)
 
-pub offer_served : (old new : HeldDriver) (audits left : Audits) (now client registration : ℕ) (message : List ℕ) (answer : Answer)
-    (decision : Option Decision) → DriverServes old new (Offer now client registration message) answer →
-    DecidesAs old (λ e. offer_decided e client registration) decision → Tells audits left (told_one (Client client) decision) →
-    Serves (record { driver = old; audits = audits }) (record { driver = new; audits = left }) (Offer now client registration message) answer
+offer_wants : (older : Option State) (e : DriverEnd) (now client registration : ℕ) (message : List ℕ) (answer : Answer) →
+    reads_take older e (Offer now client registration message) answer → answer ≡ NoMemory → ⊥
+offer_wants None e now client registration message answer has is = wants answer has is
+offer_wants (Some older) e now client registration message answer has is = wants answer has is
+
+pub offer_served : (old new : Held) (driver : HeldDriver) (left : Audits) (view : Option ℕ) (now client registration : ℕ) (message : List ℕ)
+    (look : Look) (answer : Answer) (decision : Option Decision) → IsLook old.past (seat_of (Client client) old.seats) view look →
+    Reads look.older old.driver driver (Offer (max now look.moment) client registration message) answer →
+    DecidesAs (held_seen old.driver look.older) (λ e. offer_decided e client registration) decision →
+    Tells old.audits left (told_one (Client client) decision) →
+    Sits (left_of old driver left) new (Client client) look.view (max now look.moment) answer →
+    Serves old new (record { view = view; step = Offer now client registration message }) answer
 unfolding decided_by
-offer_served old new audits left now client registration message answer decision serves decides tells =
-    world_served (record { driver = old; audits = audits }) (record { driver = new; audits = left }) (Offer now client registration message) answer serves
+offer_served old new driver left view now client registration message look answer decision is reads decides tells sits =
+    looked_served old new driver left (Client client) view (Offer now client registration message) look answer refl tt is reads
     (λ e stands. record {
-      refused = λ is. absurd (wants answer (serves.without_memory e.driver stands.driver) is);
-      told = λ other is. rw (← decides.on e.driver stands.driver) (tells.on e.decided stands.audits);
+      refused = λ no. absurd (offer_wants look.older e.driver (max now look.moment) client registration message answer (reads.without_memory e.driver stands.driver) no);
+      told = λ other same.
+          rw (← decides.on (seen_by e.driver look.older) (seen_stands old.driver look.older e.driver stands.driver)) (tells.on e.decided stands.audits);
     })
+    sits
 
 -- ---- a poll
 
@@ -112,24 +249,29 @@ offer_served old new audits left now client registration message answer decision
 told_nothing : (answer : Answer) (decision what : Option Decision) → decision ≡ decided_unless answer what → answer ≡ NoMemory → decision ≡ None
 told_nothing answer decision what is same = is ∙ ap (λ a. decided_unless a what) same
 
-pub poll_served : (old new : HeldDriver) (audits left : Audits) (now client subscription source limit : ℕ) (answer : Answer)
-    (decision : Option Decision) → DriverServes old new (Poll now client subscription source limit) answer →
-    DecidesUnless old (λ e. poll_decided e client subscription source) answer decision →
-    Tells audits left (told_one (Client client) decision) →
-    Serves (record { driver = old; audits = audits }) (record { driver = new; audits = left }) (Poll now client subscription source limit) answer
+pub poll_served : (old new : Held) (driver : HeldDriver) (left : Audits) (view : Option ℕ) (now client subscription source limit : ℕ)
+    (look : Look) (answer : Answer) (decision : Option Decision) → IsLook old.past (seat_of (Client client) old.seats) view look →
+    Reads look.older old.driver driver (Poll (max now look.moment) client subscription source limit) answer →
+    DecidesUnless (held_seen old.driver look.older) (λ e. poll_decided e client subscription source) answer decision →
+    Tells old.audits left (told_one (Client client) decision) →
+    Sits (left_of old driver left) new (Client client) look.view (max now look.moment) answer →
+    Serves old new (record { view = view; step = Poll now client subscription source limit }) answer
 unfolding decided_by
-poll_served old new audits left now client subscription source limit answer decision serves decides tells =
-    world_served (record { driver = old; audits = audits }) (record { driver = new; audits = left }) (Poll now client subscription source limit) answer serves
+poll_served old new driver left view now client subscription source limit look answer decision is reads decides tells sits =
+    looked_served old new driver left (Client client) view (Poll now client subscription source limit) look answer refl tt is reads
     (λ e stands.
-    let is_told : decision ≡ decided_unless answer (poll_decided e.driver client subscription source) = decides.on e.driver stands.driver in
+    let seen : DriverEnd = seen_by e.driver look.older in
+    let is_told : decision ≡ decided_unless answer (poll_decided seen client subscription source) =
+    decides.on seen (seen_stands old.driver look.older e.driver stands.driver) in
     record {
-      refused = λ is.
-          let none : decision ≡ None = told_nothing answer decision (poll_decided e.driver client subscription source) is_told is in
+      refused = λ no.
+          let none : decision ≡ None = told_nothing answer decision (poll_decided seen client subscription source) is_told no in
           tells.on e.decided stands.audits ∙ ap (λ d. kept_all (told_one (Client client) d e.decided)) none ∙ sym stands.audits;
-      told = λ other is.
+      told = λ other same.
           tells.on e.decided stands.audits
-          ∙ ap (λ d. kept_all (told_one (Client client) d e.decided)) (is_told ∙ other.unless (poll_decided e.driver client subscription source));
+          ∙ ap (λ d. kept_all (told_one (Client client) d e.decided)) (is_told ∙ other.unless (poll_decided seen client subscription source));
     })
+    sits
 
 -- ---- a look at counters
 
@@ -140,53 +282,96 @@ denied_nothing answer denials what is same = is ∙ ap (λ a. denials_unless a w
 told_none : (client : ℕ) (all : Decided) → told (Client client) [] all ≡ all
 told_none client all = ap (λ clients. record all { clients = clients }) (untold client all.clients)
 
-pub list_served : (driver : HeldDriver) (audits left : Audits) (now client : ℕ) (answer : Answer) (denials : List Decision) →
-    DriverServes driver driver (Lists now client) answer → LeavesOut driver.registry client answer denials →
-    Tells audits left (told (Client client) denials) →
-    Serves (record { driver = driver; audits = audits }) (record { driver = driver; audits = left }) (Lists now client) answer
+pub list_served : (old new : Held) (left : Audits) (view : Option ℕ) (now client : ℕ) (look : Look) (answer : Answer) (denials : List Decision) →
+    IsLook old.past (seat_of (Client client) old.seats) view look →
+    Reads look.older old.driver old.driver (Lists (max now look.moment) client) answer →
+    LeavesOut (looks_at old.driver look.older) client answer denials → Tells old.audits left (told (Client client) denials) →
+    Sits (left_of old old.driver left) new (Client client) look.view (max now look.moment) answer →
+    Serves old new (record { view = view; step = Lists now client }) answer
 unfolding decided_by
-list_served driver audits left now client answer denials serves leaves tells =
-    world_served (record { driver = driver; audits = audits }) (record { driver = driver; audits = left }) (Lists now client) answer serves
+list_served old new left view now client look answer denials is reads leaves tells sits =
+    looked_served old new old.driver left (Client client) view (Lists now client) look answer refl tt is reads
     (λ e stands.
-    let is_left : denials ≡ denials_unless answer (left_out e.driver.registry client) =
-    leaves ∙ ap (λ (s : State). denials_unless answer (left_out s client)) stands.driver.registry in
+    let s : State = read_by e.driver look.older in
+    let is_left : denials ≡ denials_unless answer (left_out s client) =
+    leaves ∙ ap (λ (r : State). denials_unless answer (left_out r client)) (seen_state old.driver look.older e.driver stands.driver) in
     record {
-      refused = λ is.
-          let none : denials ≡ [] = denied_nothing answer denials (left_out e.driver.registry client) is_left is in
+      refused = λ no.
+          let none : denials ≡ [] = denied_nothing answer denials (left_out s client) is_left no in
           tells.on e.decided stands.audits ∙ ap (λ d. kept_all (told (Client client) d e.decided)) none
           ∙ ap (λ (all : Decided). kept_all all) (told_none client e.decided) ∙ sym stands.audits;
-      told = λ other is.
+      told = λ other same.
           tells.on e.decided stands.audits
-          ∙ ap (λ d. kept_all (told (Client client) d e.decided)) (is_left ∙ other.denials (left_out e.driver.registry client));
+          ∙ ap (λ d. kept_all (told (Client client) d e.decided)) (is_left ∙ other.denials (left_out s client));
     })
+    sits
 
-pub value_served : (driver : HeldDriver) (audits left : Audits) (now client number : ℕ) (answer : Answer) (decision : Option Decision) →
-    DriverServes driver driver (Value now client number) answer →
-    decision ≡ shown_decision (value driver.registry client number) → Tells audits left (told_one (Client client) decision) →
-    Serves (record { driver = driver; audits = audits }) (record { driver = driver; audits = left }) (Value now client number) answer
+value_wants : (older : Option State) (e : DriverEnd) (now client number : ℕ) (answer : Answer) →
+    reads_take older e (Value now client number) answer → answer ≡ NoMemory → ⊥
+value_wants None e now client number answer has is = wants answer has is
+value_wants (Some older) e now client number answer has is = wants answer has is
+
+pub value_served : (old new : Held) (left : Audits) (view : Option ℕ) (now client number : ℕ) (look : Look) (answer : Answer)
+    (decision : Option Decision) → IsLook old.past (seat_of (Client client) old.seats) view look →
+    Reads look.older old.driver old.driver (Value (max now look.moment) client number) answer →
+    decision ≡ shown_decision (value (looks_at old.driver look.older) client number) →
+    Tells old.audits left (told_one (Client client) decision) →
+    Sits (left_of old old.driver left) new (Client client) look.view (max now look.moment) answer →
+    Serves old new (record { view = view; step = Value now client number }) answer
 unfolding decided_by
-value_served driver audits left now client number answer decision serves decides tells =
-    world_served (record { driver = driver; audits = audits }) (record { driver = driver; audits = left }) (Value now client number) answer serves
+value_served old new left view now client number look answer decision is reads decides tells sits =
+    looked_served old new old.driver left (Client client) view (Value now client number) look answer refl tt is reads
     (λ e stands. record {
-      refused = λ is. absurd (wants answer (serves.without_memory e.driver stands.driver) is);
-      told = λ other is.
+      refused = λ no. absurd (value_wants look.older e.driver (max now look.moment) client number answer (reads.without_memory e.driver stands.driver) no);
+      told = λ other same.
           tells.on e.decided stands.audits
           ∙ ap (λ d. kept_all (told_one (Client client) d e.decided))
-          (decides ∙ ap (λ (s : State). shown_decision (value s client number)) stands.driver.registry);
+          (decides ∙ ap (λ (s : State). shown_decision (value s client number)) (seen_state old.driver look.older e.driver stands.driver));
     })
+    sits
 
 -- ---- a turn of the sender
 
-pub send_served : (old new : HeldDriver) (audits left : Audits) (now source : ℕ) (answer : Answer) →
-    DriverServes old new (Send now source) answer → Tells audits left (told_sent answer) →
-    Serves (record { driver = old; audits = audits }) (record { driver = new; audits = left }) (Send now source) answer
+-- the logs are those that stand now, whichever registry is looked at
+turn_answered : (older : State) (e : DriverEnd) (source : ℕ) (move : WholeLog → Move) (absent : Answer) (log : Option WholeLog) →
+    (moved_on (record e { registry = older }) source move absent log).answer ≡ (moved_on e source move absent log).answer
+turn_answered older e source move absent None = refl
+turn_answered older e source move absent (Some log) = refl
+
+sent_seen : (older : Option State) (e : DriverEnd) (now source : ℕ) →
+    (driver_moved (seen_by e older) (Send now source)).answer ≡ (moved_by e older (Send now source)).answer
+unfolding on_log
+sent_seen None e now source = refl
+sent_seen (Some older) e now source = turn_answered older e source (send_move older now) _ (log_at e.logs source)
+
+pub send_served : (old new : Held) (driver : HeldDriver) (left : Audits) (view : Option ℕ) (now source : ℕ) (look : Look) (answer : Answer) →
+    IsLook old.past (seat_of Sender old.seats) view look →
+    Reads look.older old.driver driver (Send (max now look.moment) source) answer → Tells old.audits left (told_sent answer) →
+    Sits (left_of old driver left) new Sender look.view (max now look.moment) answer →
+    Serves old new (record { view = view; step = Send now source }) answer
 unfolding decided_by
-send_served old new audits left now source answer serves tells =
-    world_served (record { driver = old; audits = audits }) (record { driver = new; audits = left }) (Send now source) answer serves
+send_served old new driver left view now source look answer is reads tells sits =
+    looked_served old new driver left Sender view (Send now source) look answer refl tt is reads
     (λ e stands. record {
-      refused = λ is. tells.on e.decided stands.audits ∙ ap (λ a. kept_all (told_sent a e.decided)) is ∙ sym stands.audits;
-      told = λ other is. tells.on e.decided stands.audits ∙ ap (λ a. kept_all (told_sent a e.decided)) is;
+      refused = λ no. tells.on e.decided stands.audits ∙ ap (λ a. kept_all (told_sent a e.decided)) no ∙ sym stands.audits;
+      told = λ other same.
+          tells.on e.decided stands.audits
+          ∙ ap (λ a. kept_all (told_sent a e.decided)) (same ∙ sym (sent_seen look.older e.driver (max now look.moment) source));
     })
+    sits
+
+-- ---- a turn of the receiver
+
+pub report_served : (old new : Held) (driver : HeldDriver) (view : Option ℕ) (now source : ℕ) (look : Look) (answer : Answer) →
+    IsLook old.past (seat_of Receiver old.seats) view look →
+    Reads look.older old.driver driver (Image (max now look.moment) source) answer →
+    Sits (left_of old driver old.audits) new Receiver look.view (max now look.moment) answer →
+    Serves old new (record { view = view; step = Image now source }) answer
+unfolding decided_by
+report_served old new driver view now source look answer is reads sits =
+    looked_served old new driver old.audits Receiver view (Image now source) look answer refl tt is reads
+    (λ e stands. record { refused = λ no. refl; told = λ other same. stands.audits })
+    sits
 
 -- ---- an event
 
@@ -200,79 +385,192 @@ answers_some response.PolicyFull replies is = cc
 answers_some (response.Imaged number) replies is = cc
 answers_some (response.Dropped fault) replies is = cc
 
-pub event_told : (old new : HeldDriver) (audits left : Audits) (event : Event) (outcome : Outcome) → Takes old new event outcome →
-    Tells audits left (decided_by_outcome outcome) →
-    Serves (record { driver = old; audits = audits }) (record { driver = new; audits = left }) (Conductor event) (answer_of outcome)
-unfolding decided_by answer_of
-event_told old new audits left event outcome takes tells =
-    world_served (record { driver = old; audits = audits }) (record { driver = new; audits = left }) (Conductor event) (answer_of outcome)
-    (event_served old new event outcome takes)
-    (λ e stands. record {
-      refused = λ is. absurd (answers_some outcome.response outcome.replies is);
-      told = λ other is.
-          tells.on e.decided stands.audits
-          ∙ ap (λ (o : Outcome). kept_all (decided_by_outcome o e.decided)) (takes.on e.driver stands.driver).0;
-    })
+-- what is left of an event that was taken
+pub record Left (old : Held) (event : Event) (inputs : Inputs) (outcome : Outcome) (new : Held) : Type 0 where
+  pub audits : Tells old.audits new.audits (decided_by_outcome outcome)
+  pub past : new.past ≡ record old.past { taken = old.past.taken ++ (event, inputs) ∷ [] }
+  pub seats : new.seats ≡ attached_at (newest_of new.past) outcome.response old.seats
+
+Conducting : (new : Held) (event : Event) (e : RunEnd) → Answer → Type 0
+Conducting new event e answer =
+    (answer ≡ NoMemory → ⊥) → answer ≡ (conducted e (Conducts event)).answer → StandsForEnd new (conducted e (Conducts event)).after →
+    IsAnswerOf (conducted e (Conducts event)) answer × StandsForEnd new (after_by e (conducted e (Conducts event)) answer)
+
+conducting : (new : Held) (event : Event) (e : RunEnd) (answer : Answer) → Conducting new event e answer
+unfolding Conducting
+conducting new event e answer =
+    by_answer (Conducting new event e) (λ some same stands. absurd (some refl))
+    (λ one other some same stands. (
+      other.for_world (conducted e (Conducts event)) same,
+      subst (λ (next : RunEnd). StandsForEnd new next) (sym (other.left e (conducted e (Conducts event)))) stands,
+    ))
+    answer
+
+pub event_told : (old new : Held) (event : Event) (inputs : Inputs) (outcome : Outcome) → Takes old.driver new.driver event outcome →
+    inputs ≡ inputs_held old.driver.registry event old.driver.logs → Left old event inputs outcome new →
+    Serves old new (record { view = None; step = Conducts event }) (answer_of outcome)
+unfolding Conducting decided_by answer_of driver_conducted
+event_told old new event inputs outcome takes inputs_are left = record {
+  on = λ e stands.
+      let taken = takes.on e.driver stands.driver in
+      let same_inputs : inputs ≡ inputs_of e.driver.registry event e.driver.logs =
+      inputs_are
+      ∙ ap (λ (s : State). inputs_held s event old.driver.logs) stands.driver.registry
+      ∙ inputs_stand e.driver.registry event old.driver.logs e.driver.logs stands.driver.logs in
+      let past_is : new.past ≡ (conducted e (Conducts event)).after.past =
+      left.past
+      ∙ ap (λ (p : Past). let q : Past = record p { taken = p.taken ++ (event, inputs) ∷ [] } in q) stands.past
+      ∙ ap (λ (i : Inputs). let q : Past = record e.past { taken = e.past.taken ++ (event, i) ∷ [] } in q) same_inputs in
+      let count : newest_of new.past ≡ newest_of e.past + 1 =
+      ap newest_of past_is ∙ length-append e.past.taken _ in
+      conducting new event e (answer_of outcome) (answers_some outcome.response outcome.replies) (ap answer_of taken.0) (record {
+        driver = taken.1;
+        audits =
+            left.audits.on e.decided stands.audits
+            ∙ ap (λ (o : Outcome). kept_all (decided_by_outcome o e.decided)) taken.0;
+        past = past_is;
+        seats =
+            left.seats
+            ∙ ap (λ n. attached_at n outcome.response old.seats) count
+            ∙ ap (λ (o : Outcome). attached_at (newest_of e.past + 1) o.response old.seats) taken.0
+            ∙ ap (λ (s : Seats). attached_at (newest_of e.past + 1) (outcome_of e.driver.registry event (inputs_of e.driver.registry event e.driver.logs)).response s) stands.seats;
+      });
+  without_memory = λ e stands. tt;
+}
 
 -- an event that is refused memory
-pub event_refused : (old new : Held) (event : Event) → new ≡ old → Serves old new (Conductor event) NoMemory
-event_refused old new event same = record { on = λ e stands. (tt, rw same stands); without_memory = λ e stands. refl }
+pub event_refused : (old new : Held) (event : Event) → new ≡ old → Serves old new (record { view = None; step = Conducts event }) NoMemory
+event_refused old new event same = record { on = λ e stands. (tt, rw same stands); without_memory = λ e stands. tt }
+
+-- the conductor names no registry
+pub event_bad : (held : Held) (k : ℕ) (event : Event) → Serves held held (record { view = Some k; step = Conducts event }) BadStep
+event_bad held k event = record { on = λ e stands. (refl, stands); without_memory = λ e stands. tt }
 
 -- ---- a datagram
 
-pub setup_came : (old new : HeldDriver) (now : ℕ) (local from : Address) (bytes : List ℕ) (read : Result Content BadPacket) (fields : Setup) →
-    ComesAs old new now local from bytes read (came.SetUp fields) → (read ≡ Ok (setup fields)) × (new ≡ old)
-setup_came old new now local from bytes (Err fault) fields comes = absurd comes
-setup_came old new now local from bytes (Ok (frames sent)) fields comes = absurd comes
-setup_came old new now local from bytes (Ok (beat header)) fields comes = absurd comes
-setup_came old new now local from bytes (Ok (nak given)) fields comes = absurd comes
-setup_came old new now local from bytes (Ok (status given)) fields comes = absurd comes
-setup_came old new now local from bytes (Ok (setup given)) fields comes =
-    let same : given ≡ fields = cc comes.0 in (ap (λ f. Ok (setup f)) same, comes.1)
-
--- it serves as its event does
-pub setup_told : (old new : Held) (now : ℕ) (local from : Address) (bytes : List ℕ) (fields : Setup) (answer : Answer) →
-    packet_of bytes ≡ Ok (setup fields) → Serves old new (Conductor (SetUp now local from fields)) answer →
-    Serves old new (Packet now local from bytes) answer
-unfolding decided_by
-setup_told old new now local from bytes fields answer is serves = record {
-  on = λ e stands. rw is (serves.on e stands);
-  without_memory = λ e stands. rw is (serves.without_memory e stands);
+-- by what its bytes hold
+packet_conducted : RunEnd → ℕ → Address → Address → Result Content BadPacket → Moved
+packet_conducted e now local from read = record {
+  after = record {
+    driver = (on_packet e.driver now local from read).after;
+    decided = decided_by_content e.driver now local from read e.decided;
+    past = record e.past { taken = e.past.taken ++ event_in e.driver now local from read };
+    seats = seats_by e (event_in e.driver now local from read);
+  };
+  answer = (on_packet e.driver now local from read).answer;
 }
 
+setup_conducted : (e : RunEnd) (now : ℕ) (local from : Address) (bytes : List ℕ) (fields : Setup) → packet_of bytes ≡ Ok (setup fields) →
+    conducted e (Packet now local from bytes) ≡ conducted e (Conducts (SetUp now local from fields))
+unfolding packet_conducted decided_by
+setup_conducted e now local from bytes fields is = ap (packet_conducted e now local from) is
+
+setup_moved : (e : RunEnd) (view : Option ℕ) (now : ℕ) (local from : Address) (bytes : List ℕ) (fields : Setup) →
+    packet_of bytes ≡ Ok (setup fields) →
+    moved e (record { view = view; step = Packet now local from bytes })
+    ≡ moved e (record { view = view; step = Conducts (SetUp now local from fields) })
+setup_moved e None now local from bytes fields is =
+    ap (λ read. moved_as e (reader_of read) None (Packet now local from bytes)) is ∙ setup_conducted e now local from bytes fields is
+setup_moved e (Some k) now local from bytes fields is = ap (λ read. moved_as e (reader_of read) (Some k) (Packet now local from bytes)) is
+
+-- a SETUP serves as its event does
+pub setup_told : (old new : Held) (view : Option ℕ) (now : ℕ) (local from : Address) (bytes : List ℕ) (fields : Setup) (answer : Answer) →
+    packet_of bytes ≡ Ok (setup fields) → Serves old new (record { view = view; step = Conducts (SetUp now local from fields) }) answer →
+    Serves old new (record { view = view; step = Packet now local from bytes }) answer
+setup_told old new view now local from bytes fields answer is serves = record {
+  on = λ e stands.
+      subst (λ (m : Moved). IsAnswerOf m answer × StandsForEnd new (after_by e m answer)) (sym (setup_moved e view now local from bytes fields is))
+      (serves.on e stands);
+  without_memory = λ e stands.
+      subst (λ read. has_as e (reader_of read) view (Packet now local from bytes) answer) (sym is) tt;
+}
+
+-- no other comes to an event
+never_as : (old new : HeldDriver) (now : ℕ) (local from : Address) (bytes : List ℕ) (read : Result Content BadPacket) (fields : Setup) →
+    ComesAs old new now local from bytes read (came.SetUp fields) → Looks (reader_of read) → ⊥
+never_as old new now local from bytes (Err fault) fields comes looks = comes
+never_as old new now local from bytes (Ok (frames sent)) fields comes looks = comes
+never_as old new now local from bytes (Ok (beat header)) fields comes looks = comes
+never_as old new now local from bytes (Ok (nak given)) fields comes looks = comes
+never_as old new now local from bytes (Ok (status given)) fields comes looks = comes
+never_as old new now local from bytes (Ok (setup given)) fields comes looks = looks
+
+never_seen : (older : State) (old new : HeldDriver) (now : ℕ) (local from : Address) (bytes : List ℕ) (read : Result Content BadPacket)
+    (fields : Setup) → ComesSeenAs older old new now local from bytes read (came.SetUp fields) → Looks (reader_of read) → ⊥
+never_seen older old new now local from bytes (Err fault) fields comes looks = comes
+never_seen older old new now local from bytes (Ok (frames sent)) fields comes looks = comes
+never_seen older old new now local from bytes (Ok (beat header)) fields comes looks = comes
+never_seen older old new now local from bytes (Ok (nak given)) fields comes looks = comes
+never_seen older old new now local from bytes (Ok (status given)) fields comes looks = comes
+never_seen older old new now local from bytes (Ok (setup given)) fields comes looks = looks
+
+pub never_set_up : (older : Option State) (old new : HeldDriver) (now : ℕ) (local from : Address) (bytes : List ℕ) (fields : Setup) →
+    ComesRead older old new now local from bytes (came.SetUp fields) → Looks (reader_of (packet_of bytes)) → ⊥
+never_set_up None old new now local from bytes fields comes looks = never_as old new now local from bytes (packet_of bytes) fields comes looks
+never_set_up (Some older) old new now local from bytes fields comes looks =
+    never_seen older old new now local from bytes (packet_of bytes) fields comes looks
+
 -- what is told of any other
-pub record CameTold (old new : HeldDriver) (now : ℕ) (local from : Address) (bytes : List ℕ) (told : Told) (read : Result Content BadPacket) : Type 0 where
-  pub serves : DriverServes old new (Packet now local from bytes) told.answer
-  pub decides : DecidesUnless old (λ e. content_decided e from read) told.answer told.decision
-  pub by :
+record CameAs (older : Option State) (old new : HeldDriver) (now : ℕ) (local from : Address) (bytes : List ℕ) (told : Told)
+    (read : Result Content BadPacket) : Type 0 where
+  reads : Reads older old new (Packet now local from bytes) told.answer
+  decides : DecidesUnless (held_seen old older) (λ e. content_decided e from read) told.answer told.decision
+  by :
       (e : DriverEnd) (all : Decided) →
       decided_by_content e now local from read all ≡ told_one Sender (content_decided e from read) all
 
-pub told_came : (old new : HeldDriver) (now : ℕ) (local from : Address) (bytes : List ℕ) (read : Result Content BadPacket) (told : Told) →
-    ComesAs old new now local from bytes read (came.Told told) → CameTold old new now local from bytes told read
-told_came old new now local from bytes (Err fault) told comes = record { serves = comes.0; decides = comes.1; by = λ e all. refl }
-told_came old new now local from bytes (Ok (frames sent)) told comes = record { serves = comes.0; decides = comes.1; by = λ e all. refl }
-told_came old new now local from bytes (Ok (beat header)) told comes = record { serves = comes.0; decides = comes.1; by = λ e all. refl }
-told_came old new now local from bytes (Ok (nak given)) told comes = record { serves = comes.0; decides = comes.1; by = λ e all. refl }
-told_came old new now local from bytes (Ok (status given)) told comes = record { serves = comes.0; decides = comes.1; by = λ e all. refl }
-told_came old new now local from bytes (Ok (setup given)) told comes = absurd (cc comes.0)
+as_reads : (old new : HeldDriver) (step : Step) (answer : Answer) → DriverServes old new step answer → Reads None old new step answer
+as_reads old new step answer serves = record { on = serves.on; without_memory = serves.without_memory }
 
-pub packet_told : (old new : HeldDriver) (audits left : Audits) (now : ℕ) (local from : Address) (bytes : List ℕ) (told : Told) →
-    ComesAs old new now local from bytes (packet_of bytes) (came.Told told) → Tells audits left (told_one Sender told.decision) →
-    Serves (record { driver = old; audits = audits }) (record { driver = new; audits = left }) (Packet now local from bytes) told.answer
+as_seen : (older : State) (old new : HeldDriver) (step : Step) (answer : Answer) → Sees older old new step answer →
+    Reads (Some older) old new step answer
+as_seen older old new step answer sees = record { on = sees.on; without_memory = sees.without_memory }
+
+came_as : (old new : HeldDriver) (now : ℕ) (local from : Address) (bytes : List ℕ) (read : Result Content BadPacket) (told : Told) →
+    ComesAs old new now local from bytes read (came.Told told) → CameAs None old new now local from bytes told read
+came_as old new now local from bytes (Err fault) told comes = record { reads = as_reads old new _ told.answer comes.0; decides = comes.1; by = λ e all. refl }
+came_as old new now local from bytes (Ok (frames sent)) told comes = record { reads = as_reads old new _ told.answer comes.0; decides = comes.1; by = λ e all. refl }
+came_as old new now local from bytes (Ok (beat header)) told comes = record { reads = as_reads old new _ told.answer comes.0; decides = comes.1; by = λ e all. refl }
+came_as old new now local from bytes (Ok (nak given)) told comes = record { reads = as_reads old new _ told.answer comes.0; decides = comes.1; by = λ e all. refl }
+came_as old new now local from bytes (Ok (status given)) told comes = record { reads = as_reads old new _ told.answer comes.0; decides = comes.1; by = λ e all. refl }
+came_as old new now local from bytes (Ok (setup given)) told comes = absurd (cc comes.0)
+
+came_seen : (older : State) (old new : HeldDriver) (now : ℕ) (local from : Address) (bytes : List ℕ) (read : Result Content BadPacket) (told : Told) →
+    ComesSeenAs older old new now local from bytes read (came.Told told) → CameAs (Some older) old new now local from bytes told read
+came_seen older old new now local from bytes (Err fault) told comes = record { reads = as_seen older old new _ told.answer comes.0; decides = comes.1; by = λ e all. refl }
+came_seen older old new now local from bytes (Ok (frames sent)) told comes = record { reads = as_seen older old new _ told.answer comes.0; decides = comes.1; by = λ e all. refl }
+came_seen older old new now local from bytes (Ok (beat header)) told comes = record { reads = as_seen older old new _ told.answer comes.0; decides = comes.1; by = λ e all. refl }
+came_seen older old new now local from bytes (Ok (nak given)) told comes = record { reads = as_seen older old new _ told.answer comes.0; decides = comes.1; by = λ e all. refl }
+came_seen older old new now local from bytes (Ok (status given)) told comes = record { reads = as_seen older old new _ told.answer comes.0; decides = comes.1; by = λ e all. refl }
+came_seen older old new now local from bytes (Ok (setup given)) told comes = absurd (cc comes.0)
+
+came_told : (older : Option State) (old new : HeldDriver) (now : ℕ) (local from : Address) (bytes : List ℕ) (told : Told) →
+    ComesRead older old new now local from bytes (came.Told told) → CameAs older old new now local from bytes told (packet_of bytes)
+came_told None old new now local from bytes told comes = came_as old new now local from bytes (packet_of bytes) told comes
+came_told (Some older) old new now local from bytes told comes = came_seen older old new now local from bytes (packet_of bytes) told comes
+
+pub packet_served : (old new : Held) (driver : HeldDriver) (left : Audits) (view : Option ℕ) (now : ℕ) (local from : Address) (bytes : List ℕ)
+    (look : Look) (told : Told) → Looks (reader_of (packet_of bytes)) →
+    IsLook old.past (seat_of (reader_of (packet_of bytes)) old.seats) view look →
+    ComesRead look.older old.driver driver (max now look.moment) local from bytes (came.Told told) →
+    Tells old.audits left (told_one Sender told.decision) →
+    Sits (left_of old driver left) new (reader_of (packet_of bytes)) look.view (max now look.moment) told.answer →
+    Serves old new (record { view = view; step = Packet now local from bytes }) told.answer
 unfolding decided_by
-packet_told old new audits left now local from bytes told comes tells =
-    let came' = told_came old new now local from bytes (packet_of bytes) told comes in
-    world_served (record { driver = old; audits = audits }) (record { driver = new; audits = left }) (Packet now local from bytes) told.answer came'.serves
+packet_served old new driver left view now local from bytes look told looks is comes tells sits =
+    let came' = came_told look.older old.driver driver (max now look.moment) local from bytes told comes in
+    looked_served old new driver left (reader_of (packet_of bytes)) view (Packet now local from bytes) look told.answer refl looks is came'.reads
     (λ e stands.
-    let is_told : told.decision ≡ decided_unless told.answer (content_decided e.driver from (packet_of bytes)) =
-    came'.decides.on e.driver stands.driver in
+    let seen : DriverEnd = seen_by e.driver look.older in
+    let is_told : told.decision ≡ decided_unless told.answer (content_decided seen from (packet_of bytes)) =
+    came'.decides.on seen (seen_stands old.driver look.older e.driver stands.driver) in
     record {
-      refused = λ is.
-          let none : told.decision ≡ None = told_nothing told.answer told.decision (content_decided e.driver from (packet_of bytes)) is_told is in
+      refused = λ no.
+          let none : told.decision ≡ None = told_nothing told.answer told.decision (content_decided seen from (packet_of bytes)) is_told no in
           tells.on e.decided stands.audits ∙ ap (λ d. kept_all (told_one Sender d e.decided)) none ∙ sym stands.audits;
-      told = λ other is.
+      told = λ other same.
           tells.on e.decided stands.audits
-          ∙ ap (λ d. kept_all (told_one Sender d e.decided)) (is_told ∙ other.unless (content_decided e.driver from (packet_of bytes)))
-          ∙ ap (λ (all : Decided). kept_all all) (sym (came'.by e.driver e.decided));
+          ∙ ap (λ d. kept_all (told_one Sender d e.decided)) (is_told ∙ other.unless (content_decided seen from (packet_of bytes)))
+          ∙ ap (λ (all : Decided). kept_all all) (sym (came'.by seen e.decided));
     })
+    sits

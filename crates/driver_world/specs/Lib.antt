@@ -1,4 +1,7 @@
 pub mod Audits
 pub mod Ends
+pub mod Kept
 pub mod Laws
+pub mod Memory
 pub mod Standing
+pub mod Views

@@ -7,10 +7,16 @@
 
 mod actor;
 mod audits;
+mod kept;
 mod laws;
+mod past;
+mod reading;
+mod seats;
 mod world;
 
 pub use actor::Actor;
 pub use driver_steps::{Answer, Cause, Fragment, Insert, Offered, OpenLog, Step, Told};
 pub use laws::runs_are_of_the_driver;
+pub use reading::Reading;
+pub use seats::Seat;
 pub use world::World;

@@ -1,23 +1,34 @@
 ghost use Rattle.driver_core.specs.Soundness.{AreSettings};
-ghost use Rattle.std.specs.Prelude.{◌≡◌, option_copied, IfOk, OnErr};
+ghost use Rattle.audit_ring.specs.Audit.{kept_of};
+ghost use Rattle.driver_world.specs.Views.{reader_of};
+ghost use Rattle.frame_codec.specs.Datagram.{Content, content, packet_of};
+ghost use Rattle.frame_codec.specs.Steps.{Equals};
+ghost use Rattle.frame_codec.specs.declared.fault.BadPacket.{BadPacket as Faults};
+ghost use Rattle.std.specs.Prelude.{◌≡◌, [], Some, None, Result, max, length, ◌<◌, option_copied, IfOk, IfErr, OnOk, OnErr};
 
 use crate::actor::Actor;
 use crate::audits::Audits;
+use crate::kept::Kept;
+use crate::past::Registries;
+use crate::reading::Reading;
+use crate::seats::{AllSeats, Seat};
 use audit_ring::Audit;
 use byte_strings::Items;
 use channel_uri::Address;
-use driver_core::{Event, Peer, Settings};
-use driver_steps::{Answer, Came, Driver, Step};
-use frame_codec::Setup;
+use driver_core::{Entry, Event, Inputs, Outcome, Peer, Registry, Settings};
+use driver_steps::{Answer, Came, Driver, Step, Told};
+use frame_codec::{BadPacket, Datagram, Packet, Setup};
 use policy_core::Policy;
 use std::alloc::{AllocError, Global};
 use std::marker::Model;
 
-/// A driver that is run step by step, with what was decided for each actor.
+/// A driver that is run step by step, with what was decided for each actor, and the registries that they look at.
 #[derive(Drop)]
 pub struct World {
     driver: Driver,
     audits: Audits,
+    past: Registries,
+    seats: AllSeats,
 }
 
 impl Model for World {
@@ -25,16 +36,66 @@ impl Model for World {
 
     ghost Value = { Held };
 
-    ghost view = { λ world. record { driver = world.driver; audits = world.audits.audits } };
+    ghost view = { λ world. record {
+      driver = world.driver;
+      audits = world.audits.audits;
+      past = world.past.past;
+      seats = world.seats.seats;
+    } };
+}
+
+/// What an actor looks at.
+#[derive(Drop)]
+struct Look {
+    /// The number of the registry.
+    view: u64,
+    /// That registry, where it is not the newest.
+    older: Option<Registry>,
+    /// The greatest moment of the actor's steps so far.
+    moment: u64,
+}
+
+impl Look {
+    /// The moment of a step by it: none is earlier than its actor's before.
+    fn at(&self, now: u64) -> u64
+        ensures { result ≡ max now self.now.moment }
+    {
+        now.max(self.moment)
+    }
+}
+
+/// What the logs said at an event, and what it tells.
+fn parts_of(entry: Entry) -> (Inputs, Outcome)
+    ensures { result ≡ (entry.inputs, entry.outcome) }
+{
+    let Entry {
+        inputs,
+        outcome,
+        ..
+    } = entry;
+    (inputs, outcome)
+}
+
+/// Whose step a datagram is.
+fn reader_of(read: &Result<Packet<'_>, BadPacket>) -> Actor
+    ensures { (of : Result Content Faults) → Equals content read.now of → result ≡ reader_of of }
+{
+    match read {
+        Ok(Packet::Setup(_)) => Actor::Conductor,
+        Ok(Packet::Nak(_)) => Actor::Sender,
+        Ok(Packet::Sm(_)) => Actor::Sender,
+        _ => Actor::Receiver,
+    }
 }
 
 impl World {
     ghost use Rattle.driver_core.specs.declared.event.Event.TheVariants.{Setup as SetUp};
     ghost use Rattle.driver_steps.specs.Standing.{pages_of_logs};
-    ghost use Rattle.driver_steps.specs.declared.step.Step.TheVariants.{Conductor, Packet as Packets, Offer, Poll, Send, List as Lists, Value};
+    ghost use Rattle.driver_steps.specs.declared.step.Step.TheVariants.{Conductor, Packet as Packets, Offer, Poll, Send, Image, List as Lists, Value};
     ghost use Rattle.driver_world.specs.Audits.{IsAuditOf, kept_for};
     ghost use Rattle.driver_world.specs.Ends.{opening_end};
-    ghost use Rattle.driver_world.specs.Standing.{StandsForEnd, Serves, Runs, Continues};
+    ghost use Rattle.driver_world.specs.Standing.{StandsForEnd, Serves, Runs, Continues, IsLook, IsNoLook, Sits};
+    ghost use Rattle.driver_world.specs.Views.{Looks, newest_of, seat_of};
     ghost use Rattle.log_arena.specs.Pages.{holes_of};
 
     /// A world in which nothing happened yet.
@@ -48,9 +109,13 @@ impl World {
         requires { AreSettings settings }
         ensures { IfOk result (λ world. StandsForEnd world (opening_end settings policy peers.now)) }
     {
+        let driver = Driver::new(alloc, settings, policy, peers)?;
+        let opened = driver.registry().copy(alloc)?;
         Ok(World {
-            driver: Driver::new(alloc, settings, policy, peers)?,
+            driver,
             audits: Audits::new(alloc)?,
+            past: Registries::new(alloc, opened),
+            seats: AllSeats::new(alloc),
         })
     }
 
@@ -62,16 +127,88 @@ impl World {
         self.driver.holes()
     }
 
-    /// The conductor takes an event.
-    fn conduct(&mut self, alloc: Global, event: &Event) -> Answer
-        ensures { Serves self.old self.new (Conductor event.now) result }
+    /// The number of the newest registry. The opened one is 0, and each event that was taken makes one more.
+    pub fn newest(&self) -> u64
+        ensures { result ≡ newest_of self.now.past }
     {
+        self.past.newest()
+    }
+
+    /// The number of the registry that the actor looked at last: a step of its own names none before that. The conductor's is
+    /// the newest.
+    pub fn view(&self, actor: Actor) -> u64
+        ensures { result ≡ (seat_of actor self.now.seats).view }
+    {
+        self.seats.get(actor).view
+    }
+
+    /// What the actor looks at, where it names that registry, or the newest.
+    ///
+    /// # Errors
+    /// The answer of the step, where it may not look there, or there is no memory for the registry.
+    fn look(&self, alloc: Global, actor: Actor, view: Option<u64>) -> Result<Look, Answer>
+        ensures ok { IfOk result (λ look. IsLook self.now.past (seat_of actor self.now.seats) view look) }
+        ensures err { IfErr result (λ answer. IsNoLook self.now.past (seat_of actor self.now.seats) view answer) }
+    {
+        let seat = self.seats.get(actor);
+        let newest = self.past.newest();
+        let view = view.unwrap_or(newest);
+        if view < seat.view || newest < view {
+            return Err(Answer::BadStep);
+        }
+        let older = if view == newest {
+            None
+        } else {
+            match self.past.registry_at(alloc, view) {
+                Ok(registry) => Some(registry),
+                Err(_) => return Err(Answer::NoMemory),
+            }
+        };
+        Ok(Look {
+            view,
+            older,
+            moment: seat.moment,
+        })
+    }
+
+    /// The actor took a step by that look, at that moment. One that was refused memory leaves it where it stood.
+    fn sit(&mut self, actor: Actor, look: &Look, now: u64, answer: &Answer)
+        ensures { Sits self.old self.new actor look.now.view now answer.now }
+    {
+        if !matches!(answer, Answer::NoMemory) {
+            self.seats.set(
+                actor,
+                Seat {
+                    view: look.view,
+                    moment: now,
+                },
+            );
+        }
+    }
+
+    /// The conductor takes an event. All memory that this wants is taken before anything is changed: then all that it decided is
+    /// told, a client that it attaches has an audit and a seat, and the event is kept.
+    fn conduct(&mut self, alloc: Global, event: &Event) -> Answer
+        ensures { Serves self.old self.new (record { view = None; step = Conductor event.now }) result }
+    {
+        let Ok(()) = self.past.make_room() else {
+            return Answer::NoMemory;
+        };
+        let Ok(()) = self.seats.make_room() else {
+            return Answer::NoMemory;
+        };
+        let Ok(kept) = Kept::of(alloc, event) else {
+            return Answer::NoMemory;
+        };
         let Ok(audit) = self.audits.make_room(alloc) else {
             return Answer::NoMemory;
         };
         match self.driver.take(alloc, event) {
-            Ok(outcome) => {
+            Ok(entry) => {
+                let (inputs, outcome) = parts_of(entry);
                 self.audits.tell_event(&outcome, audit);
+                self.past.push(kept, inputs);
+                self.seats.attach(outcome.response, self.past.newest());
                 Answer::of(outcome)
             }
             Err(_) => {
@@ -81,17 +218,28 @@ impl World {
         }
     }
 
+    /// The conductor's step: it goes by the newest registry, and names none.
+    fn conduct_at(&mut self, alloc: Global, view: Option<u64>, event: &Event) -> Answer
+        ensures { Serves self.old self.new (record { view = view; step = Conductor event.now }) result }
+    {
+        match view {
+            None => self.conduct(alloc, event),
+            Some(_) => Answer::BadStep,
+        }
+    }
+
     /// A SETUP came to the address `local`, from the address `from`. An event is large, so other datagrams come to none.
     #[inline(never)]
     fn set_up(
         &mut self,
         alloc: Global,
+        view: Option<u64>,
         now: u64,
         local: &Address,
         from: &Address,
         setup: Setup,
     ) -> Answer
-        ensures { Serves self.old self.new (Conductor (SetUp now local.now from.now setup)) result }
+        ensures { Serves self.old self.new (record { view = view; step = Conductor (SetUp now local.now from.now setup) }) result }
     {
         let event = Event::Setup {
             now,
@@ -99,7 +247,41 @@ impl World {
             from: *from,
             setup,
         };
-        self.conduct(alloc, &event)
+        self.conduct_at(alloc, view, &event)
+    }
+
+    /// The sender or the receiver takes a datagram, of which `read` is what it holds.
+    fn take(
+        &mut self,
+        alloc: Global,
+        view: Option<u64>,
+        now: u64,
+        local: &Address,
+        from: &Address,
+        bytes: &[u8],
+        read: Result<Packet<'_>, BadPacket>,
+    ) -> Answer
+        requires reads { Equals content read (packet_of bytes.now) }
+        requires looks { Looks (reader_of (packet_of bytes.now)) }
+        ensures { Serves self.old self.new (record { view = view; step = Packets now local.now from.now bytes.now }) result }
+    {
+        let actor = reader_of(&read);
+        let look = match self.look(alloc, actor, view) {
+            Ok(look) => look,
+            Err(answer) => return answer,
+        };
+        let now = look.at(now);
+        match self
+            .driver
+            .datagram_read(look.older.as_ref(), alloc, now, local, from, bytes, read)
+        {
+            Came::SetUp(_) => unreachable!(),
+            Came::Told(told) => {
+                self.audits.tell_sender(told.decision);
+                self.sit(actor, &look, now, &told.answer);
+                told.answer
+            }
+        }
     }
 
     /// A datagram came to the address `local`, from the address `from`: a SETUP is an event; the frames of data and a
@@ -108,28 +290,79 @@ impl World {
     pub fn packet(
         &mut self,
         alloc: Global,
+        view: Option<u64>,
         now: u64,
         local: &Address,
         from: &Address,
         bytes: &[u8],
     ) -> Answer
-        ensures { Serves self.old self.new (Packets now local.now from.now bytes.now) result }
+        ensures { Serves self.old self.new (record { view = view; step = Packets now local.now from.now bytes.now }) result }
     {
-        match self.driver.datagram(alloc, now, local, from, bytes) {
-            Came::SetUp(setup) => self.set_up(alloc, now, local, from, setup),
-            Came::Told(told) => {
-                self.audits.tell_sender(told.decision);
-                told.answer
+        match Datagram::read(bytes) {
+            Ok(Packet::Setup(setup)) => self.set_up(alloc, view, now, local, from, setup),
+            Ok(Packet::Data(frames)) => {
+                self.take(
+                    alloc,
+                    view,
+                    now,
+                    local,
+                    from,
+                    bytes,
+                    Ok(Packet::Data(frames)),
+                )
             }
+            Ok(Packet::Beat(header)) => {
+                self.take(
+                    alloc,
+                    view,
+                    now,
+                    local,
+                    from,
+                    bytes,
+                    Ok(Packet::Beat(header)),
+                )
+            }
+            Ok(Packet::Nak(nak)) => {
+                self.take(alloc, view, now, local, from, bytes, Ok(Packet::Nak(nak)))
+            }
+            Ok(Packet::Sm(message)) => {
+                self.take(
+                    alloc,
+                    view,
+                    now,
+                    local,
+                    from,
+                    bytes,
+                    Ok(Packet::Sm(message)),
+                )
+            }
+            Err(fault) => self.take(alloc, view, now, local, from, bytes, Err(fault)),
         }
     }
 
-    /// A client offers a message. It takes no memory.
-    fn offer(&mut self, now: u64, client: u64, registration: u64, message: &[u8]) -> Answer
-        ensures { Serves self.old self.new (Offer now client registration message.now) result }
+    /// A client offers a message.
+    fn offer(
+        &mut self,
+        alloc: Global,
+        view: Option<u64>,
+        now: u64,
+        client: u64,
+        registration: u64,
+        message: &[u8],
+    ) -> Answer
+        ensures { Serves self.old self.new (record { view = view; step = Offer now client registration message.now }) result }
     {
-        let told = self.driver.offer(now, client, registration, message);
+        let actor = Actor::Client(client);
+        let look = match self.look(alloc, actor, view) {
+            Ok(look) => look,
+            Err(answer) => return answer,
+        };
+        let now = look.at(now);
+        let told = self
+            .driver
+            .offer_read(look.older.as_ref(), now, client, registration, message);
         self.audits.tell_client(client, told.decision);
+        self.sit(actor, &look, now, &told.answer);
         told.answer
     }
 
@@ -137,82 +370,154 @@ impl World {
     fn poll(
         &mut self,
         alloc: Global,
+        view: Option<u64>,
         now: u64,
         client: u64,
         subscription: u64,
         source: u64,
         limit: u32,
     ) -> Answer
-        ensures { Serves self.old self.new (Poll now client subscription source limit) result }
+        ensures { Serves self.old self.new (record { view = view; step = Poll now client subscription source limit }) result }
     {
-        let told = self
-            .driver
-            .poll(alloc, now, client, subscription, source, limit);
+        let actor = Actor::Client(client);
+        let look = match self.look(alloc, actor, view) {
+            Ok(look) => look,
+            Err(answer) => return answer,
+        };
+        let now = look.at(now);
+        let told = self.driver.poll_read(
+            look.older.as_ref(),
+            alloc,
+            now,
+            client,
+            subscription,
+            source,
+            limit,
+        );
         self.audits.tell_client(client, told.decision);
+        self.sit(actor, &look, now, &told.answer);
         told.answer
     }
 
     /// The sender has a turn with a publication.
-    fn send(&mut self, alloc: Global, now: u64, source: u64) -> Answer
-        ensures { Serves self.old self.new (Send now source) result }
+    fn send(&mut self, alloc: Global, view: Option<u64>, now: u64, source: u64) -> Answer
+        ensures { Serves self.old self.new (record { view = view; step = Send now source }) result }
     {
-        let answer = self.driver.send(alloc, now, source);
+        let look = match self.look(alloc, Actor::Sender, view) {
+            Ok(look) => look,
+            Err(answer) => return answer,
+        };
+        let now = look.at(now);
+        let answer = self
+            .driver
+            .send_read(look.older.as_ref(), alloc, now, source);
         self.audits.tell_sent(&answer);
+        self.sit(Actor::Sender, &look, now, &answer);
+        answer
+    }
+
+    /// The receiver has a turn with an image.
+    fn report(&mut self, alloc: Global, view: Option<u64>, now: u64, source: u64) -> Answer
+        ensures { Serves self.old self.new (record { view = view; step = Image now source }) result }
+    {
+        let look = match self.look(alloc, Actor::Receiver, view) {
+            Ok(look) => look,
+            Err(answer) => return answer,
+        };
+        let now = look.at(now);
+        let answer = self
+            .driver
+            .report_read(look.older.as_ref(), alloc, now, source);
+        self.sit(Actor::Receiver, &look, now, &answer);
         answer
     }
 
     /// A client looks at the counters that it may see.
-    fn list(&mut self, alloc: Global, now: u64, client: u64) -> Answer
-        ensures { Serves self.old self.new (Lists now client) result }
+    fn list(&mut self, alloc: Global, view: Option<u64>, now: u64, client: u64) -> Answer
+        ensures { Serves self.old self.new (record { view = view; step = Lists now client }) result }
     {
-        let looked = self.driver.list(alloc, now, client);
+        let actor = Actor::Client(client);
+        let look = match self.look(alloc, actor, view) {
+            Ok(look) => look,
+            Err(answer) => return answer,
+        };
+        let now = look.at(now);
+        let looked = self
+            .driver
+            .list_read(look.older.as_ref(), alloc, now, client);
         self.audits.tell_denials(client, looked.denials.as_slice());
+        self.sit(actor, &look, now, &looked.answer);
         looked.answer
     }
 
-    /// A client looks at one counter. It takes no memory.
-    fn value(&mut self, now: u64, client: u64, number: u64) -> Answer
-        ensures { Serves self.old self.new (Value now client number) result }
+    /// A client looks at one counter.
+    fn value(
+        &mut self,
+        alloc: Global,
+        view: Option<u64>,
+        now: u64,
+        client: u64,
+        number: u64,
+    ) -> Answer
+        ensures { Serves self.old self.new (record { view = view; step = Value now client number }) result }
     {
-        let told = self.driver.value(now, client, number);
+        let actor = Actor::Client(client);
+        let look = match self.look(alloc, actor, view) {
+            Ok(look) => look,
+            Err(answer) => return answer,
+        };
+        let now = look.at(now);
+        let told = self
+            .driver
+            .value_read(look.older.as_ref(), now, client, number);
         self.audits.tell_client(client, told.decision);
+        self.sit(actor, &look, now, &told.answer);
         told.answer
     }
 
-    /// Takes one step. No offer, no look at one counter and no poll that is gone or denied is answered
-    /// [`Answer::NoMemory`].
-    pub fn step(&mut self, alloc: Global, step: &Step) -> Answer
-        ensures { Serves self.old self.new step.now result }
+    /// Takes one step, by the registry that it names. One that its actor may not look at is answered [`Answer::BadStep`], and
+    /// changes nothing. By the newest registry, no offer, no look at one counter and no poll that is gone or denied is answered
+    /// [`Answer::NoMemory`]; an older registry is made again, which takes memory.
+    pub fn step(&mut self, alloc: Global, reading: &Reading) -> Answer
+        ensures { Serves self.old self.new reading.now result }
     {
-        match step {
-            Step::Conductor(event) => self.conduct(alloc, event),
+        let view = reading.view;
+        match &reading.step {
+            Step::Conductor(event) => self.conduct_at(alloc, view, event),
             Step::Packet {
                 now,
                 local,
                 from,
                 bytes,
-            } => self.packet(alloc, *now, local, from, bytes.as_slice()),
+            } => self.packet(alloc, view, *now, local, from, bytes.as_slice()),
             Step::Offer {
                 now,
                 client,
                 registration,
                 message,
-            } => self.offer(*now, *client, *registration, message.as_slice()),
+            } => self.offer(
+                alloc,
+                view,
+                *now,
+                *client,
+                *registration,
+                message.as_slice(),
+            ),
             Step::Poll {
                 now,
                 client,
                 subscription,
                 source,
                 limit,
-            } => self.poll(alloc, *now, *client, *subscription, *source, *limit),
-            Step::Send { now, source } => self.send(alloc, *now, *source),
-            Step::Image { now, source } => self.driver.report(alloc, *now, *source),
-            Step::List { now, client } => self.list(alloc, *now, *client),
+            } => self.poll(alloc, view, *now, *client, *subscription, *source, *limit),
+            Step::Send { now, source } => self.send(alloc, view, *now, *source),
+            Step::Image { now, source } => self.report(alloc, view, *now, *source),
+            Step::List { now, client } => self.list(alloc, view, *now, *client),
             Step::Value {
                 now,
                 client,
                 number,
-            } => self.value(*now, *client, *number),
+            } => self.value(alloc, view, *now, *client, *number),
         }
     }
 
@@ -221,14 +526,14 @@ impl World {
     ///
     /// # Errors
     /// Where there is no memory for the list of answers, no step is taken.
-    pub fn run(&mut self, alloc: Global, steps: &[Step]) -> Result<Items<Answer>, AllocError>
-        ensures runs { IfOk result (λ answers. Runs self.old self.new steps.now answers) }
-        ensures continues { IfOk result (λ answers. Continues self.old self.new steps.now answers) }
+    pub fn run(&mut self, alloc: Global, readings: &[Reading]) -> Result<Items<Answer>, AllocError>
+        ensures runs { IfOk result (λ answers. Runs self.old self.new readings.now answers) }
+        ensures continues { IfOk result (λ answers. Continues self.old self.new readings.now answers) }
         ensures err { OnErr result (self.new ≡ self.old) }
     {
-        let mut answers = Vec::with_capacity(alloc, steps.len())?;
-        for step in steps {
-            let answer = self.step(alloc, step);
+        let mut answers = Vec::with_capacity(alloc, readings.len())?;
+        for reading in readings {
+            let answer = self.step(alloc, reading);
             match answers.push(answer) {
                 Ok(()) => {}
                 Err(_) => unreachable!(),

@@ -2,7 +2,7 @@
 
 use crate::deeds::{Deed, PUBLISH_ALONE, UNPUBLISH_2, event};
 use driver_core::{Address, Astray, Settings};
-use driver_world::{Answer, Cause, Step, World};
+use driver_world::{Answer, Cause, Reading, Step, World};
 use policy_core::Policy;
 use std::alloc::{AllocError, Global};
 
@@ -60,7 +60,7 @@ fn are_free(world: &World, runs: &[(usize, usize)]) -> bool {
 fn runs_to(alloc: Global, world: &mut World, row: &Row) -> Result<bool, AllocError> {
     let mut steps = Vec::new(alloc);
     for &deed in row.0 {
-        steps.push(Step::Conductor(event(alloc, deed)?))?;
+        steps.push(Reading::newest(Step::Conductor(event(alloc, deed)?)))?;
     }
     let answers = world.run(alloc, steps.as_slice())?;
     Ok(are_answered(answers.as_slice(), row.1) && are_free(world, row.2))
@@ -102,7 +102,7 @@ fn is_astray(alloc: Global, bytes: &[u8]) -> Result<bool, AllocError> {
         octets: [127, 0, 0, 1],
         port: 40_123,
     };
-    let answer = world.packet(alloc, 0, &address, &address, bytes);
+    let answer = world.packet(alloc, None, 0, &address, &address, bytes);
     Ok(matches!(answer, Answer::Dropped(Cause::Astray(Astray::NoStream))))
 }
 

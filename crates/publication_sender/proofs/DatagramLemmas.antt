@@ -1,14 +1,24 @@
 -- How frames go into datagrams.
 use Rattle.std.proofs.Common.{◌≡◌, ◌≤◌, ℕ, zero, suc, ◌+◌, ◌-◌, ◌/◌, true, false, List, [], ◌∷◌, length, take, Option, Some, None, refl, sym, ap, subst, ◌∙◌, arith}
-use Rattle.std.specs.Prelude.{◌==◌, ◌++◌, drop, nat_le, nat_lt}
+use Rattle.std.specs.Prelude.{◌++◌, drop, nat_le}
 use Rattle.std.proofs.lemmas.Bool.{eq-eqb}
 use Rattle.std.proofs.lemmas.Bool.Decides.{nat_tests}
 use Rattle.std.proofs.lemmas.List.{append-nil, append_assoc, drop_at, length-append, length-drop, take_at}
 use Rattle.std.proofs.lemmas.Slice.{drop-append-drop}
-use Rattle.publication_sender.specs.Datagrams.{Fills, FillsFirst, GivesFirst, ahead, datagrams_in, datagrams_of, first_run, fits, fitting}
+use Rattle.publication_sender.specs.Datagrams.{Copies, CopiesFirst, Fills, FillsFirst, GivesFirst, TakesNext, ahead, datagrams_in, datagrams_of, first_run, fits, fitting}
 use Rattle.term_log.specs.Reading.{Given, sent_bytes}
 
 -- ---- lists
+
+drop_past : (bs : List ℕ) (n : ℕ) → length bs ≤ n → drop n bs ≡ []
+drop_past [] zero past = refl
+drop_past [] (suc n) past = refl
+drop_past (b ∷ bs) zero past = absurd (omega (arith, past))
+drop_past (b ∷ bs) (suc n) past = drop_past bs n (omega (arith, past))
+
+take_whole : (bs : List ℕ) → take (length bs) bs ≡ bs
+take_whole [] = refl
+take_whole (b ∷ bs) = ap (λ (rest : List ℕ). b ∷ rest) (take_whole bs)
 
 sent-append : (gs hs : List Given) → sent_bytes (gs ++ hs) ≡ sent_bytes gs ++ sent_bytes hs
 sent-append [] hs = refl
@@ -96,7 +106,51 @@ filled_all term number mtu all left out_old out size f done =
     } in
     subst (λ (gs : List Given). Fills gs all left out_old out size) run fills
 
+-- what is taken next stands behind the copy so far
+pub copied_more : (term number mtu : ℕ) (all left later : List Given) (g : Given) (copy new : List ℕ) (size : ℕ) → size ≡ length copy
+    → Filled term number mtu all left [] copy size → left ≡ g ∷ later → fits term number (mtu - size) g ≡ true
+    → new ≡ copy ++ g.bytes → Filled term number mtu all later [] new (size + length g.bytes)
+copied_more term number mtu all left later g copy new size counted f is here written =
+    let behind : drop (size + length g.bytes) copy ≡ [] = drop_past copy (size + length g.bytes) (omega (arith, counted)) in
+    let whole : take size copy ≡ copy = ap (λ n. take n copy) counted ∙ take_whole copy in
+    let laid : new ≡ take size copy ++ (g.bytes ++ drop (size + length g.bytes) copy) =
+    written
+    ∙ ap (λ (bs : List ℕ). bs ++ g.bytes) (sym whole)
+    ∙ ap (λ (bs : List ℕ). take size copy ++ bs) (sym (append-nil g.bytes) ∙ ap (λ (bs : List ℕ). g.bytes ++ bs) (sym behind)) in
+    filled_more term number mtu all left later g [] copy new size f is here laid
+
+pub copied_all : (term number mtu : ℕ) (all left : List Given) (copy : List ℕ) (size : ℕ) → Filled term number mtu all left [] copy size
+    → fitting term number (mtu - size) left ≡ [] → Copies (fitting term number mtu all) all left copy
+copied_all term number mtu all left copy size f done =
+    let filled = filled_all term number mtu all left [] copy size f done in
+    let run : List ℕ = sent_bytes (fitting term number mtu all) in
+    record {
+      copy_is = filled.lays.bytes_are ∙ ap (λ (bs : List ℕ). run ++ bs) (drop_past [] (length run) (omega arith)) ∙ append-nil run;
+      left = filled.left;
+    }
+
 -- ---- the first datagram
+
+pub copied_none : (term mtu : ℕ) (all : List Given) → all ≡ [] → CopiesFirst (first_run term mtu all) all all None
+copied_none term mtu all is = rw (is) (record { copy_is = refl; left = refl })
+
+pub copied_long : (term mtu : ℕ) (all later : List Given) (g : Given) → all ≡ g ∷ later → nat_le (length g.bytes) mtu ≡ false
+    → CopiesFirst (first_run term mtu all) all all None
+copied_long term mtu all later g is long =
+    rw (is, eq-eqb (g.position / term) (g.position / term) refl, long) (record { copy_is = refl; left = refl })
+
+pub copied_fits : (term mtu : ℕ) (all later new : List Given) (g : Given) (copy : List ℕ) → all ≡ g ∷ later
+    → nat_le (length g.bytes) mtu ≡ true → Copies (fitting term (g.position / term) mtu all) all new copy
+    → CopiesFirst (first_run term mtu all) all new (Some copy)
+copied_fits term mtu all later new g copy is short copies =
+    let run : first_run term mtu all ≡ g ∷ fitting term (g.position / term) (mtu - length g.bytes) later =
+    rw (is, eq-eqb (g.position / term) (g.position / term) refl, short) refl in
+    let same : fitting term (g.position / term) mtu all ≡ g ∷ fitting term (g.position / term) (mtu - length g.bytes) later =
+    rw (is, eq-eqb (g.position / term) (g.position / term) refl, short) refl in
+    let here : Copies (g ∷ fitting term (g.position / term) (mtu - length g.bytes) later) all new copy =
+    subst (λ (gs : List Given). Copies gs all new copy) same copies in
+    subst (λ (gs : List Given). CopiesFirst gs all new (Some copy)) (sym run)
+    (record { copy_is = ap Some here.copy_is; left = here.left })
 
 pub first_none : (term mtu : ℕ) (all : List Given) (out : List ℕ) → all ≡ [] → FillsFirst (first_run term mtu all) all all out out None
 first_none term mtu all out is = rw (is) (record { lays = (refl, refl); left = refl })
@@ -166,27 +220,19 @@ gives_first term mtu old new out_old out_new size fills =
     (ap (λ (ds : List (List ℕ)). ahead (first_run term mtu old) ds) left ∙ sym step)
     (gives (first_run term mtu old) old new (datagrams_of term mtu new) out_old out_new size fills none)
 
--- no datagram is left where no frame is, or the next one is too long for any
-pub done_none : (term mtu : ℕ) (all : List Given) → all ≡ [] → (length (datagrams_of term mtu all) == 0) ≡ true
-unfolding datagrams_of
-done_none term mtu all is = rw (is) refl
+taken_of : (run old new : List Given) (left : List (List ℕ)) (copy : Option (List ℕ)) → CopiesFirst run old new copy → (run ≡ [] → left ≡ [])
+    → TakesNext (ahead run left) left copy
+taken_of [] old new left copy copies none = rw (copies.copy_is) refl
+taken_of (h ∷ hs) old new left copy copies none = rw (copies.copy_is) refl
 
-nonzero : (n : ℕ) → (suc n == 0) ≡ false
-nonzero n = grind (arith, nat_tests)
-
-pub done_some : (term mtu : ℕ) (all later : List Given) (g : Given) → all ≡ g ∷ later
-    → (length (datagrams_of term mtu all) == 0) ≡ nat_lt mtu (length g.bytes)
-done_some term mtu all later g is =
-    ap (λ (gs : List Given). length (datagrams_of term mtu gs) == 0) is
-    ∙ ap (λ (ds : List (List ℕ)). length ds == 0) (datagrams_step term mtu (g ∷ later))
-    ∙ elim (nat_le (length g.bytes) mtu) as (λ b. nat_le (length g.bytes) mtu ≡ b
-    → (length (ahead (first_run term mtu (g ∷ later)) (datagrams_of term mtu (drop (length (first_run term mtu (g ∷ later))) (g ∷ later)))) == 0) ≡ nat_lt mtu (length g.bytes)) [
-      | true ↦ λ short.
-          let fits : nat_lt mtu (length g.bytes) ≡ false = grind (arith, nat_tests, short) in
-          let others : List Given = fitting term (g.position / term) (mtu - length g.bytes) later in
-          rw (eq-eqb (g.position / term) (g.position / term) refl, short, fits) (nonzero (length (datagrams_of term mtu (drop (length others) later))))
-      | false ↦ λ long.
-          let over : nat_lt mtu (length g.bytes) ≡ true = grind (arith, nat_tests, long) in
-          rw (eq-eqb (g.position / term) (g.position / term) refl, long, over) refl
-    ]
-    refl
+pub takes_first : (term mtu : ℕ) (old new : List Given) (copy : Option (List ℕ)) → CopiesFirst (first_run term mtu old) old new copy
+    → TakesNext (datagrams_of term mtu old) (datagrams_of term mtu new) copy
+takes_first term mtu old new copy copies =
+    let step = datagrams_step term mtu old in
+    let left : datagrams_of term mtu new ≡ datagrams_of term mtu (drop (length (first_run term mtu old)) old) = ap (datagrams_of term mtu) copies.left in
+    let none : first_run term mtu old ≡ [] → datagrams_of term mtu new ≡ [] = λ is.
+    let same : drop (length (first_run term mtu old)) old ≡ old = rw (is) refl in
+    left ∙ ap (datagrams_of term mtu) same ∙ step ∙ rw (is) refl in
+    subst (λ (ds : List (List ℕ)). TakesNext ds (datagrams_of term mtu new) copy)
+    (ap (λ (ds : List (List ℕ)). ahead (first_run term mtu old) ds) left ∙ sym step)
+    (taken_of (first_run term mtu old) old new (datagrams_of term mtu new) copy copies none)

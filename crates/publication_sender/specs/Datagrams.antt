@@ -2,7 +2,9 @@
 -- rules.
 use Rattle.std.specs.Prelude.{◌≡◌, ℕ, suc, zero, ◌-◌, ◌/◌, ◌==◌, ◌&&◌, Bool, true, nat_le, List, [], ◌∷◌, ◌++◌, drop, length, Option, Some, None, if◌then◌else◌}
 use Rattle.publication_sender.specs.Cutting.{Lays, LaysDue}
+use Rattle.publication_sender.specs.declared.datagrams.Ahead.{Ahead}
 use Rattle.term_log.specs.declared.reading.LogFrame.{LogFrame}
+use Rattle.term_log.specs.Ranges.{over_left}
 use Rattle.term_log.specs.Reading.{Given, given_of, sent_bytes}
 
 -- a frame is of the term of that number, and has no more bytes than a budget
@@ -41,6 +43,14 @@ pub record Resending : Type 0 where
 
 -- ---- what is taken
 
+-- the frames that are still to come, where the next one was read
+abbrev pub behind_next : Option LogFrame → List Given → List Given
+behind_next None later = []
+behind_next (Some frame) later = given_of frame ∷ later
+
+abbrev pub frames_in : Ahead → List Given
+frames_in ahead = behind_next ahead.next (over_left ahead.later)
+
 -- a frame is taken where the first one fits
 abbrev pub TakesFitting : ℕ → ℕ → ℕ → List Given → List Given → Option LogFrame → Type 0
 TakesFitting term number budget old new None = (fitting term number budget old ≡ []) × (new ≡ old)
@@ -65,3 +75,17 @@ abbrev pub GivesFirst : List (List ℕ) → List (List ℕ) → List ℕ → Lis
 GivesFirst [] left old new size = (left ≡ []) × (size ≡ None) × (new ≡ old)
 GivesFirst (bytes ∷ others) left old new size =
     (left ≡ others) × (size ≡ Some (length bytes)) × (new ≡ bytes ++ drop (length bytes) old)
+
+-- a run is copied, and what is behind it is left
+pub record Copies (run old new : List Given) (copy : List ℕ) : Type 0 where
+  pub copy_is : copy ≡ sent_bytes run
+  pub left : new ≡ drop (length run) old
+
+pub record CopiesFirst (run old new : List Given) (copy : Option (List ℕ)) : Type 0 where
+  pub copy_is : copy ≡ datagram_with run
+  pub left : new ≡ drop (length run) old
+
+-- the first of the datagrams is taken; none where none is left
+abbrev pub TakesNext : List (List ℕ) → List (List ℕ) → Option (List ℕ) → Type 0
+TakesNext old new None = old ≡ []
+TakesNext old new (Some bytes) = old ≡ bytes ∷ new

@@ -1,11 +1,32 @@
 //! Frames that are sent again, in datagrams.
 
-ghost use Rattle.publication_sender.specs.Datagrams.{Fills, FillsFirst, GivesFirst, TakesFitting, datagrams_of, first_run, fitting};
-ghost use Rattle.std.specs.Prelude.{◌≡◌, ◌+◌, ◌==◌, ◌<◌, ◌≤◌, ◌++◌, drop, length, take};
+ghost use Rattle.publication_sender.specs.Datagrams.{Copies, CopiesFirst, Fills, FillsFirst, GivesFirst, TakesFitting, TakesNext, datagrams_of, first_run, fitting, frames_in};
+ghost use Rattle.std.specs.Prelude.{◌≡◌, ◌+◌, ◌==◌, ◌<◌, ◌≤◌, ◌++◌, drop, length, take, IfOk};
+ghost use Rattle.std.specs.Option.{option_map};
+ghost use Rattle.std.specs.Vec.{vec_items};
 ghost use Rattle.term_log.specs.Ranges.{over_left};
 
+use std::alloc::{AllocError, Global};
 use std::marker::Model;
 use term_log::{FramesOver, LogFrame};
+
+/// Frames, of which the next one was read already: so each is read once.
+#[derive(Clone, Copy, Debug)]
+struct Ahead<'a> {
+    next: Option<LogFrame<'a>>,
+    /// Those behind it.
+    later: FramesOver<'a>,
+}
+
+impl<'a> Ahead<'a> {
+    fn new(frames: FramesOver<'a>) -> Ahead<'a>
+        ensures { frames_in result ≡ over_left frames.entry }
+    {
+        let mut later = frames;
+        let next = later.next();
+        Ahead { next, later }
+    }
+}
 
 /// The datagrams of frames that are sent again: each has as many frames as fit into the MTU, all of one term. The log lends
 /// the frames, and nothing is copied but into the datagram.
@@ -14,7 +35,7 @@ use term_log::{FramesOver, LogFrame};
 #[derive(Debug, Drop)]
 pub struct Datagrams<'a> {
     /// The frames that are still to be sent.
-    frames: FramesOver<'a>,
+    frames: Ahead<'a>,
     /// How many positions a term has.
     term_length: u64,
     /// How many bytes a datagram has at most.
@@ -22,33 +43,31 @@ pub struct Datagrams<'a> {
 }
 
 impl<'a> Model for Datagrams<'a> {
-    ghost use Rattle.publication_sender.specs.Datagrams.{Resending, datagrams_of};
+    ghost use Rattle.publication_sender.specs.Datagrams.{Resending, datagrams_of, frames_in};
     ghost use Rattle.std.specs.Prelude.{◌<◌};
-    ghost use Rattle.term_log.specs.Ranges.{over_left};
 
     ghost Value = { Resending };
 
-    ghost view = { λ d. record { mtu = d.mtu; datagrams = datagrams_of d.term_length d.mtu (over_left d.frames) } };
+    ghost view = { λ d. record { mtu = d.mtu; datagrams = datagrams_of d.term_length d.mtu (frames_in d.frames) } };
 
     ghost invariant = { λ d. 0 < d.term_length };
 }
 
 /// The next frame, if it is of that term and has at most so many bytes. Else it is left.
 fn next_fitting<'a>(
-    frames: &mut FramesOver<'a>,
+    frames: &mut Ahead<'a>,
     term_length: u64,
     number: u64,
     budget: usize,
 ) -> Option<LogFrame<'a>>
     requires { 0 < term_length }
-    ensures { TakesFitting term_length number budget (over_left frames.old) (over_left frames.new) result }
+    ensures { TakesFitting term_length number budget (frames_in frames.old) (frames_in frames.new) result }
 {
-    let mut later = *frames;
-    let frame = later.next()?;
+    let frame = frames.next?;
     if frame.position / term_length != number || frame.bytes.len() > budget {
         return None;
     }
-    *frames = later;
+    frames.next = frames.later.next();
     Some(frame)
 }
 
@@ -62,16 +81,10 @@ fn put(out: &mut [u8], at: usize, bytes: &[u8])
 
 /// Writes the frames of that term that fit at the front, and takes them. The answer is how many bytes they have.
 #[tactic(auto, using(crate::proofs::DatagramLemmas::filled_none, crate::proofs::DatagramLemmas::filled_all, crate::proofs::DatagramLemmas::filled_length, crate::proofs::DatagramLemmas::fits_within))]
-fn fill(
-    frames: &mut FramesOver<'_>,
-    term_length: u64,
-    number: u64,
-    mtu: usize,
-    out: &mut [u8],
-) -> usize
+fn fill(frames: &mut Ahead<'_>, term_length: u64, number: u64, mtu: usize, out: &mut [u8]) -> usize
     requires term { 0 < term_length }
     requires room { mtu ≤ length out.old }
-    ensures { Fills (fitting term_length number mtu (over_left frames.old)) (over_left frames.old) (over_left frames.new) out.old out.new result }
+    ensures { Fills (fitting term_length number mtu (frames_in frames.old)) (frames_in frames.old) (frames_in frames.new) out.old out.new result }
 {
     let mut size = 0;
     while let Some(frame) = next_fitting(frames, term_length, number, mtu - size) {
@@ -81,21 +94,62 @@ fn fill(
     size
 }
 
+/// A copy of the frames of that term that fit, which are taken.
+#[tactic(auto, using(crate::proofs::DatagramLemmas::filled_none, crate::proofs::DatagramLemmas::copied_all, crate::proofs::DatagramLemmas::fits_within))]
+fn copy_run(
+    frames: &mut Ahead<'_>,
+    alloc: Global,
+    term_length: u64,
+    number: u64,
+    mtu: usize,
+) -> Result<Vec<u8>, AllocError>
+    requires { 0 < term_length }
+    ensures { IfOk result (λ copy. Copies (fitting term_length number mtu (frames_in frames.old)) (frames_in frames.old) (frames_in frames.new) copy.items) }
+{
+    let mut copy = Vec::with_capacity(alloc, mtu)?;
+    while let Some(frame) = next_fitting(frames, term_length, number, mtu - copy.len()) {
+        copy.extend_from_slice(frame.bytes)?;
+    }
+    Ok(copy)
+}
+
+/// A copy of the frames of the first datagram, which are taken; none where no frame is left.
+#[tactic(auto, using(crate::proofs::DatagramLemmas::copied_none, crate::proofs::DatagramLemmas::copied_long, crate::proofs::DatagramLemmas::copied_fits))]
+fn copy_first(
+    frames: &mut Ahead<'_>,
+    alloc: Global,
+    term_length: u64,
+    mtu: usize,
+) -> Result<Option<Vec<u8>>, AllocError>
+    requires { 0 < term_length }
+    ensures { IfOk result (λ copy. CopiesFirst (first_run term_length mtu (frames_in frames.old)) (frames_in frames.old) (frames_in frames.new) (option_map vec_items copy)) }
+{
+    let first = match frames.next {
+        Some(first) => first,
+        None => return Ok(None),
+    };
+    if first.bytes.len() > mtu {
+        return Ok(None);
+    }
+    let copy = copy_run(
+        frames,
+        alloc,
+        term_length,
+        first.position / term_length,
+        mtu,
+    )?;
+    Ok(Some(copy))
+}
+
 /// Writes the frames of the first datagram at the front, and takes them. The answer is how many bytes they have; none where
 /// no frame is left.
 #[tactic(auto, using(crate::proofs::DatagramLemmas::first_none, crate::proofs::DatagramLemmas::first_long, crate::proofs::DatagramLemmas::first_fits))]
-fn fill_first(
-    frames: &mut FramesOver<'_>,
-    term_length: u64,
-    mtu: usize,
-    out: &mut [u8],
-) -> Option<usize>
+fn fill_first(frames: &mut Ahead<'_>, term_length: u64, mtu: usize, out: &mut [u8]) -> Option<usize>
     requires term { 0 < term_length }
     requires room { mtu ≤ length out.old }
-    ensures { FillsFirst (first_run term_length mtu (over_left frames.old)) (over_left frames.old) (over_left frames.new) out.old out.new result }
+    ensures { FillsFirst (first_run term_length mtu (frames_in frames.old)) (frames_in frames.old) (frames_in frames.new) out.old out.new result }
 {
-    let mut later = *frames;
-    let first = later.next()?;
+    let first = frames.next?;
     if first.bytes.len() > mtu {
         return None;
     }
@@ -109,7 +163,7 @@ impl<'a> Datagrams<'a> {
         ensures { result ≡ record { mtu = mtu; datagrams = datagrams_of term_length mtu (over_left frames.entry) } }
     {
         Datagrams {
-            frames,
+            frames: Ahead::new(frames),
             term_length: u64::from(term_length),
             mtu: mtu as usize,
         }
@@ -122,15 +176,16 @@ impl<'a> Datagrams<'a> {
         self.mtu
     }
 
-    /// Whether no datagram is left.
-    pub fn is_done(&self) -> bool
-        ensures { result ≡ (length self.now.datagrams == 0) }
+    /// A copy of the next datagram; none where all were given.
+    ///
+    /// # Errors
+    /// Where there is no memory for it.
+    #[tactic(auto, using(crate::proofs::DatagramLemmas::takes_first))]
+    pub fn next_copy(&mut self, alloc: Global) -> Result<Option<Vec<u8>>, AllocError>
+        ensures { IfOk result (λ copy. TakesNext self.old.datagrams self.new.datagrams (option_map vec_items copy)) }
     {
-        let mut later = self.frames;
-        match later.next() {
-            Some(frame) => self.mtu < frame.bytes.len(),
-            None => true,
-        }
+        let copy = copy_first(&mut self.frames, alloc, self.term_length, self.mtu)?;
+        Ok(copy)
     }
 
     /// Writes the next datagram at the front of `out`. The answer is how many bytes it has; none where all were given.

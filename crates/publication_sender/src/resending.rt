@@ -1,15 +1,16 @@
 //! What receivers ask of a publication's log by NAKs.
 
-ghost use Rattle.publication_sender.specs.Resending.{IsNakAnswer, asking_of, gate_after, window_at};
+ghost use Rattle.publication_sender.specs.Resending.{IsNakAnswer, asked_at, asking_of, gate_after, window_at};
 ghost use Rattle.retransmit_gate.specs.ResendLaws.{answer_to};
 ghost use Rattle.std.specs.Prelude.{◌≡◌};
+ghost use Rattle.term_log.specs.Ident.{IsIdent};
 
 use crate::datagrams::Datagrams;
 use frame_codec::{Nak, position};
 use policy_core::Decision;
 use retransmit_gate::{Answer, Gate};
 use std::ops::Range;
-use term_log::TermLog;
+use term_log::{Ident, TermLog};
 
 /// What becomes of a NAK.
 #[derive(Debug, Drop)]
@@ -38,30 +39,38 @@ fn window_of(log: &TermLog) -> Range<u64>
     log.low().max(sent.saturating_sub(term_length))..sent
 }
 
-/// A NAK of the log's session and stream came at the moment `now`, in nanoseconds; `decision` is what the policy says of
-/// sending again to who asks. A NAK that is denied is not seen by the log's gate. Else the gate decides, of what is held
-/// within one term below the sender's position; where it grants, each frame that the NAK's range meets is sent again, whole.
-pub fn receive_nak<'a>(
+/// The position that a NAK asks for.
+fn asked_at(ident: &Ident, nak: &Nak) -> u64
+    requires { IsIdent ident.now }
+    ensures { result ≡ asked_at ident.now nak.now }
+{
+    position(
+        ident.initial_term,
+        nak.term_id,
+        nak.term_offset,
+        ident.term_length,
+    )
+}
+
+/// What a NAK of the log's session and stream is answered that came at the moment `now`, in nanoseconds; `decision` is what
+/// the policy says of sending again to who asks. A NAK that is denied is not seen by the log's gate. Else the gate decides,
+/// of what is held within one term below the sender's position; where it grants, each frame that the NAK's range meets is
+/// sent again, whole. Nothing is changed: [`note_nak`] tells the gate of it.
+pub fn answer_nak<'a>(
     log: &'a TermLog,
-    gate: &mut Gate,
+    gate: &Gate,
     now: u64,
     nak: &Nak,
     decision: &Decision,
 ) -> NakAnswer<'a>
-    ensures answer { IsNakAnswer decision.now (answer_to gate.old (asking_of now log.now nak.now)) log.now nak.now result }
-    ensures gate { gate.new ≡ gate_after decision.now.verdict.allow gate.old (asking_of now log.now nak.now) }
+    ensures { IsNakAnswer decision.now (answer_to gate.now (asking_of now log.now nak.now)) log.now nak.now result }
 {
     if !decision.verdict.allow {
         return NakAnswer::Denied(*decision);
     }
     let ident = log.ident();
-    let position = position(
-        ident.initial_term,
-        nak.term_id,
-        nak.term_offset,
-        ident.term_length,
-    );
-    match gate.on_nak(now, position, nak.length, window_of(log)) {
+    let position = asked_at(&ident, nak);
+    match gate.answer_to(now, position, nak.length, &window_of(log)) {
         Answer::Empty => NakAnswer::Empty,
         Answer::OutOfWindow => NakAnswer::OutOfWindow,
         Answer::Lingering => NakAnswer::Lingering,
@@ -70,5 +79,15 @@ pub fn receive_nak<'a>(
             let frames = log.frames_over(position, u64::from(nak.length.unsigned_abs()));
             NakAnswer::Resent(Datagrams::new(frames, ident.term_length, ident.mtu))
         }
+    }
+}
+
+/// The gate of a log sees a NAK that was answered: what is sent again lingers. It does not see one that was denied.
+pub fn note_nak(log: &TermLog, gate: &mut Gate, now: u64, nak: &Nak, decision: &Decision)
+    ensures { gate.new ≡ gate_after decision.now.verdict.allow gate.old (asking_of now log.now nak.now) }
+{
+    if decision.verdict.allow {
+        let position = asked_at(&log.ident(), nak);
+        let _answer = gate.on_nak(now, position, nak.length, window_of(log));
     }
 }

@@ -3,7 +3,7 @@
 use crate::tests::{FRAME, PACE, STREAM, status};
 use frame_codec::{Flags, Nak};
 use policy_core::{Act, Decision, Verdict};
-use publication_sender::{Datagrams, NakAnswer, StatusAnswer, cut, receive_nak};
+use publication_sender::{Datagrams, NakAnswer, StatusAnswer, answer_nak, cut, note_nak};
 use retransmit_gate::Gate;
 use std::test::Fail;
 use term_log::{Ident, LogKind, Offer, TermLog};
@@ -89,7 +89,9 @@ fn ask<'a>(
             epoch: 1,
         },
     };
-    receive_nak(log, gate, now, &nak, &decision)
+    let answer = answer_nak(log, gate, now, &nak, &decision);
+    note_nak(log, gate, now, &nak, &decision);
+    answer
 }
 
 // Whether the next datagram is this one; of no bytes where all were given.

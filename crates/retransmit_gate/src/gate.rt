@@ -114,6 +114,17 @@ impl Gate {
         }
     }
 
+    /// What a NAK is answered by [`Gate::on_nak`], which it does not see yet: nothing is changed.
+    #[tactic(auto, unfolding(crate::specs::Gate::answer_of))]
+    pub fn answer_to(&self, now: u64, position: u64, length: i32, window: &Range<u64>) -> Answer
+        ensures answer { result ≡ answer_of self.now now position length window.now }
+        ensures answer_of_all { (resends : Resends) → self.now ≡ kept_of resends → result ≡ answer_of resends now position length window.now }
+    {
+        let moment = later_of(self.latest, now);
+        let list = lingering(self.linger, moment, self.resent.as_slice());
+        answer_among(&list, position, length, window)
+    }
+
     /// Decides a NAK that came at the moment `now`, in nanoseconds, of `length` bytes from `position` on. `window` is
     /// the range of positions that may be sent again. A range that is sent again lingers from then on.
     ///

@@ -7,7 +7,7 @@ use Rattle.std.proofs.lemmas.Bool.{and_parts}
 use Rattle.std.proofs.lemmas.Bool.Decides.{nat_tests}
 use Rattle.std.proofs.lemmas.Str.{IsUtf8-from_ascii}
 use Rattle.std.proofs.lemmas.Str.Ascii.{IsAscii-nil, IsAscii-cons}
-use Rattle.script_lines.specs.Line.{is_plain, one, two, three, four, five, policy_of}
+use Rattle.script_lines.specs.Line.{is_plain, one, two, three, view_in, policy_of}
 use Rattle.script_lines.specs.Pieces.{pieces}
 use Rattle.script_lines.proofs.PiecesLemmas.{HasFirst, HasFirst-pieces}
 
@@ -32,13 +32,8 @@ three-from_first : (first second third : List ℕ) (rest : List (List ℕ)) → 
     three (first ∷ second ∷ third ∷ rest) ≡ None
 three-from_first first second third rest h = rw h.is refl
 
-four-from_first : (first second third fourth : List ℕ) (rest : List (List ℕ)) → HasFirst rest →
-    four (first ∷ second ∷ third ∷ fourth ∷ rest) ≡ None
-four-from_first first second third fourth rest h = rw h.is refl
-
-five-from_first : (first second third fourth fifth : List ℕ) (rest : List (List ℕ)) → HasFirst rest →
-    five (first ∷ second ∷ third ∷ fourth ∷ fifth ∷ rest) ≡ None
-five-from_first first second third fourth fifth rest h = rw h.is refl
+view_in-from_first : (word : List ℕ) (rest : List (List ℕ)) → HasFirst rest → view_in (word ∷ rest) ≡ None
+view_in-from_first word rest h = rw h.is refl
 
 policy_of-from_first : (rest : List (List ℕ)) → HasFirst rest → policy_of rest ≡ None
 policy_of-from_first rest h = rw h.is refl
@@ -52,13 +47,8 @@ two-more first second text = two-from_first first second _ (HasFirst-pieces 32 t
 pub three-more : (first second third text : List ℕ) → three (first ∷ second ∷ third ∷ pieces 32 text) ≡ None
 three-more first second third text = three-from_first first second third _ (HasFirst-pieces 32 text)
 
-pub four-more : (first second third fourth text : List ℕ) →
-    four (first ∷ second ∷ third ∷ fourth ∷ pieces 32 text) ≡ None
-four-more first second third fourth text = four-from_first first second third fourth _ (HasFirst-pieces 32 text)
-
-pub five-more : (first second third fourth fifth text : List ℕ) →
-    five (first ∷ second ∷ third ∷ fourth ∷ fifth ∷ pieces 32 text) ≡ None
-five-more first second third fourth fifth text = five-from_first first second third fourth fifth _ (HasFirst-pieces 32 text)
+pub view_in-more : (word text : List ℕ) → view_in (word ∷ pieces 32 text) ≡ None
+view_in-more word text = view_in-from_first word _ (HasFirst-pieces 32 text)
 
 pub policy_of-more : (text : List ℕ) → policy_of (pieces 32 text) ≡ None
 policy_of-more text = policy_of-from_first _ (HasFirst-pieces 32 text)

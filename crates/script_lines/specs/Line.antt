@@ -1,7 +1,7 @@
 -- What a line of a script says.
-use Rattle.std.specs.Prelude.{ℕ, ◌==◌, Bool, false, ◌||◌, List, [], ◌∷◌, Option, Some, None, length, slice_index, codes, if◌then◌else◌}
+use Rattle.std.specs.Prelude.{ℕ, ◌==◌, nat_eq, Bool, false, ◌||◌, List, [], ◌∷◌, Option, Some, None, drop, length, slice_index, codes, if◌then◌else◌}
 use Rattle.std.specs.Char.{is_ascii}
-use Rattle.std.specs.List.{list_all}
+use Rattle.std.specs.List.{list_all, starts_with}
 use Rattle.std.specs.Option.{option_map}
 use Rattle.std.specs.Str.{bytes_eq}
 use Rattle.driver_core.specs.declared.event.Event.TheVariants.{Attach, Command, Tick}
@@ -9,6 +9,7 @@ use Rattle.driver_steps.specs.declared.step.Step.{Step}
 use Rattle.driver_steps.specs.declared.step.Step.TheVariants.{Conductor, Packet, Offer, Poll, Send, Image, List as Lists, Value}
 use Rattle.driver_world.specs.declared.actor.Actor.{Actor}
 use Rattle.driver_world.specs.declared.actor.Actor.TheVariants as actors
+use Rattle.driver_world.specs.declared.reading.Reading.{Reading}
 use Rattle.channel_uri.specs.Address.{address_of}
 use Rattle.script_lines.specs.declared.line.Line.{Line}
 use Rattle.script_lines.specs.declared.line.Line.TheVariants.{Skipped, Principal, Peer, Set, Policy, Does, Audit, Bad}
@@ -29,13 +30,40 @@ abbrev pub three : List (List ℕ) → Option (List ℕ × List ℕ × List ℕ)
 three (first ∷ second ∷ third ∷ []) = Some (first, second, third)
 three _ = None
 
-abbrev pub four : List (List ℕ) → Option (List ℕ × List ℕ × List ℕ × List ℕ)
-four (first ∷ second ∷ third ∷ fourth ∷ []) = Some (first, second, third, fourth)
-four _ = None
+-- `@K`: the number of a registry
+unfoldable pub view_of : List ℕ → Option ℕ
+view_of word = if starts_with nat_eq word (codes "@") then number_of (drop 1 word) else None
 
-abbrev pub five : List (List ℕ) → Option (List ℕ × List ℕ × List ℕ × List ℕ × List ℕ)
-five (first ∷ second ∷ third ∷ fourth ∷ fifth ∷ []) = Some (first, second, third, fourth, fifth)
-five _ = None
+-- that word alone, or none
+abbrev pub view_in : List (List ℕ) → Option (Option ℕ)
+view_in [] = Some None
+view_in (word ∷ []) = option_map Some (view_of word)
+view_in _ = None
+
+-- two words, and so on, with the registry that is named behind them
+abbrev pub two_at : List (List ℕ) → Option (List ℕ × List ℕ × Option ℕ)
+two_at (first ∷ second ∷ rest) = option_map (λ view. (first, second, view)) (view_in rest)
+two_at _ = None
+
+abbrev pub three_at : List (List ℕ) → Option (List ℕ × List ℕ × List ℕ × Option ℕ)
+three_at (first ∷ second ∷ third ∷ rest) = option_map (λ view. (first, second, third, view)) (view_in rest)
+three_at _ = None
+
+abbrev pub four_at : List (List ℕ) → Option (List ℕ × List ℕ × List ℕ × List ℕ × Option ℕ)
+four_at (first ∷ second ∷ third ∷ fourth ∷ rest) = option_map (λ view. (first, second, third, fourth, view)) (view_in rest)
+four_at _ = None
+
+abbrev pub five_at : List (List ℕ) → Option (List ℕ × List ℕ × List ℕ × List ℕ × List ℕ × Option ℕ)
+five_at (first ∷ second ∷ third ∷ fourth ∷ fifth ∷ rest) =
+    option_map (λ view. (first, second, third, fourth, fifth, view)) (view_in rest)
+five_at _ = None
+
+-- a step by the newest registry, and one by that which it names
+abbrev pub newest : Step → Reading
+newest step = record { view = None; step = step }
+
+abbrev pub by_view : Option ℕ → Step → Reading
+by_view view step = record { view = view; step = step }
 
 -- a name is a word
 abbrev pub name_of : List ℕ → Option (List ℕ)
@@ -67,89 +95,89 @@ policy_of [] = Some Policy
 policy_of (field ∷ fields) = None
 
 -- `attach NOW P`
-unfoldable pub attach_of : List (List ℕ) → Option Step
+unfoldable pub attach_of : List (List ℕ) → Option Reading
 attach_of fields =
     two fields >>= λ words.
     number_of words.0 >>= λ now.
     small_number_of words.1 >>= λ principal.
-    Some (Conductor (Attach now principal))
+    Some (newest (Conductor (Attach now principal)))
 
 -- `cmd NOW C HEX`
-unfoldable pub command_of : List (List ℕ) → Option Step
+unfoldable pub command_of : List (List ℕ) → Option Reading
 command_of fields =
     three fields >>= λ words.
     number_of words.0 >>= λ now.
     number_of words.1 >>= λ client.
     hex_of words.2 >>= λ bytes.
-    Some (Conductor (Command now client bytes))
+    Some (newest (Conductor (Command now client bytes)))
 
--- `offer NOW C REG HEX`
-unfoldable pub offer_of : List (List ℕ) → Option Step
+-- `offer NOW C REG HEX [@K]`
+unfoldable pub offer_of : List (List ℕ) → Option Reading
 offer_of fields =
-    four fields >>= λ words.
+    four_at fields >>= λ words.
     number_of words.0 >>= λ now.
     number_of words.1 >>= λ client.
     number_of words.2 >>= λ registration.
     hex_of words.3 >>= λ message.
-    Some (Offer now client registration message)
+    Some (by_view words.4 (Offer now client registration message))
 
--- `packet NOW LOCAL FROM HEX`
-unfoldable pub packet_of : List (List ℕ) → Option Step
+-- `packet NOW LOCAL FROM HEX [@K]`
+unfoldable pub packet_of : List (List ℕ) → Option Reading
 packet_of fields =
-    four fields >>= λ words.
+    four_at fields >>= λ words.
     number_of words.0 >>= λ now.
     address_of words.1 >>= λ local.
     address_of words.2 >>= λ from.
     hex_of words.3 >>= λ bytes.
-    Some (Packet now local from bytes)
+    Some (by_view words.4 (Packet now local from bytes))
 
--- `poll NOW C SUB SOURCE LIMIT`
-unfoldable pub poll_of : List (List ℕ) → Option Step
+-- `poll NOW C SUB SOURCE LIMIT [@K]`
+unfoldable pub poll_of : List (List ℕ) → Option Reading
 poll_of fields =
-    five fields >>= λ words.
+    five_at fields >>= λ words.
     number_of words.0 >>= λ now.
     number_of words.1 >>= λ client.
     number_of words.2 >>= λ subscription.
     number_of words.3 >>= λ source.
     small_number_of words.4 >>= λ limit.
-    Some (Poll now client subscription source limit)
+    Some (by_view words.5 (Poll now client subscription source limit))
 
--- `send NOW SOURCE`
-unfoldable pub send_of : List (List ℕ) → Option Step
+-- `send NOW SOURCE [@K]`
+unfoldable pub send_of : List (List ℕ) → Option Reading
 send_of fields =
-    two fields >>= λ words.
+    two_at fields >>= λ words.
     number_of words.0 >>= λ now.
     number_of words.1 >>= λ source.
-    Some (Send now source)
+    Some (by_view words.2 (Send now source))
 
--- `image NOW SOURCE`
-unfoldable pub image_of : List (List ℕ) → Option Step
+-- `image NOW SOURCE [@K]`
+unfoldable pub image_of : List (List ℕ) → Option Reading
 image_of fields =
-    two fields >>= λ words.
+    two_at fields >>= λ words.
     number_of words.0 >>= λ now.
     number_of words.1 >>= λ source.
-    Some (Image now source)
+    Some (by_view words.2 (Image now source))
 
 -- `tick NOW`
-unfoldable pub tick_of : List (List ℕ) → Option Step
-tick_of fields = one fields >>= λ word. number_of word >>= λ now. Some (Conductor (Tick now))
+unfoldable pub tick_of : List (List ℕ) → Option Reading
+tick_of fields = one fields >>= λ word. number_of word >>= λ now. Some (newest (Conductor (Tick now)))
 
--- `list NOW C`
-unfoldable pub list_of : List (List ℕ) → Option Step
+-- `list NOW C [@K]`
+unfoldable pub list_of : List (List ℕ) → Option Reading
 list_of fields =
-    two fields >>= λ words.
+    two_at fields >>= λ words.
     number_of words.0 >>= λ now.
     number_of words.1 >>= λ client.
-    Some (Lists now client)
+    Some (by_view words.2 (Lists now client))
 
--- `value NOW C REG`
-unfoldable pub value_of : List (List ℕ) → Option Step
+-- `value NOW C REG [@K]`
+unfoldable pub value_of : List (List ℕ) → Option Reading
 value_of fields =
-    three fields >>= λ words.
+    three_at fields >>= λ words.
     number_of words.0 >>= λ now.
     number_of words.1 >>= λ client.
     number_of words.2 >>= λ number.
-    Some (Value now client number)
+    Some (by_view words.3 (Value now client number))
 
 -- a client by its id, and any other actor by its word
 unfoldable pub actor_of : List ℕ → Option Actor
@@ -164,7 +192,7 @@ abbrev pub audit_of : List (List ℕ) → Option Line
 audit_of fields = one fields >>= λ word. option_map Audit (actor_of word)
 
 -- the first word says how the others are read: those of a step that keeps no bytes
-unfoldable pub plain_step_by : List ℕ → List (List ℕ) → Option Step
+unfoldable pub plain_step_by : List ℕ → List (List ℕ) → Option Reading
 plain_step_by word fields =
     if bytes_eq word (codes "attach") then attach_of fields
     else if bytes_eq word (codes "tick") then tick_of fields
@@ -176,7 +204,7 @@ plain_step_by word fields =
     else None
 
 -- those of any step
-unfoldable pub step_by : List ℕ → List (List ℕ) → Option Step
+unfoldable pub step_by : List ℕ → List (List ℕ) → Option Reading
 step_by word fields =
     if bytes_eq word (codes "cmd") then command_of fields
     else if bytes_eq word (codes "offer") then offer_of fields

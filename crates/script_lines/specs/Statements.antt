@@ -29,7 +29,7 @@ before number (line.Peer peer) later = record { line = number; said = said.Peer 
 before number (line.Set key value) later =
     record { line = number; said = said.Set key value } ∷ later Before
 before number line.Policy later = later (Within number [])
-before number (line.Does step) later = bad number
+before number (line.Does reading) later = bad number
 before number (line.Audit actor) later = bad number
 before number line.Bad later = bad number
 
@@ -48,7 +48,7 @@ behind number (line.Principal name principal) later = bad number
 behind number (line.Peer peer) later = bad number
 behind number (line.Set key value) later = bad number
 behind number line.Policy later = later (Within number [])
-behind number (line.Does step) later = record { line = number; said = said.Does step } ∷ later Behind
+behind number (line.Does reading) later = record { line = number; said = said.Does reading } ∷ later Behind
 behind number (line.Audit actor) later = record { line = number; said = said.Audit actor } ∷ later Behind
 behind number line.Bad later = bad number
 

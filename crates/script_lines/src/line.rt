@@ -1,4 +1,4 @@
-ghost use Rattle.script_lines.specs.Line.{is_plain, line_of, or_bad, said_by, step_by, plain_step_by, one, two, three, four, five, name_of, principal_of, peer_of, set_of, policy_of, attach_of, command_of, offer_of, packet_of, tick_of, poll_of, send_of, image_of, list_of, value_of, actor_of, audit_of, keeps_fields};
+ghost use Rattle.script_lines.specs.Line.{is_plain, line_of, or_bad, said_by, step_by, plain_step_by, one, two, three, two_at, three_at, four_at, five_at, view_of, view_in, name_of, principal_of, peer_of, set_of, policy_of, attach_of, command_of, offer_of, packet_of, tick_of, poll_of, send_of, image_of, list_of, value_of, actor_of, audit_of, keeps_fields};
 ghost use Rattle.script_lines.specs.LineFault.{Gives, HasMemory};
 ghost use Rattle.script_lines.specs.Pieces.{pieces, pieces_behind};
 ghost use Rattle.script_lines.specs.declared.line.LineFault.TheVariants.{NoMemory};
@@ -11,7 +11,7 @@ use crate::pieces::first_piece;
 use byte_strings::Text;
 use channel_uri::address_of;
 use driver_core::{Event, Peer, Received};
-use driver_world::{Actor, Step};
+use driver_world::{Actor, Reading, Step};
 use std::alloc::{AllocError, AllocFailed, Global};
 
 /// What a line of a script says.
@@ -27,8 +27,8 @@ pub enum Line {
     Set { key: Text, value: Text },
     /// `policy`: the lines up to one that is `.` are the text of a policy.
     Policy,
-    /// A step of the run.
-    Does(Step),
+    /// A step of the run, by the newest registry or by the one that the line names.
+    Does(Reading),
     /// `audit A`: the last decisions of this actor are shown.
     Audit(Actor),
     /// It is no line of a script.
@@ -114,33 +114,80 @@ fn three_words(fields: Option<&str>) -> Option<(&str, &str, &str)>
     }
 }
 
-/// The four words behind the first one.
-fn four_words(fields: Option<&str>) -> Option<(&str, &str, &str, &str)>
-    ensures { option_map (λ words. (words.0.now, words.1.now, words.2.now, words.3.now)) result ≡ four (pieces_behind 32 (option_copied fields.entry)) }
+/// The number of a registry, as `@K` names it.
+#[tactic(auto, unfolding(crate::specs::Line::view_of))]
+fn view_of(word: &str) -> Option<u64>
+    ensures { result ≡ view_of word.now }
+{
+    match word.strip_prefix("@") {
+        Some(digits) => number(digits),
+        None => None,
+    }
+}
+
+/// The registry that the last word names, where there is one.
+fn view_in(fields: Option<&str>) -> Option<Option<u64>>
+    ensures { result ≡ view_in (pieces_behind 32 (option_copied fields.entry)) }
+{
+    match fields {
+        None => Some(None),
+        Some(text) => {
+            let (word, fields) = first_piece(text, ' ');
+            match fields {
+                None => match view_of(word) {
+                    Some(view) => Some(Some(view)),
+                    None => None,
+                },
+                Some(_) => None,
+            }
+        }
+    }
+}
+
+/// The two words behind the first one, and the registry that is named behind these.
+fn two_words_at(fields: Option<&str>) -> Option<(&str, &str, Option<u64>)>
+    ensures { option_map (λ words. (words.0.now, words.1.now, words.2)) result ≡ two_at (pieces_behind 32 (option_copied fields.entry)) }
+{
+    let (first, fields) = first_piece(fields?, ' ');
+    let (second, fields) = first_piece(fields?, ' ');
+    let view = view_in(fields)?;
+    Some((first, second, view))
+}
+
+/// The three words behind the first one, and the registry that is named behind these.
+fn three_words_at(fields: Option<&str>) -> Option<(&str, &str, &str, Option<u64>)>
+    ensures { option_map (λ words. (words.0.now, words.1.now, words.2.now, words.3)) result ≡ three_at (pieces_behind 32 (option_copied fields.entry)) }
+{
+    let (first, fields) = first_piece(fields?, ' ');
+    let (second, fields) = first_piece(fields?, ' ');
+    let (third, fields) = first_piece(fields?, ' ');
+    let view = view_in(fields)?;
+    Some((first, second, third, view))
+}
+
+/// The four words behind the first one, and the registry that is named behind these.
+fn four_words_at(fields: Option<&str>) -> Option<(&str, &str, &str, &str, Option<u64>)>
+    ensures { option_map (λ words. (words.0.now, words.1.now, words.2.now, words.3.now, words.4)) result ≡ four_at (pieces_behind 32 (option_copied fields.entry)) }
 {
     let (first, fields) = first_piece(fields?, ' ');
     let (second, fields) = first_piece(fields?, ' ');
     let (third, fields) = first_piece(fields?, ' ');
     let (fourth, fields) = first_piece(fields?, ' ');
-    match fields {
-        None => Some((first, second, third, fourth)),
-        Some(_) => None,
-    }
+    let view = view_in(fields)?;
+    Some((first, second, third, fourth, view))
 }
 
-/// The five words behind the first one.
-fn five_words(fields: Option<&str>) -> Option<(&str, &str, &str, &str, &str)>
-    ensures { option_map (λ words. (words.0.now, words.1.now, words.2.now, words.3.now, words.4.now)) result ≡ five (pieces_behind 32 (option_copied fields.entry)) }
+/// The five words behind the first one, and the registry that is named behind these.
+fn five_words_at(fields: Option<&str>) -> Option<(&str, &str, &str, &str, &str, Option<u64>)>
+    ensures { option_map (λ words. (words.0.now, words.1.now, words.2.now, words.3.now, words.4.now, words.5)) result ≡ five_at (pieces_behind 32 (option_copied fields.entry)) }
 {
     let (first, fields) = first_piece(fields?, ' ');
     let (second, fields) = first_piece(fields?, ' ');
     let (third, fields) = first_piece(fields?, ' ');
     let (fourth, fields) = first_piece(fields?, ' ');
     let (fifth, fields) = first_piece(fields?, ' ');
-    match fields {
-        None => Some((first, second, third, fourth, fifth)),
-        Some(_) => None,
-    }
+    let view = view_in(fields)?;
+    Some((first, second, third, fourth, fifth, view))
 }
 
 /// A word as a name.
@@ -192,17 +239,18 @@ fn policy_of(fields: Option<&str>) -> Option<Line>
 }
 
 #[tactic(auto, unfolding(crate::specs::Line::attach_of))]
-fn attach_of(fields: Option<&str>) -> Option<Step>
+fn attach_of(fields: Option<&str>) -> Option<Reading>
     ensures { result ≡ attach_of (pieces_behind 32 (option_copied fields.entry)) }
 {
     let (now, principal) = two_words(fields)?;
     let now = number(now)?;
     let principal = small_number(principal)?;
-    Some(Step::Conductor(Event::Attach { now, principal }))
+    let step = Step::Conductor(Event::Attach { now, principal });
+    Some(Reading::newest(step))
 }
 
 #[tactic(auto, unfolding(crate::specs::Line::command_of))]
-fn command_of(alloc: Global, fields: Option<&str>) -> Result<Step, LineFault>
+fn command_of(alloc: Global, fields: Option<&str>) -> Result<Reading, LineFault>
     ensures { Gives result (command_of (pieces_behind 32 (option_copied fields.entry))) }
 {
     let (now, client, bytes) = three_words(fields).ok_or(LineFault::Bad)?;
@@ -210,113 +258,121 @@ fn command_of(alloc: Global, fields: Option<&str>) -> Result<Step, LineFault>
     let client = number(client).ok_or(LineFault::Bad)?;
     let bytes = hex::read_hex(alloc, bytes)?;
     let bytes = Received::new(alloc, bytes.as_slice())?;
-    Ok(Step::Conductor(Event::Command { now, client, bytes }))
+    let step = Step::Conductor(Event::Command { now, client, bytes });
+    Ok(Reading::newest(step))
 }
 
 #[tactic(auto, unfolding(crate::specs::Line::offer_of))]
-fn offer_of(alloc: Global, fields: Option<&str>) -> Result<Step, LineFault>
+fn offer_of(alloc: Global, fields: Option<&str>) -> Result<Reading, LineFault>
     ensures { Gives result (offer_of (pieces_behind 32 (option_copied fields.entry))) }
 {
-    let (now, client, registration, message) = four_words(fields).ok_or(LineFault::Bad)?;
+    let (now, client, registration, message, view) = four_words_at(fields).ok_or(LineFault::Bad)?;
     let now = number(now).ok_or(LineFault::Bad)?;
     let client = number(client).ok_or(LineFault::Bad)?;
     let registration = number(registration).ok_or(LineFault::Bad)?;
     let message = hex::read_hex(alloc, message)?;
-    Ok(Step::Offer {
+    let step = Step::Offer {
         now,
         client,
         registration,
         message,
-    })
+    };
+    Ok(Reading { view, step })
 }
 
 #[tactic(auto, unfolding(crate::specs::Line::packet_of))]
-fn packet_of(alloc: Global, fields: Option<&str>) -> Result<Step, LineFault>
+fn packet_of(alloc: Global, fields: Option<&str>) -> Result<Reading, LineFault>
     ensures { Gives result (packet_of (pieces_behind 32 (option_copied fields.entry))) }
 {
-    let (now, local, from, bytes) = four_words(fields).ok_or(LineFault::Bad)?;
+    let (now, local, from, bytes, view) = four_words_at(fields).ok_or(LineFault::Bad)?;
     let now = number(now).ok_or(LineFault::Bad)?;
     let local = address_of(local).ok_or(LineFault::Bad)?;
     let from = address_of(from).ok_or(LineFault::Bad)?;
     let bytes = hex::read_hex(alloc, bytes)?;
-    Ok(Step::Packet {
+    let step = Step::Packet {
         now,
         local,
         from,
         bytes,
-    })
+    };
+    Ok(Reading { view, step })
 }
 
 #[tactic(auto, unfolding(crate::specs::Line::poll_of))]
-fn poll_of(fields: Option<&str>) -> Option<Step>
+fn poll_of(fields: Option<&str>) -> Option<Reading>
     ensures { result ≡ poll_of (pieces_behind 32 (option_copied fields.entry)) }
 {
-    let (now, client, subscription, source, limit) = five_words(fields)?;
+    let (now, client, subscription, source, limit, view) = five_words_at(fields)?;
     let now = number(now)?;
     let client = number(client)?;
     let subscription = number(subscription)?;
     let source = number(source)?;
     let limit = small_number(limit)?;
-    Some(Step::Poll {
+    let step = Step::Poll {
         now,
         client,
         subscription,
         source,
         limit,
-    })
+    };
+    Some(Reading { view, step })
 }
 
 #[tactic(auto, unfolding(crate::specs::Line::send_of))]
-fn send_of(fields: Option<&str>) -> Option<Step>
+fn send_of(fields: Option<&str>) -> Option<Reading>
     ensures { result ≡ send_of (pieces_behind 32 (option_copied fields.entry)) }
 {
-    let (now, source) = two_words(fields)?;
+    let (now, source, view) = two_words_at(fields)?;
     let now = number(now)?;
     let source = number(source)?;
-    Some(Step::Send { now, source })
+    let step = Step::Send { now, source };
+    Some(Reading { view, step })
 }
 
 #[tactic(auto, unfolding(crate::specs::Line::image_of))]
-fn image_of(fields: Option<&str>) -> Option<Step>
+fn image_of(fields: Option<&str>) -> Option<Reading>
     ensures { result ≡ image_of (pieces_behind 32 (option_copied fields.entry)) }
 {
-    let (now, source) = two_words(fields)?;
+    let (now, source, view) = two_words_at(fields)?;
     let now = number(now)?;
     let source = number(source)?;
-    Some(Step::Image { now, source })
+    let step = Step::Image { now, source };
+    Some(Reading { view, step })
 }
 
 #[tactic(auto, unfolding(crate::specs::Line::tick_of))]
-fn tick_of(fields: Option<&str>) -> Option<Step>
+fn tick_of(fields: Option<&str>) -> Option<Reading>
     ensures { result ≡ tick_of (pieces_behind 32 (option_copied fields.entry)) }
 {
     let now = number(one_word(fields)?)?;
-    Some(Step::Conductor(Event::Tick { now }))
+    Some(Reading::newest(Step::Conductor(Event::Tick { now })))
 }
 
 #[tactic(auto, unfolding(crate::specs::Line::list_of))]
-fn list_of(fields: Option<&str>) -> Option<Step>
+fn list_of(fields: Option<&str>) -> Option<Reading>
     ensures { result ≡ list_of (pieces_behind 32 (option_copied fields.entry)) }
 {
-    let (now, client) = two_words(fields)?;
+    let (now, client, view) = two_words_at(fields)?;
     let now = number(now)?;
     let client = number(client)?;
-    Some(Step::List { now, client })
+    let step = Step::List { now, client };
+    Some(Reading { view, step })
 }
 
 #[tactic(auto, unfolding(crate::specs::Line::value_of))]
-fn value_of(fields: Option<&str>) -> Option<Step>
+fn value_of(fields: Option<&str>) -> Option<Reading>
     ensures { result ≡ value_of (pieces_behind 32 (option_copied fields.entry)) }
 {
-    let (now, client, number_word) = three_words(fields)?;
+    let (now, client, number_word, view) = three_words_at(fields)?;
     let now = number(now)?;
     let client = number(client)?;
     let number = number(number_word)?;
-    Some(Step::Value {
+    let step = Step::Value {
         now,
         client,
         number,
-    })
+    };
+    Some(Reading { view, step })
 }
 
 /// The actor that a word names.
@@ -346,7 +402,7 @@ fn audit_of(fields: Option<&str>) -> Option<Line>
 
 /// What the words of a step say that keeps no bytes.
 #[tactic(auto, unfolding(crate::specs::Line::plain_step_by))]
-fn plain_step_by(word: &str, fields: Option<&str>) -> Option<Step>
+fn plain_step_by(word: &str, fields: Option<&str>) -> Option<Reading>
     ensures { result ≡ plain_step_by word.now (pieces_behind 32 (option_copied fields.entry)) }
 {
     if word == "attach" {
@@ -375,7 +431,7 @@ fn plain_step_by(word: &str, fields: Option<&str>) -> Option<Step>
 
 /// What the words of a step say.
 #[tactic(auto, unfolding(crate::specs::Line::step_by))]
-fn step_by(alloc: Global, word: &str, fields: Option<&str>) -> Result<Step, LineFault>
+fn step_by(alloc: Global, word: &str, fields: Option<&str>) -> Result<Reading, LineFault>
     ensures exact { Gives result (step_by word.now (pieces_behind 32 (option_copied fields.entry))) }
     ensures without_memory { keeps_fields (word.now ∷ []) ≡ false → HasMemory result }
 {
@@ -411,8 +467,8 @@ fn said_by(alloc: Global, word: &str, fields: Option<&str>) -> Result<Line, Line
     if word == "audit" {
         return audit_of(fields).ok_or(LineFault::Bad);
     }
-    let step = step_by(alloc, word, fields)?;
-    Ok(Line::Does(step))
+    let reading = step_by(alloc, word, fields)?;
+    Ok(Line::Does(reading))
 }
 
 /// Reads a line, without the line feed at its end.

@@ -5,7 +5,7 @@ use crate::line::{Line, plain_text, read_line};
 use crate::pieces::first_of_bytes;
 use byte_strings::Text;
 use driver_core::Peer;
-use driver_world::{Actor, Step};
+use driver_world::{Actor, Reading};
 use std::alloc::{AllocError, Global};
 
 /// The most bytes that a script may have.
@@ -23,7 +23,7 @@ pub enum Said {
     /// This text is a policy, each of its lines with its line feed.
     Policy(Text),
     /// A step of the run.
-    Does(Step),
+    Does(Reading),
     /// The last decisions of this actor are shown.
     Audit(Actor),
     /// It is no statement, or none at this place. No other follows it.
@@ -168,9 +168,9 @@ impl<'a> Statements<'a> {
     {
         match line {
             Line::Skipped => Ok(None),
-            Line::Does(step) => Ok(Some(Statement {
+            Line::Does(reading) => Ok(Some(Statement {
                 line: number,
-                said: Said::Does(step),
+                said: Said::Does(reading),
             })),
             Line::Audit(actor) => Ok(Some(Statement {
                 line: number,

@@ -1,7 +1,7 @@
 use Rattle.std.proofs.Common.{◌≡◌, ℕ, Some, None, ap, sym, ◌∙◌}
 use Rattle.audit_ring.specs.Audit.{Kept}
 use Rattle.driver_world.specs.Audits.{kept_or_none, place_at}
-use Rattle.driver_world.proofs.AuditLemmas.{found_at, found_nowhere}
+use Rattle.driver_world.proofs.PlaceLemmas.{found_at, found_nowhere}
 use Rattle.driver_world.proofs.audits.Audits.of.Goals as goal
 
 pub returns-in-Some : goal.returns-in-Some
