@@ -39,6 +39,7 @@ use Rattle.driver_world.specs.declared.world.Look.{Look}
 use Rattle.driver_world.specs.Audits.{Audits, Decided, Tells, decided_by, decided_by_content, decided_by_outcome, kept_all, told, told_one, told_sent}
 use Rattle.driver_world.specs.Ends.{RunEnd, Moved, IsAnswerOf, after_by, bad, conducted, looked, looked_at, moved, moved_as, seats_by, seen_by}
 use Rattle.driver_world.specs.Memory.{has_as, looked_has}
+use Rattle.driver_world.specs.Past.{shown_state}
 use Rattle.driver_world.specs.Standing.{Held, IsLook, IsNoLook, Serves, Sits, StandsForEnd, seats_left}
 use Rattle.driver_world.specs.Views.{Looks, Past, Seats, actor_of, at_moment, attached_at, is_out, moment_of, newest_of, older_at, reader_of, seat_of, seated, view_or}
 use Rattle.driver_world.proofs.AnswerLemmas.{Other, by_answer}
@@ -75,7 +76,7 @@ looked_there e actor view step look looks is =
     ∙ rw is.within (ap (λ m. looked e actor look.view (at_moment m step)) (sym is.moment_is))
 
 has_there : (e : RunEnd) (actor : Actor) (view : Option ℕ) (step : Step) (look : Look) (answer : Answer) → Looks actor →
-    IsLook e.past (seat_of actor e.seats) view look → looked_has e (at_moment look.moment step) answer look.older →
+    IsLook e.past (seat_of actor e.seats) view look → looked_has e (at_moment look.moment step) answer (shown_state look.older) →
     has_as e actor view step answer
 has_there e actor view step look answer looks is has =
     has_looked e actor view step answer looks
@@ -183,8 +184,8 @@ left_of old driver left = record old { driver = driver; audits = left }
 
 pub looked_served : (old new : Held) (driver : HeldDriver) (left : Audits) (actor : Actor) (view : Option ℕ) (step : Step) (look : Look)
     (answer : Answer) → actor_of step ≡ actor → Looks actor → IsLook old.past (seat_of actor old.seats) view look →
-    Reads look.older old.driver driver (at_moment look.moment step) answer →
-    ((e : RunEnd) → StandsForEnd old e → Keeps old left look.older (at_moment look.moment step) answer e) →
+    Reads (shown_state look.older) old.driver driver (at_moment look.moment step) answer →
+    ((e : RunEnd) → StandsForEnd old e → Keeps old left (shown_state look.older) (at_moment look.moment step) answer e) →
     Sits (left_of old driver left) new actor look.view (moment_of (at_moment look.moment step)) answer →
     Serves old new (record { view = view; step = step }) answer
 unfolding Serving
@@ -202,7 +203,7 @@ looked_served old new driver left actor view step look answer actor_is looks is 
       let here : IsLook e.past (seat_of actor e.seats) view look = rw (← stands.past, ← stands.seats) is in
       rw actor_is
       (has_there e actor view step look answer looks here
-      (takes_memory e (at_moment look.moment step) answer look.older (reads.without_memory e.driver stands.driver)));
+      (takes_memory e (at_moment look.moment step) answer (shown_state look.older) (reads.without_memory e.driver stands.driver)));
 }
 
 -- ---- what its actor sees
@@ -228,8 +229,8 @@ offer_wants (Some older) e now client registration message answer has is = wants
 
 pub offer_served : (old new : Held) (driver : HeldDriver) (left : Audits) (view : Option ℕ) (now client registration : ℕ) (message : List ℕ)
     (look : Look) (answer : Answer) (decision : Option Decision) → IsLook old.past (seat_of (Client client) old.seats) view look →
-    Reads look.older old.driver driver (Offer (max now look.moment) client registration message) answer →
-    DecidesAs (held_seen old.driver look.older) (λ e. offer_decided e client registration) decision →
+    Reads (shown_state look.older) old.driver driver (Offer (max now look.moment) client registration message) answer →
+    DecidesAs (held_seen old.driver (shown_state look.older)) (λ e. offer_decided e client registration) decision →
     Tells old.audits left (told_one (Client client) decision) →
     Sits (left_of old driver left) new (Client client) look.view (max now look.moment) answer →
     Serves old new (record { view = view; step = Offer now client registration message }) answer
@@ -237,9 +238,9 @@ unfolding decided_by
 offer_served old new driver left view now client registration message look answer decision is reads decides tells sits =
     looked_served old new driver left (Client client) view (Offer now client registration message) look answer refl tt is reads
     (λ e stands. record {
-      refused = λ no. absurd (offer_wants look.older e.driver (max now look.moment) client registration message answer (reads.without_memory e.driver stands.driver) no);
+      refused = λ no. absurd (offer_wants (shown_state look.older) e.driver (max now look.moment) client registration message answer (reads.without_memory e.driver stands.driver) no);
       told = λ other same.
-          rw (← decides.on (seen_by e.driver look.older) (seen_stands old.driver look.older e.driver stands.driver)) (tells.on e.decided stands.audits);
+          rw (← decides.on (seen_by e.driver (shown_state look.older)) (seen_stands old.driver (shown_state look.older) e.driver stands.driver)) (tells.on e.decided stands.audits);
     })
     sits
 
@@ -251,8 +252,8 @@ told_nothing answer decision what is same = is ∙ ap (λ a. decided_unless a wh
 
 pub poll_served : (old new : Held) (driver : HeldDriver) (left : Audits) (view : Option ℕ) (now client subscription source limit : ℕ)
     (look : Look) (answer : Answer) (decision : Option Decision) → IsLook old.past (seat_of (Client client) old.seats) view look →
-    Reads look.older old.driver driver (Poll (max now look.moment) client subscription source limit) answer →
-    DecidesUnless (held_seen old.driver look.older) (λ e. poll_decided e client subscription source) answer decision →
+    Reads (shown_state look.older) old.driver driver (Poll (max now look.moment) client subscription source limit) answer →
+    DecidesUnless (held_seen old.driver (shown_state look.older)) (λ e. poll_decided e client subscription source) answer decision →
     Tells old.audits left (told_one (Client client) decision) →
     Sits (left_of old driver left) new (Client client) look.view (max now look.moment) answer →
     Serves old new (record { view = view; step = Poll now client subscription source limit }) answer
@@ -260,9 +261,9 @@ unfolding decided_by
 poll_served old new driver left view now client subscription source limit look answer decision is reads decides tells sits =
     looked_served old new driver left (Client client) view (Poll now client subscription source limit) look answer refl tt is reads
     (λ e stands.
-    let seen : DriverEnd = seen_by e.driver look.older in
+    let seen : DriverEnd = seen_by e.driver (shown_state look.older) in
     let is_told : decision ≡ decided_unless answer (poll_decided seen client subscription source) =
-    decides.on seen (seen_stands old.driver look.older e.driver stands.driver) in
+    decides.on seen (seen_stands old.driver (shown_state look.older) e.driver stands.driver) in
     record {
       refused = λ no.
           let none : decision ≡ None = told_nothing answer decision (poll_decided seen client subscription source) is_told no in
@@ -284,17 +285,17 @@ told_none client all = ap (λ clients. record all { clients = clients }) (untold
 
 pub list_served : (old new : Held) (left : Audits) (view : Option ℕ) (now client : ℕ) (look : Look) (answer : Answer) (denials : List Decision) →
     IsLook old.past (seat_of (Client client) old.seats) view look →
-    Reads look.older old.driver old.driver (Lists (max now look.moment) client) answer →
-    LeavesOut (looks_at old.driver look.older) client answer denials → Tells old.audits left (told (Client client) denials) →
+    Reads (shown_state look.older) old.driver old.driver (Lists (max now look.moment) client) answer →
+    LeavesOut (looks_at old.driver (shown_state look.older)) client answer denials → Tells old.audits left (told (Client client) denials) →
     Sits (left_of old old.driver left) new (Client client) look.view (max now look.moment) answer →
     Serves old new (record { view = view; step = Lists now client }) answer
 unfolding decided_by
 list_served old new left view now client look answer denials is reads leaves tells sits =
     looked_served old new old.driver left (Client client) view (Lists now client) look answer refl tt is reads
     (λ e stands.
-    let s : State = read_by e.driver look.older in
+    let s : State = read_by e.driver (shown_state look.older) in
     let is_left : denials ≡ denials_unless answer (left_out s client) =
-    leaves ∙ ap (λ (r : State). denials_unless answer (left_out r client)) (seen_state old.driver look.older e.driver stands.driver) in
+    leaves ∙ ap (λ (r : State). denials_unless answer (left_out r client)) (seen_state old.driver (shown_state look.older) e.driver stands.driver) in
     record {
       refused = λ no.
           let none : denials ≡ [] = denied_nothing answer denials (left_out s client) is_left no in
@@ -313,8 +314,8 @@ value_wants (Some older) e now client number answer has is = wants answer has is
 
 pub value_served : (old new : Held) (left : Audits) (view : Option ℕ) (now client number : ℕ) (look : Look) (answer : Answer)
     (decision : Option Decision) → IsLook old.past (seat_of (Client client) old.seats) view look →
-    Reads look.older old.driver old.driver (Value (max now look.moment) client number) answer →
-    decision ≡ shown_decision (value (looks_at old.driver look.older) client number) →
+    Reads (shown_state look.older) old.driver old.driver (Value (max now look.moment) client number) answer →
+    decision ≡ shown_decision (value (looks_at old.driver (shown_state look.older)) client number) →
     Tells old.audits left (told_one (Client client) decision) →
     Sits (left_of old old.driver left) new (Client client) look.view (max now look.moment) answer →
     Serves old new (record { view = view; step = Value now client number }) answer
@@ -322,11 +323,11 @@ unfolding decided_by
 value_served old new left view now client number look answer decision is reads decides tells sits =
     looked_served old new old.driver left (Client client) view (Value now client number) look answer refl tt is reads
     (λ e stands. record {
-      refused = λ no. absurd (value_wants look.older e.driver (max now look.moment) client number answer (reads.without_memory e.driver stands.driver) no);
+      refused = λ no. absurd (value_wants (shown_state look.older) e.driver (max now look.moment) client number answer (reads.without_memory e.driver stands.driver) no);
       told = λ other same.
           tells.on e.decided stands.audits
           ∙ ap (λ d. kept_all (told_one (Client client) d e.decided))
-          (decides ∙ ap (λ (s : State). shown_decision (value s client number)) (seen_state old.driver look.older e.driver stands.driver));
+          (decides ∙ ap (λ (s : State). shown_decision (value s client number)) (seen_state old.driver (shown_state look.older) e.driver stands.driver));
     })
     sits
 
@@ -346,7 +347,7 @@ sent_seen (Some older) e now source = turn_answered older e source (send_move ol
 
 pub send_served : (old new : Held) (driver : HeldDriver) (left : Audits) (view : Option ℕ) (now source : ℕ) (look : Look) (answer : Answer) →
     IsLook old.past (seat_of Sender old.seats) view look →
-    Reads look.older old.driver driver (Send (max now look.moment) source) answer → Tells old.audits left (told_sent answer) →
+    Reads (shown_state look.older) old.driver driver (Send (max now look.moment) source) answer → Tells old.audits left (told_sent answer) →
     Sits (left_of old driver left) new Sender look.view (max now look.moment) answer →
     Serves old new (record { view = view; step = Send now source }) answer
 unfolding decided_by
@@ -356,7 +357,7 @@ send_served old new driver left view now source look answer is reads tells sits 
       refused = λ no. tells.on e.decided stands.audits ∙ ap (λ a. kept_all (told_sent a e.decided)) no ∙ sym stands.audits;
       told = λ other same.
           tells.on e.decided stands.audits
-          ∙ ap (λ a. kept_all (told_sent a e.decided)) (same ∙ sym (sent_seen look.older e.driver (max now look.moment) source));
+          ∙ ap (λ a. kept_all (told_sent a e.decided)) (same ∙ sym (sent_seen (shown_state look.older) e.driver (max now look.moment) source));
     })
     sits
 
@@ -364,7 +365,7 @@ send_served old new driver left view now source look answer is reads tells sits 
 
 pub report_served : (old new : Held) (driver : HeldDriver) (view : Option ℕ) (now source : ℕ) (look : Look) (answer : Answer) →
     IsLook old.past (seat_of Receiver old.seats) view look →
-    Reads look.older old.driver driver (Image (max now look.moment) source) answer →
+    Reads (shown_state look.older) old.driver driver (Image (max now look.moment) source) answer →
     Sits (left_of old driver old.audits) new Receiver look.view (max now look.moment) answer →
     Serves old new (record { view = view; step = Image now source }) answer
 unfolding decided_by
@@ -552,18 +553,18 @@ came_told (Some older) old new now local from bytes told comes = came_seen older
 pub packet_served : (old new : Held) (driver : HeldDriver) (left : Audits) (view : Option ℕ) (now : ℕ) (local from : Address) (bytes : List ℕ)
     (look : Look) (told : Told) → Looks (reader_of (packet_of bytes)) →
     IsLook old.past (seat_of (reader_of (packet_of bytes)) old.seats) view look →
-    ComesRead look.older old.driver driver (max now look.moment) local from bytes (came.Told told) →
+    ComesRead (shown_state look.older) old.driver driver (max now look.moment) local from bytes (came.Told told) →
     Tells old.audits left (told_one Sender told.decision) →
     Sits (left_of old driver left) new (reader_of (packet_of bytes)) look.view (max now look.moment) told.answer →
     Serves old new (record { view = view; step = Packet now local from bytes }) told.answer
 unfolding decided_by
 packet_served old new driver left view now local from bytes look told looks is comes tells sits =
-    let came' = came_told look.older old.driver driver (max now look.moment) local from bytes told comes in
+    let came' = came_told (shown_state look.older) old.driver driver (max now look.moment) local from bytes told comes in
     looked_served old new driver left (reader_of (packet_of bytes)) view (Packet now local from bytes) look told.answer refl looks is came'.reads
     (λ e stands.
-    let seen : DriverEnd = seen_by e.driver look.older in
+    let seen : DriverEnd = seen_by e.driver (shown_state look.older) in
     let is_told : told.decision ≡ decided_unless told.answer (content_decided seen from (packet_of bytes)) =
-    came'.decides.on seen (seen_stands old.driver look.older e.driver stands.driver) in
+    came'.decides.on seen (seen_stands old.driver (shown_state look.older) e.driver stands.driver) in
     record {
       refused = λ no.
           let none : told.decision ≡ None = told_nothing told.answer told.decision (content_decided seen from (packet_of bytes)) is_told no in

@@ -1,5 +1,5 @@
 -- Registries that are made again, and seats that are taken.
-use Rattle.std.proofs.Common.{◌≡◌, ℕ, ◌+◌, ◌<◌, ◌≤◌, ◌⊎◌, ⊎_elim, arith, take_all, ◌==◌, Bool, true, false, cond, Option, Some, None, List, [], ◌∷◌, length, get_or, take, refl, sym, ap, ◌∙◌}
+use Rattle.std.proofs.Common.{◌≡◌, ℕ, zero, suc, arith, slice_index_or, ◌+◌, ◌<◌, ◌==◌, Bool, true, false, cond, Option, Some, None, List, [], ◌∷◌, ◌++◌, length, get_or, take, refl, sym, ap, ◌∙◌}
 use Rattle.std.proofs.lemmas.List.{take_more}
 use Rattle.driver_core.specs.declared.event.Event.{Event}
 use Rattle.driver_core.specs.declared.event.Inputs.{Inputs}
@@ -7,7 +7,7 @@ use Rattle.driver_core.specs.Conduct.{state_after, state_of}
 use Rattle.driver_core.specs.State.{State}
 use Rattle.driver_steps.proofs.EndLemmas.{state_of_both}
 use Rattle.driver_world.specs.declared.seats.Seat.{Seat}
-use Rattle.driver_world.specs.Views.{Past, client_seated, registry_at}
+use Rattle.driver_world.specs.Views.{client_seated}
 use Rattle.driver_world.proofs.PlaceLemmas.{changed, client_at}
 
 abbrev pub Event_taken : Type 0
@@ -21,19 +21,14 @@ next_registry s all at one within is =
     ∙ state_of_both s (take at all) (get_or all at one ∷ [])
     ∙ ap (λ (o : Event_taken). state_after (state_of s (take at all)) o.0 o.1) (sym is)
 
--- where no further event is to be taken
-pub reached : (past : Past) (at k : ℕ) (registry : State) → registry ≡ state_of past.opened (take at past.taken) → at ≤ length past.taken →
-    at ≤ k → (length past.taken ≤ at) ⊎ (k ≤ at) → registry ≡ registry_at past k
-reached past at k registry is within below done =
-    ⊎_elim
-    (λ all.
-    let most : take at past.taken ≡ past.taken = take_all _ _ all in
-    let more : take k past.taken ≡ past.taken = take_all _ _ (omega (arith, all, below)) in
-    is ∙ ap (state_of past.opened) (most ∙ sym more))
-    (λ far.
-    let same : at ≡ k = omega (arith, far, below) in
-    is ∙ ap (λ n. state_of past.opened (take n past.taken)) same)
-    done
+-- what holds of each holds where one more stands behind them
+pub all_push : {A : Type 0} (P : A → Type 0) (xs : List A) (y : A) → ((k : ℕ) (d : A) → k < length xs → P (slice_index_or xs k d)) → P y →
+    (k : ℕ) (d : A) → k < length (xs ++ y ∷ []) → P (slice_index_or (xs ++ y ∷ []) k d)
+all_push P [] y all new zero d within = new
+all_push P [] y all new (suc k) d within = absurd (omega (arith, within))
+all_push P (x ∷ xs) y all new zero d within = all zero d (omega arith)
+all_push P (x ∷ xs) y all new (suc k) d within =
+    all_push P xs y (λ j e less. all (suc j) e (omega (arith, less))) new k d (omega (arith, within))
 
 pub seated_changed : (id : ℕ) (seat : Seat) (clients : List (ℕ × Seat)) → client_seated id seat clients ≡ changed id seat clients
 seated_changed id seat [] = refl

@@ -13,6 +13,7 @@ use Rattle.driver_world.specs.declared.world.Look.{Look}
 use Rattle.driver_world.specs.Audits.{Audits, kept_all}
 use Rattle.driver_world.specs.Ends.{RunEnd, opening_end, IsAnswer, AreAnswers, after, end_of}
 use Rattle.driver_world.specs.Memory.{HasMemory, HaveMemory}
+use Rattle.driver_world.specs.Past.{IsShown, shown_state}
 use Rattle.driver_world.specs.Views.{Past, Seats, is_out, newest_of, older_at, seated, view_or}
 use Rattle.policy_core.specs.RuleList.{Rules}
 
@@ -59,7 +60,8 @@ pub record Continues (old new : Held) (readings : List Reading) (answers : List 
 pub record IsLook (past : Past) (seat : Seat) (view : Option ℕ) (look : Look) : Type 0 where
   pub view_is : look.view ≡ view_or (newest_of past) view
   pub within : is_out (newest_of past) seat look.view ≡ false
-  pub older_is : look.older ≡ older_at past look.view
+  pub older_is : shown_state look.older ≡ older_at past look.view
+  pub shown_is : IsShown past look.older
   pub moment_is : look.moment ≡ seat.moment
 
 -- it may not, or there is no memory for a registry that is not the newest

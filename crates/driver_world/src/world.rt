@@ -1,5 +1,6 @@
 ghost use Rattle.driver_core.specs.Soundness.{AreSettings};
 ghost use Rattle.audit_ring.specs.Audit.{kept_of};
+ghost use Rattle.driver_world.specs.Past.{IsShown, shown_state};
 ghost use Rattle.driver_world.specs.Views.{reader_of};
 ghost use Rattle.frame_codec.specs.Datagram.{Content, content, packet_of};
 ghost use Rattle.frame_codec.specs.Steps.{Equals};
@@ -9,7 +10,7 @@ ghost use Rattle.std.specs.Prelude.{◌≡◌, [], Some, None, Result, max, leng
 use crate::actor::Actor;
 use crate::audits::Audits;
 use crate::kept::Kept;
-use crate::past::Registries;
+use crate::past::{Registries, Shown};
 use crate::reading::Reading;
 use crate::seats::{AllSeats, Seat};
 use audit_ring::Audit;
@@ -50,7 +51,7 @@ struct Look {
     /// The number of the registry.
     view: u64,
     /// That registry, where it is not the newest.
-    older: Option<Registry>,
+    older: Option<Shown>,
     /// The greatest moment of the actor's steps so far.
     moment: u64,
 }
@@ -61,6 +62,16 @@ impl Look {
         ensures { result ≡ max now self.now.moment }
     {
         now.max(self.moment)
+    }
+
+    /// The registry, where it is not the newest.
+    fn older(&self) -> Option<&Registry>
+        ensures { option_copied result ≡ shown_state self.now.older }
+    {
+        match &self.older {
+            Some(shown) => Some(&shown.registry),
+            None => None,
+        }
     }
 }
 
@@ -146,9 +157,10 @@ impl World {
     ///
     /// # Errors
     /// The answer of the step, where it may not look there, or there is no memory for the registry.
-    fn look(&self, alloc: Global, actor: Actor, view: Option<u64>) -> Result<Look, Answer>
-        ensures ok { IfOk result (λ look. IsLook self.now.past (seat_of actor self.now.seats) view look) }
-        ensures err { IfErr result (λ answer. IsNoLook self.now.past (seat_of actor self.now.seats) view answer) }
+    fn look(&mut self, alloc: Global, actor: Actor, view: Option<u64>) -> Result<Look, Answer>
+        ensures same { self.new ≡ self.old }
+        ensures ok { IfOk result (λ look. IsLook self.old.past (seat_of actor self.old.seats) view look) }
+        ensures err { IfErr result (λ answer. IsNoLook self.old.past (seat_of actor self.old.seats) view answer) }
     {
         let seat = self.seats.get(actor);
         let newest = self.past.newest();
@@ -159,8 +171,8 @@ impl World {
         let older = if view == newest {
             None
         } else {
-            match self.past.registry_at(alloc, view) {
-                Ok(registry) => Some(registry),
+            match self.past.show(alloc, actor, view) {
+                Ok(shown) => Some(shown),
                 Err(_) => return Err(Answer::NoMemory),
             }
         };
@@ -171,9 +183,11 @@ impl World {
         })
     }
 
-    /// The actor took a step by that look, at that moment. One that was refused memory leaves it where it stood.
-    fn sit(&mut self, actor: Actor, look: &Look, now: u64, answer: &Answer)
-        ensures { Sits self.old self.new actor look.now.view now answer.now }
+    /// The actor took a step by that look, at that moment. One that was refused memory leaves it where it stood. The registry
+    /// is kept for it, where it is not the newest.
+    fn sit(&mut self, actor: Actor, look: Look, now: u64, answer: &Answer)
+        requires { IsShown self.old.past look.older }
+        ensures { Sits self.old self.new actor look.view now answer.now }
     {
         if !matches!(answer, Answer::NoMemory) {
             self.seats.set(
@@ -184,6 +198,7 @@ impl World {
                 },
             );
         }
+        self.past.keep(actor, look.older);
     }
 
     /// The conductor takes an event. All memory that this wants is taken before anything is changed: then all that it decided is
@@ -273,12 +288,12 @@ impl World {
         let now = look.at(now);
         match self
             .driver
-            .datagram_read(look.older.as_ref(), alloc, now, local, from, bytes, read)
+            .datagram_read(look.older(), alloc, now, local, from, bytes, read)
         {
             Came::SetUp(_) => unreachable!(),
             Came::Told(told) => {
                 self.audits.tell_sender(told.decision);
-                self.sit(actor, &look, now, &told.answer);
+                self.sit(actor, look, now, &told.answer);
                 told.answer
             }
         }
@@ -360,9 +375,9 @@ impl World {
         let now = look.at(now);
         let told = self
             .driver
-            .offer_read(look.older.as_ref(), now, client, registration, message);
+            .offer_read(look.older(), now, client, registration, message);
         self.audits.tell_client(client, told.decision);
-        self.sit(actor, &look, now, &told.answer);
+        self.sit(actor, look, now, &told.answer);
         told.answer
     }
 
@@ -386,7 +401,7 @@ impl World {
         };
         let now = look.at(now);
         let told = self.driver.poll_read(
-            look.older.as_ref(),
+            look.older(),
             alloc,
             now,
             client,
@@ -395,7 +410,7 @@ impl World {
             limit,
         );
         self.audits.tell_client(client, told.decision);
-        self.sit(actor, &look, now, &told.answer);
+        self.sit(actor, look, now, &told.answer);
         told.answer
     }
 
@@ -408,11 +423,9 @@ impl World {
             Err(answer) => return answer,
         };
         let now = look.at(now);
-        let answer = self
-            .driver
-            .send_read(look.older.as_ref(), alloc, now, source);
+        let answer = self.driver.send_read(look.older(), alloc, now, source);
         self.audits.tell_sent(&answer);
-        self.sit(Actor::Sender, &look, now, &answer);
+        self.sit(Actor::Sender, look, now, &answer);
         answer
     }
 
@@ -425,10 +438,8 @@ impl World {
             Err(answer) => return answer,
         };
         let now = look.at(now);
-        let answer = self
-            .driver
-            .report_read(look.older.as_ref(), alloc, now, source);
-        self.sit(Actor::Receiver, &look, now, &answer);
+        let answer = self.driver.report_read(look.older(), alloc, now, source);
+        self.sit(Actor::Receiver, look, now, &answer);
         answer
     }
 
@@ -442,11 +453,9 @@ impl World {
             Err(answer) => return answer,
         };
         let now = look.at(now);
-        let looked = self
-            .driver
-            .list_read(look.older.as_ref(), alloc, now, client);
+        let looked = self.driver.list_read(look.older(), alloc, now, client);
         self.audits.tell_denials(client, looked.denials.as_slice());
-        self.sit(actor, &look, now, &looked.answer);
+        self.sit(actor, look, now, &looked.answer);
         looked.answer
     }
 
@@ -467,11 +476,9 @@ impl World {
             Err(answer) => return answer,
         };
         let now = look.at(now);
-        let told = self
-            .driver
-            .value_read(look.older.as_ref(), now, client, number);
+        let told = self.driver.value_read(look.older(), now, client, number);
         self.audits.tell_client(client, told.decision);
-        self.sit(actor, &look, now, &told.answer);
+        self.sit(actor, look, now, &told.answer);
         told.answer
     }
 

@@ -1,17 +1,18 @@
-use Rattle.std.proofs.Common.{refl}
+use Rattle.std.proofs.Common.{refl, ◌∙◌}
 use Rattle.driver_world.specs.declared.actor.Actor.TheVariants.{Client}
 use Rattle.driver_world.proofs.ServeLemmas.{look_in, not_looked, offer_served}
 use Rattle.driver_world.proofs.world.World.offer.Goals as goal
 
 pub returns-in-Err : goal.returns-in-Err
 returns-in-Err c =
-    not_looked c.args.self.now (Client c.args.client) c.args.view _ c.in-Err.answer refl tt c.in-Err.ensures.err
+    rw (c.look.ensures.same)
+    (not_looked c.args.self.now (Client c.args.client) c.args.view _ c.in-Err.answer refl tt c.in-Err.ensures.err)
 
 pub returns : goal.returns
 returns c =
-    rw (← c.self.view_is)
+    rw (← c.look.ensures.same, ← c.self.view_is)
     (offer_served (record { driver = c.self.inside.driver; audits = c.self.inside.audits.audits; past = c.self.inside.past.past; seats = c.self.inside.seats.seats })
     c.sit.new.self c.offer_read-told.new.self c.tell_client.new.self.audits c.args.view c.args.now c.args.client c.args.registration c.args.message.now c.in-Ok.look
-    c.offer_read-told.result.answer c.offer_read-told.result.decision (look_in _ c.args.self.now (Client c.args.client) c.args.view c.in-Ok.look c.self.view_is c.in-Ok.ensures.ok)
-    (rw (← c.at-now.ensures, ← c.as_ref.ensures.value) c.offer_read-told.ensures.reads)
-    (rw (← c.as_ref.ensures.value) c.offer_read-told.ensures.decides) c.tell_client.ensures (rw (← c.at-now.ensures) c.sit.ensures))
+    c.offer_read-told.result.answer c.offer_read-told.result.decision (look_in _ c.args.self.now (Client c.args.client) c.args.view c.in-Ok.look (c.self.view_is ∙ c.look.ensures.same) c.in-Ok.ensures.ok)
+    (rw (← c.at-now.ensures, ← c.older.ensures) c.offer_read-told.ensures.reads)
+    (rw (← c.older.ensures) c.offer_read-told.ensures.decides) c.tell_client.ensures (rw (← c.at-now.ensures) c.sit.ensures))

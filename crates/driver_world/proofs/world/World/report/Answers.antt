@@ -1,16 +1,17 @@
-use Rattle.std.proofs.Common.{refl}
+use Rattle.std.proofs.Common.{refl, ◌∙◌}
 use Rattle.driver_world.specs.declared.actor.Actor.TheVariants.{Receiver}
 use Rattle.driver_world.proofs.ServeLemmas.{look_in, not_looked, report_served}
 use Rattle.driver_world.proofs.world.World.report.Goals as goal
 
 pub returns-in-Err : goal.returns-in-Err
 returns-in-Err c =
-    not_looked c.args.self.now Receiver c.args.view _ c.in-Err.answer refl tt c.in-Err.ensures.err
+    rw (c.look.ensures.same)
+    (not_looked c.args.self.now Receiver c.args.view _ c.in-Err.answer refl tt c.in-Err.ensures.err)
 
 pub returns : goal.returns
 returns c =
-    rw (← c.self.view_is)
+    rw (← c.look.ensures.same, ← c.self.view_is)
     (report_served (record { driver = c.self.inside.driver; audits = c.self.inside.audits.audits; past = c.self.inside.past.past; seats = c.self.inside.seats.seats })
     c.sit.new.self c.report_read-answer.new.self c.args.view c.args.now c.args.source c.in-Ok.look
-    c.report_read-answer.result (look_in _ c.args.self.now Receiver c.args.view c.in-Ok.look c.self.view_is c.in-Ok.ensures.ok)
-    (rw (← c.at-now.ensures, ← c.as_ref.ensures.value) c.report_read-answer.ensures) (rw (← c.at-now.ensures) c.sit.ensures))
+    c.report_read-answer.result (look_in _ c.args.self.now Receiver c.args.view c.in-Ok.look (c.self.view_is ∙ c.look.ensures.same) c.in-Ok.ensures.ok)
+    (rw (← c.at-now.ensures, ← c.older.ensures) c.report_read-answer.ensures) (rw (← c.at-now.ensures) c.sit.ensures))

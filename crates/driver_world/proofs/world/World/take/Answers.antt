@@ -1,7 +1,8 @@
-use Rattle.std.proofs.Common.{◌≡◌, refl, subst}
+use Rattle.std.proofs.Common.{◌≡◌, ◌∙◌, refl, subst}
 use Rattle.driver_steps.specs.Reads.{ComesRead}
 use Rattle.driver_steps.specs.declared.told.Came.{Came}
 use Rattle.driver_steps.specs.declared.told.Came.TheVariants as came
+use Rattle.driver_world.specs.Past.{shown_state}
 use Rattle.driver_world.specs.Views.{reader_of}
 use Rattle.driver_world.proofs.ServeLemmas.{look_in, not_looked, packet_served}
 use Rattle.driver_world.proofs.world.World.take.Goals as goal
@@ -10,17 +11,18 @@ use Rattle.frame_codec.specs.Datagram.{packet_of}
 pub returns-in-Err : goal.returns-in-Err
 returns-in-Err c =
     let reader : c.reader_of-actor.result ≡ reader_of (packet_of c.args.bytes.now) = c.reader_of-actor.ensures (packet_of c.args.bytes.now) c.requires.reads in
-    not_looked c.args.self.now (reader_of (packet_of c.args.bytes.now)) c.args.view _ c.in-Err.answer refl c.requires.looks (rw (← reader) c.in-Err.ensures.err)
+    rw (c.look.ensures.same)
+    (not_looked c.args.self.now (reader_of (packet_of c.args.bytes.now)) c.args.view _ c.in-Err.answer refl c.requires.looks (rw (← reader) c.in-Err.ensures.err))
 
 pub returns : goal.returns
 returns c =
     let reader : c.reader_of-actor.result ≡ reader_of (packet_of c.args.bytes.now) = c.reader_of-actor.ensures (packet_of c.args.bytes.now) c.requires.reads in
-    let comes : ComesRead c.in-Ok.look.older c.self.inside.driver c.datagram_read.new.self c.at-now.result c.args.local.now c.args.from.now c.args.bytes.now (came.Told c.in-Told.told) =
-    subst (λ (came : Came). ComesRead c.in-Ok.look.older c.self.inside.driver c.datagram_read.new.self c.at-now.result c.args.local.now c.args.from.now c.args.bytes.now came) c.in-Told.is
-    (rw (← c.as_ref.ensures.value) c.datagram_read.ensures) in
-    rw (← c.self.view_is)
+    let comes : ComesRead (shown_state c.in-Ok.look.older) c.self.inside.driver c.datagram_read.new.self c.at-now.result c.args.local.now c.args.from.now c.args.bytes.now (came.Told c.in-Told.told) =
+    subst (λ (came : Came). ComesRead (shown_state c.in-Ok.look.older) c.self.inside.driver c.datagram_read.new.self c.at-now.result c.args.local.now c.args.from.now c.args.bytes.now came) c.in-Told.is
+    (rw (← c.older.ensures) c.datagram_read.ensures) in
+    rw (← c.look.ensures.same, ← c.self.view_is)
     (packet_served (record { driver = c.self.inside.driver; audits = c.self.inside.audits.audits; past = c.self.inside.past.past; seats = c.self.inside.seats.seats })
     c.sit.new.self c.datagram_read.new.self c.tell_sender.new.self.audits c.args.view c.args.now c.args.local.now c.args.from.now c.args.bytes.now c.in-Ok.look
     c.in-Told.told c.requires.looks
-    (look_in _ c.args.self.now (reader_of (packet_of c.args.bytes.now)) c.args.view c.in-Ok.look c.self.view_is (rw (← reader) c.in-Ok.ensures.ok))
+    (look_in _ c.args.self.now (reader_of (packet_of c.args.bytes.now)) c.args.view c.in-Ok.look (c.self.view_is ∙ c.look.ensures.same) (rw (← reader) c.in-Ok.ensures.ok))
     (rw (← c.at-now.ensures) comes) c.tell_sender.ensures (rw (← c.at-now.ensures, ← reader) c.sit.ensures))
