@@ -1,7 +1,9 @@
 pub mod AnswerLemmas
 pub mod AuditLemmas
 pub mod OpeningLemmas
+pub mod PastLemmas
 pub mod PlaceLemmas
 pub mod RunLemmas
+pub mod SeatLemmas
 pub mod ServeLemmas
 pub mod ViewLemmas

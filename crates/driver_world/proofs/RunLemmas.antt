@@ -97,16 +97,16 @@ abbrev pub IsNewest : RunEnd → Type 0
 IsNewest e = e.driver.registry ≡ state_of e.past.opened e.past.taken
 
 -- what comes of a step, where it comes of one of the driver
-record OfDriver (e : RunEnd) (what : Moved) : Type 0 where
+pub record OfDriver (e : RunEnd) (what : Moved) : Type 0 where
   older : Option State
   step : Step
   answer : what.answer ≡ (runs.moved_by e.driver older step).answer
   after : what.after.driver ≡ (runs.moved_by e.driver older step).after
 
 -- nothing is changed, or it is one of the driver; and the newest registry is still what the events left
-record Goes (e : RunEnd) (what : Moved) : Type 0 where
-  kind : (what ≡ bad e) ⊎ OfDriver e what
-  newest : IsNewest e → IsNewest what.after
+pub record Goes (e : RunEnd) (what : Moved) : Type 0 where
+  pub kind : (what ≡ bad e) ⊎ OfDriver e what
+  pub newest : IsNewest e → IsNewest what.after
 
 goes_nowhere : (e : RunEnd) → Goes e (bad e)
 goes_nowhere e = record { kind = inl refl; newest = λ is. is }
@@ -159,7 +159,7 @@ goes_at e actor k step looks =
     goes_cond e (is_out (newest_of e.past) (seat_of actor e.seats) k) (looked e actor k (at_moment (seat_of actor e.seats).moment step))
     (goes_by e actor k (seat_of actor e.seats).moment step looks)
 
-goes_as : (e : RunEnd) (actor : Actor) (view : Option ℕ) (step : Step) → actor_of step ≡ actor → Goes e (moved_as e actor view step)
+pub goes_as : (e : RunEnd) (actor : Actor) (view : Option ℕ) (step : Step) → actor_of step ≡ actor → Goes e (moved_as e actor view step)
 goes_as e Conductor None step is = goes_on e step
 goes_as e Conductor (Some k) step is = goes_nowhere e
 goes_as e Sender view step is = goes_at e Sender (view_or (newest_of e.past) view) step (rw is tt)
@@ -187,7 +187,7 @@ leaves e what of answer =
 left_nowhere : (e : RunEnd) (answer : Answer) → after_by e (bad e) answer ≡ e
 left_nowhere e answer = by_answer (λ a. after_by e (bad e) a ≡ e) refl (λ one other. other.left e (bad e)) answer
 
-left_newest : (e : RunEnd) (what : Moved) (answer : Answer) → IsNewest e → IsNewest what.after → IsNewest (after_by e what answer)
+pub left_newest : (e : RunEnd) (what : Moved) (answer : Answer) → IsNewest e → IsNewest what.after → IsNewest (after_by e what answer)
 left_newest e what answer is next =
     by_answer (λ a. IsNewest (after_by e what a)) is
     (λ one other. subst (λ (end : RunEnd). IsNewest end) (sym (other.left e what)) next) answer

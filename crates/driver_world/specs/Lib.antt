@@ -5,4 +5,5 @@ pub mod Laws
 pub mod Memory
 pub mod Past
 pub mod Standing
+pub mod ViewLaws
 pub mod Views
