@@ -16,7 +16,7 @@ mod world;
 
 pub use actor::Actor;
 pub use driver_steps::{Answer, Cause, Fragment, Insert, Offered, OpenLog, Step, Told};
-pub use laws::runs_are_of_the_driver;
+pub use laws::{registries_were_newest, runs_are_of_the_driver, views_only_rise};
 pub use reading::Reading;
 pub use seats::Seat;
 pub use world::World;
