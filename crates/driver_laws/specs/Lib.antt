@@ -5,6 +5,7 @@ pub mod DenialLaws
 pub mod DestinationLaws
 pub mod Events
 pub mod GrantLaws
+pub mod Headline
 pub mod ImageLaws
 pub mod ImageTellingLaws
 pub mod LeavingLaws

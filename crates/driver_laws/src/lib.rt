@@ -1,7 +1,9 @@
-//! What the registry of a driver promises over every list of events: each function does nothing, and its clause is the
-//! law. The laws speak of `outcome_of` and `state_after`, which `Registry::step` meets, and of words that this crate's
-//! `specs/` define by them.
+//! What a driver promises: the four sentences of [`headline`], and the laws of which they are made, on the registry over
+//! every list of events. Each function does nothing, and its clause is the law. The laws speak of `outcome_of` and
+//! `state_after`, which `Registry::step` meets, and of words that this crate's `specs/` define by them.
 #![tactic(auto)]
+
+pub mod headline;
 
 ghost use Rattle.driver_laws.specs.ClosingLaws.{ClosedLogsWereThere, LogsCloseExactly, LogsCloseOnly};
 ghost use Rattle.driver_laws.specs.CounterLaws.{CountersAreRemovedExactly, CountersAreRemovedOnly, CountersAreSetExactly, CountersAreSetOnly};

@@ -1,0 +1,78 @@
+-- What the driver promises: four sums of laws, over every list of events, every run of a driver, and every run of a world.
+-- Own rules.
+use Rattle.driver_laws.specs.ClosingLaws.{LogsCloseExactly, LogsCloseOnly}
+use Rattle.driver_laws.specs.DenialLaws.{DenialsAreNamed}
+use Rattle.driver_laws.specs.DecisionLaws.{DecisionsAreByThePolicyInForce}
+use Rattle.driver_laws.specs.DestinationLaws.{DestinationsAreGrantedExactly}
+use Rattle.driver_laws.specs.GrantLaws.{CountersAndTerminationsAreGrantedOnly, CountersAreGrantedExactly, TerminationsAreGrantedExactly}
+use Rattle.driver_laws.specs.ImageLaws.{ImagesAreGrantedExactly}
+use Rattle.driver_laws.specs.ListingLaws.{CountersAreShownExactly}
+use Rattle.driver_laws.specs.NumberLaws.{NumbersAreNeverDrawnAgain}
+use Rattle.driver_laws.specs.PublishingLaws.{ImagesComeBySetups, PublicationsAreGrantedExactly, PublicationsAreGrantedOnly}
+use Rattle.driver_laws.specs.ReloadLaws.{NewestPolicyIsInForce, ReloadsCloseExactly as ReloadedExactly}
+use Rattle.driver_laws.specs.SettingLaws.{SetupsAreGrantedExactly}
+use Rattle.driver_laws.specs.SoundnessLaws.{RegistriesAreSound}
+use Rattle.driver_laws.specs.SubscribingLaws.{SubscriptionsAreGrantedExactly, SubscriptionsAreGrantedOnly}
+use Rattle.driver_steps.specs.Laws.{LogsFollowTheRegistry, OffersAreGrantedExactly, PollsAreGrantedExactly, BytesComeFromTheLiveLog, RunsTakeEvents}
+use Rattle.driver_steps.specs.CarryingLaws.{PayloadsComeFromTheirPublisher}
+use Rattle.driver_steps.specs.ResendLaws.{ResendsComeFromTheLiveLog}
+use Rattle.driver_steps.specs.SendLaws.{SendsAreGrantedExactly}
+use Rattle.driver_world.specs.Laws.{RunsAreOfTheDriver}
+use Rattle.driver_world.specs.ViewLaws.{RegistriesWereNewest}
+
+-- Each registry of a run is what its events left, and the run of a world is one of a driver: so what is said of all lists of
+-- events, and of all runs of a driver, holds of every registry and every end of a world.
+pub record HoldOfWorlds : Type 0 where
+  pub registries : RunsTakeEvents
+  pub newest : RegistriesWereNewest
+  pub runs : RunsAreOfTheDriver
+
+-- granted only and exactly where the first matching rule of the policy in force allows it
+pub record GrantedExactly : Type 0 where
+  pub subscriptions : SubscriptionsAreGrantedExactly
+  pub subscriptions_only : SubscriptionsAreGrantedOnly
+  pub publications : PublicationsAreGrantedExactly
+  pub publications_only : PublicationsAreGrantedOnly
+  pub destinations : DestinationsAreGrantedExactly
+  pub counters : CountersAreGrantedExactly
+  pub terminations : TerminationsAreGrantedExactly
+  pub counters_and_terminations_only : CountersAndTerminationsAreGrantedOnly
+  pub images : ImagesAreGrantedExactly
+  pub setups : SetupsAreGrantedExactly
+  pub images_only : ImagesComeBySetups
+  pub shown : CountersAreShownExactly
+  pub offers : OffersAreGrantedExactly
+  pub polls : PollsAreGrantedExactly
+  pub sends : SendsAreGrantedExactly
+  pub resends : ResendsComeFromTheLiveLog
+  pub worlds : HoldOfWorlds
+
+-- each denial names that rule, or the default
+pub record DenialsNameTheirRule : Type 0 where
+  pub denials : DenialsAreNamed
+  pub decisions : DecisionsAreByThePolicyInForce
+  pub shown : CountersAreShownExactly
+  pub offers : OffersAreGrantedExactly
+  pub polls : PollsAreGrantedExactly
+  pub sends : SendsAreGrantedExactly
+  pub resends : ResendsComeFromTheLiveLog
+  pub worlds : HoldOfWorlds
+
+-- a policy that is put in force closes the images that are no longer allowed, and no others
+pub record ReloadsCloseExactly : Type 0 where
+  pub images : ReloadedExactly
+  pub in_force : NewestPolicyIsInForce
+  pub logs : LogsCloseExactly
+  pub logs_only : LogsCloseOnly
+  pub follow : LogsFollowTheRegistry
+  pub worlds : HoldOfWorlds
+
+-- bytes are those of the live log that holds them
+pub record BytesComeOnlyFromTheLiveLog : Type 0 where
+  pub polled : BytesComeFromTheLiveLog
+  pub payloads : PayloadsComeFromTheirPublisher
+  pub resent : ResendsComeFromTheLiveLog
+  pub follow : LogsFollowTheRegistry
+  pub sound : RegistriesAreSound
+  pub numbers : NumbersAreNeverDrawnAgain
+  pub worlds : HoldOfWorlds

@@ -1,0 +1,97 @@
+//! What the driver promises, in four sentences: each is the sum of laws that are stated beside, on every list of events
+//! (`driver_laws`), on every run of a driver (`driver_steps`) and on every run of a world (`driver_world`), whose registries
+//! are what their events make of the opened one, and whose steps are those of a driver.
+
+ghost use Rattle.driver_laws.specs.Headline.{BytesComeOnlyFromTheLiveLog, DenialsNameTheirRule, GrantedExactly, ReloadsCloseExactly};
+
+use crate::{
+    counters_and_terminations_are_granted_only, counters_are_granted_exactly,
+    counters_are_shown_exactly, decisions_are_by_the_policy_in_force, denials_are_named,
+    destinations_are_granted_exactly, images_are_granted_exactly, images_come_by_setups,
+    logs_close_exactly, logs_close_only, newest_policy_is_in_force, numbers_are_never_drawn_again,
+    publications_are_granted_exactly, publications_are_granted_only, registries_are_sound,
+    reloads_close_exactly, setups_are_granted_exactly, subscriptions_are_granted_exactly,
+    subscriptions_are_granted_only, terminations_are_granted_exactly,
+};
+use driver_steps::{
+    bytes_come_from_the_live_log, logs_follow_the_registry, offers_are_granted_exactly,
+    payloads_come_from_their_publisher, polls_are_granted_exactly, resends_come_from_the_live_log,
+    runs_take_events, sends_are_granted_exactly,
+};
+use driver_world::{registries_were_newest, runs_are_of_the_driver};
+
+/// A well-formed request is granted only and exactly where the first matching rule of the policy in force at its step, or
+/// else the default, allows its principal: a subscription, a publication, a destination, a counter, the end of the driver, an
+/// image, an offer, a poll, a datagram to a destination, frames that are sent again, a look at a counter. The laws on offers,
+/// polls, datagrams and frames are on steps by the newest registry; those by an older one ask it by the same definitions.
+pub fn granted_exactly()
+    ensures { GrantedExactly }
+{
+    subscriptions_are_granted_exactly();
+    subscriptions_are_granted_only();
+    publications_are_granted_exactly();
+    publications_are_granted_only();
+    destinations_are_granted_exactly();
+    counters_are_granted_exactly();
+    terminations_are_granted_exactly();
+    counters_and_terminations_are_granted_only();
+    images_come_by_setups();
+    setups_are_granted_exactly();
+    images_are_granted_exactly();
+    counters_are_shown_exactly();
+    offers_are_granted_exactly();
+    polls_are_granted_exactly();
+    sends_are_granted_exactly();
+    resends_come_from_the_live_log();
+    runs_take_events();
+    runs_are_of_the_driver();
+    registries_were_newest();
+}
+
+/// Each denial names the first rule that matches, or the default where none does, and the number of the policy.
+pub fn denials_name_their_rule()
+    ensures { DenialsNameTheirRule }
+{
+    denials_are_named();
+    decisions_are_by_the_policy_in_force();
+    counters_are_shown_exactly();
+    offers_are_granted_exactly();
+    polls_are_granted_exactly();
+    sends_are_granted_exactly();
+    resends_come_from_the_live_log();
+    runs_take_events();
+    registries_were_newest();
+    runs_are_of_the_driver();
+}
+
+/// A policy that is put in force closes exactly the images that it no longer allows, and their logs; one that is refused
+/// closes nothing.
+pub fn a_reload_closes_exactly()
+    ensures { ReloadsCloseExactly }
+{
+    reloads_close_exactly();
+    newest_policy_is_in_force();
+    logs_close_exactly();
+    logs_close_only();
+    logs_follow_the_registry();
+    runs_take_events();
+    registries_were_newest();
+    runs_are_of_the_driver();
+}
+
+/// Bytes are polled and sent again only from the live log that holds them, which shares no page with another; each was put
+/// there by an offer that was allowed, or came from the log's publisher. No number is drawn again, so a log that an older
+/// registry names is the same log, or closed.
+pub fn bytes_come_only_from_the_live_log()
+    ensures { BytesComeOnlyFromTheLiveLog }
+{
+    bytes_come_from_the_live_log();
+    payloads_come_from_their_publisher();
+    resends_come_from_the_live_log();
+    logs_follow_the_registry();
+    registries_are_sound();
+    numbers_are_never_drawn_again();
+    runs_take_events();
+    runs_are_of_the_driver();
+    registries_were_newest();
+}
