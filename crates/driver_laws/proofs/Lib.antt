@@ -23,6 +23,7 @@ pub mod LoggedLemmas
 pub mod NamedLemmas
 pub mod NewNumberLemmas
 pub mod NumberLemmas
+pub mod OlderLemmas
 pub mod OwnerLemmas
 pub mod PairCountLemmas
 pub mod PublicationLemmas

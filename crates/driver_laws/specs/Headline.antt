@@ -8,6 +8,7 @@ use Rattle.driver_laws.specs.GrantLaws.{CountersAndTerminationsAreGrantedOnly, C
 use Rattle.driver_laws.specs.ImageLaws.{ImagesAreGrantedExactly}
 use Rattle.driver_laws.specs.ListingLaws.{CountersAreShownExactly}
 use Rattle.driver_laws.specs.NumberLaws.{NumbersAreNeverDrawnAgain}
+use Rattle.driver_laws.specs.OlderLaws.{OffersByAnyRegistryAreGrantedExactly, PollsByAnyRegistryAreGrantedExactly}
 use Rattle.driver_laws.specs.PublishingLaws.{ImagesComeBySetups, PublicationsAreGrantedExactly, PublicationsAreGrantedOnly}
 use Rattle.driver_laws.specs.ReloadLaws.{NewestPolicyIsInForce, ReloadsCloseExactly as ReloadedExactly}
 use Rattle.driver_laws.specs.SettingLaws.{SetupsAreGrantedExactly}
@@ -42,7 +43,9 @@ pub record GrantedExactly : Type 0 where
   pub images_only : ImagesComeBySetups
   pub shown : CountersAreShownExactly
   pub offers : OffersAreGrantedExactly
+  pub offers_by_any : OffersByAnyRegistryAreGrantedExactly
   pub polls : PollsAreGrantedExactly
+  pub polls_by_any : PollsByAnyRegistryAreGrantedExactly
   pub sends : SendsAreGrantedExactly
   pub resends : ResendsComeFromTheLiveLog
   pub worlds : HoldOfWorlds
@@ -53,7 +56,9 @@ pub record DenialsNameTheirRule : Type 0 where
   pub decisions : DecisionsAreByThePolicyInForce
   pub shown : CountersAreShownExactly
   pub offers : OffersAreGrantedExactly
+  pub offers_by_any : OffersByAnyRegistryAreGrantedExactly
   pub polls : PollsAreGrantedExactly
+  pub polls_by_any : PollsByAnyRegistryAreGrantedExactly
   pub sends : SendsAreGrantedExactly
   pub resends : ResendsComeFromTheLiveLog
   pub worlds : HoldOfWorlds

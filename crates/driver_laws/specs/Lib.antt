@@ -12,6 +12,7 @@ pub mod LeavingLaws
 pub mod LimitLaws
 pub mod ListingLaws
 pub mod NumberLaws
+pub mod OlderLaws
 pub mod OwnerLaws
 pub mod PublishingLaws
 pub mod RefusalLaws

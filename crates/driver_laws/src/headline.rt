@@ -2,6 +2,7 @@
 //! (`driver_laws`), on every run of a driver (`driver_steps`) and on every run of a world (`driver_world`), whose registries
 //! are what their events make of the opened one, and whose steps are those of a driver.
 
+ghost use Rattle.driver_laws.specs.OlderLaws.{OffersByAnyRegistryAreGrantedExactly, PollsByAnyRegistryAreGrantedExactly};
 ghost use Rattle.driver_laws.specs.Headline.{BytesComeOnlyFromTheLiveLog, DenialsNameTheirRule, GrantedExactly, ReloadsCloseExactly};
 
 use crate::{
@@ -22,8 +23,9 @@ use driver_world::{registries_were_newest, runs_are_of_the_driver};
 
 /// A well-formed request is granted only and exactly where the first matching rule of the policy in force at its step, or
 /// else the default, allows its principal: a subscription, a publication, a destination, a counter, the end of the driver, an
-/// image, an offer, a poll, a datagram to a destination, frames that are sent again, a look at a counter. The laws on offers,
-/// polls, datagrams and frames are on steps by the newest registry; those by an older one ask it by the same definitions.
+/// image, an offer, a poll, a datagram to a destination, frames that are sent again, a look at a counter. The laws on offers and
+/// polls are on steps by any registry that the run went through; those on datagrams and frames are on steps by the newest, and
+/// those by an older one ask it by the same definitions.
 pub fn granted_exactly()
     ensures { GrantedExactly }
 {
@@ -40,13 +42,30 @@ pub fn granted_exactly()
     images_are_granted_exactly();
     counters_are_shown_exactly();
     offers_are_granted_exactly();
+    offers_by_any_registry_are_granted_exactly();
     polls_are_granted_exactly();
+    polls_by_any_registry_are_granted_exactly();
     sends_are_granted_exactly();
     resends_come_from_the_live_log();
     runs_take_events();
     runs_are_of_the_driver();
     registries_were_newest();
 }
+
+/// An offer by any registry that the run went through goes on to the log that the client's registration is with, where that is
+/// still open, exactly where the first rule of that registry's policy that matches, or the default, allows it; else the
+/// verdict is told and nothing changes. The log is one of frames that were appended: no number is drawn again.
+pub fn offers_by_any_registry_are_granted_exactly()
+    ensures { OffersByAnyRegistryAreGrantedExactly }
+{}
+
+/// A poll by any registry that the run went through is given the fragments from where the subscription stands, where that is the
+/// client's own and reads the log by that registry and still has a position in it, exactly where the first rule of that
+/// registry's policy that matches, or the default, allows it; else the verdict is told, or that it is gone, and nothing
+/// changes.
+pub fn polls_by_any_registry_are_granted_exactly()
+    ensures { PollsByAnyRegistryAreGrantedExactly }
+{}
 
 /// Each denial names the first rule that matches, or the default where none does, and the number of the policy.
 pub fn denials_name_their_rule()
@@ -56,7 +75,9 @@ pub fn denials_name_their_rule()
     decisions_are_by_the_policy_in_force();
     counters_are_shown_exactly();
     offers_are_granted_exactly();
+    offers_by_any_registry_are_granted_exactly();
     polls_are_granted_exactly();
+    polls_by_any_registry_are_granted_exactly();
     sends_are_granted_exactly();
     resends_come_from_the_live_log();
     runs_take_events();

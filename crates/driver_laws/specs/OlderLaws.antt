@@ -1,0 +1,100 @@
+-- Offers and polls by any registry that a run went through, on the logs that are open at its end. Own rules.
+use Rattle.std.specs.Prelude.{◌≡◌, ℕ, not, nat_lt, true, false, List, length, take, Some, None, if◌then◌else◌}
+use Rattle.any_log.specs.Whole.{position_in, whole}
+use Rattle.driver_core.specs.declared.peer.Peer.{Peer}
+use Rattle.driver_core.specs.declared.settings.Settings.{Settings}
+use Rattle.driver_core.specs.Conduct.{state_of}
+use Rattle.driver_core.specs.LogRequests.{has_pair, registration_at}
+use Rattle.driver_core.specs.Renewal.{subscription_at}
+use Rattle.driver_core.specs.Soundness.{AreSettings}
+use Rattle.driver_core.specs.State.{State, opened}
+use Rattle.driver_core.specs.Verdicts.{IsByPolicy}
+use Rattle.driver_steps.specs.declared.answer.Answer.{Answer}
+use Rattle.driver_steps.specs.declared.answer.Answer.TheVariants.{Offered as OfferedAs, Denied, Gone as IsGone}
+use Rattle.driver_steps.specs.declared.answer.Offered.TheVariants.{Closed, TooLong, NotConnected}
+use Rattle.driver_steps.specs.declared.step.Step.TheVariants.{Offer, Poll}
+use Rattle.driver_steps.specs.Ends.{RunEnd, Moved, log_at, opening_end}
+use Rattle.driver_steps.specs.Laws.{AsksToOffer, AsksToPoll, OfferRequest, PollRequest, given_by_log, offer_question, offer_verdict, poll_question, poll_verdict, stays, taken_by_log, taken_from}
+use Rattle.driver_steps.specs.Moves.{WholeLog}
+use Rattle.driver_steps.specs.Runs.{Reading, AreAnswers, end_of}
+use Rattle.driver_steps.specs.Seen.{moved_seen}
+use Rattle.policy_core.specs.RuleList.{Rules}
+use Rattle.stream_registry.specs.declared.row.Subscription.{Subscription}
+use Rattle.term_log.specs.Log.{greatest_message}
+use Rattle.term_log.specs.Whole.{Whole, is_connected}
+
+-- registry k of a run: what the first k events that it took make of the opened one
+abbrev pub registry_in : Settings → Rules → List Peer → List Reading → List Answer → ℕ → State
+registry_in settings policy peers readings answers k =
+    state_of (opened settings policy peers) (take k (taken_from (opening_end settings policy peers) readings answers))
+
+-- whatever happened since a driver was opened with sound settings, and whichever registry of that run one looks at
+abbrev pub AtEachRegistry : (State → RunEnd → Type 0) → Type 0
+AtEachRegistry P =
+    (settings : Settings) (policy : Rules) (peers : List Peer) (readings : List Reading) (answers : List Answer) (k : ℕ) →
+    AreSettings settings → AreAnswers (opening_end settings policy peers) readings answers →
+    P (registry_in settings policy peers readings answers k) (end_of (opening_end settings policy peers) readings answers)
+
+-- an allowed offer: too long, to nobody, or taken as the log can
+abbrev pub let_through_seen : State → RunEnd → ℕ → List ℕ → WholeLog → Whole → Moved
+let_through_seen s e now message log frames =
+    if nat_lt (greatest_message frames.ident) (length message) then stays e (OfferedAs TooLong)
+    else if not (is_connected frames now s.settings.connection_timeout) then stays e (OfferedAs NotConnected)
+    else taken_by_log e message log frames
+
+-- The verdict of that registry's policy decides: the offer goes on to the log exactly where it allows it, and else names it.
+pub record OfferIsDecidedBy (s : State) (e : RunEnd) (now : ℕ) (message : List ℕ) (request : OfferRequest) (log : WholeLog) (frames : Whole)
+    (what : Moved) : Type 0 where
+  pub by : IsByPolicy s (offer_question request) (offer_verdict s request)
+  pub granted : (offer_verdict s request).allow ≡ true → what ≡ let_through_seen s e now message log frames
+  pub denied : (offer_verdict s request).allow ≡ false → what ≡ stays e (Denied (offer_verdict s request))
+
+-- a registration that it has is with a publication, whose log, where it is still open, is one of frames that were appended
+pub record OffersAreDecidedBy (s : State) (e : RunEnd) : Type 0 where
+  pub there :
+      (now handle number : ℕ) (message : List ℕ) (request : OfferRequest) (log : WholeLog) →
+      AsksToOffer s handle number request → log_at e.logs request.publication.number ≡ Some log →
+      (frames : Whole)
+      × (log.whole ≡ whole frames)
+      × OfferIsDecidedBy s e now message request log frames (moved_seen s e (Offer now handle number message))
+  pub closed :
+      (now handle number : ℕ) (message : List ℕ) (request : OfferRequest) →
+      AsksToOffer s handle number request → log_at e.logs request.publication.number ≡ None →
+      moved_seen s e (Offer now handle number message) ≡ stays e (OfferedAs Closed)
+  pub unregistered :
+      (now handle number : ℕ) (message : List ℕ) → registration_at s.streams.registrations handle number ≡ None →
+      moved_seen s e (Offer now handle number message) ≡ stays e (OfferedAs Closed)
+
+abbrev pub OffersByAnyRegistryAreGrantedExactly : Type 0
+OffersByAnyRegistryAreGrantedExactly = AtEachRegistry OffersAreDecidedBy
+
+-- the verdict of that registry's policy decides: the fragments from where the subscription stands are given exactly where it
+-- allows it
+pub record PollIsDecidedBy (s : State) (e : RunEnd) (number limit : ℕ) (request : PollRequest) (log : WholeLog) (what : Moved) : Type 0 where
+  pub by : IsByPolicy s (poll_question request) (poll_verdict s request)
+  pub granted : (poll_verdict s request).allow ≡ true → what ≡ given_by_log e number limit log
+  pub denied : (poll_verdict s request).allow ≡ false → what ≡ stays e (Denied (poll_verdict s request))
+
+-- where the subscription of that registry has a position in the log, which it may have lost since
+pub record PollsAreDecidedBy (s : State) (e : RunEnd) : Type 0 where
+  pub there :
+      (now handle number source limit at : ℕ) (request : PollRequest) (log : WholeLog) →
+      AsksToPoll s handle number source request → log_at e.logs source ≡ Some log → position_in log.whole number ≡ Some at →
+      PollIsDecidedBy s e number limit request log (moved_seen s e (Poll now handle number source limit))
+  pub unread_now :
+      (now handle number source limit : ℕ) (log : WholeLog) →
+      log_at e.logs source ≡ Some log → position_in log.whole number ≡ None →
+      moved_seen s e (Poll now handle number source limit) ≡ stays e IsGone
+  pub closed :
+      (now handle number source limit : ℕ) → log_at e.logs source ≡ None →
+      moved_seen s e (Poll now handle number source limit) ≡ stays e IsGone
+  pub unread :
+      (now handle number source limit : ℕ) → has_pair s source number ≡ false →
+      moved_seen s e (Poll now handle number source limit) ≡ stays e IsGone
+  pub foreign :
+      (now handle number source limit : ℕ) (subscription : Subscription) →
+      subscription_at s.streams.subscriptions number ≡ Some subscription → ¬ (subscription.client ≡ handle) →
+      moved_seen s e (Poll now handle number source limit) ≡ stays e IsGone
+
+abbrev pub PollsByAnyRegistryAreGrantedExactly : Type 0
+PollsByAnyRegistryAreGrantedExactly = AtEachRegistry PollsAreDecidedBy
