@@ -7,6 +7,7 @@ use Rattle.any_log.specs.Whole.{whole, made_for as made_any, position_in}
 use Rattle.driver_core.specs.declared.event.Event.{Event}
 use Rattle.driver_core.specs.declared.event.Inputs.{Inputs}
 use Rattle.driver_core.specs.declared.log_request.LogRequest.{LogRequest}
+use Rattle.driver_core.specs.declared.peer.Peer.{Peer}
 use Rattle.driver_core.specs.declared.settings.Settings.{Settings}
 use Rattle.driver_core.specs.Conduct.{state_of}
 use Rattle.driver_core.specs.LogRequests.{has_pair, offering_of, offered_by, received_on, receiving_of, registration_at, row_decision}
@@ -24,6 +25,7 @@ use Rattle.driver_laws.proofs.LoggedLemmas.{found_in, registrations_logged}
 use Rattle.driver_laws.proofs.NewNumberLemmas.{never_drawn_again}
 use Rattle.driver_laws.proofs.NumberLemmas.{are_drawn, numbers_rise}
 use Rattle.driver_laws.proofs.RisingLemmas.{rises_unique}
+use Rattle.driver_steps.specs.declared.answer.Answer.{Answer}
 use Rattle.driver_steps.specs.declared.answer.Answer.TheVariants.{Offered as OfferedAs, Denied, Gone as IsGone}
 use Rattle.driver_steps.specs.declared.answer.Offered.TheVariants.{Closed, TooLong, NotConnected}
 use Rattle.driver_steps.specs.declared.step.Step.TheVariants.{Offer, Poll}
@@ -31,7 +33,8 @@ use Rattle.driver_steps.specs.Ends.{RunEnd, Moved, log_at, moved_on, on_log, on_
 use Rattle.driver_steps.specs.Idents.{made_of}
 use Rattle.driver_steps.specs.Laws.{AsksToOffer, AsksToPoll, LogsFollow, OfferRequest, PollRequest, given_by_log, made_as, made_for, offer_question, poll_question, stays, taken_by_log, taken_from}
 use Rattle.driver_steps.specs.Moves.{Move, WholeLog, answered, given, offer_let, offer_move, offer_to, offer_under, poll_move, poll_under, taken}
-use Rattle.driver_steps.specs.Runs.{end_of}
+use Rattle.driver_steps.specs.Runs.{Reading, end_of}
+use Rattle.policy_core.specs.RuleList.{Rules}
 use Rattle.driver_steps.specs.Seen.{moved_seen}
 use Rattle.driver_steps.proofs.DecisionLemmas.{appended_for, left_by, log_moves, made_at, published_made, stays_left, IsAppended, IsForPublication}
 use Rattle.driver_steps.proofs.EndLemmas.{opening_is, run_takes, state_of_both}
@@ -56,7 +59,7 @@ origin_published : (o : Origin) → is_published_by (unlingering o) ≡ is_publi
 origin_published (Published exclusive since) = refl
 origin_published (Remote address initial_term join) = refl
 
-same_published : (log other : Source) → IsSameLog log other → is_published log ≡ is_published other
+pub same_published : (log other : Source) → IsSameLog log other → is_published log ≡ is_published other
 same_published log other same =
     sym (origin_published log.origin) ∙ ap (λ (one : Source). is_published one) same ∙ origin_published other.origin
 
@@ -85,7 +88,7 @@ row_step true source found first log logs rest is = (source, refl)
 row_step false source found first log logs rest is = rest is
 
 -- each open log is that of a live source of its number
-row_of : (settings : Settings) (logs : List WholeLog) (sources : List Source) (n : ℕ) (log : WholeLog) →
+pub row_of : (settings : Settings) (logs : List WholeLog) (sources : List Source) (n : ℕ) (log : WholeLog) →
     map made_for logs ≡ map (made_as settings) sources → log_at logs n ≡ Some log → (row : Source) × (source_at sources n ≡ Some row)
 row_of settings [] sources n log made found = absurd (cc found)
 row_of settings (first ∷ logs) [] n log made found = absurd (cc made)
@@ -340,8 +343,10 @@ polled_by_any s e = record {
 
 -- ---- of a run
 
-pub offers_by_any : OffersByAnyRegistryAreGrantedExactly
-offers_by_any settings policy peers readings answers k sound are =
+-- no number of that registry is drawn again
+pub above_of : (settings : Settings) (policy : Rules) (peers : List Peer) (readings : List Reading) (answers : List Answer) (k : ℕ) →
+    ComesAbove (registry_in settings policy peers readings answers k) (end_of (opening_end settings policy peers) readings answers).registry
+above_of settings policy peers readings answers k =
     let start : State = opened settings policy peers in
     let events : List (Event × Inputs) = taken_from (opening_end settings policy peers) readings answers in
     let s : State = state_of start (take k events) in
@@ -351,9 +356,14 @@ offers_by_any settings policy peers readings answers k sound are =
     ∙ ap (λ (o : State). state_of o events) (opening_is settings policy peers)
     ∙ ap (state_of start) (sym (take-append-drop k events))
     ∙ state_of_both start (take k events) (drop k events) in
-    let above : ComesAbove s e.registry = subst (ComesAbove s) (sym is) (never_drawn_again settings policy peers (take k events) (drop k events)) in
-    decided_by_any s e (logs_follow settings policy peers readings answers sound are) (numbers_rise settings policy peers (take k events))
-    (registrations_logged settings policy peers (take k events)) above
+    subst (ComesAbove s) (sym is) (never_drawn_again settings policy peers (take k events) (drop k events))
+
+pub offers_by_any : OffersByAnyRegistryAreGrantedExactly
+offers_by_any settings policy peers readings answers k sound are =
+    let first : List (Event × Inputs) = take k (taken_from (opening_end settings policy peers) readings answers) in
+    decided_by_any (registry_in settings policy peers readings answers k) (end_of (opening_end settings policy peers) readings answers)
+    (logs_follow settings policy peers readings answers sound are) (numbers_rise settings policy peers first)
+    (registrations_logged settings policy peers first) (above_of settings policy peers readings answers k)
 
 pub polls_by_any : PollsByAnyRegistryAreGrantedExactly
 polls_by_any settings policy peers readings answers k sound are =

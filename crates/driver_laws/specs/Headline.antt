@@ -8,7 +8,7 @@ use Rattle.driver_laws.specs.GrantLaws.{CountersAndTerminationsAreGrantedOnly, C
 use Rattle.driver_laws.specs.ImageLaws.{ImagesAreGrantedExactly}
 use Rattle.driver_laws.specs.ListingLaws.{CountersAreShownExactly}
 use Rattle.driver_laws.specs.NumberLaws.{NumbersAreNeverDrawnAgain}
-use Rattle.driver_laws.specs.OlderLaws.{OffersByAnyRegistryAreGrantedExactly, PollsByAnyRegistryAreGrantedExactly}
+use Rattle.driver_laws.specs.OlderLaws.{OffersByAnyRegistryAreGrantedExactly, PollsByAnyRegistryAreGrantedExactly, SendsByAnyRegistryAreGrantedExactly}
 use Rattle.driver_laws.specs.PublishingLaws.{ImagesComeBySetups, PublicationsAreGrantedExactly, PublicationsAreGrantedOnly}
 use Rattle.driver_laws.specs.ReloadLaws.{NewestPolicyIsInForce, ReloadsCloseExactly as ReloadedExactly}
 use Rattle.driver_laws.specs.SettingLaws.{SetupsAreGrantedExactly}
@@ -47,6 +47,7 @@ pub record GrantedExactly : Type 0 where
   pub polls : PollsAreGrantedExactly
   pub polls_by_any : PollsByAnyRegistryAreGrantedExactly
   pub sends : SendsAreGrantedExactly
+  pub sends_by_any : SendsByAnyRegistryAreGrantedExactly
   pub resends : ResendsComeFromTheLiveLog
   pub worlds : HoldOfWorlds
 
@@ -60,6 +61,7 @@ pub record DenialsNameTheirRule : Type 0 where
   pub polls : PollsAreGrantedExactly
   pub polls_by_any : PollsByAnyRegistryAreGrantedExactly
   pub sends : SendsAreGrantedExactly
+  pub sends_by_any : SendsByAnyRegistryAreGrantedExactly
   pub resends : ResendsComeFromTheLiveLog
   pub worlds : HoldOfWorlds
 

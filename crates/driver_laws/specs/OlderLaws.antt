@@ -1,19 +1,29 @@
--- Offers and polls by any registry that a run went through, on the logs that are open at its end. Own rules.
-use Rattle.std.specs.Prelude.{◌≡◌, ℕ, not, nat_lt, true, false, List, length, take, Some, None, if◌then◌else◌}
+-- Offers, polls and turns of the sender by any registry that a run went through, on the logs that are open at its end. Own rules.
+use Rattle.destinations.specs.declared.destination.Destination.{Destination}
+use Rattle.destinations.specs.Destinations.{of}
+use Rattle.driver_core.specs.declared.send_request.Outlet.{Outlet}
+use Rattle.driver_core.specs.SendRequests.{is_sent, outlet_of, sending_of}
+use Rattle.driver_steps.specs.SendLaws.{OutletIsDecided}
+use Rattle.driver_steps.specs.Sending.{pace_of}
+use Rattle.publication_sender.specs.Cutting.{cut_of, datagram_of}
+use Rattle.stream_registry.specs.declared.row.Source.{Source}
+use Rattle.stream_registry.specs.Origins.{lingering_since}
+use Rattle.std.specs.Option.{is_some}
+use Rattle.std.specs.Prelude.{map, ◌≡◌, ℕ, not, nat_lt, true, false, List, length, take, Some, None, if◌then◌else◌}
 use Rattle.any_log.specs.Whole.{position_in, whole}
 use Rattle.driver_core.specs.declared.peer.Peer.{Peer}
 use Rattle.driver_core.specs.declared.settings.Settings.{Settings}
 use Rattle.driver_core.specs.Conduct.{state_of}
 use Rattle.driver_core.specs.LogRequests.{has_pair, registration_at}
-use Rattle.driver_core.specs.Renewal.{subscription_at}
+use Rattle.driver_core.specs.Renewal.{source_at, subscription_at}
 use Rattle.driver_core.specs.Soundness.{AreSettings}
 use Rattle.driver_core.specs.State.{State, opened}
 use Rattle.driver_core.specs.Verdicts.{IsByPolicy}
 use Rattle.driver_steps.specs.declared.answer.Answer.{Answer}
-use Rattle.driver_steps.specs.declared.answer.Answer.TheVariants.{Offered as OfferedAs, Denied, Gone as IsGone}
+use Rattle.driver_steps.specs.declared.answer.Answer.TheVariants.{Offered as OfferedAs, Denied, Gone as IsGone, Idle, Sent}
 use Rattle.driver_steps.specs.declared.answer.Offered.TheVariants.{Closed, TooLong, NotConnected}
-use Rattle.driver_steps.specs.declared.step.Step.TheVariants.{Offer, Poll}
-use Rattle.driver_steps.specs.Ends.{RunEnd, Moved, log_at, opening_end}
+use Rattle.driver_steps.specs.declared.step.Step.TheVariants.{Offer, Poll, Send}
+use Rattle.driver_steps.specs.Ends.{RunEnd, Moved, log_at, opening_end, with_log}
 use Rattle.driver_steps.specs.Laws.{AsksToOffer, AsksToPoll, OfferRequest, PollRequest, given_by_log, offer_question, offer_verdict, poll_question, poll_verdict, stays, taken_by_log, taken_from}
 use Rattle.driver_steps.specs.Moves.{WholeLog}
 use Rattle.driver_steps.specs.Runs.{Reading, AreAnswers, end_of}
@@ -98,3 +108,39 @@ pub record PollsAreDecidedBy (s : State) (e : RunEnd) : Type 0 where
 
 abbrev pub PollsByAnyRegistryAreGrantedExactly : Type 0
 PollsByAnyRegistryAreGrantedExactly = AtEachRegistry PollsAreDecidedBy
+
+-- ---- a turn of the sender
+
+-- the log moves on by what was cut, whoever gets it, and no other log is changed
+abbrev pub cut_by_log_seen : State → RunEnd → ℕ → WholeLog → Whole → List ℕ → List Outlet → Moved
+cut_by_log_seen s e now log frames bytes outlets = record {
+  after = record e {
+    logs = with_log e.logs log.source (record log { whole = whole (cut_of (pace_of s.settings) now frames) });
+  };
+  answer = Sent bytes outlets;
+}
+
+-- the datagram that is due, for each destination that the publication has by that registry, by its policy
+pub record SendIsDecidedBy (s : State) (e : RunEnd) (now : ℕ) (publication : Source) (log : WholeLog) (frames : Whole) (what : Moved) : Type 0 where
+  pub outlets : List Outlet
+  pub are : outlets ≡ map (outlet_of s publication) (of s.destinations.rows publication.number)
+  pub decided :
+      (destination : Destination) → OutletIsDecided s publication destination (outlet_of s publication destination)
+  pub idle :
+      datagram_of (pace_of s.settings) now (is_some (lingering_since publication)) frames ≡ None → what ≡ stays e Idle
+  pub sent :
+      (bytes : List ℕ) → datagram_of (pace_of s.settings) now (is_some (lingering_since publication)) frames ≡ Some bytes →
+      what ≡ cut_by_log_seen s e now log frames bytes outlets
+
+pub record SendsAreDecidedBy (s : State) (e : RunEnd) : Type 0 where
+  pub there :
+      (now source : ℕ) (publication : Source) (log : WholeLog) →
+      source_at s.streams.sources source ≡ Some publication → is_sent publication ≡ true → log_at e.logs source ≡ Some log →
+      (frames : Whole)
+      × (log.whole ≡ whole frames)
+      × SendIsDecidedBy s e now publication log frames (moved_seen s e (Send now source))
+  pub closed : (now source : ℕ) → log_at e.logs source ≡ None → moved_seen s e (Send now source) ≡ stays e IsGone
+  pub gone : (now source : ℕ) → sending_of s source ≡ None → moved_seen s e (Send now source) ≡ stays e IsGone
+
+abbrev pub SendsByAnyRegistryAreGrantedExactly : Type 0
+SendsByAnyRegistryAreGrantedExactly = AtEachRegistry SendsAreDecidedBy

@@ -2,7 +2,7 @@
 //! (`driver_laws`), on every run of a driver (`driver_steps`) and on every run of a world (`driver_world`), whose registries
 //! are what their events make of the opened one, and whose steps are those of a driver.
 
-ghost use Rattle.driver_laws.specs.OlderLaws.{OffersByAnyRegistryAreGrantedExactly, PollsByAnyRegistryAreGrantedExactly};
+ghost use Rattle.driver_laws.specs.OlderLaws.{OffersByAnyRegistryAreGrantedExactly, PollsByAnyRegistryAreGrantedExactly, SendsByAnyRegistryAreGrantedExactly};
 ghost use Rattle.driver_laws.specs.Headline.{BytesComeOnlyFromTheLiveLog, DenialsNameTheirRule, GrantedExactly, ReloadsCloseExactly};
 
 use crate::{
@@ -23,8 +23,8 @@ use driver_world::{registries_were_newest, runs_are_of_the_driver};
 
 /// A well-formed request is granted only and exactly where the first matching rule of the policy in force at its step, or
 /// else the default, allows its principal: a subscription, a publication, a destination, a counter, the end of the driver, an
-/// image, an offer, a poll, a datagram to a destination, frames that are sent again, a look at a counter. The laws on offers and
-/// polls are on steps by any registry that the run went through; those on datagrams and frames are on steps by the newest, and
+/// image, an offer, a poll, a datagram to a destination, frames that are sent again, a look at a counter. The laws on offers,
+/// polls and datagrams are on steps by any registry that the run went through; that on frames is on steps by the newest, and
 /// those by an older one ask it by the same definitions.
 pub fn granted_exactly()
     ensures { GrantedExactly }
@@ -46,6 +46,7 @@ pub fn granted_exactly()
     polls_are_granted_exactly();
     polls_by_any_registry_are_granted_exactly();
     sends_are_granted_exactly();
+    sends_by_any_registry_are_granted_exactly();
     resends_come_from_the_live_log();
     runs_take_events();
     runs_are_of_the_driver();
@@ -67,6 +68,13 @@ pub fn polls_by_any_registry_are_granted_exactly()
     ensures { PollsByAnyRegistryAreGrantedExactly }
 {}
 
+/// A turn of the sender by any registry that the run went through cuts the one datagram that is due of the publication's log,
+/// where that is still open, and tells it for each destination that the publication has by that registry, with the verdict of
+/// that registry's policy on its maker.
+pub fn sends_by_any_registry_are_granted_exactly()
+    ensures { SendsByAnyRegistryAreGrantedExactly }
+{}
+
 /// Each denial names the first rule that matches, or the default where none does, and the number of the policy.
 pub fn denials_name_their_rule()
     ensures { DenialsNameTheirRule }
@@ -79,6 +87,7 @@ pub fn denials_name_their_rule()
     polls_are_granted_exactly();
     polls_by_any_registry_are_granted_exactly();
     sends_are_granted_exactly();
+    sends_by_any_registry_are_granted_exactly();
     resends_come_from_the_live_log();
     runs_take_events();
     registries_were_newest();
