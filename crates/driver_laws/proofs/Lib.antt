@@ -24,6 +24,7 @@ pub mod NamedLemmas
 pub mod NewNumberLemmas
 pub mod NumberLemmas
 pub mod OlderLemmas
+pub mod OlderNakLemmas
 pub mod OlderSendLemmas
 pub mod OwnerLemmas
 pub mod PairCountLemmas

@@ -8,7 +8,7 @@ use Rattle.driver_laws.specs.GrantLaws.{CountersAndTerminationsAreGrantedOnly, C
 use Rattle.driver_laws.specs.ImageLaws.{ImagesAreGrantedExactly}
 use Rattle.driver_laws.specs.ListingLaws.{CountersAreShownExactly}
 use Rattle.driver_laws.specs.NumberLaws.{NumbersAreNeverDrawnAgain}
-use Rattle.driver_laws.specs.OlderLaws.{OffersByAnyRegistryAreGrantedExactly, PollsByAnyRegistryAreGrantedExactly, SendsByAnyRegistryAreGrantedExactly}
+use Rattle.driver_laws.specs.OlderLaws.{NaksByAnyRegistryAreGrantedExactly, OffersByAnyRegistryAreGrantedExactly, PollsByAnyRegistryAreGrantedExactly, SendsByAnyRegistryAreGrantedExactly}
 use Rattle.driver_laws.specs.PublishingLaws.{ImagesComeBySetups, PublicationsAreGrantedExactly, PublicationsAreGrantedOnly}
 use Rattle.driver_laws.specs.ReloadLaws.{NewestPolicyIsInForce, ReloadsCloseExactly as ReloadedExactly}
 use Rattle.driver_laws.specs.SettingLaws.{SetupsAreGrantedExactly}
@@ -49,6 +49,7 @@ pub record GrantedExactly : Type 0 where
   pub sends : SendsAreGrantedExactly
   pub sends_by_any : SendsByAnyRegistryAreGrantedExactly
   pub resends : ResendsComeFromTheLiveLog
+  pub resends_by_any : NaksByAnyRegistryAreGrantedExactly
   pub worlds : HoldOfWorlds
 
 -- each denial names that rule, or the default
@@ -63,6 +64,7 @@ pub record DenialsNameTheirRule : Type 0 where
   pub sends : SendsAreGrantedExactly
   pub sends_by_any : SendsByAnyRegistryAreGrantedExactly
   pub resends : ResendsComeFromTheLiveLog
+  pub resends_by_any : NaksByAnyRegistryAreGrantedExactly
   pub worlds : HoldOfWorlds
 
 -- a policy that is put in force closes the images that are no longer allowed, and no others

@@ -1,4 +1,6 @@
--- Offers, polls and turns of the sender by any registry that a run went through, on the logs that are open at its end. Own rules.
+-- Offers, polls, turns of the sender and NAKs by any registry that a run went through, on the logs that are open at its end. Own rules.
+use Rattle.any_log.specs.Asking.{reply_by}
+use Rattle.channel_uri.specs.declared.address.Address.{Address}
 use Rattle.destinations.specs.declared.destination.Destination.{Destination}
 use Rattle.destinations.specs.Destinations.{of}
 use Rattle.driver_core.specs.declared.send_request.Outlet.{Outlet}
@@ -9,7 +11,7 @@ use Rattle.publication_sender.specs.Cutting.{cut_of, datagram_of}
 use Rattle.stream_registry.specs.declared.row.Source.{Source}
 use Rattle.stream_registry.specs.Origins.{lingering_since}
 use Rattle.std.specs.Option.{is_some}
-use Rattle.std.specs.Prelude.{map, ◌≡◌, ℕ, not, nat_lt, true, false, List, length, take, Some, None, if◌then◌else◌}
+use Rattle.std.specs.Prelude.{Ok, map, ◌≡◌, ℕ, not, nat_lt, true, false, List, length, take, Some, None, if◌then◌else◌}
 use Rattle.any_log.specs.Whole.{position_in, whole}
 use Rattle.driver_core.specs.declared.peer.Peer.{Peer}
 use Rattle.driver_core.specs.declared.settings.Settings.{Settings}
@@ -20,15 +22,25 @@ use Rattle.driver_core.specs.Soundness.{AreSettings}
 use Rattle.driver_core.specs.State.{State, opened}
 use Rattle.driver_core.specs.Verdicts.{IsByPolicy}
 use Rattle.driver_steps.specs.declared.answer.Answer.{Answer}
-use Rattle.driver_steps.specs.declared.answer.Answer.TheVariants.{Offered as OfferedAs, Denied, Gone as IsGone, Idle, Sent}
+use Rattle.driver_steps.specs.declared.answer.Answer.TheVariants.{Offered as OfferedAs, Denied, Dropped, Gone as IsGone, Idle, Resent, Sent}
 use Rattle.driver_steps.specs.declared.answer.Offered.TheVariants.{Closed, TooLong, NotConnected}
-use Rattle.driver_steps.specs.declared.step.Step.TheVariants.{Offer, Poll, Send}
+use Rattle.driver_steps.specs.declared.step.Step.TheVariants.{Offer, Packet, Poll, Send}
 use Rattle.driver_steps.specs.Ends.{RunEnd, Moved, log_at, opening_end, with_log}
 use Rattle.driver_steps.specs.Laws.{AsksToOffer, AsksToPoll, OfferRequest, PollRequest, given_by_log, offer_question, offer_verdict, poll_question, poll_verdict, stays, taken_by_log, taken_from}
 use Rattle.driver_steps.specs.Moves.{WholeLog}
 use Rattle.driver_steps.specs.Runs.{Reading, AreAnswers, end_of}
 use Rattle.driver_steps.specs.Seen.{moved_seen}
+use Rattle.driver_core.specs.declared.image_request.Astray.TheVariants.{NoStream}
+use Rattle.driver_core.specs.PublicationRequests.{publication_at}
+use Rattle.driver_steps.specs.declared.cause.Cause.TheVariants.{Astray, Denied as DeniedFor}
+use Rattle.driver_steps.specs.Hearing.{answer_asked}
+use Rattle.driver_steps.specs.Receiving.{unheard}
+use Rattle.driver_steps.specs.ResendLaws.{resend_question, resend_verdict}
+use Rattle.frame_codec.specs.declared.nak.Nak.{Nak}
+use Rattle.frame_codec.specs.Datagram.{nak, packet_of}
 use Rattle.policy_core.specs.RuleList.{Rules}
+use Rattle.publication_sender.specs.Resending.{asking_in, gate_after}
+use Rattle.retransmit_gate.specs.ResendLaws.{answer_to}
 use Rattle.stream_registry.specs.declared.row.Subscription.{Subscription}
 use Rattle.term_log.specs.Log.{greatest_message}
 use Rattle.term_log.specs.Whole.{Whole, is_connected}
@@ -144,3 +156,50 @@ pub record SendsAreDecidedBy (s : State) (e : RunEnd) : Type 0 where
 
 abbrev pub SendsByAnyRegistryAreGrantedExactly : Type 0
 SendsByAnyRegistryAreGrantedExactly = AtEachRegistry SendsAreDecidedBy
+
+-- ---- a NAK
+
+-- what the log's gate says of it: it is sent again to who asks, or it is said why not; the gate keeps what it granted
+abbrev pub asked_of_log : RunEnd → ℕ → Address → Nak → WholeLog → Whole → Moved
+asked_of_log e now from fields log frames = record {
+  after = record e {
+    logs = with_log e.logs log.source (record log {
+      recovery = record log.recovery { gate = gate_after true log.recovery.gate (asking_in now frames fields) };
+    });
+  };
+  answer = answer_asked from (Some (reply_by fields frames (answer_to log.recovery.gate (asking_in now frames fields))));
+}
+
+-- the verdict of that registry's policy on who asks decides: the NAK goes on to the log's gate exactly where it allows it
+pub record NakIsDecidedBy (s : State) (e : RunEnd) (now : ℕ) (from : Address) (fields : Nak) (publication : Source) (log : WholeLog)
+    (frames : Whole) (what : Moved) : Type 0 where
+  pub by : IsByPolicy s (resend_question s from publication) (resend_verdict s from publication)
+  pub granted : (resend_verdict s from publication).allow ≡ true → what ≡ asked_of_log e now from fields log frames
+  pub denied :
+      (resend_verdict s from publication).allow ≡ false →
+      what ≡ stays e (Dropped (DeniedFor (resend_verdict s from publication)))
+
+-- of the publication that has the NAK's session and stream in that registry; nothing else is sent again
+pub record NaksAreDecidedBy (s : State) (e : RunEnd) : Type 0 where
+  pub there :
+      (now : ℕ) (local from : Address) (bytes : List ℕ) (fields : Nak) (publication : Source) (log : WholeLog) →
+      packet_of bytes ≡ Ok (nak fields) → publication_at s fields.session_id fields.stream_id ≡ Some publication →
+      log_at e.logs publication.number ≡ Some log →
+      (frames : Whole)
+      × (log.whole ≡ whole frames)
+      × NakIsDecidedBy s e now from fields publication log frames (moved_seen s e (Packet now local from bytes))
+  pub closed :
+      (now : ℕ) (local from : Address) (bytes : List ℕ) (fields : Nak) (publication : Source) →
+      packet_of bytes ≡ Ok (nak fields) → publication_at s fields.session_id fields.stream_id ≡ Some publication →
+      log_at e.logs publication.number ≡ None → moved_seen s e (Packet now local from bytes) ≡ stays e unheard
+  pub nobody :
+      (now : ℕ) (local from : Address) (bytes : List ℕ) (fields : Nak) →
+      packet_of bytes ≡ Ok (nak fields) → publication_at s fields.session_id fields.stream_id ≡ None →
+      moved_seen s e (Packet now local from bytes) ≡ stays e (Dropped (Astray NoStream))
+  pub only :
+      (now : ℕ) (local from to : Address) (bytes : List ℕ) (datagrams : List (List ℕ)) →
+      Resent to datagrams ≡ (moved_seen s e (Packet now local from bytes)).answer →
+      (fields : Nak) × (packet_of bytes ≡ Ok (nak fields)) × (to ≡ from)
+
+abbrev pub NaksByAnyRegistryAreGrantedExactly : Type 0
+NaksByAnyRegistryAreGrantedExactly = AtEachRegistry NaksAreDecidedBy

@@ -2,7 +2,7 @@
 //! (`driver_laws`), on every run of a driver (`driver_steps`) and on every run of a world (`driver_world`), whose registries
 //! are what their events make of the opened one, and whose steps are those of a driver.
 
-ghost use Rattle.driver_laws.specs.OlderLaws.{OffersByAnyRegistryAreGrantedExactly, PollsByAnyRegistryAreGrantedExactly, SendsByAnyRegistryAreGrantedExactly};
+ghost use Rattle.driver_laws.specs.OlderLaws.{NaksByAnyRegistryAreGrantedExactly, OffersByAnyRegistryAreGrantedExactly, PollsByAnyRegistryAreGrantedExactly, SendsByAnyRegistryAreGrantedExactly};
 ghost use Rattle.driver_laws.specs.Headline.{BytesComeOnlyFromTheLiveLog, DenialsNameTheirRule, GrantedExactly, ReloadsCloseExactly};
 
 use crate::{
@@ -24,8 +24,7 @@ use driver_world::{registries_were_newest, runs_are_of_the_driver};
 /// A well-formed request is granted only and exactly where the first matching rule of the policy in force at its step, or
 /// else the default, allows its principal: a subscription, a publication, a destination, a counter, the end of the driver, an
 /// image, an offer, a poll, a datagram to a destination, frames that are sent again, a look at a counter. The laws on offers,
-/// polls and datagrams are on steps by any registry that the run went through; that on frames is on steps by the newest, and
-/// those by an older one ask it by the same definitions.
+/// polls, datagrams and frames that are sent again are on steps by any registry that the run went through.
 pub fn granted_exactly()
     ensures { GrantedExactly }
 {
@@ -48,6 +47,7 @@ pub fn granted_exactly()
     sends_are_granted_exactly();
     sends_by_any_registry_are_granted_exactly();
     resends_come_from_the_live_log();
+    naks_by_any_registry_are_granted_exactly();
     runs_take_events();
     runs_are_of_the_driver();
     registries_were_newest();
@@ -75,6 +75,14 @@ pub fn sends_by_any_registry_are_granted_exactly()
     ensures { SendsByAnyRegistryAreGrantedExactly }
 {}
 
+/// A NAK by any registry that the run went through goes on to the gate of the log of the publication that has its session and
+/// stream there, where that is still open, exactly where the first rule of that registry's policy that matches, or the default,
+/// allows the principal at the address that asks; else the verdict is told and nothing changes. Nothing but a NAK is answered
+/// by what is sent again, and that goes to who asks.
+pub fn naks_by_any_registry_are_granted_exactly()
+    ensures { NaksByAnyRegistryAreGrantedExactly }
+{}
+
 /// Each denial names the first rule that matches, or the default where none does, and the number of the policy.
 pub fn denials_name_their_rule()
     ensures { DenialsNameTheirRule }
@@ -89,6 +97,7 @@ pub fn denials_name_their_rule()
     sends_are_granted_exactly();
     sends_by_any_registry_are_granted_exactly();
     resends_come_from_the_live_log();
+    naks_by_any_registry_are_granted_exactly();
     runs_take_events();
     registries_were_newest();
     runs_are_of_the_driver();
