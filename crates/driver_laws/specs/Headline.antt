@@ -28,6 +28,19 @@ pub record HoldOfWorlds : Type 0 where
   pub newest : RegistriesWereNewest
   pub runs : RunsAreOfTheDriver
 
+-- What is asked by a step, not by an event: a look at a counter, an offer, a poll, a datagram to a destination, a NAK. Each law says
+-- when it is granted, and by which verdict it is denied.
+pub record StepsAreDecided : Type 0 where
+  pub shown : CountersAreShownExactly
+  pub offers : OffersAreGrantedExactly
+  pub offers_by_any : OffersByAnyRegistryAreGrantedExactly
+  pub polls : PollsAreGrantedExactly
+  pub polls_by_any : PollsByAnyRegistryAreGrantedExactly
+  pub sends : SendsAreGrantedExactly
+  pub sends_by_any : SendsByAnyRegistryAreGrantedExactly
+  pub resends : ResendsComeFromTheLiveLog
+  pub resends_by_any : NaksByAnyRegistryAreGrantedExactly
+
 -- granted only and exactly where the first matching rule of the policy in force allows it
 pub record GrantedExactly : Type 0 where
   pub subscriptions : SubscriptionsAreGrantedExactly
@@ -41,30 +54,14 @@ pub record GrantedExactly : Type 0 where
   pub images : ImagesAreGrantedExactly
   pub setups : SetupsAreGrantedExactly
   pub images_only : ImagesComeBySetups
-  pub shown : CountersAreShownExactly
-  pub offers : OffersAreGrantedExactly
-  pub offers_by_any : OffersByAnyRegistryAreGrantedExactly
-  pub polls : PollsAreGrantedExactly
-  pub polls_by_any : PollsByAnyRegistryAreGrantedExactly
-  pub sends : SendsAreGrantedExactly
-  pub sends_by_any : SendsByAnyRegistryAreGrantedExactly
-  pub resends : ResendsComeFromTheLiveLog
-  pub resends_by_any : NaksByAnyRegistryAreGrantedExactly
+  pub steps : StepsAreDecided
   pub worlds : HoldOfWorlds
 
 -- each denial names that rule, or the default
 pub record DenialsNameTheirRule : Type 0 where
   pub denials : DenialsAreNamed
   pub decisions : DecisionsAreByThePolicyInForce
-  pub shown : CountersAreShownExactly
-  pub offers : OffersAreGrantedExactly
-  pub offers_by_any : OffersByAnyRegistryAreGrantedExactly
-  pub polls : PollsAreGrantedExactly
-  pub polls_by_any : PollsByAnyRegistryAreGrantedExactly
-  pub sends : SendsAreGrantedExactly
-  pub sends_by_any : SendsByAnyRegistryAreGrantedExactly
-  pub resends : ResendsComeFromTheLiveLog
-  pub resends_by_any : NaksByAnyRegistryAreGrantedExactly
+  pub steps : StepsAreDecided
   pub worlds : HoldOfWorlds
 
 -- a policy that is put in force closes the images that are no longer allowed, and no others

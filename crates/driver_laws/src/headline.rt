@@ -3,7 +3,7 @@
 //! are what their events make of the opened one, and whose steps are those of a driver.
 
 ghost use Rattle.driver_laws.specs.OlderLaws.{NaksByAnyRegistryAreGrantedExactly, OffersByAnyRegistryAreGrantedExactly, PollsByAnyRegistryAreGrantedExactly, SendsByAnyRegistryAreGrantedExactly};
-ghost use Rattle.driver_laws.specs.Headline.{BytesComeOnlyFromTheLiveLog, DenialsNameTheirRule, GrantedExactly, ReloadsCloseExactly};
+ghost use Rattle.driver_laws.specs.Headline.{BytesComeOnlyFromTheLiveLog, DenialsNameTheirRule, GrantedExactly, ReloadsCloseExactly, StepsAreDecided};
 
 use crate::{
     counters_and_terminations_are_granted_only, counters_are_granted_exactly,
@@ -39,6 +39,17 @@ pub fn granted_exactly()
     images_come_by_setups();
     setups_are_granted_exactly();
     images_are_granted_exactly();
+    steps_are_decided();
+    runs_take_events();
+    runs_are_of_the_driver();
+    registries_were_newest();
+}
+
+/// What is asked by a step, not by an event, is granted or denied by the verdict of the registry by which the step goes: a look
+/// at a counter, an offer, a poll, a datagram to a destination, a NAK.
+pub fn steps_are_decided()
+    ensures { StepsAreDecided }
+{
     counters_are_shown_exactly();
     offers_are_granted_exactly();
     offers_by_any_registry_are_granted_exactly();
@@ -48,9 +59,6 @@ pub fn granted_exactly()
     sends_by_any_registry_are_granted_exactly();
     resends_come_from_the_live_log();
     naks_by_any_registry_are_granted_exactly();
-    runs_take_events();
-    runs_are_of_the_driver();
-    registries_were_newest();
 }
 
 /// An offer by any registry that the run went through goes on to the log that the client's registration is with, where that is
@@ -89,15 +97,7 @@ pub fn denials_name_their_rule()
 {
     denials_are_named();
     decisions_are_by_the_policy_in_force();
-    counters_are_shown_exactly();
-    offers_are_granted_exactly();
-    offers_by_any_registry_are_granted_exactly();
-    polls_are_granted_exactly();
-    polls_by_any_registry_are_granted_exactly();
-    sends_are_granted_exactly();
-    sends_by_any_registry_are_granted_exactly();
-    resends_come_from_the_live_log();
-    naks_by_any_registry_are_granted_exactly();
+    steps_are_decided();
     runs_take_events();
     registries_were_newest();
     runs_are_of_the_driver();
