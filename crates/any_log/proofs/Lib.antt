@@ -1,3 +1,4 @@
 pub mod AnyLemmas
+pub mod PairLemmas
 pub mod SendingLemmas
 pub mod StillLemmas

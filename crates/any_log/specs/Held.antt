@@ -1,13 +1,13 @@
 -- What is held of a log of either kind: where it lies, how far it reaches, and who reads it.
-use Rattle.std.specs.Prelude.{◌≡◌, ℕ, Bool, false, List, Option}
+use Rattle.std.specs.Prelude.{◌≡◌, ℕ, Bool, false, List, [], ◌∷◌, ◌++◌, filter, Option}
 use Rattle.any_log.specs.declared.any_log.AnyLog.{AnyLog}
 use Rattle.any_log.specs.declared.any_log.AnyLog.TheVariants.{Term, Image}
 use Rattle.frame_codec.specs.Frame.{Sent}
 use Rattle.image_log.specs.declared.ident.Ident.{Ident as ImageIdent}
-use Rattle.image_log.specs.Rebuilt.{contiguous_of, is_silent, settled, rejoined as image_rejoined}
+use Rattle.image_log.specs.Rebuilt.{contiguous_of, is_silent, joined as image_joined, left as image_left, settled, rejoined as image_rejoined}
 use Rattle.image_receiver.specs.Receiving.{AreOf}
 use Rattle.log_arena.specs.Homes.{Home}
-use Rattle.log_pairs.specs.Pairs.{position_of}
+use Rattle.log_pairs.specs.Pairs.{is_other, position_of}
 use Rattle.log_pairs.specs.declared.pair.Pair.{Pair}
 use Rattle.term_log.specs.declared.ident.Ident.{Ident}
 use Rattle.term_log.specs.Whole.{rejoined_kept}
@@ -59,6 +59,11 @@ abbrev pub reach_held : AnyLog → ℕ
 reach_held (Term log) = log.kept.tail
 reach_held (Image log) = contiguous_of log.rebuilt
 
+-- how many messages were appended to a publication's log; a remote stream's takes none
+abbrev pub messages_held : AnyLog → ℕ
+messages_held (Term log) = log.kept.messages
+messages_held (Image log) = 0
+
 -- nothing was heard of the sender of a remote stream for longer than that
 abbrev pub is_silent_held : AnyLog → ℕ → ℕ → Bool
 is_silent_held (Term log) now limit = false
@@ -77,3 +82,14 @@ position_held log subscription = position_of (pairs_held log) subscription
 abbrev pub rejoined_held : List ℕ → AnyLog → AnyLog
 rejoined_held subscriptions (Term log) = Term (rejoined_kept subscriptions log)
 rejoined_held subscriptions (Image log) = Image (record log { rebuilt = settled (image_rejoined log.rebuilt subscriptions) })
+
+-- one subscription more reads, from as far as the log reaches
+abbrev pub joined_held : ℕ → AnyLog → AnyLog
+joined_held subscription (Term log) =
+    Term (record log { pairs = log.pairs ++ record { subscription = subscription; position = log.kept.tail } ∷ [] })
+joined_held subscription (Image log) = Image (record log { rebuilt = settled (image_joined log.rebuilt subscription) })
+
+-- that subscription reads no longer
+abbrev pub left_held : ℕ → AnyLog → AnyLog
+left_held subscription (Term log) = Term (record log { pairs = filter (is_other subscription) log.pairs })
+left_held subscription (Image log) = Image (record log { rebuilt = settled (image_left log.rebuilt subscription) })

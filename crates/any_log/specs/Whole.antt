@@ -1,5 +1,5 @@
 -- A log of either kind as if nothing of it were lost: what calls make of it, and which log stands for it.
-use Rattle.std.specs.Prelude.{◌≡◌, ℕ, Bool, false, List, [], map, Option}
+use Rattle.std.specs.Prelude.{◌≡◌, ℕ, Bool, false, List, [], ◌∷◌, ◌++◌, filter, map, Option}
 use Rattle.any_log.specs.declared.any_log.AnyLog.{AnyLog}
 use Rattle.any_log.specs.declared.any_log.AnyLog.TheVariants.{Term, Image}
 use Rattle.any_log.specs.declared.fragment.Fragment.{Fragment}
@@ -8,11 +8,12 @@ use Rattle.any_log.specs.Held.{Made, for_publication, for_stream}
 use Rattle.frame_codec.specs.Frame.{Sent}
 use Rattle.frame_codec.specs.declared.header.TermPlace.{TermPlace}
 use Rattle.image_log.specs.Polling.{polled as image_polled}
-use Rattle.image_log.specs.Rebuilt.{Rebuilt, contiguous_of, is_silent, settled, rejoined as image_rejoined}
+use Rattle.image_log.specs.Rebuilt.{Rebuilt, contiguous_of, is_silent, joined as image_joined, left as image_left, settled, rejoined as image_rejoined}
 use Rattle.image_log.specs.declared.insert.Insert.{Insert}
 use Rattle.image_receiver.specs.Receiving.{after_beat, after_data, words_of}
-use Rattle.log_pairs.specs.Pairs.{position_of}
+use Rattle.log_pairs.specs.Pairs.{is_other, position_of}
 use Rattle.log_pairs.specs.declared.pair.Pair.{Pair}
+use Rattle.term_log.specs.Frames.{messages_of}
 use Rattle.term_log.specs.Whole.{Whole, Stands, tail_of, rejoined as term_rejoined, polled as term_polled}
 
 -- all frames that were ever appended to a publication's log; or what is kept of the frames that came of a remote stream
@@ -26,6 +27,11 @@ StandsFor (Term log) (whole w) = Stands log w
 StandsFor (Term log) (rebuilt r) = ⊥
 StandsFor (Image log) (whole w) = ⊥
 StandsFor (Image log) (rebuilt r) = log.rebuilt ≡ r
+
+-- some whole log stands behind what is held, so that whatever is said of each such log is said of one
+pub record HasWhole (log : AnyLog) : Type 0 where
+  pub whole : AnyWhole
+  pub stands : StandsFor log whole
 
 abbrev pub made_for : AnyWhole → Made
 made_for (whole w) = for_publication w.ident
@@ -50,6 +56,22 @@ readers_in w = map (λ pair. pair.subscription) (pairs_in w)
 
 abbrev pub position_in : AnyWhole → ℕ → Option ℕ
 position_in w subscription = position_of (pairs_in w) subscription
+
+-- how many messages were ever appended to a publication's log; a remote stream's takes none
+abbrev pub messages_in : AnyWhole → ℕ
+messages_in (whole w) = messages_of w.frames
+messages_in (rebuilt r) = 0
+
+-- one subscription more reads from now on, from as far as the log reaches
+abbrev pub joined : ℕ → AnyWhole → AnyWhole
+joined subscription (whole w) =
+    whole (record w { pairs = w.pairs ++ record { subscription = subscription; position = tail_of w } ∷ [] })
+joined subscription (rebuilt r) = rebuilt (settled (image_joined r subscription))
+
+-- that subscription reads no longer
+abbrev pub left : ℕ → AnyWhole → AnyWhole
+left subscription (whole w) = whole (record w { pairs = filter (is_other subscription) w.pairs })
+left subscription (rebuilt r) = rebuilt (settled (image_left r subscription))
 
 -- exactly these subscriptions read from now on: one that was there from where it is, a new one from as far as the log
 -- reaches
@@ -91,6 +113,10 @@ beaten now place (rebuilt r) = rebuilt (after_beat r now place)
 
 pub record Carries (old new : AnyLog) (f : AnyWhole → AnyWhole) : Type 0 where
   pub on : (w : AnyWhole) → StandsFor old w → StandsFor new (f w)
+
+-- how many messages were taken
+pub record Counts (log : AnyLog) (messages : ℕ) : Type 0 where
+  pub on : (w : AnyWhole) → StandsFor log w → messages ≡ messages_in w
 
 -- what a poll is to give
 pub record Fetches (log : AnyLog) (subscription limit : ℕ) (fragments : List Fragment) : Type 0 where

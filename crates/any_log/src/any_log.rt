@@ -1,8 +1,8 @@
-ghost use Rattle.any_log.specs.Held.{AreFor, Lies, is_silent_held, made_held, place_held, position_held, reach_held, rejoined_held};
-ghost use Rattle.any_log.specs.Whole.{Carries, Fetches, Words, beaten, polled, received, rejoined};
+ghost use Rattle.any_log.specs.Held.{AreFor, Lies, is_silent_held, joined_held, left_held, made_held, messages_held, pairs_held, place_held, position_held, reach_held, rejoined_held};
+ghost use Rattle.any_log.specs.Whole.{Carries, Counts, Fetches, Words, beaten, joined, left, polled, received, rejoined};
 ghost use Rattle.frame_codec.specs.Frames.{frames_left};
 ghost use Rattle.log_arena.specs.Lease.{lease_home, lease_len, lease_place};
-ghost use Rattle.std.specs.Prelude.{◌≡◌, ◌*◌, ◌≤◌, IfOk, OnErr, OnOk, length};
+ghost use Rattle.std.specs.Prelude.{◌≡◌, ◌*◌, ◌<◌, ◌≤◌, IfOk, OnErr, OnOk, length};
 
 use crate::copies::{copies_of_image, copies_of_term};
 use crate::fragment::Fragment;
@@ -35,6 +35,17 @@ impl AnyLog {
         }
     }
 
+    /// How many messages were appended: none to the log of a remote stream.
+    pub fn messages(&self) -> u64
+        ensures held { result ≡ messages_held self.now }
+        ensures whole { Counts self.now result }
+    {
+        match self {
+            AnyLog::Term(log) => log.messages(),
+            AnyLog::Image(_) => 0,
+        }
+    }
+
     /// Whether it is the log of a remote stream whose sender was not heard for longer than `limit` nanoseconds.
     pub fn is_silent(&self, now: u64, limit: u64) -> bool
         ensures { result ≡ is_silent_held self.now now limit }
@@ -52,6 +63,30 @@ impl AnyLog {
         match self {
             AnyLog::Term(log) => log.pair_position(subscription),
             AnyLog::Image(log) => log.pair_position(subscription),
+        }
+    }
+
+    /// A subscription reads the log from now on, from as far as the log reaches: that position is given back.
+    pub fn join(&mut self, subscription: u64) -> u64
+        requires { length (pairs_held self.old) < 512 }
+        ensures position { result ≡ reach_held self.old }
+        ensures exact { self.new ≡ joined_held subscription self.old }
+        ensures whole { Carries self.old self.new (joined subscription) }
+    {
+        match self {
+            AnyLog::Term(log) => log.join_pair(subscription),
+            AnyLog::Image(log) => log.join_pair(subscription),
+        }
+    }
+
+    /// A subscription reads the log no longer.
+    pub fn leave(&mut self, subscription: u64)
+        ensures exact { self.new ≡ left_held subscription self.old }
+        ensures whole { Carries self.old self.new (left subscription) }
+    {
+        match self {
+            AnyLog::Term(log) => log.leave_pair(subscription),
+            AnyLog::Image(log) => log.leave_pair(subscription),
         }
     }
 

@@ -1,26 +1,21 @@
 -- What is decided for a step on one log, and at the end of a run.
-use Rattle.std.proofs.Common.{◌≡◌, ℕ, ◌==◌, true, false, ◌<◌, List, [], ◌∷◌, get_or, length, Option, Some, None, is_some, if◌then◌else◌, refl, sym, subst, ap, ◌∙◌, arith}
+use Rattle.std.proofs.Common.{◌≡◌, ℕ, ◌==◌, true, false, get_or, Option, Some, None, refl, sym, subst, ap, ◌∙◌}
 use Rattle.any_log.specs.Held.{position_held}
 use Rattle.any_log.proofs.AnyLemmas.{position_stands}
 use Rattle.any_log.specs.Whole.{position_in}
-use Rattle.channel_uri.specs.declared.address.Address.{Address}
 use Rattle.driver_core.specs.declared.log_request.LogRequest.{LogRequest}
 use Rattle.driver_core.specs.LogRequests.{offering_of, receiving_of}
-use Rattle.driver_core.specs.PublicationRequests.{resending_of}
 use Rattle.driver_core.specs.State.{State}
 use Rattle.driver_steps.specs.declared.answer.Answer.{Answer}
 use Rattle.driver_steps.specs.declared.answer.Answer.TheVariants.{Gone}
-use Rattle.driver_steps.specs.Decided.{Decides, DecidesAs, DecidesFirst, DecidesHeld, DecidesUnless, decision_in, decision_on, nak_decided, offer_decided, offer_decision, poll_decided, poll_decision, poll_decision_by}
+use Rattle.driver_steps.specs.Decided.{Decides, DecidesAs, DecidesFirst, DecidesHeld, DecidesUnless, decision_in, decision_on, offer_decided, offer_decision, poll_decided, poll_decision, poll_decision_by}
 use Rattle.driver_steps.specs.Ends.{RunEnd, log_at}
 use Rattle.driver_steps.specs.Held.{HeldLog, HeldLogs, held_at, place_at}
-use Rattle.driver_steps.specs.Hearing.{nak_move}
 use Rattle.driver_steps.specs.Moves.{WholeLog, MovesFirst, poll_move}
-use Rattle.driver_steps.specs.Receiving.{unheard}
 use Rattle.driver_steps.specs.Standing.{StandAll}
 use Rattle.driver_steps.proofs.HeldLemmas.{found_at, found_nowhere}
-use Rattle.driver_steps.proofs.RunLemmas.{IsTold, asked_told, first_told, poll_told, sourced, told_unless}
+use Rattle.driver_steps.proofs.RunLemmas.{IsTold, first_told, poll_told, sourced, told_unless}
 use Rattle.driver_steps.proofs.StandLemmas.{StandAt, stand_at}
-use Rattle.frame_codec.specs.declared.nak.Nak.{Nak}
 use Rattle.std.specs.Option.{option_map}
 use Rattle.policy_core.specs.declared.decision.Decision.{Decision}
 
@@ -86,19 +81,6 @@ pub decides_none : (source : ℕ) (decide : WholeLog → Option Decision) (old :
     DecidesFirst source decide None old
 decides_none source decide old none = rw (found_nowhere old.logs source none) refl
 
--- where there is a place, there is a log
-open_by : (logs : List HeldLog) (source at : ℕ) → at < length logs → ((d : HeldLog) → held_at logs source ≡ Some (get_or logs at d)) →
-    true ≡ is_some (held_at logs source)
-open_by [] source at within is = absurd (omega (arith, within))
-open_by (first ∷ logs) source at within is = rw (is first) refl
-
--- where one is, it is there
-pub open_at : (logs : List HeldLog) (source : ℕ) (at : Option ℕ) → place_at logs source ≡ at → is_some at ≡ is_some (held_at logs source)
-open_at logs source None is = rw (found_nowhere logs source is) refl
-open_at logs source (Some at) is =
-    let told = found_at logs source at is in
-    open_by logs source at told.0 told.1
-
 -- the one at that place decides
 pub decides_at : (source : ℕ) (decide : WholeLog → Option Decision) (old : HeldLogs) (at : ℕ) (held : HeldLog) (decision : Option Decision) →
     place_at old.logs source ≡ Some at → held ≡ get_or old.logs at held → Decides decide held decision →
@@ -152,28 +134,4 @@ poll_decided_first registry old new client subscription source limit answer deci
       let there : DecidesFirst source (poll_decision e.registry client subscription) decision old = rw (← stands.registry) decides in
       rw (told_unless answer (poll_decided e client subscription source) is_told)
       (decided_first e source (poll_decision e.registry client subscription) decision old stands.logs there);
-}
-
-open_found : (decision : Option Decision) (found : Option HeldLog) (there : Option WholeLog) → StandAt found there →
-    (if is_some found then decision else None) ≡ decision_in there (λ log. decision)
-open_found decision None None at = refl
-open_found decision None (Some log) at = absurd at
-open_found decision (Some held) None at = absurd at
-open_found decision (Some held) (Some log) at = refl
-
--- one of a publication, where its log is open
-pub nak_decided_first : (registry : State) (old new : HeldLogs) (now : ℕ) (from : Address) (fields : Nak) (request : LogRequest) (answer : Answer)
-    (decision : Option Decision) → resending_of registry from fields.session_id fields.stream_id ≡ Some request →
-    decision ≡ (if is_some (held_at old.logs request.source) then Some request.decision else None) →
-    MovesFirst request.source (nak_move now from request.decision fields) unheard old new answer →
-    DecidesUnless (record { registry = registry; logs = old.logs }) (λ e. nak_decided e from fields) answer decision
-nak_decided_first registry old new now from fields request answer decision is decides moves = record {
-  on = λ e stands.
-      let is_told : IsTold answer =
-      first_told e old new request.source (nak_move now from request.decision fields) unheard answer tt
-      (λ log. asked_told from _) stands.logs moves in
-      let asked : resending_of e.registry from fields.session_id fields.stream_id ≡ Some request = rw (← stands.registry) is in
-      rw (told_unless answer (nak_decided e from fields) is_told, asked, decides)
-      (open_found (Some request.decision) (held_at old.logs request.source) (log_at e.logs request.source)
-      (stand_at old.logs e.logs request.source stands.logs));
 }

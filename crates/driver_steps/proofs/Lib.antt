@@ -6,6 +6,7 @@ pub mod DecisionLemmas
 pub mod EndLemmas
 pub mod FollowLemmas
 pub mod FoundLemmas
+pub mod GateLemmas
 pub mod HeldLemmas
 pub mod HoleLemmas
 pub mod HousedLemmas
@@ -19,6 +20,8 @@ pub mod ReadLemmas
 pub mod ReaderLemmas
 pub mod RegisteredLemmas
 mod RegisteringLemmas
+pub mod ReportLemmas
+pub mod RequestLemmas
 pub mod ResendLemmas
 pub mod RunLemmas
 pub mod SendLemmas

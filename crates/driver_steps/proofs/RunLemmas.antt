@@ -1,5 +1,5 @@
 -- Runs are put together of steps.
-use Rattle.std.proofs.Common.{◌≡◌, ℕ, ◌==◌, not, nat_lt, Bool, true, false, List, ◌∷◌, length, Option, Some, None, Ok, if◌then◌else◌, refl, subst, sym}
+use Rattle.std.proofs.Common.{◌≡◌, ℕ, ◌==◌, not, nat_lt, Bool, true, false, List, length, Option, Some, None, if◌then◌else◌, refl}
 use Rattle.std.specs.Option.{option_map}
 use Rattle.any_log.specs.Whole.{AnyWhole, whole, rebuilt}
 use Rattle.driver_core.specs.declared.event.Event.{Event}
@@ -13,15 +13,12 @@ use Rattle.driver_steps.specs.declared.answer.Answer.{Answer}
 use Rattle.driver_steps.specs.declared.answer.Answer.TheVariants.{NoMemory, Attached, Full, Stopped, PolicyInForce, PolicyFull, Imaged, Dropped, Replies, Offered as OfferedAs, Polled, Gone as IsGone, Counters, Value as ValueIs, Denied, UnknownCounter, WrongClient, BadStep, Received, Heard, Limited, Elicited, Idle, Sent as SentTo, Resent, Reported}
 use Rattle.driver_steps.specs.declared.step.Step.{Step}
 use Rattle.driver_steps.specs.declared.step.Step.TheVariants.{Conductor}
-use Rattle.driver_core.specs.ImageRequests.{image_for}
-use Rattle.driver_steps.specs.Receiving.{receive_move, unheard}
 use Rattle.channel_uri.specs.declared.address.Address.{Address}
-use Rattle.frame_codec.specs.declared.header.TermPlace.{TermPlace}
-use Rattle.frame_codec.specs.Frame.{Sent}
 use Rattle.any_log.specs.declared.asking.NakReply.{NakReply}
 use Rattle.any_log.specs.declared.asking.NakReply.TheVariants as replies
 use Rattle.driver_steps.specs.Hearing.{answer_asked, answer_heard}
-use Rattle.driver_steps.specs.Reporting.{answer_reported}
+use Rattle.any_log.specs.Reporting.{report_of}
+use Rattle.driver_steps.specs.Reporting.{answer_reported, report_by}
 use Rattle.driver_steps.specs.Sending.{answer_sent, pace_of, send_by}
 use Rattle.any_log.specs.Sending.{turn_of}
 use Rattle.driver_core.specs.declared.send_request.Outlet.{Outlet}
@@ -29,7 +26,7 @@ use Rattle.driver_core.specs.SendRequests.{outlets_of}
 use Rattle.publication_sender.specs.declared.hearing.StatusAnswer.{StatusAnswer}
 use Rattle.publication_sender.specs.declared.hearing.StatusAnswer.TheVariants as statuses
 use Rattle.driver_steps.specs.Answers.{answered_by, answer_of}
-use Rattle.driver_steps.specs.Ends.{RunEnd, Moved, IsAnswerOf, after_by, moved, moved_on, on_frames, on_log, on_stream, log_at, conducted}
+use Rattle.driver_steps.specs.Ends.{RunEnd, Moved, IsAnswerOf, after_by, moved, moved_on, on_log, log_at, conducted}
 use Rattle.driver_steps.specs.Held.{HeldLogs}
 use Rattle.driver_steps.specs.Memory.{GivesFirst, HasMemoryBy, is_listed, takes_memory}
 use Rattle.driver_steps.specs.Moves.{WholeLog, Move, MovesFirst, offer_to, offer_under, poll_under}
@@ -305,6 +302,10 @@ pub reported_told : (to : Address) (report : Option (List (List ℕ))) → IsTol
 reported_told to None = tt
 reported_told to (Some datagrams) = tt
 
+pub image_told : (s : State) (now : ℕ) (log : WholeLog) (to : Option Address) → IsTold (report_by s now log to).answer
+image_told s now log None = tt
+image_told s now log (Some to) = reported_told to (report_of now s.settings.receiver_id log.recovery.receiver log.whole)
+
 pub sent_told : (outlets : List Outlet) (turn : Option (Option (List ℕ))) → IsTold (answer_sent outlets turn)
 sent_told outlets None = tt
 sent_told outlets (Some None) = tt
@@ -313,46 +314,3 @@ sent_told outlets (Some (Some bytes)) = tt
 pub send_told : (s : State) (now : ℕ) (log : WholeLog) (lingers : Option Bool) → IsTold (send_by s now log lingers).answer
 send_told s now log None = tt
 send_told s now log (Some lingers) = sent_told (outlets_of s log.source) (turn_of (pace_of s.settings) now lingers log.whole)
-
--- ---- one of a stream
-
--- it goes to the first log of its image's source
-pub stream_served : (registry : State) (old new : HeldLogs) (local from : Address) (place : TermPlace) (move : WholeLog → Move)
-    (source : ℕ) (answer : Answer) → image_for registry local from place.session_id place.stream_id ≡ Ok source →
-    ((log : WholeLog) → IsTold (move log).answer) → MovesFirst source move unheard old new answer →
-    ServesAs (record { registry = registry; logs = old.logs }) (record { registry = registry; logs = new.logs })
-    (λ e. on_stream e local from place move) answer
-unfolding on_log
-stream_served registry old new local from place move source answer is told_by moves =
-    served_as (record { registry = registry; logs = old.logs }) (record { registry = registry; logs = new.logs })
-    (λ e. on_stream e local from place move) answer (λ e stands.
-    let there : image_for e.registry local from place.session_id place.stream_id ≡ Ok source = rw (← stands.registry) is in
-    let made = moves_first e source move unheard answer old new stands.logs moves in
-    let is_told : IsTold answer =
-    rw made.0 (moved_told e source move unheard (log_at e.logs source) tt told_by) in
-    rw there
-    (record { is_told = is_told; given = made.0; stands = record { registry = rw made.2 stands.registry; logs = made.1 } }))
-
--- there is no memory for its words
-pub stream_refused : (registry : State) (old new : HeldLogs) (local from : Address) (place : TermPlace) (move : WholeLog → Move)
-    (source : ℕ) → image_for registry local from place.session_id place.stream_id ≡ Ok source → new ≡ old →
-    GivesFirst source move old →
-    ServesAs (record { registry = registry; logs = old.logs }) (record { registry = registry; logs = new.logs })
-    (λ e. on_stream e local from place move) NoMemory
-unfolding on_log
-stream_refused registry old new local from place move source is same gives = record {
-  on = λ e stands. (tt, rw same stands);
-  without_memory = λ e stands.
-      let there : image_for e.registry local from place.session_id place.stream_id ≡ Ok source = rw (← stands.registry) is in
-      rw there (gives_first e source move unheard old.logs stands.logs gives);
-}
-
--- frames are of the stream of the first one
-pub frames_served : (old new : Held) (now : ℕ) (local from : Address) (sent later : List Sent) (frame : Sent) (answer : Answer) →
-    sent ≡ frame ∷ later →
-    ServesAs old new (λ e. on_stream e local from frame.header.place (receive_move now sent)) answer →
-    ServesAs old new (λ e. on_frames e now local from sent) answer
-frames_served old new now local from sent later frame answer is serves =
-    subst (λ (all : List Sent). ServesAs old new (λ e. on_frames e now local from all) answer) (sym is)
-    (subst (λ (all : List Sent).
-    ServesAs old new (λ e. on_stream e local from frame.header.place (receive_move now all)) answer) is serves)

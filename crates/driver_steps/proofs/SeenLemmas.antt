@@ -1,5 +1,5 @@
 -- Steps by whichever registry is shown: what they do to the open logs, and so to a driver.
-use Rattle.std.proofs.Common.{◌≡◌, ℕ, ◌==◌, not, nat_lt, length, Bool, true, false, List, Option, Some, None, if◌then◌else◌, Result, Ok, Err, ◌∷◌, refl, sym, ap, subst, ◌∙◌}
+use Rattle.std.proofs.Common.{◌≡◌, ℕ, ◌==◌, not, nat_lt, length, Bool, true, false, List, Option, Some, None, if◌then◌else◌, Result, Ok, Err, refl, sym, ap, subst, ◌∙◌}
 use Rattle.std.proofs.lemmas.Bool.{eqb-true}
 use Rattle.std.specs.Option.{option_map}
 use Rattle.any_log.specs.Whole.{AnyWhole, whole, rebuilt, position_in}
@@ -7,22 +7,17 @@ use Rattle.driver_core.specs.declared.log_request.LogRequest.{LogRequest}
 use Rattle.driver_core.specs.LogRequests.{offering_of, receiving_of}
 use Rattle.driver_core.specs.declared.image_request.Astray.{Astray}
 use Rattle.driver_core.specs.declared.image_request.Astray.TheVariants.{NoStream}
-use Rattle.driver_core.specs.ImageRequests.{image_for}
 use Rattle.driver_core.specs.State.{State}
-use Rattle.channel_uri.specs.declared.address.Address.{Address}
-use Rattle.frame_codec.specs.declared.header.TermPlace.{TermPlace}
-use Rattle.frame_codec.specs.Frame.{Sent}
-use Rattle.driver_steps.specs.Receiving.{receive_move, unheard}
 use Rattle.driver_steps.specs.declared.answer.Answer.{Answer}
 use Rattle.driver_steps.specs.declared.answer.Answer.TheVariants.{NoMemory, Offered as OfferedAs}
 use Rattle.driver_steps.specs.declared.answer.Offered.TheVariants.{Closed}
 use Rattle.driver_steps.specs.declared.step.Step.{Step}
 use Rattle.driver_steps.specs.declared.step.Step.TheVariants.{Offer}
-use Rattle.driver_steps.specs.Ends.{RunEnd, Moved, IsAnswerOf, after_by, log_at, moved, moved_on, on_image, on_log, on_offered_by}
+use Rattle.driver_steps.specs.Ends.{RunEnd, Moved, IsAnswerOf, after_by, log_at, moved, moved_on, on_log, on_offered_by}
 use Rattle.driver_steps.specs.Held.{HeldLogs}
 use Rattle.driver_steps.specs.Memory.{GivesFirst, HasMemoryBy, is_listed, takes_memory}
 use Rattle.driver_steps.specs.Moves.{Move, MovesFirst, WholeLog, offer_move, offer_to, offer_under, poll_move}
-use Rattle.driver_steps.specs.Seen.{KeepMatch, LogsServe, Sees, frames_seen, image_seen, moved_seen, seen_takes, still_there}
+use Rattle.driver_steps.specs.Seen.{KeepMatch, LogsServe, Sees, moved_seen, seen_takes, still_there}
 use Rattle.driver_steps.specs.Standing.{Held, Serves, ServesAs, StandsForEnd}
 use Rattle.driver_steps.proofs.RunLemmas.{IsTold, first_refused, first_served, offer_told, poll_told}
 use Rattle.driver_steps.proofs.StandLemmas.{match_moved}
@@ -108,6 +103,18 @@ offered_unlisted s e now client registration message (Some request) =
     moved_unlisted e request.source (offer_move s now client registration message) (OfferedAs Closed) (log_at e.logs request.source) refl
     (λ log. offer_unlisted s now message log (offering_of s client registration))
 
+-- what comes of them is said in another way
+pub served_as_well : (old new : HeldLogs) (what that : RunEnd → Moved) (answer : Answer) → ((e : RunEnd) → what e ≡ that e) →
+    LogsServe old new what answer → LogsServe old new that answer
+served_as_well old new what that answer goes serves = record {
+  on = λ s. record {
+    on = λ e stands.
+        subst (λ (m : Moved). IsAnswerOf m answer × StandsForEnd (record { registry = s; logs = new.logs }) (after_by e m answer)) (goes e)
+        ((serves.on s).on e stands);
+    without_memory = λ e stands. subst (λ (m : Moved). HasMemoryBy (is_listed m.answer) answer) (goes e) ((serves.on s).without_memory e stands);
+  };
+}
+
 -- ---- a driver, by its newest registry
 
 abbrev pub held_by : State → HeldLogs → Held
@@ -167,7 +174,7 @@ offer_seen older s old new now client registration message answer serves =
 
 -- ---- an image that is still there
 
-there_now : (older newest : Result ℕ Astray) (source : ℕ) → still_there older newest ≡ Ok source → newest ≡ Ok source
+pub there_now : (older newest : Result ℕ Astray) (source : ℕ) → still_there older newest ≡ Ok source → newest ≡ Ok source
 there_now (Err why) newest source is = absurd (cc is)
 there_now (Ok one) (Err why) source is = absurd (cc is)
 there_now (Ok one) (Ok other) source is = by (one == other) refl is
@@ -176,17 +183,3 @@ there_now (Ok one) (Ok other) source is = by (one == other) refl is
         (let r : Result ℕ Astray = Ok other in r) ≡ Ok source
     by true equal is = let same : one ≡ other = eqb-true one other equal in ap Ok (sym same) ∙ is
     by false equal is = absurd (cc is)
-
--- frames are of the stream of the first one
-pub frames_go : (older : State) (e : RunEnd) (now : ℕ) (local from : Address) (sent later : List Sent) (frame : Sent) (source : ℕ) →
-    sent ≡ frame ∷ later → image_seen older e local from frame.header.place ≡ Ok source →
-    frames_seen older e now local from sent ≡ on_log e source (receive_move now sent) unheard
-frames_go older e now local from sent later frame source is there =
-    subst (λ (all : List Sent). frames_seen older e now local from all ≡ on_log e source (receive_move now all) unheard) (sym is)
-    (ap (on_image e (receive_move now (frame ∷ later))) there)
-
-pub image_there : (older s : State) (local from : Address) (place : TermPlace) (source : ℕ) →
-    still_there (image_for older local from place.session_id place.stream_id) (image_for s local from place.session_id place.stream_id) ≡ Ok source →
-    image_for s local from place.session_id place.stream_id ≡ Ok source
-image_there older s local from place source is =
-    there_now (image_for older local from place.session_id place.stream_id) (image_for s local from place.session_id place.stream_id) source is

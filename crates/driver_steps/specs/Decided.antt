@@ -39,6 +39,10 @@ unfoldable pub poll_decision : State → ℕ → ℕ → WholeLog → Option Dec
 poll_decision s client subscription log =
     poll_decision_by (receiving_of s client subscription log.source) (position_in log.whole subscription)
 
+-- a step that is for the log of a source: with another one nothing is decided
+abbrev pub decision_for : ℕ → (WholeLog → Option Decision) → WholeLog → Option Decision
+decision_for source decide log = if log.source == source then decide log else None
+
 -- that is decided for whichever whole log is held
 pub record Decides (decide : WholeLog → Option Decision) (held : HeldLog) (decision : Option Decision) : Type 0 where
   pub on : (log : WholeLog) → StandsForLog held log → decision ≡ decide log

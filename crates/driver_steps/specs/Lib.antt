@@ -12,6 +12,7 @@ pub mod Laws
 pub mod Memory
 pub mod Moves
 pub mod Opening
+pub mod Packets
 pub mod Plots
 pub mod Reads
 pub mod Receiving

@@ -30,6 +30,10 @@ pub record Move : Type 0 where
 abbrev pub answered : WholeLog → Answer → Move
 answered log answer = record { after = log; answer = answer }
 
+-- a step that is for the log of a source: with another one it comes to nothing
+abbrev pub for_source : ℕ → (WholeLog → Move) → Answer → WholeLog → Move
+for_source source move absent log = if log.source == source then move log else answered log absent
+
 -- ---- an offer
 
 -- the message is offered to the log itself, all of whose frames these are

@@ -1,5 +1,5 @@
 -- A step by the newest registry or by an older one, as a driver takes it. Own rules.
-use Rattle.std.specs.Prelude.{◌≡◌, ℕ, List, Option, Some, None, Result, Ok}
+use Rattle.std.specs.Prelude.{ℕ, List, Option, Some, None}
 use Rattle.channel_uri.specs.declared.address.Address.{Address}
 use Rattle.driver_core.specs.State.{State}
 use Rattle.driver_steps.specs.declared.answer.Answer.{Answer}
@@ -8,7 +8,7 @@ use Rattle.driver_steps.specs.declared.told.Came.{Came}
 use Rattle.driver_steps.specs.Coming.{ComesAs}
 use Rattle.driver_steps.specs.Ends.{RunEnd, IsAnswerOf, after_by}
 use Rattle.driver_steps.specs.Memory.{HasMemory}
-use Rattle.driver_steps.specs.Runs.{moved_by, read_by}
+use Rattle.driver_steps.specs.Runs.{moved_by}
 use Rattle.driver_steps.specs.Seen.{ComesSeenAs, seen_takes, under}
 use Rattle.driver_steps.specs.Standing.{Held, StandsForEnd}
 use Rattle.frame_codec.specs.Datagram.{packet_of}

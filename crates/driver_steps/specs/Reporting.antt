@@ -4,7 +4,9 @@ use Rattle.any_log.specs.Reporting.{after_report, receiver_behind, report_of}
 use Rattle.channel_uri.specs.declared.address.Address.{Address}
 use Rattle.driver_steps.specs.declared.answer.Answer.{Answer}
 use Rattle.driver_steps.specs.declared.answer.Answer.TheVariants.{Gone, Reported}
-use Rattle.driver_steps.specs.Moves.{Move, WholeLog}
+use Rattle.driver_core.specs.PublicationRequests.{publisher_of}
+use Rattle.driver_core.specs.State.{State}
+use Rattle.driver_steps.specs.Moves.{Move, WholeLog, answered}
 
 -- what is due goes to the publisher's address; a publication of this driver has no publisher elsewhere
 abbrev pub answer_reported : Address → Option (List (List ℕ)) → Answer
@@ -20,3 +22,11 @@ report_move now id to log = record {
   };
   answer = answer_reported to (report_of now id log.recovery.receiver log.whole);
 }
+
+-- as the registry says who publishes the image of that number
+abbrev pub report_by : State → ℕ → WholeLog → Option Address → Move
+report_by s now log None = answered log Gone
+report_by s now log (Some to) = report_move now s.settings.receiver_id to log
+
+abbrev pub image_move : State → ℕ → WholeLog → Move
+image_move s now log = report_by s now log (publisher_of s log.source)

@@ -1,23 +1,25 @@
 //! Steps of actors on the open logs, by whichever registry is shown.
 
 ghost use Rattle.driver_core.specs.LogRequests.{offering_of};
-ghost use Rattle.driver_core.specs.PublicationRequests.{publication_for, publisher_of, resending_of};
 ghost use Rattle.driver_steps.specs.declared.answer.Answer.TheVariants.{Gone, NoMemory};
-ghost use Rattle.driver_steps.specs.Decided.{DecidesAs, DecidesUnless, nak_decided, offer_decided, poll_decided};
-ghost use Rattle.driver_steps.specs.Ends.{on_asked, on_log, on_offered_by, on_report_by, on_told};
+ghost use Rattle.driver_steps.specs.Decided.{DecidesAs, DecidesUnless, offer_decided, poll_decided};
+ghost use Rattle.driver_steps.specs.Ends.{on_log, on_offered_by};
 ghost use Rattle.driver_steps.specs.Moves.{poll_move};
+ghost use Rattle.driver_steps.specs.Packets.{IsForRequest, LogsDecide, on_request, request_decided};
+ghost use Rattle.driver_steps.specs.Reporting.{image_move};
 ghost use Rattle.driver_steps.specs.Seen.{KeepMatch, LogsServe};
 ghost use Rattle.driver_steps.specs.Sending.{send_move};
-ghost use Rattle.std.specs.Prelude.{◌≡◌, Some, None, if◌then◌else◌};
+ghost use Rattle.frame_codec.specs.Datagram.{content};
+ghost use Rattle.std.specs.Prelude.{◌≡◌, None};
 
 use crate::answer::{Answer, Offered};
 use crate::asking::Asks;
 use crate::cause::Cause;
 use crate::open_logs::OpenLogs;
+use crate::packets::PacketRequest;
 use crate::told::Told;
-use driver_core::{Address, Astray, LogRequest, Registry, View};
-use frame_codec::{Nak, StatusMessage};
-use policy_core::Decision;
+use driver_core::{Address, Astray, View};
+use frame_codec::Packet;
 use std::alloc::Global;
 
 /// A step was refused memory.
@@ -28,27 +30,6 @@ fn refused() -> Told
         answer: Answer::NoMemory,
         decision: None,
     }
-}
-
-/// The decision on a NAK, where the publication's log is open.
-fn decision_where(is_open: bool, decision: Decision) -> Option<Decision>
-    ensures { result ≡ (if is_open then Some decision else None) }
-{
-    if is_open { Some(decision) } else { None }
-}
-
-/// The source number of the publication that a status message is for.
-fn publication_of(registry: &Registry, message: &StatusMessage) -> Option<u64>
-    ensures { result ≡ publication_for registry.now message.now.session_id message.now.stream_id }
-{
-    registry.publication_for(message.session_id, message.stream_id)
-}
-
-/// Of which publication a NAK from that address asks for frames, and whether the registry's policy lets it have them.
-fn asked_by(registry: &Registry, from: &Address, nak: &Nak) -> Option<LogRequest>
-    ensures { result ≡ resending_of registry.now from.now nak.now.session_id nak.now.stream_id }
-{
-    registry.resending(from, nak.session_id, nak.stream_id)
 }
 
 /// A client offers a message. It takes no memory.
@@ -124,59 +105,38 @@ pub(crate) fn report_by<V: View>(
     now: u64,
     source: u64,
 ) -> Answer
-    ensures serves { LogsServe logs.old logs.new (λ e. on_report_by (V.shows view.now) e now source (publisher_of (V.shows view.now) source)) result }
+    ensures serves { LogsServe logs.old logs.new (λ e. on_log e source (image_move (V.shows view.now) now) Gone) result }
     ensures kept { KeepMatch logs.old logs.new }
 {
-    let registry = view.registry();
-    let Some(to) = registry.publisher_of(source) else {
-        return Answer::Gone;
-    };
-    let receiver_id = registry.settings().receiver_id;
-    match logs.report(alloc, source, now, receiver_id, &to) {
+    match logs.image(view, alloc, source, now) {
         Ok(answer) => answer,
         Err(_) => Answer::NoMemory,
     }
 }
 
-/// A NAK came from the address `from`, for the publication of its session and stream. The decision is told where that
-/// publication's log is open, whatever comes of the NAK.
-pub(crate) fn nak_by<V: View>(
-    view: &V,
+/// A datagram came from the address `from`, of which the registry says that. The decision is told where the log is open that
+/// it is for, whatever comes of it.
+pub(crate) fn packet_by(
     logs: &mut OpenLogs,
     alloc: Global,
     now: u64,
     from: &Address,
-    nak: &Nak,
+    packet: Packet<'_>,
+    request: Result<PacketRequest, Astray>,
 ) -> Told
-    ensures serves { LogsServe logs.old logs.new (λ e. on_asked e now from.now nak.now (resending_of (V.shows view.now) from.now nak.now.session_id nak.now.stream_id)) result.answer }
-    ensures decides { DecidesUnless (record { registry = V.shows view.now; logs = logs.old.logs }) (λ e. nak_decided e from.now nak.now) result.answer result.decision }
+    requires { IsForRequest logs.old.logs request (content packet) }
+    ensures serves { LogsServe logs.old logs.new (λ e. on_request e now from.now (content packet.entry) request) result.answer }
+    ensures decides { LogsDecide logs.old (λ e. request_decided e request) result.answer result.decision }
     ensures kept { KeepMatch logs.old logs.new }
 {
-    let Some(request) = asked_by(view.registry(), from, nak) else {
-        return Told {
-            answer: Answer::Dropped(Cause::Astray(Astray::NoStream)),
+    match request {
+        Ok(request) => match logs.packet(alloc, now, from, packet, &request) {
+            Ok(told) => told,
+            Err(_) => refused(),
+        },
+        Err(why) => Told {
+            answer: Answer::Dropped(Cause::Astray(why)),
             decision: None,
-        };
-    };
-    let decision = decision_where(logs.is_open(request.source), request.decision);
-    match logs.nak(alloc, request.source, now, from, nak, &request.decision) {
-        Ok(answer) => Told { answer, decision },
-        Err(_) => refused(),
-    }
-}
-
-/// A status message came, for the publication of its session and stream. It takes no memory.
-pub(crate) fn status_by<V: View>(
-    view: &V,
-    logs: &mut OpenLogs,
-    now: u64,
-    message: &StatusMessage,
-) -> Answer
-    ensures serves { LogsServe logs.old logs.new (λ e. on_told e now message.now (publication_for (V.shows view.now) message.now.session_id message.now.stream_id)) result }
-    ensures kept { KeepMatch logs.old logs.new }
-{
-    match publication_of(view.registry(), message) {
-        Some(source) => logs.status(source, now, message),
-        None => Answer::Dropped(Cause::Astray(Astray::NoStream)),
+        },
     }
 }

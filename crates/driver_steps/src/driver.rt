@@ -1,35 +1,28 @@
-ghost use Rattle.frame_codec.specs.Frames.{frames_left};
-ghost use Rattle.frame_codec.specs.Sound.{AreOfOneTerm, AreTold};
-ghost use Rattle.std.specs.Prelude.{◌≡◌, ℕ, ◌≤◌, length, None, IfOk, OnOk, OnErr};
+ghost use Rattle.std.specs.Prelude.{◌≡◌, ℕ, ◌≤◌, length, None, Ok, IfOk, OnOk, OnErr};
 ghost use Rattle.driver_core.specs.Conduct.{conduct, outcome_of};
-ghost use Rattle.driver_core.specs.ImageRequests.{image_for};
 ghost use Rattle.driver_core.specs.Listing.{value};
 ghost use Rattle.driver_core.specs.Pairs.{pairs_of};
-ghost use Rattle.driver_core.specs.PublicationRequests.{publication_for, resending_of};
 ghost use Rattle.driver_core.specs.Soundness.{AreSettings, IsSound, MovesLogs};
 ghost use Rattle.driver_steps.specs.Ends.{inputs_of};
 ghost use Rattle.driver_core.specs.Readers.{readers_of};
 ghost use Rattle.driver_steps.specs.Held.{inputs_held};
-ghost use Rattle.driver_steps.specs.declared.told.Came.TheVariants.{Told as CameTold};
+ghost use Rattle.driver_steps.specs.declared.answer.Answer.TheVariants.{Dropped};
+ghost use Rattle.driver_steps.specs.declared.cause.Cause.TheVariants.{Unread};
 ghost use Rattle.driver_steps.specs.Opening.{CanOpen, Follows, HasRoom, place_of};
 
 use crate::answer::Answer;
-use crate::by_view::{nak_by, offer_by, poll_by, report_by, send_by, status_by};
+use crate::by_view::{offer_by, packet_by, poll_by, report_by, send_by};
 use crate::caches::{CACHES, caches};
 use crate::cause::Cause;
 use crate::inputs::inputs_of;
 use crate::open_log::OpenLog;
 use crate::open_logs::OpenLogs;
 use crate::opening::{Opening, open_next, prepare};
+use crate::packets::packet_request;
 use crate::told::{Came, Looked, Told};
 use decision_cache::Cache;
-use driver_core::{
-    Address, Astray, Entry, Event, Peer, Registry, Settings, cached_verdicts_stay_right,
-};
-use frame_codec::{
-    BadPacket, Frames, Nak, Packet, Setup, StatusMessage, TermPlace, frames_are_of_one_term,
-    frames_are_told,
-};
+use driver_core::{Address, Entry, Event, Peer, Registry, Settings, cached_verdicts_stay_right};
+use frame_codec::{BadPacket, Packet, Setup, frames_are_of_one_term, frames_are_told};
 use policy_core::Policy;
 use rows::Rows;
 use std::alloc::{AllocError, Global};
@@ -72,18 +65,6 @@ fn plan_for(
     registry.plan(alloc, event, &inputs)
 }
 
-/// The source number of the image of that place's session and stream, for a datagram that came to `local` from `from`.
-pub(crate) fn image_of(
-    registry: &Registry,
-    local: &Address,
-    from: &Address,
-    place: TermPlace,
-) -> Result<u64, Astray>
-    ensures { result ≡ image_for registry.now local.now from.now place.session_id place.stream_id }
-{
-    registry.image_for(local, from, place.session_id, place.stream_id)
-}
-
 /// The logs follow an event that left this registry: the log that it opens is opened before those are closed that it
 /// closes, and then exactly the pairs read. It takes no memory.
 fn follow(
@@ -104,22 +85,22 @@ fn follow(
     logs.rejoin(after, room);
 }
 
-/// No policy is asked of the datagram.
-pub(crate) fn undecided(answer: Answer) -> Came
-    ensures { result ≡ CameTold (record { answer = answer; decision = None }) }
+/// The bytes are no datagram, by that fault.
+pub(crate) fn unread(fault: BadPacket) -> Told
+    ensures { result ≡ record { answer = Dropped (Unread fault); decision = None } }
 {
-    Came::Told(Told {
-        answer,
+    Told {
+        answer: Answer::Dropped(Cause::Unread(fault)),
         decision: None,
-    })
+    }
 }
 
 impl Driver {
     ghost use Rattle.driver_core.specs.declared.event.Event.TheVariants.{Setup as SetUp};
-    ghost use Rattle.driver_steps.specs.Ends.{on_asked, on_frames, on_stream, on_told, opening_end};
-    ghost use Rattle.driver_steps.specs.Receiving.{beat_move};
-    ghost use Rattle.driver_steps.specs.Coming.{Comes};
-    ghost use Rattle.driver_steps.specs.Decided.{DecidesAs, DecidesUnless, LeavesOut, nak_decided, offer_decided, poll_decided, shown_decision};
+    ghost use Rattle.driver_steps.specs.Ends.{on_packet, opening_end};
+    ghost use Rattle.driver_steps.specs.Coming.{Comes, content_decided};
+    ghost use Rattle.driver_steps.specs.Decided.{DecidesAs, DecidesUnless, LeavesOut, offer_decided, poll_decided, shown_decision};
+    ghost use Rattle.driver_steps.specs.Packets.{IsOpenContent, IsSoundContent};
     ghost use Rattle.driver_steps.specs.Standing.{StandsForEnd, Serves, ServesAs, Takes, pages_of_logs};
     ghost use Rattle.driver_steps.specs.declared.step.Step.TheVariants.{Offer, Poll, Send, Image, List as Lists, Value};
     ghost use Rattle.frame_codec.specs.Datagram.{content, packet_of};
@@ -184,56 +165,22 @@ impl Driver {
         Ok(entry)
     }
 
-    /// The frames of a datagram came to the address `local`, from the address `from`.
-    fn receive(
+    /// A datagram came to the address `local`, from the address `from`, that is no SETUP.
+    fn packet(
         &mut self,
         alloc: Global,
         now: u64,
         local: &Address,
         from: &Address,
-        frames: Frames<'_>,
-    ) -> Answer
-        requires told { AreTold (frames_left frames) }
-        requires one { AreOfOneTerm (frames_left frames) }
-        ensures { ServesAs self.old self.new (λ e. on_frames e now local.now from.now (frames_left frames.entry)) result }
+        packet: Packet<'_>,
+    ) -> Told
+        requires sound { IsSoundContent (content packet) }
+        requires other { IsOpenContent (content packet) }
+        ensures serves { ServesAs self.old self.new (λ e. on_packet e now local.now from.now (Ok (content packet.entry))) result.answer }
+        ensures decides { DecidesUnless self.old (λ e. content_decided e from.now (Ok (content packet.entry))) result.answer result.decision }
     {
-        let mut left = frames;
-        let Some(frame) = left.next() else {
-            return Answer::Dropped(Cause::Astray(Astray::NoStream));
-        };
-        match image_of(&self.registry, local, from, frame.header.place) {
-            Ok(source) => match self.logs.receive(alloc, source, now, frames) {
-                Ok(answer) => answer,
-                Err(_) => Answer::NoMemory,
-            },
-            Err(why) => Answer::Dropped(Cause::Astray(why)),
-        }
-    }
-
-    /// A heartbeat came to the address `local`, from the address `from`. It takes no memory.
-    fn beat(&mut self, now: u64, local: &Address, from: &Address, place: &TermPlace) -> Answer
-        ensures { ServesAs self.old self.new (λ e. on_stream e local.now from.now place.now (beat_move now place.now)) result }
-    {
-        match image_of(&self.registry, local, from, *place) {
-            Ok(source) => self.logs.beat(source, now, place),
-            Err(why) => Answer::Dropped(Cause::Astray(why)),
-        }
-    }
-
-    /// A status message came, for the publication of its session and stream. It takes no memory.
-    fn status(&mut self, now: u64, message: &StatusMessage) -> Answer
-        ensures { ServesAs self.old self.new (λ e. on_told e now message.now (publication_for e.registry message.now.session_id message.now.stream_id)) result }
-    {
-        status_by(&self.registry, &mut self.logs, now, message)
-    }
-
-    /// A NAK came from the address `from`, for the publication of its session and stream. The decision is told where that
-    /// publication's log is open, whatever comes of the NAK.
-    fn nak(&mut self, alloc: Global, now: u64, from: &Address, nak: &Nak) -> Told
-        ensures serves { ServesAs self.old self.new (λ e. on_asked e now from.now nak.now (resending_of e.registry from.now nak.now.session_id nak.now.stream_id)) result.answer }
-        ensures decides { DecidesUnless self.old (λ e. nak_decided e from.now nak.now) result.answer result.decision }
-    {
-        nak_by(&self.registry, &mut self.logs, alloc, now, from, nak)
+        let request = packet_request(&self.registry, local, from, &packet);
+        packet_by(&mut self.logs, alloc, now, from, packet, request)
     }
 
     /// The sender has a turn with a publication.
@@ -268,16 +215,13 @@ impl Driver {
         ensures { Comes self.old self.new now local.now from.now _bytes.now result }
     {
         match read {
-            Err(fault) => undecided(Answer::Dropped(Cause::Unread(fault))),
-            Ok(Packet::Data(frames)) => {
+            Err(fault) => Came::Told(unread(fault)),
+            Ok(Packet::Setup(setup)) => Came::SetUp(setup),
+            Ok(packet) => {
                 frames_are_told();
                 frames_are_of_one_term();
-                undecided(self.receive(alloc, now, local, from, frames))
+                Came::Told(self.packet(alloc, now, local, from, packet))
             }
-            Ok(Packet::Beat(header)) => undecided(self.beat(now, local, from, &header.place)),
-            Ok(Packet::Setup(setup)) => Came::SetUp(setup),
-            Ok(Packet::Nak(nak)) => Came::Told(self.nak(alloc, now, from, &nak)),
-            Ok(Packet::Sm(message)) => undecided(self.status(now, &message)),
         }
     }
 

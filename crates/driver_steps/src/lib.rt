@@ -1,7 +1,8 @@
 //! A driver that is run step by step, with the logs of its publications and images.
 //!
 //! Each call of [`Driver`] is one step, and tells what the policy decided for it. Contracts see the logs as whole lists of
-//! frames. `offer_step`, `poll_step` and `send_step` are steps on one log, by any view of a registry.
+//! frames. An [`OpenLog`] is a value of its own; `offer_step`, `poll_step`, `packet_step`, `send_step` and `image_step` are steps
+//! on one, by any view of a registry, and those that a driver takes.
 //!
 //! An event is told how far each log reaches and, where it is a tick, which images are silent. Then the logs follow: the one
 //! opens that the event tells, of a publication or of the image that a SETUP makes, those close that it tells, and exactly
@@ -21,6 +22,7 @@ mod offering;
 mod open_log;
 mod open_logs;
 mod opening;
+mod packets;
 mod polling;
 mod reading;
 mod receiving;
@@ -45,7 +47,9 @@ pub use laws::{
 };
 pub use offering::offer_step;
 pub use open_log::OpenLog;
+pub use packets::{PacketRequest, packet_request, packet_step};
 pub use polling::poll_step;
+pub use reporting::image_step;
 pub use sending::send_step;
 pub use step::Step;
 pub use told::{Came, Looked, Told};

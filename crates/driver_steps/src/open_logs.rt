@@ -3,22 +3,23 @@
 ghost use Rattle.any_log.specs.Whole.{rebuilt, whole};
 ghost use Rattle.driver_core.specs.Pairs.{pairs_of as all_pairs};
 ghost use Rattle.driver_core.specs.Readers.{readers_of};
-ghost use Rattle.driver_steps.specs.Held.{AreForFirst, IsOpened, held_at, is_closed, is_kept, place_at, plots_of, rejoined_held, with_readers, without};
+ghost use Rattle.driver_steps.specs.Held.{IsOpened, is_closed, is_kept, place_at, plots_of, rejoined_held, with_readers, without};
 ghost use Rattle.driver_steps.specs.Decided.{DecidesFirst, offer_decision, poll_decision};
-ghost use Rattle.driver_steps.specs.Hearing.{nak_move, status_move};
 ghost use Rattle.driver_steps.specs.Idents.{heard_at};
 ghost use Rattle.driver_steps.specs.declared.answer.Answer.TheVariants.{Gone, Offered as OfferedAs};
 ghost use Rattle.driver_steps.specs.declared.answer.Offered.TheVariants.{Closed};
 ghost use Rattle.driver_steps.specs.Memory.{GivesFirst};
 ghost use Rattle.driver_steps.specs.Moves.{MovesFirst, offer_move, poll_move};
+ghost use Rattle.driver_steps.specs.Packets.{IsForFirst, content_move};
 ghost use Rattle.driver_steps.specs.Plots.{IsLeastVacant, taken_pages};
-ghost use Rattle.driver_steps.specs.Receiving.{beat_move, receive_move, unheard};
-ghost use Rattle.driver_steps.specs.Reporting.{report_move};
+ghost use Rattle.driver_steps.specs.Receiving.{unheard};
+ghost use Rattle.driver_steps.specs.Recovery.{recovering};
+ghost use Rattle.driver_steps.specs.Reporting.{image_move};
 ghost use Rattle.driver_steps.specs.Sending.{send_move};
-ghost use Rattle.frame_codec.specs.Frames.{frames_left};
+ghost use Rattle.frame_codec.specs.Datagram.{content};
 ghost use Rattle.image_log.specs.Rebuilt.{opened};
 ghost use Rattle.log_arena.specs.Pages.{holes_of};
-ghost use Rattle.std.specs.Prelude.{◌≡◌, ℕ, ◌*◌, ◌%◌, ◌^◌, ◌<◌, ◌≤◌, [], length, is_some, map, filter, IfOk, OnOk, OnErr};
+ghost use Rattle.std.specs.Prelude.{◌≡◌, ℕ, ◌*◌, ◌%◌, ◌^◌, ◌<◌, ◌≤◌, [], length, map, filter, IfOk, OnOk, OnErr};
 ghost use Rattle.stream_registry.specs.LogPages.{pages_of};
 ghost use Rattle.term_log.specs.Ident.{IsIdent};
 ghost use Rattle.term_log.specs.Whole.{fresh};
@@ -26,27 +27,22 @@ ghost use Rattle.term_log.specs.Whole.{fresh};
 use crate::answer::{Answer, Offered};
 use crate::asking::Asks;
 use crate::cause::Cause;
-use crate::hearing::status_step;
 use crate::offering::offer_step;
 use crate::open_log::OpenLog;
+use crate::packets::{PacketRequest, packet_step};
 use crate::polling::poll_step;
-use crate::receiving::{beat_step, receive_step};
-use crate::recovery::Recovery;
-use crate::reporting::report_step;
-use crate::resending::nak_step;
+use crate::reporting::image_step;
 use crate::sending::send_step;
 use crate::told::Told;
-use any_log::AnyLog;
-use driver_core::{Address, Astray, Registry, View};
-use frame_codec::{Frames, Nak, StatusMessage, TermPlace};
-use image_log::{ImageLog, ImageRoom};
+use driver_core::{Address, Astray, Registry, Settings, View};
+use frame_codec::Packet;
+use image_log::ImageRoom;
 use log_arena::Arena;
-use policy_core::Decision;
 use rows::Rows;
 use std::alloc::{AllocError, Global};
 use std::marker::Model;
 use stream_registry::LogPlace;
-use term_log::{Ident, LogRoom, TermLog};
+use term_log::{Ident, LogRoom};
 
 /// The open logs, each in a lease of one arena, of which no other page has a lease.
 ///
@@ -60,6 +56,7 @@ pub(crate) struct OpenLogs {
 
 impl Model for OpenLogs {
     ghost use Rattle.driver_steps.specs.Held.{HeldLogs, plots_of};
+    ghost use Rattle.driver_steps.specs.Packets.{IsForFirst, content_move};
     ghost use Rattle.driver_steps.specs.Plots.{AreHoused};
     ghost use Rattle.std.specs.Vec.{vec_capacity};
 
@@ -114,13 +111,6 @@ impl OpenLogs {
         self.arena.holes()
     }
 
-    /// Whether a log of that source is open.
-    pub(crate) fn is_open(&self, source: u64) -> bool
-        ensures { result ≡ is_some (held_at self.now.logs source) }
-    {
-        place_of(self.logs.as_slice(), source).is_some()
-    }
-
     /// Takes room for one log more.
     pub(crate) fn reserve(&mut self) -> Result<(), AllocError>
         ensures same { self.new ≡ record self.old { room = self.new.room } }
@@ -137,24 +127,20 @@ impl OpenLogs {
         source: u64,
         place: u64,
         ident: Ident,
-        recovery: Recovery,
+        settings: Settings,
     )
         requires ident { IsIdent ident }
         requires whole { ident.term_length % 4096 ≡ 0 }
         requires vacant { IsLeastVacant self.old.pages (plots_of self.old.logs) (pages_of ident.term_length) place }
         requires room { length self.old.logs < self.old.room }
-        ensures { IsOpened self.old self.new source place (whole (fresh ident)) recovery }
+        ensures { IsOpened self.old self.new source place (whole (fresh ident)) (recovering settings) }
     {
         let Ok(lease) = self.arena.lease(3 * ident.term_length as usize) else {
             // the place is there
             unreachable!()
         };
-        let log = TermLog::open_in(memory, lease, ident);
-        self.logs.push_reserved(OpenLog {
-            source,
-            log: AnyLog::Term(log),
-            recovery,
-        });
+        let log = OpenLog::of_publication(memory, lease, source, ident, settings);
+        self.logs.push_reserved(log);
     }
 
     /// Opens the log of a remote stream without frames behind the others, which joins at that position, and whose sender is
@@ -167,7 +153,7 @@ impl OpenLogs {
         ident: image_log::Ident,
         join: u64,
         now: u64,
-        recovery: Recovery,
+        settings: Settings,
     )
         requires memory { memory ≡ 3 * ident.term_length }
         requires terms { (65536 ≤ ident.term_length) × (ident.term_length ≤ 16777216) }
@@ -175,19 +161,14 @@ impl OpenLogs {
         requires join { (join % 32 ≡ 0) × (join < ident.term_length * 2 ^ 31) }
         requires vacant { IsLeastVacant self.old.pages (plots_of self.old.logs) (pages_of ident.term_length) place }
         requires room { length self.old.logs < self.old.room }
-        ensures { IsOpened self.old self.new source place (rebuilt (heard_at now (opened ident join))) recovery }
+        ensures { IsOpened self.old self.new source place (rebuilt (heard_at now (opened ident join))) (recovering settings) }
     {
         let Ok(lease) = self.arena.lease(3 * ident.term_length as usize) else {
             // the place is there
             unreachable!()
         };
-        let mut log = ImageLog::open_in(memory, lease, ident, join);
-        log.heard(now);
-        self.logs.push_reserved(OpenLog {
-            source,
-            log: AnyLog::Image(log),
-            recovery,
-        });
+        let log = OpenLog::of_image(memory, lease, source, ident, join, now, settings);
+        self.logs.push_reserved(log);
     }
 
     /// Closes the log at that place of the list: its pages are free again.
@@ -196,12 +177,7 @@ impl OpenLogs {
         ensures { self.new ≡ record self.old { logs = without at self.old.logs } }
     {
         let open = self.logs.remove(at);
-        let OpenLog {
-            source: _,
-            log,
-            recovery: _,
-        } = open;
-        self.arena.give(log.close());
+        self.arena.give(open.close());
     }
 
     /// Closes these logs: their pages are free again.
@@ -224,7 +200,7 @@ impl OpenLogs {
         requires few { length subscriptions.now ≤ 512 }
         ensures { self.new ≡ record self.old { logs = with_readers at subscriptions.now self.old.logs } }
     {
-        self.logs[at].log.rejoin(subscriptions);
+        self.logs[at].rejoin(subscriptions);
     }
 
     /// Exactly the subscriptions read the logs that the registry says. `room` is there for those of one log.
@@ -302,67 +278,33 @@ impl OpenLogs {
             alloc,
             client,
             subscription,
+            source,
             limit,
         )
     }
 
-    /// The frames of a datagram come to the first log of that source, as [`receive_step`] says.
-    pub(crate) fn receive(
+    /// A datagram comes to the first log of the source that it is for, as [`packet_step`] says.
+    pub(crate) fn packet(
         &mut self,
         alloc: Global,
-        source: u64,
-        now: u64,
-        frames: Frames<'_>,
-    ) -> Result<Answer, AllocError>
-        requires { AreForFirst self.old.logs source (frames_left frames) }
-        ensures moved { IfOk result (λ answer. MovesFirst source (receive_move now (frames_left frames.entry)) unheard self.old self.new answer) }
-        ensures err { OnErr result (self.new ≡ self.old) }
-        ensures without_memory { OnErr result (GivesFirst source (receive_move now (frames_left frames.entry)) self.old) }
-    {
-        let Some(at) = place_of(self.logs.as_slice(), source) else {
-            return Ok(Answer::Dropped(Cause::Astray(Astray::NoStream)));
-        };
-        receive_step(&mut self.logs[at], alloc, now, frames)
-    }
-
-    /// A heartbeat comes to the first log of that source, as [`beat_step`] says.
-    pub(crate) fn beat(&mut self, source: u64, now: u64, place: &TermPlace) -> Answer
-        ensures { MovesFirst source (beat_move now place.now) unheard self.old self.new result }
-    {
-        let Some(at) = place_of(self.logs.as_slice(), source) else {
-            return Answer::Dropped(Cause::Astray(Astray::NoStream));
-        };
-        beat_step(&mut self.logs[at], now, place)
-    }
-
-    /// A status message comes to the first log of that source, as [`status_step`] says.
-    pub(crate) fn status(&mut self, source: u64, now: u64, message: &StatusMessage) -> Answer
-        ensures { MovesFirst source (status_move now message.now) unheard self.old self.new result }
-    {
-        let Some(at) = place_of(self.logs.as_slice(), source) else {
-            return Answer::Dropped(Cause::Astray(Astray::NoStream));
-        };
-        status_step(&mut self.logs[at], now, message)
-    }
-
-    /// A NAK comes to the first log of that source, as [`nak_step`] says.
-    pub(crate) fn nak(
-        &mut self,
-        alloc: Global,
-        source: u64,
         now: u64,
         from: &Address,
-        nak: &Nak,
-        decision: &Decision,
-    ) -> Result<Answer, AllocError>
-        ensures moved { IfOk result (λ answer. MovesFirst source (nak_move now from.now decision.now nak.now) unheard self.old self.new answer) }
+        packet: Packet<'_>,
+        request: &PacketRequest,
+    ) -> Result<Told, AllocError>
+        requires { IsForFirst self.old.logs request.now.source (content packet) }
+        ensures moved { IfOk result (λ told. MovesFirst request.now.source (content_move now from.now request.now.decision (content packet.entry)) unheard self.old self.new told.answer) }
+        ensures decides { IfOk result (λ told. DecidesFirst request.now.source (λ log. request.now.decision) told.decision self.old) }
         ensures err { OnErr result (self.new ≡ self.old) }
-        ensures without_memory { OnErr result (GivesFirst source (nak_move now from.now decision.now nak.now) self.old) }
+        ensures without_memory { OnErr result (GivesFirst request.now.source (content_move now from.now request.now.decision (content packet.entry)) self.old) }
     {
-        let Some(at) = place_of(self.logs.as_slice(), source) else {
-            return Ok(Answer::Dropped(Cause::Astray(Astray::NoStream)));
+        let Some(at) = place_of(self.logs.as_slice(), request.source) else {
+            return Ok(Told {
+                answer: Answer::Dropped(Cause::Astray(Astray::NoStream)),
+                decision: None,
+            });
         };
-        nak_step(&mut self.logs[at], alloc, now, from, nak, decision)
+        packet_step(&mut self.logs[at], alloc, now, from, packet, request)
     }
 
     /// The sender has a turn with the first log of that source, as [`send_step`] says.
@@ -380,25 +322,24 @@ impl OpenLogs {
         let Some(at) = place_of(self.logs.as_slice(), source) else {
             return Ok(Answer::Gone);
         };
-        send_step(view, &mut self.logs[at], alloc, now)
+        send_step(view, &mut self.logs[at], alloc, now, source)
     }
 
-    /// The receiver of that id has a turn with the first log of that source, as [`report_step`] says.
-    pub(crate) fn report(
+    /// The receiver has a turn with the first log of that source, as [`image_step`] says.
+    pub(crate) fn image<V: View>(
         &mut self,
+        view: &V,
         alloc: Global,
         source: u64,
         now: u64,
-        receiver_id: u64,
-        to: &Address,
     ) -> Result<Answer, AllocError>
-        ensures moved { IfOk result (λ answer. MovesFirst source (report_move now receiver_id to.now) Gone self.old self.new answer) }
+        ensures moved { IfOk result (λ answer. MovesFirst source (image_move (V.shows view.now) now) Gone self.old self.new answer) }
         ensures err { OnErr result (self.new ≡ self.old) }
-        ensures without_memory { OnErr result (GivesFirst source (report_move now receiver_id to.now) self.old) }
+        ensures without_memory { OnErr result (GivesFirst source (image_move (V.shows view.now) now) self.old) }
     {
         let Some(at) = place_of(self.logs.as_slice(), source) else {
             return Ok(Answer::Gone);
         };
-        report_step(&mut self.logs[at], alloc, now, receiver_id, to)
+        image_step(view, &mut self.logs[at], alloc, now, source)
     }
 }

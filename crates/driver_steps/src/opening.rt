@@ -7,7 +7,6 @@ ghost use Rattle.driver_steps.specs.Opening.{CanOpen, HasRoom, IsMemoryFor, Open
 ghost use Rattle.std.specs.Prelude.{◌≡◌, ◌<◌, IfOk, length};
 
 use crate::open_logs::OpenLogs;
-use crate::recovery::Recovery;
 use channel_uri::Media;
 use driver_core::{Event, Registry, Settings};
 use frame_codec::Setup;
@@ -119,11 +118,11 @@ fn open_for(logs: &mut OpenLogs, registry: &Registry, opening: Opening)
     let Some(log) = registry.source(place.source) else {
         return;
     };
-    let recovery = Recovery::new(registry.settings());
+    let settings = registry.settings();
     match (log.origin, memory) {
         (Origin::Published { .. }, Memory::Publication(memory)) => {
-            let ident = ident_of(registry.settings(), log);
-            logs.open(memory, log.number, place.place, ident, recovery);
+            let ident = ident_of(settings, log);
+            logs.open(memory, log.number, place.place, ident, settings);
         }
         (
             Origin::Remote {
@@ -141,7 +140,7 @@ fn open_for(logs: &mut OpenLogs, registry: &Registry, opening: Opening)
                 ident,
                 join,
                 registry.moment(),
-                recovery,
+                settings,
             );
         }
         _ => unreachable!(),

@@ -2,49 +2,25 @@
 //! newest one, so the policy is asked anew.
 
 ghost use Rattle.driver_core.specs.Listing.{value};
-ghost use Rattle.driver_steps.specs.Decided.{DecidesAs, DecidesUnless, LeavesOut, nak_decided, offer_decided, poll_decided, shown_decision};
+ghost use Rattle.driver_steps.specs.Coming.{content_decided};
+ghost use Rattle.driver_steps.specs.Decided.{DecidesAs, DecidesUnless, LeavesOut, offer_decided, poll_decided, shown_decision};
 ghost use Rattle.driver_steps.specs.declared.step.Step.TheVariants.{Image, List as Lists, Offer, Poll, Send, Value};
-ghost use Rattle.driver_steps.specs.Receiving.{beat_move};
-ghost use Rattle.driver_core.specs.PublicationRequests.{publication_for, resending_of};
-ghost use Rattle.driver_steps.specs.Ends.{on_asked, on_image, on_told};
-ghost use Rattle.driver_steps.specs.Seen.{ComesSeen, Sees, frames_seen, image_seen, still_there, under};
+ghost use Rattle.driver_steps.specs.Packets.{IsOpenContent, IsSoundContent};
+ghost use Rattle.driver_steps.specs.Seen.{ComesSeen, Sees, packet_seen, under};
 ghost use Rattle.driver_steps.specs.Standing.{ServesAs};
-ghost use Rattle.driver_core.specs.ImageRequests.{image_for};
 ghost use Rattle.frame_codec.specs.Datagram.{content, packet_of};
-ghost use Rattle.frame_codec.specs.Frames.{frames_left};
-ghost use Rattle.frame_codec.specs.Sound.{AreOfOneTerm, AreTold};
 ghost use Rattle.frame_codec.specs.Steps.{Equals};
-ghost use Rattle.std.specs.Prelude.{◌≡◌};
+ghost use Rattle.std.specs.Prelude.{◌≡◌, Ok};
 
 use crate::answer::Answer;
 use crate::asking::Uncached;
-use crate::by_view::{nak_by, offer_by, poll_by, report_by, send_by, status_by};
-use crate::cause::Cause;
-use crate::driver::{Driver, image_of, undecided};
+use crate::by_view::{offer_by, packet_by, poll_by, report_by, send_by};
+use crate::driver::{Driver, unread};
+use crate::packets::request_seen;
 use crate::told::{Came, Looked, Told};
-use driver_core::{Address, Astray, Registry, View};
-use frame_codec::{
-    BadPacket, Frames, Nak, Packet, StatusMessage, TermPlace, frames_are_of_one_term,
-    frames_are_told,
-};
+use driver_core::{Address, View};
+use frame_codec::{BadPacket, Packet, frames_are_of_one_term, frames_are_told};
 use std::alloc::Global;
-
-/// The image of a datagram by the older registry, where the newest still has it: else its log is closed.
-fn image_seen_of(
-    older: &Registry,
-    newest: &Registry,
-    local: &Address,
-    from: &Address,
-    place: TermPlace,
-) -> Result<u64, Astray>
-    ensures { result ≡ still_there (image_for older.now local.now from.now place.session_id place.stream_id) (image_for newest.now local.now from.now place.session_id place.stream_id) }
-{
-    let source = image_of(older, local, from, place)?;
-    match image_of(newest, local, from, place) {
-        Ok(other) if other == source => Ok(source),
-        _ => Err(Astray::NoStream),
-    }
-}
 
 impl Driver {
     /// As [`Driver::offer`], by the registry that the view shows.
@@ -136,76 +112,23 @@ impl Driver {
         Told::shown(view.registry().value(client, number))
     }
 
-    /// The frames of a datagram came, for an image of the older registry.
-    fn receive_seen<V: View>(
+    /// A datagram came that is no SETUP, by the registry that the view shows.
+    fn packet_seen<V: View>(
         &mut self,
         view: &V,
         alloc: Global,
         now: u64,
         local: &Address,
         from: &Address,
-        frames: Frames<'_>,
-    ) -> Answer
-        requires told { AreTold (frames_left frames) }
-        requires one { AreOfOneTerm (frames_left frames) }
-        ensures { ServesAs self.old self.new (λ e. frames_seen (V.shows view.now) e now local.now from.now (frames_left frames.entry)) result }
-    {
-        let mut left = frames;
-        let Some(frame) = left.next() else {
-            return Answer::Dropped(Cause::Astray(Astray::NoStream));
-        };
-        match image_seen_of(
-            view.registry(),
-            &self.registry,
-            local,
-            from,
-            frame.header.place,
-        ) {
-            Ok(source) => match self.logs.receive(alloc, source, now, frames) {
-                Ok(answer) => answer,
-                Err(_) => Answer::NoMemory,
-            },
-            Err(why) => Answer::Dropped(Cause::Astray(why)),
-        }
-    }
-
-    /// A heartbeat came, for an image of the older registry. It takes no memory.
-    fn beat_seen<V: View>(
-        &mut self,
-        view: &V,
-        now: u64,
-        local: &Address,
-        from: &Address,
-        place: &TermPlace,
-    ) -> Answer
-        ensures { ServesAs self.old self.new (λ e. on_image e (beat_move now place.now) (image_seen (V.shows view.now) e local.now from.now place.now)) result }
-    {
-        match image_seen_of(view.registry(), &self.registry, local, from, *place) {
-            Ok(source) => self.logs.beat(source, now, place),
-            Err(why) => Answer::Dropped(Cause::Astray(why)),
-        }
-    }
-
-    /// A NAK came, for a publication of the older registry, whose policy decides.
-    fn nak_seen<V: View>(
-        &mut self,
-        view: &V,
-        alloc: Global,
-        now: u64,
-        from: &Address,
-        nak: &Nak,
+        packet: Packet<'_>,
     ) -> Told
-        ensures serves { ServesAs self.old self.new (λ e. on_asked e now from.now nak.now (resending_of (V.shows view.now) from.now nak.now.session_id nak.now.stream_id)) result.answer }
-        ensures decides { DecidesUnless (under self.old (V.shows view.now)) (λ e. nak_decided e from.now nak.now) result.answer result.decision }
+        requires sound { IsSoundContent (content packet) }
+        requires other { IsOpenContent (content packet) }
+        ensures serves { ServesAs self.old self.new (λ e. packet_seen (V.shows view.now) e now local.now from.now (Ok (content packet.entry))) result.answer }
+        ensures decides { DecidesUnless (under self.old (V.shows view.now)) (λ e. content_decided e from.now (Ok (content packet.entry))) result.answer result.decision }
     {
-        nak_by(view, &mut self.logs, alloc, now, from, nak)
-    }
-
-    /// A status message came, for a publication of the older registry. It takes no memory.
-    fn status_seen<V: View>(&mut self, view: &V, now: u64, message: &StatusMessage) -> Answer
-        ensures { ServesAs self.old self.new (λ e. on_told e now message.now (publication_for (V.shows view.now) message.now.session_id message.now.stream_id)) result }
-    {
-        status_by(view, &mut self.logs, now, message)
+        let request = request_seen(view, &self.registry, local, from, &packet);
+        packet_by(&mut self.logs, alloc, now, from, packet, request)
     }
 
     /// As [`Driver::datagram`], by the registry that the view shows. Frames and heartbeats of an image that the newest
@@ -224,18 +147,13 @@ impl Driver {
         ensures { ComesSeen (V.shows view.now) self.old self.new now local.now from.now _bytes.now result }
     {
         match read {
-            Err(fault) => undecided(Answer::Dropped(Cause::Unread(fault))),
-            Ok(Packet::Data(frames)) => {
+            Err(fault) => Came::Told(unread(fault)),
+            Ok(Packet::Setup(setup)) => Came::SetUp(setup),
+            Ok(packet) => {
                 frames_are_told();
                 frames_are_of_one_term();
-                undecided(self.receive_seen(view, alloc, now, local, from, frames))
+                Came::Told(self.packet_seen(view, alloc, now, local, from, packet))
             }
-            Ok(Packet::Beat(header)) => {
-                undecided(self.beat_seen(view, now, local, from, &header.place))
-            }
-            Ok(Packet::Setup(setup)) => Came::SetUp(setup),
-            Ok(Packet::Nak(nak)) => Came::Told(self.nak_seen(view, alloc, now, from, &nak)),
-            Ok(Packet::Sm(message)) => undecided(self.status_seen(view, now, &message)),
         }
     }
 }

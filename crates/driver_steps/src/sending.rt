@@ -2,7 +2,8 @@
 
 ghost use Rattle.driver_steps.specs.Held.{LiesAsBefore};
 ghost use Rattle.driver_steps.specs.Memory.{Gives};
-ghost use Rattle.driver_steps.specs.Moves.{Does};
+ghost use Rattle.driver_steps.specs.declared.answer.Answer.TheVariants.{Gone};
+ghost use Rattle.driver_steps.specs.Moves.{Does, for_source};
 ghost use Rattle.driver_steps.specs.Sending.{answer_sent, pace_of, send_move};
 ghost use Rattle.std.specs.Prelude.{◌≡◌, IfOk, OnErr};
 
@@ -35,17 +36,9 @@ fn answer_sent(outlets: Items<Outlet>, turn: Option<Option<Bytes>>) -> Answer
     }
 }
 
-/// The sender has a turn with the log of a publication over datagrams, at the moment `now` in nanoseconds, as the registry
-/// that the view shows says: one datagram, if one is due.
-///
-/// The answer is [`Answer::Gone`] where the registry has no such publication; [`Answer::Idle`] where nothing is due; else the
-/// datagram, with each destination of the publication and whether the policy of that registry lets it go there. The log moves
-/// on by what was cut, whoever gets it.
-///
-/// # Errors
-/// Nothing is changed where there is no memory for the datagram and the list of destinations. Any other answer takes none.
+/// As [`send_step`], of the log of that source.
 #[tactic(auto, unfolding(crate::specs::Sending::send_move))]
-pub fn send_step<V: View>(
+fn send_own<V: View>(
     view: &V,
     log: &mut OpenLog,
     alloc: Global,
@@ -70,4 +63,31 @@ pub fn send_step<V: View>(
             Ok(answer_sent(outlets, turn))
         }
     }
+}
+
+/// The sender has a turn with the log of a publication over datagrams, at the moment `now` in nanoseconds, as the registry
+/// that the view shows says: one datagram, if one is due.
+///
+/// The answer is [`Answer::Gone`] where it is the log of another source, or the registry has no such publication;
+/// [`Answer::Idle`] where nothing is due; else the datagram, with each destination of the publication and whether the policy of
+/// that registry lets it go there. The log moves on by what was cut, whoever gets it.
+///
+/// # Errors
+/// Nothing is changed where there is no memory for the datagram and the list of destinations. Any other answer takes none.
+pub fn send_step<V: View>(
+    view: &V,
+    log: &mut OpenLog,
+    alloc: Global,
+    now: u64,
+    source: u64,
+) -> Result<Answer, AllocError>
+    ensures does { IfOk result (λ answer. Does (for_source source (send_move (V.shows view.now) now) Gone) log.old log.new answer) }
+    ensures lies { LiesAsBefore log.old log.new }
+    ensures err { OnErr result (log.new ≡ log.old) }
+    ensures without_memory { OnErr result (Gives (for_source source (send_move (V.shows view.now) now) Gone) log.old) }
+{
+    if log.source() != source {
+        return Ok(Answer::Gone);
+    }
+    send_own(view, log, alloc, now)
 }

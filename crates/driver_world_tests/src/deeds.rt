@@ -1,7 +1,6 @@
 //! The events of which tests speak. Where no memory is there, nothing is as a test expects.
 
 use driver_core::{Event, Received};
-use policy_core::Policy;
 use std::alloc::{AllocError, Global};
 
 /// An event.
@@ -11,8 +10,6 @@ pub(crate) enum Deed {
     Attach,
     /// The bytes of a command come from client 1.
     Command(&'static [u8]),
-    /// A policy without rules is put in force, which allows all or nothing.
-    Reload(bool),
     Tick(u64),
 }
 
@@ -27,10 +24,6 @@ pub(crate) fn event(alloc: Global, deed: Deed) -> Result<Event, AllocError> {
             client: 1,
             bytes: Received::new(alloc, bytes)?,
         }),
-        Deed::Reload(default) => Ok(Event::Reload {
-            now: 0,
-            policy: Policy::new(Vec::new(alloc), default)?,
-        }),
         Deed::Tick(now) => Ok(Event::Tick { now }),
     }
 }
@@ -42,26 +35,15 @@ pub(crate) const SUBSCRIBE: Deed = Deed::Command(&[
     9, 0, 0, 0, 0x61, 0x65, 0x72, 0x6f, 0x6e, 0x3a, 0x69, 0x70, 0x63, // channel
 ]);
 
-/// ADD_PUBLICATION of client 1: `aeron:ipc`, stream 10.
-pub(crate) const PUBLISH: Deed = Deed::Command(&[
-    0x01, 0, 0, 0, 1, 0, 0, 0, 0, 0, 0, 0, 11, 0, 0, 0, 0, 0, 0, 0, 10, 0, 0, 0, //
-    9, 0, 0, 0, 0x61, 0x65, 0x72, 0x6f, 0x6e, 0x3a, 0x69, 0x70, 0x63,
-]);
-
 /// ADD_EXCLUSIVE_PUBLICATION of client 1: `aeron:ipc`, stream 10.
 pub(crate) const PUBLISH_ALONE: Deed = Deed::Command(&[
     0x03, 0, 0, 0, 1, 0, 0, 0, 0, 0, 0, 0, 11, 0, 0, 0, 0, 0, 0, 0, 10, 0, 0, 0, //
     9, 0, 0, 0, 0x61, 0x65, 0x72, 0x6f, 0x6e, 0x3a, 0x69, 0x70, 0x63,
 ]);
 
-/// REMOVE_SUBSCRIPTION of client 1, for registration 3.
-pub(crate) const UNSUBSCRIBE_3: Deed = Deed::Command(&[
-    0x05, 0, 0, 0, 1, 0, 0, 0, 0, 0, 0, 0, 11, 0, 0, 0, 0, 0, 0, 0, 3, 0, 0, 0, 0, 0, 0, 0,
-]);
-
-/// REMOVE_PUBLICATION of client 1, for registration 2.
-pub(crate) const UNPUBLISH_2: Deed = Deed::Command(&[
-    0x02, 0, 0, 0, 1, 0, 0, 0, 0, 0, 0, 0, 11, 0, 0, 0, 0, 0, 0, 0, 2, 0, 0, 0, 0, 0, 0, 0,
+/// REMOVE_PUBLICATION of client 1, for registration 1.
+pub(crate) const UNPUBLISH_1: Deed = Deed::Command(&[
+    0x02, 0, 0, 0, 1, 0, 0, 0, 0, 0, 0, 0, 11, 0, 0, 0, 0, 0, 0, 0, 1, 0, 0, 0, 0, 0, 0, 0,
 ]);
 
 /// TERMINATE_DRIVER of client 1, without a token.

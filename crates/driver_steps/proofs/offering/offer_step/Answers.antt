@@ -6,10 +6,25 @@ use Rattle.driver_steps.specs.declared.answer.Answer.TheVariants.{Offered as Off
 use Rattle.driver_steps.specs.declared.answer.Offered.TheVariants.{Closed}
 use Rattle.driver_steps.specs.Held.{HeldLog, LiesAsBefore}
 use Rattle.driver_steps.specs.Moves.{Does, offers, term_held}
+use Rattle.any_log.specs.Whole.{HasWhole}
+use Rattle.driver_steps.proofs.GateLemmas.{has_after}
 use Rattle.driver_steps.proofs.MoveLemmas.{held_lies, offer_closed, offer_passed}
 use Rattle.driver_steps.proofs.DecidedLemmas.{elsewhere_decides, own_decides, unregistered_decides}
 use Rattle.driver_steps.proofs.offering.offer_step.Goals as goal
 use Rattle.driver_steps.proofs.offering.offer_step.Goals.{in-Term, in-Image}
+
+pub invariant_of-log : goal.invariant_of-log
+invariant_of-log over c =
+    let source : ℕ = c.log.inside.source in
+    let kept = c.log.inside.recovery in
+    elim c.match-log.branch [
+      | in-Term w ↦
+          rw w.log-inside-is
+          (has_after _ (term_held source kept w.in-Term.term) (term_held source kept w.offer_to-answer.new.log) w.offer_to-answer.result
+          (w.offer_to-answer.ensures.does source kept)
+          (subst HasWhole w.in-Term.is c.log.invariant))
+      | in-Image w ↦ rw w.log-inside-is c.log.invariant
+    ]
 
 pub returns-clause-does : goal.returns-clause-does
 returns-clause-does over c =

@@ -1,8 +1,9 @@
-use Rattle.std.proofs.Common.{refl, ap}
+use Rattle.std.proofs.Common.{refl, ap, ◌∙◌}
 use Rattle.driver_core.specs.PublicationRequests.{publisher_of}
 use Rattle.driver_core.specs.State.{State}
 use Rattle.driver_steps.specs.declared.step.Step.TheVariants.{Image}
 use Rattle.driver_steps.specs.Ends.{on_report_by}
+use Rattle.driver_steps.proofs.ReportLemmas.{report_goes}
 use Rattle.driver_steps.proofs.SeenLemmas.{step_newest}
 use Rattle.driver_steps.proofs.driver.Driver.report.Goals as goal
 
@@ -13,5 +14,7 @@ pub returns : goal.returns
 returns c =
     rw (← c.self.view_is)
     (step_newest c.self.inside.registry c.self.inside.logs c.report_by.new.logs _ (Image c.args.now c.args.source) c.report_by.result
-    (λ e same. ap (λ (t : State). on_report_by t e c.args.now c.args.source (publisher_of t c.args.source)) same) (λ e. refl)
+    (λ e same.
+    report_goes c.self.inside.registry e c.args.now c.args.source
+    ∙ ap (λ (t : State). on_report_by t e c.args.now c.args.source (publisher_of t c.args.source)) same) (λ e. refl)
     c.report_by.ensures.serves)

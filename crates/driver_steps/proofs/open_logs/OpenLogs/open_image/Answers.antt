@@ -1,14 +1,15 @@
 use Rattle.std.specs.Vec.{vec_capacity}
 use Rattle.std.proofs.Common.{rules, ◌≡◌, ◌*◌, ◌/◌, ◌%◌, ◌<◌, ◌++◌, ◌∷◌, true, List, [], sym, ap, ap₂, subst, ◌∙◌, arith}
+use Rattle.any_log.specs.declared.any_log.AnyLog.{AnyLog}
 use Rattle.any_log.specs.declared.any_log.AnyLog.TheVariants.{Image}
-use Rattle.driver_steps.specs.Held.{HeldLog, HeldLogs, plot_of, plots_of}
 use Rattle.driver_steps.specs.Idents.{heard_at}
-use Rattle.driver_steps.specs.Plots.{IsLeastVacant}
-use Rattle.driver_steps.proofs.HousedLemmas.{IsLeaseOf, housed_leased, least_is, some_place}
-use Rattle.image_log.specs.Log.{Log}
 use Rattle.image_log.specs.Rebuilt.{opened}
 use Rattle.image_log.specs.Stored.{held_of}
-use Rattle.log_arena.specs.Lease.{lease_place}
+use Rattle.driver_steps.specs.Held.{HeldLog, HeldLogs, plot_of, plot_on, plots_of}
+use Rattle.driver_steps.specs.Plots.{IsLeastVacant, Plot}
+use Rattle.driver_steps.specs.Recovery.{recovering}
+use Rattle.driver_steps.proofs.HousedLemmas.{IsLeaseOf, housed_leased, least_is, some_place}
+use Rattle.log_arena.specs.Lease.{lease_home, lease_place}
 use Rattle.log_arena.specs.Pages.{IsLeastPlace, Region, marked}
 use Rattle.stream_registry.specs.LogPages.{pages_of}
 use Rattle.driver_steps.proofs.open_logs.OpenLogs.open_image.Goals as goal
@@ -21,16 +22,21 @@ unreachable-requires c =
 
 pub invariant_of-self : goal.invariant_of-self
 invariant_of-self c =
-    let log : Log = c.heard.new.self in
+    let held : HeldLog = c.of_image-log.result in
     let logs : List HeldLog = c.self.inside.logs.items in
-    let more : c.push_reserved.new.self.items ≡ logs ++ record { source = c.args.source; log = Image log; recovery = c.args.recovery } ∷ [] = search rules in
-    let held : HeldLog = record { source = c.args.source; log = Image log; recovery = c.args.recovery } in
-    let is : log ≡ record { held = held_of c.in-Ok.lease; rebuilt = heard_at c.args.now (opened c.args.ident c.args.join) } =
-    c.heard.ensures ∙ ap (λ (l : Log). let h : Log = record l { rebuilt = heard_at c.args.now l.rebuilt } in h) c.open_in-log.ensures in
-    let terms : log.rebuilt.ident.term_length ≡ c.args.ident.term_length = ap (λ (l : Log). l.rebuilt.ident.term_length) is in
+    let exact : held ≡ record {
+      source = c.args.source;
+      log = Image (record { held = held_of c.in-Ok.lease; rebuilt = heard_at c.args.now (opened c.args.ident c.args.join) });
+      recovery = recovering c.args.settings;
+    } =
+    c.of_image-log.ensures.exact in
+    let plot : plot_of held ≡ plot_on c.args.source (record { home = lease_home c.in-Ok.lease; place = lease_place c.in-Ok.lease; term_length = c.args.ident.term_length }) =
+    ap plot_of exact in
+    let more : c.push_reserved.new.self.items ≡ logs ++ held ∷ [] = search rules in
+    let terms : (plot_of held).term_length ≡ c.args.ident.term_length = ap (λ (p : Plot). p.term_length) plot in
     let of : IsLeaseOf (plot_of held) c.in-Ok.lease = record {
-      home = sym (ap (λ (l : Log). l.held.home) is);
-      place = sym (ap (λ (l : Log). l.held.place) is);
+      home = sym (ap (λ (p : Plot). p.home) plot);
+      place = sym (ap (λ (p : Plot). p.place) plot);
       len = c.in-Ok.ensures.long ∙ ap (λ n. 3 * n) (sym terms);
     } in
     housed_leased c.self.inside.arena c.lease.new.self logs c.push_reserved.new.self.items held c.in-Ok.lease of
@@ -43,26 +49,38 @@ invariant_of-self c =
 
 pub returns : goal.returns
 returns c =
-    let log : Log = c.heard.new.self in
-    let is : log ≡ record { held = held_of c.in-Ok.lease; rebuilt = heard_at c.args.now (opened c.args.ident c.args.join) } =
-    c.heard.ensures ∙ ap (λ (l : Log). let h : Log = record l { rebuilt = heard_at c.args.now l.rebuilt } in h) c.open_in-log.ensures in
+    let held : HeldLog = c.of_image-log.result in
     let logs : List HeldLog = c.self.inside.logs.items in
+    let exact : held ≡ record {
+      source = c.args.source;
+      log = Image (record { held = held_of c.in-Ok.lease; rebuilt = heard_at c.args.now (opened c.args.ident c.args.join) });
+      recovery = recovering c.args.settings;
+    } =
+    c.of_image-log.ensures.exact in
+    let plot : plot_of held ≡ plot_on c.args.source (record { home = lease_home c.in-Ok.lease; place = lease_place c.in-Ok.lease; term_length = c.args.ident.term_length }) =
+    ap plot_of exact in
+    let that : HeldLog = record { source = c.args.source; log = held.log; recovery = recovering c.args.settings } in
+    let same : held ≡ that =
+    exact
+    ∙ ap (λ (l : AnyLog). let h : HeldLog = record { source = c.args.source; log = l; recovery = recovering c.args.settings } in h)
+    (sym (ap (λ (h : HeldLog). h.log) exact)) in
     let vacant = subst (λ (h : HeldLogs). IsLeastVacant h.pages (plots_of h.logs) (pages_of c.args.ident.term_length) c.args.place) (sym c.self.view_is) c.requires.vacant in
     let some : 0 < pages_of c.args.ident.term_length = omega (arith, c.requires.terms.0) in
     let place : lease_place c.in-Ok.lease / 4096 ≡ c.args.place =
     least_is c.self.inside.arena (plots_of logs) (pages_of c.args.ident.term_length) c.args.place (lease_place c.in-Ok.lease / 4096) some
     c.self.invariant vacant c.in-Ok.ensures.least in
-    let at : log.held.place ≡ lease_place c.in-Ok.lease = ap (λ (l : Log). l.held.place) is in
-    let more : c.push_reserved.new.self.items ≡ logs ++ record { source = c.args.source; log = Image log; recovery = c.args.recovery } ∷ [] = search rules in
+    let at : (plot_of held).place ≡ lease_place c.in-Ok.lease = ap (λ (p : Plot). p.place) plot in
+    let pushed : c.push_reserved.new.self.items ≡ logs ++ held ∷ [] = search rules in
+    let more : c.push_reserved.new.self.items ≡ logs ++ that ∷ [] = pushed ∙ ap (λ (h : HeldLog). logs ++ h ∷ []) same in
     let pages : c.lease.new.self.home.pages ≡ c.self.inside.arena.home.pages = ap (λ (r : Region). r.home.pages) c.in-Ok.ensures.taken in
     record {
-      log = Image log;
-      stands = ap (λ (l : Log). l.rebuilt) is;
+      log = held.log;
+      stands = c.of_image-log.ensures.stands;
       place_is = omega (arith, at, place, c.in-Ok.lease.housed.whole_place);
-      terms_are = ap (λ (l : Log). l.rebuilt.ident.term_length) is;
+      terms_are = ap (λ (p : Plot). p.term_length) plot;
       new_is =
           ap₂ (λ p l. let h : HeldLogs = record { pages = p; logs = l; room = vec_capacity c.push_reserved.new.self } in h) pages more
-          ∙ ap (λ r. let h : HeldLogs = record { pages = c.self.inside.arena.home.pages; logs = logs ++ record { source = c.args.source; log = Image log; recovery = c.args.recovery } ∷ []; room = r } in h)
+          ∙ ap (λ r. let h : HeldLogs = record { pages = c.self.inside.arena.home.pages; logs = logs ++ that ∷ []; room = r } in h)
           c.push_reserved.ensures.capacity
-          ∙ ap (λ (h : HeldLogs). let g : HeldLogs = record h { logs = h.logs ++ record { source = c.args.source; log = Image log; recovery = c.args.recovery } ∷ [] } in g) c.self.view_is;
+          ∙ ap (λ (h : HeldLogs). let g : HeldLogs = record h { logs = h.logs ++ that ∷ [] } in g) c.self.view_is;
     }

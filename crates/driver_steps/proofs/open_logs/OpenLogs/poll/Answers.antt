@@ -5,11 +5,12 @@ use Rattle.std.proofs.lemmas.List.{get_or_default, set-get_or}
 use Rattle.driver_steps.specs.declared.answer.Answer.TheVariants.{Gone}
 use Rattle.driver_steps.specs.Held.{HeldLog, HeldLogs, LiesAsBefore, place_at}
 use Rattle.driver_steps.specs.Memory.{Gives, GivesFirst}
-use Rattle.driver_steps.specs.Moves.{Does, MovesFirst, poll_move}
-use Rattle.driver_steps.proofs.HeldLemmas.{err_each, found_at, gives_at, moves_at, moves_none, ok_each}
-use Rattle.driver_steps.specs.Decided.{Decides, DecidesFirst, poll_decision}
+use Rattle.driver_steps.specs.Moves.{Does, MovesFirst, for_source, poll_move}
+use Rattle.driver_steps.proofs.HeldLemmas.{err_each, found_at, moves_none, ok_each}
+use Rattle.driver_steps.specs.Decided.{Decides, DecidesFirst, decision_for, poll_decision}
 use Rattle.driver_steps.specs.declared.told.Told.{Told}
-use Rattle.driver_steps.proofs.DecidedLemmas.{decides_at, decides_none}
+use Rattle.driver_steps.proofs.DecidedLemmas.{decides_none}
+use Rattle.driver_steps.proofs.GateLemmas.{decides_for, gives_for, moves_for}
 use Rattle.driver_steps.proofs.HousedLemmas.{housed_set}
 use Rattle.driver_steps.proofs.open_logs.OpenLogs.poll.Goals as goal
 
@@ -41,11 +42,11 @@ returns-clause-moved g c =
     let place : place_at old.logs c.args.source ≡ Some c.in-Some.at =
     ap (λ l. place_at l c.args.source) (sym c.as_slice.ensures.value) ∙ sym c.place_of.ensures ∙ c.in-Some.is in
     let new : HeldLogs = record { pages = old.pages; logs = slice_set old.logs c.in-Some.at log; room = old.room } in
-    ok_each (λ (told : Told). Does move held log told.answer)
+    ok_each (λ (told : Told). Does (for_source c.args.source move Gone) held log told.answer)
     (λ (told : Told). MovesFirst c.args.source move Gone c.args.self.now new told.answer)
     (λ told does.
     subst (λ (h : HeldLogs). MovesFirst c.args.source move Gone h new told.answer) c.self.view_is
-    (moves_at c.args.source move Gone told.answer old c.in-Some.at held log place c.index_mut.ensures.value does c.poll_step.ensures.lies))
+    (moves_for c.args.source move Gone told.answer old c.in-Some.at held log place c.index_mut.ensures.value does c.poll_step.ensures.lies))
     c.poll_step.result c.poll_step.ensures.does
 
 pub returns-clause-err : goal.returns-clause-err
@@ -68,10 +69,10 @@ returns-clause-without_memory g c =
     let move = poll_move (g.V.View.shows c.args.view.now) c.args.client c.args.subscription c.args.limit in
     let place : place_at old.logs c.args.source ≡ Some c.in-Some.at =
     ap (λ l. place_at l c.args.source) (sym c.as_slice.ensures.value) ∙ sym c.place_of.ensures ∙ c.in-Some.is in
-    err_each (Gives move held) (GivesFirst c.args.source move c.args.self.now)
+    err_each (Gives (for_source c.args.source move Gone) held) (GivesFirst c.args.source move c.args.self.now)
     (λ gives.
     subst (λ (h : HeldLogs). GivesFirst c.args.source move h) c.self.view_is
-    (gives_at c.args.source move old c.in-Some.at held place c.index_mut.ensures.value gives))
+    (gives_for c.args.source move Gone old c.in-Some.at held place c.index_mut.ensures.value gives))
     c.poll_step.result c.poll_step.ensures.without_memory
 
 pub returns-in_default-clause-decides : goal.returns-in_default-clause-decides
@@ -90,9 +91,9 @@ returns-clause-decides g c =
     let decide = poll_decision (g.V.View.shows c.args.view.now) c.args.client c.args.subscription in
     let place : place_at old.logs c.args.source ≡ Some c.in-Some.at =
     ap (λ l. place_at l c.args.source) (sym c.as_slice.ensures.value) ∙ sym c.place_of.ensures ∙ c.in-Some.is in
-    ok_each (λ (told : Told). Decides decide held told.decision)
+    ok_each (λ (told : Told). Decides (decision_for c.args.source decide) held told.decision)
     (λ (told : Told). DecidesFirst c.args.source decide told.decision c.args.self.now)
     (λ told decides.
     subst (λ (h : HeldLogs). DecidesFirst c.args.source decide told.decision h) c.self.view_is
-    (decides_at c.args.source decide old c.in-Some.at held told.decision place c.index_mut.ensures.value decides))
+    (decides_for c.args.source decide old c.in-Some.at held told.decision place c.index_mut.ensures.value decides))
     c.poll_step.result c.poll_step.ensures.decides

@@ -1,34 +1,27 @@
 use Rattle.std.proofs.Common.{ℕ, ◌<◌, List, length, sym, ap, subst, ◌∙◌}
 use Rattle.std.specs.Vec.{vec_capacity}
 use Rattle.std.proofs.lemmas.List.{get_or_default}
-use Rattle.any_log.specs.declared.any_log.AnyLog.{AnyLog}
 use Rattle.any_log.specs.Held.{rejoined_held as rejoined_any}
 use Rattle.driver_steps.specs.Held.{HeldLog, HeldLogs, LiesAsBefore, with_readers}
 use Rattle.driver_steps.proofs.HeldLemmas.{readers_set}
-use Rattle.driver_steps.proofs.HousedLemmas.{housed_set, readers_lie}
+use Rattle.driver_steps.proofs.HousedLemmas.{housed_set}
 use Rattle.driver_steps.proofs.open_logs.OpenLogs.rejoin_at.Goals as goal
 
 pub invariant_of-self : goal.invariant_of-self
 invariant_of-self c =
     let logs : List HeldLog = c.self.inside.logs.items in
     let within : c.args.at < length logs = subst (λ (h : HeldLogs). c.args.at < length h.logs) (sym c.self.view_is) c.requires.at in
-    let new : HeldLog = record { source = c.behind-self.inside.source; log = c.rejoin.new.self; recovery = c.behind-self.inside.recovery } in
-    housed_set c.self.inside.arena logs c.args.at new (λ d.
-    let was = get_or_default logs c.args.at d c.index_mut.result.now within ∙ sym c.index_mut.ensures.value ∙ sym c.behind-self.view_is in
-    subst (λ (h : HeldLog). LiesAsBefore h new) (sym was)
-    (readers_lie c.behind-self.inside.source c.behind-self.inside.recovery c.args.subscriptions.now c.behind-self.inside.log c.rejoin.new.self c.rejoin.ensures)) c.self.invariant
+    housed_set c.self.inside.arena logs c.args.at c.rejoin.new.self (λ d.
+    let was = get_or_default logs c.args.at d c.index_mut.result.now within ∙ sym c.index_mut.ensures.value in
+    subst (λ (h : HeldLog). LiesAsBefore h c.rejoin.new.self) (sym was) c.rejoin.ensures.lies) c.self.invariant
 
 pub returns : goal.returns
 returns c =
     let logs : List HeldLog = c.self.inside.logs.items in
     let readers : List ℕ = c.args.subscriptions.now in
     let within : c.args.at < length logs = subst (λ (h : HeldLogs). c.args.at < length h.logs) (sym c.self.view_is) c.requires.at in
-    let source : ℕ = c.behind-self.inside.source in
-    let kept = c.behind-self.inside.recovery in
-    let new : HeldLog = record { source = source; log = c.rejoin.new.self; recovery = kept } in
     ap (λ l. let h : HeldLogs = record { pages = c.self.inside.arena.home.pages; logs = l; room = vec_capacity c.self.inside.logs } in h)
-    (readers_set logs c.args.at readers new within (λ d.
-    let was = get_or_default logs c.args.at d c.index_mut.result.now within ∙ sym c.index_mut.ensures.value ∙ sym c.behind-self.view_is in
-    ap (λ (l : AnyLog). let h : HeldLog = record { source = source; log = l; recovery = kept } in h) c.rejoin.ensures
-    ∙ ap (λ (h : HeldLog). let g : HeldLog = record h { log = rejoined_any readers h.log } in g) (sym was)))
+    (readers_set logs c.args.at readers c.rejoin.new.self within (λ d.
+    let was = get_or_default logs c.args.at d c.index_mut.result.now within ∙ sym c.index_mut.ensures.value in
+    c.rejoin.ensures.exact ∙ ap (λ (h : HeldLog). let g : HeldLog = record h { log = rejoined_any readers h.log } in g) (sym was)))
     ∙ ap (λ (h : HeldLogs). let g : HeldLogs = record h { logs = with_readers c.args.at readers h.logs } in g) c.self.view_is

@@ -1,0 +1,223 @@
+//! A datagram that comes to an open log: data, a heartbeat, a NAK or a status message.
+
+ghost use Rattle.any_log.specs.Held.{made_held};
+ghost use Rattle.driver_steps.specs.Decided.{Decides, decision_for};
+ghost use Rattle.driver_steps.specs.Held.{LiesAsBefore};
+ghost use Rattle.driver_steps.specs.Memory.{Gives};
+ghost use Rattle.driver_steps.specs.Moves.{Does};
+ghost use Rattle.driver_steps.specs.Packets.{IsFor, content_move, of_asked, of_stream, of_stream_seen, of_told, packet_move, packet_request, request_seen};
+ghost use Rattle.driver_steps.specs.Receiving.{unheard};
+ghost use Rattle.frame_codec.specs.Datagram.{content};
+ghost use Rattle.std.specs.Prelude.{◌≡◌, IfOk, None, OnErr};
+
+use crate::answer::Answer;
+use crate::cause::Cause;
+use crate::hearing::status_step;
+use crate::open_log::OpenLog;
+use crate::receiving::{beat_step, receive_step};
+use crate::resending::nak_step;
+use crate::told::Told;
+use driver_core::{Address, Astray, LogRequest, Registry, View};
+use frame_codec::{Packet, TermPlace};
+use policy_core::Decision;
+use std::alloc::{AllocError, Global};
+
+/// Which open log a datagram is for, by a registry, and what its policy decides of it. Of a NAK alone it is asked.
+#[derive(Clone, Copy, Debug, PartialEq, Eq)]
+pub struct PacketRequest {
+    /// The number of the log's source.
+    pub source: u64,
+    pub decision: Option<Decision>,
+}
+
+/// What comes of an image.
+fn of_stream(
+    registry: &Registry,
+    local: &Address,
+    from: &Address,
+    place: TermPlace,
+) -> Result<PacketRequest, Astray>
+    ensures { result ≡ of_stream registry.now local.now from.now place }
+{
+    let source = registry.image_for(local, from, place.session_id, place.stream_id)?;
+    Ok(PacketRequest {
+        source,
+        decision: None,
+    })
+}
+
+/// As [`of_stream`], of an image of the older registry that the newest still has: else its log is closed.
+fn of_stream_seen(
+    older: &Registry,
+    newest: &Registry,
+    local: &Address,
+    from: &Address,
+    place: TermPlace,
+) -> Result<PacketRequest, Astray>
+    ensures { result ≡ of_stream_seen older.now newest.now local.now from.now place }
+{
+    let source = older.image_for(local, from, place.session_id, place.stream_id)?;
+    match newest.image_for(local, from, place.session_id, place.stream_id) {
+        Ok(other) if other == source => Ok(PacketRequest {
+            source,
+            decision: None,
+        }),
+        _ => Err(Astray::NoStream),
+    }
+}
+
+/// Whose frames a NAK asks for, and whether it may have them.
+fn of_asked(request: Option<LogRequest>) -> Result<PacketRequest, Astray>
+    ensures { result ≡ of_asked request }
+{
+    match request {
+        Some(request) => Ok(PacketRequest {
+            source: request.source,
+            decision: Some(request.decision),
+        }),
+        None => Err(Astray::NoStream),
+    }
+}
+
+/// Whom a status message tells.
+fn of_told(source: Option<u64>) -> Result<PacketRequest, Astray>
+    ensures { result ≡ of_told source }
+{
+    match source {
+        Some(source) => Ok(PacketRequest {
+            source,
+            decision: None,
+        }),
+        None => Err(Astray::NoStream),
+    }
+}
+
+/// Which open log a datagram is for that came to the address `local`, from the address `from`, as the registry that the view
+/// shows says. Data and a heartbeat are for the image of that address, session and stream, where they are from its publisher;
+/// a NAK and a status message are for the publication of their session and stream, whatever address they came to. A SETUP is
+/// for none.
+pub fn packet_request<V: View>(
+    view: &V,
+    local: &Address,
+    from: &Address,
+    packet: &Packet<'_>,
+) -> Result<PacketRequest, Astray>
+    ensures { result ≡ packet_request (V.shows view.now) local.now from.now (content packet.now) }
+{
+    let registry = view.registry();
+    match packet {
+        Packet::Data(frames) => {
+            let mut left = *frames;
+            match left.next() {
+                Some(frame) => of_stream(registry, local, from, frame.header.place),
+                None => Err(Astray::NoStream),
+            }
+        }
+        Packet::Beat(header) => of_stream(registry, local, from, header.place),
+        Packet::Nak(nak) => of_asked(registry.resending(from, nak.session_id, nak.stream_id)),
+        Packet::Sm(message) => {
+            of_told(registry.publication_for(message.session_id, message.stream_id))
+        }
+        Packet::Setup(_) => Err(Astray::NoStream),
+    }
+}
+
+/// As [`packet_request`], by an older registry. Data and heartbeats of an image that the newest one does not have any more are
+/// of no stream.
+pub(crate) fn request_seen<V: View>(
+    view: &V,
+    newest: &Registry,
+    local: &Address,
+    from: &Address,
+    packet: &Packet<'_>,
+) -> Result<PacketRequest, Astray>
+    ensures { result ≡ request_seen (V.shows view.now) newest.now local.now from.now (content packet.now) }
+{
+    match packet {
+        Packet::Data(frames) => {
+            let mut left = *frames;
+            match left.next() {
+                Some(frame) => {
+                    of_stream_seen(view.registry(), newest, local, from, frame.header.place)
+                }
+                None => Err(Astray::NoStream),
+            }
+        }
+        Packet::Beat(header) => {
+            of_stream_seen(view.registry(), newest, local, from, header.place)
+        }
+        _ => packet_request(view, local, from, packet),
+    }
+}
+
+/// No log hears the datagram.
+fn unheard() -> Answer
+    ensures { result ≡ unheard }
+{
+    Answer::Dropped(Cause::Astray(Astray::NoStream))
+}
+
+/// The datagram comes to the log that it is for.
+fn take_packet(
+    log: &mut OpenLog,
+    alloc: Global,
+    now: u64,
+    from: &Address,
+    packet: Packet<'_>,
+    decision: &Option<Decision>,
+) -> Result<Answer, AllocError>
+    requires { IsFor (made_held log.old.log) (content packet) }
+    ensures does { IfOk result (λ answer. Does (content_move now from.now decision.now (content packet.entry)) log.old log.new answer) }
+    ensures lies { LiesAsBefore log.old log.new }
+    ensures err { OnErr result (log.new ≡ log.old) }
+    ensures without_memory { OnErr result (Gives (content_move now from.now decision.now (content packet.entry)) log.old) }
+{
+    match packet {
+        Packet::Data(frames) => receive_step(log, alloc, now, frames),
+        Packet::Beat(header) => Ok(beat_step(log, now, &header.place)),
+        Packet::Nak(nak) => match decision {
+            Some(decision) => nak_step(log, alloc, now, from, &nak, decision),
+            None => Ok(unheard()),
+        },
+        Packet::Sm(message) => Ok(status_step(log, now, &message)),
+        Packet::Setup(_) => Ok(unheard()),
+    }
+}
+
+/// A datagram that came from the address `from`, at the moment `now` in nanoseconds, comes to a log; `request` is what
+/// [`packet_request`] says of it by the registry that the step goes by.
+///
+/// The answer is [`Astray::NoStream`] where it is for the log of another source. Else the frames of data are handed to the
+/// log and a word is told of each; a heartbeat says where the publisher is; a status message says how far may be sent; and a
+/// NAK is denied by the decision, or answered as the log's gate says, and what it asks for goes to `from` alone. The decision
+/// is told whatever comes of the NAK.
+///
+/// # Errors
+/// Nothing is changed where there is no memory for the words or the datagrams. Any other answer takes none.
+pub fn packet_step(
+    log: &mut OpenLog,
+    alloc: Global,
+    now: u64,
+    from: &Address,
+    packet: Packet<'_>,
+    request: &PacketRequest,
+) -> Result<Told, AllocError>
+    requires { IsFor (made_held log.old.log) (content packet) }
+    ensures does { IfOk result (λ told. Does (packet_move now from.now request.now (content packet.entry)) log.old log.new told.answer) }
+    ensures decides { IfOk result (λ told. Decides (decision_for request.now.source (λ log. request.now.decision)) log.old told.decision) }
+    ensures lies { LiesAsBefore log.old log.new }
+    ensures err { OnErr result (log.new ≡ log.old) }
+    ensures without_memory { OnErr result (Gives (packet_move now from.now request.now (content packet.entry)) log.old) }
+{
+    if log.source() != request.source {
+        return Ok(Told {
+            answer: unheard(),
+            decision: None,
+        });
+    }
+    let answer = take_packet(log, alloc, now, from, packet, &request.decision)?;
+    Ok(Told {
+        answer,
+        decision: request.decision,
+    })
+}
