@@ -1,7 +1,7 @@
 //! What events tell beside their replies: which logs they open and close, which pairs go and come, and what was decided.
 
 use crate::deeds::{Deed, PUBLISH_ALONE, SUBSCRIBE, TERMINATE, event};
-use driver_core::{Inputs, Outcome, Registry, Settings};
+use driver_core::{Entry, Event, Inputs, Outcome, Registry, Settings};
 use policy_core::{Act, Decision, Policy, Verdict};
 use std::alloc::{AllocError, Global};
 use stream_registry::{LogPlace, Pair};
@@ -86,32 +86,72 @@ fn is_told(outcome: &Outcome, row: &Row) -> bool {
         && outcome.decisions.as_slice() == row.5
 }
 
-/// Whether the row's event comes to the row.
-fn comes_to(alloc: Global, registry: &mut Registry, row: &Row) -> Result<bool, AllocError> {
-    let event = event(alloc, row.0)?;
-    let outcome = registry.step(alloc, &event, &Inputs::none(alloc))?;
-    Ok(is_told(&outcome, row) && registry.pairs(alloc)?.as_slice() == row.6)
+fn has_pairs(alloc: Global, registry: &Registry, row: &Row) -> Result<bool, AllocError> {
+    Ok(registry.pairs(alloc)?.as_slice() == row.6)
 }
 
-/// Whether it does so where it is planned first, and the entry then applied to a copy of the registry.
-fn plan_comes_to(alloc: Global, registry: &Registry, row: &Row) -> Result<bool, AllocError> {
-    let event = event(alloc, row.0)?;
-    let entry = registry.plan(alloc, &event, &Inputs::none(alloc))?;
+fn taken(alloc: Global, registry: &mut Registry, event: &Event) -> Result<Outcome, AllocError> {
+    registry.step(alloc, event, &Inputs::none(alloc))
+}
+
+fn planned(alloc: Global, registry: &Registry, event: &Event) -> Result<Entry, AllocError> {
+    registry.plan(alloc, event, &Inputs::none(alloc))
+}
+
+/// Whether the event comes to the row by one step.
+fn step_comes_to(
+    alloc: Global,
+    registry: &mut Registry,
+    event: &Event,
+    row: &Row,
+) -> Result<bool, AllocError> {
+    let is_told = is_told(&taken(alloc, registry, event)?, row);
+    Ok(is_told && has_pairs(alloc, registry, row)?)
+}
+
+/// Whether the entry leaves the pairs of the row, where it is applied to a copy of the registry.
+fn entry_leaves(
+    alloc: Global,
+    registry: &Registry,
+    entry: &Entry,
+    row: &Row,
+) -> Result<bool, AllocError> {
     let mut copy = registry.copy(alloc)?;
-    copy.apply(&entry);
-    Ok(is_told(&entry.outcome, row) && copy.pairs(alloc)?.as_slice() == row.6)
+    copy.apply(entry);
+    has_pairs(alloc, &copy, row)
+}
+
+/// Whether the event comes to the row where it is planned first and applied then.
+fn plan_comes_to(
+    alloc: Global,
+    registry: &Registry,
+    event: &Event,
+    row: &Row,
+) -> Result<bool, AllocError> {
+    let entry = planned(alloc, registry, event)?;
+    Ok(is_told(&entry.outcome, row) && entry_leaves(alloc, registry, &entry, row)?)
+}
+
+/// Whether the row's event comes to the row, in two parts and as one step.
+fn comes_to(alloc: Global, registry: &mut Registry, row: &Row) -> Result<bool, AllocError> {
+    let event = event(alloc, row.0)?;
+    Ok(plan_comes_to(alloc, registry, &event, row)? && step_comes_to(alloc, registry, &event, row)?)
+}
+
+fn all_come_to(alloc: Global, registry: &mut Registry, rows: &[Row]) -> Result<bool, AllocError> {
+    for row in rows {
+        if !comes_to(alloc, registry, row)? {
+            return Ok(false);
+        }
+    }
+    Ok(true)
 }
 
 /// Whether the rows' events come to the rows, one behind the other, where everything is allowed.
 fn come_to(alloc: Global, rows: &[Row]) -> Result<bool, AllocError> {
     let policy = Policy::new(Vec::new(alloc), true)?;
     let mut registry = Registry::new(alloc, Settings::default(), policy, &[])?;
-    for row in rows {
-        if !plan_comes_to(alloc, &registry, row)? || !comes_to(alloc, &mut registry, row)? {
-            return Ok(false);
-        }
-    }
-    Ok(true)
+    all_come_to(alloc, &mut registry, rows)
 }
 
 fn rows_come_to(alloc: Global) -> Result<bool, AllocError> {
