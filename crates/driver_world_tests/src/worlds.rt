@@ -1,6 +1,7 @@
 //! A driver with logs: runs of it, and the pages that no log has.
 
 use crate::deeds::{Deed, PUBLISH_ALONE, UNPUBLISH_1, event};
+use byte_strings::Items;
 use driver_core::{Address, Astray, Settings};
 use driver_world::{Answer, Cause, Reading, Step, World};
 use policy_core::Policy;
@@ -46,27 +47,53 @@ fn are_free(world: &World, runs: &[(usize, usize)]) -> bool {
     world.holes() == runs
 }
 
-fn runs_to(alloc: Global, world: &mut World, row: &Row) -> Result<bool, AllocError> {
-    let mut steps = Vec::new(alloc);
-    for &deed in row.0 {
-        steps.push(Reading::newest(Step::Conductor(event(alloc, deed)?)))?;
-    }
-    let answers = world.run(alloc, steps.as_slice())?;
-    Ok(are_answered(answers.as_slice(), row.1) && are_free(world, row.2))
-}
-
-/// Whether the rows' events come to the rows, one behind the other, where everything is allowed.
-fn run_to(alloc: Global, rows: &[Row]) -> Result<bool, AllocError> {
+/// A world of 48 pages, in which nothing happened yet, and where everything is allowed.
+fn world(alloc: Global) -> Result<World, AllocError> {
     let mut settings = Settings::default();
     settings.arena_pages = 48;
     let policy = Policy::new(Vec::new(alloc), true)?;
-    let mut world = World::new(alloc, settings, policy, &[])?;
+    World::new(alloc, settings, policy, &[])
+}
+
+fn step_of(alloc: Global, deed: Deed) -> Result<Reading, AllocError> {
+    Ok(Reading::newest(Step::Conductor(event(alloc, deed)?)))
+}
+
+fn steps_of(alloc: Global, deeds: &[Deed]) -> Result<Vec<Reading>, AllocError> {
+    let mut steps = Vec::new(alloc);
+    for &deed in deeds {
+        steps.push(step_of(alloc, deed)?)?;
+    }
+    Ok(steps)
+}
+
+fn answers_to(
+    alloc: Global,
+    world: &mut World,
+    deeds: &[Deed],
+) -> Result<Items<Answer>, AllocError> {
+    let steps = steps_of(alloc, deeds)?;
+    world.run(alloc, steps.as_slice())
+}
+
+fn runs_to(alloc: Global, world: &mut World, row: &Row) -> Result<bool, AllocError> {
+    let answers = answers_to(alloc, world, row.0)?;
+    Ok(are_answered(answers.as_slice(), row.1) && are_free(world, row.2))
+}
+
+fn all_run_to(alloc: Global, world: &mut World, rows: &[Row]) -> Result<bool, AllocError> {
     for row in rows {
-        if !runs_to(alloc, &mut world, row)? {
+        if !runs_to(alloc, world, row)? {
             return Ok(false);
         }
     }
     Ok(true)
+}
+
+/// Whether the rows' events come to the rows, one behind the other.
+fn run_to(alloc: Global, rows: &[Row]) -> Result<bool, AllocError> {
+    let mut world = world(alloc)?;
+    all_run_to(alloc, &mut world, rows)
 }
 
 #[test]
@@ -83,16 +110,23 @@ const EMPTY_FRAME: [u8; 32] = [
     0, 0,
 ];
 
-/// Whether a datagram is one for no image, in a world in which nothing happened yet.
-fn is_astray(alloc: Global, bytes: &[u8]) -> Result<bool, AllocError> {
-    let policy = Policy::new(Vec::new(alloc), true)?;
-    let mut world = World::new(alloc, Settings::default(), policy, &[])?;
+fn is_no_stream(answer: &Answer) -> bool {
+    matches!(answer, Answer::Dropped(Cause::Astray(Astray::NoStream)))
+}
+
+fn finds_no_stream(alloc: Global, world: &mut World, bytes: &[u8]) -> bool {
     let address = Address {
         octets: [127, 0, 0, 1],
         port: 40_123,
     };
     let answer = world.packet(alloc, None, 0, &address, &address, bytes);
-    Ok(matches!(answer, Answer::Dropped(Cause::Astray(Astray::NoStream))))
+    is_no_stream(&answer)
+}
+
+/// Whether a datagram is one for no image, in a world in which nothing happened yet.
+fn is_astray(alloc: Global, bytes: &[u8]) -> Result<bool, AllocError> {
+    let mut world = world(alloc)?;
+    Ok(finds_no_stream(alloc, &mut world, bytes))
 }
 
 #[test]
