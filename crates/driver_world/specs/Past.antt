@@ -7,7 +7,7 @@ use Rattle.driver_world.specs.Views.{Past, newest_of, registry_at}
 
 -- it is the registry of its number
 abbrev pub IsAt : Past → Shown → Type 0
-IsAt past shown = (shown.number ≤ newest_of past) × (shown.registry ≡ registry_at past shown.number)
+IsAt past shown = (shown.number ≤ newest_of past) × (shown.registry.value ≡ registry_at past shown.number)
 
 abbrev pub IsShown : Past → Option Shown → Type 0
 IsShown past None = Unit {0}
@@ -16,7 +16,7 @@ IsShown past (Some shown) = IsAt past shown
 -- what one sees who is shown it
 abbrev pub shown_state : Option Shown → Option State
 shown_state None = None
-shown_state (Some shown) = Some shown.registry
+shown_state (Some shown) = Some shown.registry.value
 
 abbrev pub AreShown : Past → List (Actor × Option Shown) → Type 0
 AreShown past all = All (λ one. IsShown past one.1) all

@@ -36,11 +36,11 @@ impl Model for Registries {
     ghost invariant = { λ held. AreShown (record { opened = held.opened; taken = held.taken.items }) held.shown.items };
 }
 
-/// A registry of a run, with its number.
+/// A registry of a run, with its number. A registry is large, and a step hands on what it looks at, so it lies apart.
 #[derive(Drop)]
 pub(crate) struct Shown {
     pub(crate) number: u64,
-    pub(crate) registry: Registry,
+    pub(crate) registry: Box<Registry>,
 }
 
 /// Takes an event again that was kept.
@@ -116,7 +116,7 @@ impl Registries {
     {
         Ok(Shown {
             number: 0,
-            registry: self.opened.copy(alloc)?,
+            registry: Box::new(alloc, self.opened.copy(alloc)?)?,
         })
     }
 

@@ -1,4 +1,4 @@
-use Rattle.std.proofs.Common.{◌≡◌, ◌<◌, List, length, arith, sym, ap, ◌∙◌}
+use Rattle.std.proofs.Common.{◌≡◌, ◌<◌, List, length, arith, sym, ap, ◌∙◌, rules}
 use Rattle.driver_core.specs.Conduct.{state_after}
 use Rattle.driver_core.specs.State.{State}
 use Rattle.driver_world.specs.Views.{HeldPast, newest_of}
@@ -17,7 +17,7 @@ loop-shown-preserved c =
       at = (
         omega (arith, within),
         c.in_ok-retake.ensures
-            ∙ ap (λ (s : State). state_after s one.0 one.1) c.loop-shown.invariant.at.1
+            ∙ ap (λ (s : State). state_after s one.0 one.1) (search rules ∙ c.loop-shown.invariant.at.1)
             ∙ sym next,
       );
       before = omega (arith, c.loop-shown-test.true);
