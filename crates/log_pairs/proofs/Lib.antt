@@ -1,2 +1,3 @@
+pub mod CopyLemmas
 pub mod Pairing
 pub mod Polls

@@ -5,12 +5,14 @@
 //! frames are read. But for [`Pairs::new`] nothing here takes memory.
 #![tactic(auto)]
 
+mod copies;
 mod fragment;
 mod pair;
 mod pairs;
 mod polling;
 
+pub use copies::{CopiedFragments, FragmentCopies};
 pub use fragment::{Fragment, PolledFrame};
 pub use pair::Pair;
 pub use pairs::Pairs;
-pub use polling::{Fragments, PolledFrames, behind_passed};
+pub use polling::{Fragments, PolledFrames, behind_passed, copy_passed};
