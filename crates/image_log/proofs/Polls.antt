@@ -1,14 +1,15 @@
 -- What a poll passes, and where it ends.
 use Rattle.std.proofs.Common.{◌≡◌, ℕ, ◌-◌, ◌≤◌, inl, inr, Bool, true, false, cond, ◌||◌, eqb, List, [], ◌∷◌, None, Some, map, refl, sym, ap, ◌∙◌, subst, arith}
 use Rattle.std.specs.List.{list_any}
-use Rattle.std.specs.Prelude.{filter}
+use Rattle.std.specs.Prelude.{filter, Result, Ok, Err, IfOk, OnOk}
+use Rattle.image_log.specs.Log.{Log}
 use Rattle.image_log.specs.Frame.{Frame, end_of}
 use Rattle.image_log.specs.Order.{Begins, Ordered, begins_at, begins_within, chain}
 use Rattle.image_log.specs.Polling.{Poll, passes, polled, polled_frame, polled_from, whole_from}
 use Rattle.image_log.specs.Reading.{Adjoin}
 use Rattle.image_log.specs.Rebuilt.{Rebuilt}
 use Rattle.log_pairs.specs.Pairs.{position_of}
-use Rattle.log_pairs.specs.Polling.{Polled, behind, counted, passed}
+use Rattle.log_pairs.specs.Polling.{Fetched, Polled, behind, counted, passed}
 use Rattle.log_pairs.proofs.Polls.{passed_zero}
 use Rattle.image_log.proofs.Between.{adjoin-from, none-after, none-from, start-above}
 use Rattle.image_log.proofs.Orders.{chain-le}
@@ -136,3 +137,15 @@ nothing r = record { fragments = []; after = r }
 pub polled_none : (r : Rebuilt) (subscription limit : ℕ) → position_of r.pairs subscription ≡ None → polled r subscription limit ≡ nothing r
 unfolding polled
 polled_none r subscription limit e = ap (polled_from r subscription limit) e
+
+-- without a pair there is nothing to give, and nothing is passed
+pub new_gives : {E : Type 0} (r : Rebuilt) (subscription limit : ℕ) (given : Result (List Fetched) E) → position_of r.pairs subscription ≡ None
+    → IfOk given (λ copies. copies ≡ []) → IfOk given (λ copies. copies ≡ (polled r subscription limit).fragments)
+new_gives r subscription limit (Ok copies) is new = new ∙ ap (λ (p : Poll). p.fragments) (sym (polled_none r subscription limit is))
+new_gives r subscription limit (Err fault) is new = tt
+
+pub new_passes : {E : Type 0} (l : Log) (subscription limit : ℕ) (given : Result (List Fetched) E) → position_of l.rebuilt.pairs subscription ≡ None
+    → OnOk given (l ≡ record l { rebuilt = (polled l.rebuilt subscription limit).after })
+new_passes l subscription limit (Ok copies) is =
+    ap (λ (p : Poll). let x : Log = record l { rebuilt = p.after } in x) (sym (polled_none l.rebuilt subscription limit is))
+new_passes l subscription limit (Err fault) is = tt

@@ -24,7 +24,7 @@ pub use ident::Ident;
 pub use insert::Insert;
 pub use laws::{frames_may_be_handed_in, polls_give_frames};
 pub use log::ImageLog;
-pub use log_pairs::{Fragment, Pair};
+pub use log_pairs::{CopiedFragments, Fragment, FragmentCopies, Pair};
 pub use polling::Fragments;
 pub use reading::{Frames, ImageFrame};
 pub use room::ImageRoom;

@@ -1,4 +1,4 @@
-ghost use Rattle.std.specs.Prelude.{◌≡◌, ℕ, ◌+◌, ◌*◌, ◌%◌, ◌^◌, ◌<◌, ◌≤◌, insert, length, map, max, true, IfOk, IfErr, IfSome, Some};
+ghost use Rattle.std.specs.Prelude.{◌≡◌, ℕ, ◌+◌, ◌*◌, ◌%◌, ◌^◌, ◌<◌, ◌≤◌, insert, length, map, max, true, IfOk, IfErr, IfSome, OnErr, OnOk, Some};
 ghost use Rattle.log_arena.specs.Lease.{lease_bytes, lease_len};
 ghost use Rattle.image_log.specs.Frame.{framed};
 ghost use Rattle.image_log.specs.Handed.{AreFor, IsFor, offset_of, span_of};
@@ -9,19 +9,19 @@ ghost use Rattle.image_log.specs.Rebuilt.{IsStart, advanced, after_insert, conti
 ghost use Rattle.image_log.specs.Status.{is_due, told};
 ghost use Rattle.image_log.specs.Stored.{IsBlank, StandIn, held_of};
 ghost use Rattle.log_pairs.specs.Pairs.{ReadsUpTo, position_of};
-ghost use Rattle.log_pairs.specs.Polling.{behind, passed};
+ghost use Rattle.log_pairs.specs.Polling.{behind, fragments_of, passed};
 
 use crate::handed;
 use crate::ident::Ident;
 use crate::insert::Insert;
-use crate::polling::Fragments;
+use crate::polling::{Fragments, room_for};
 use crate::reading::{Frames, Run};
 use crate::room::ImageRoom;
 use crate::status::{self, LastStatus};
 use crate::store::Store;
 use log_arena::{Lease, NoMemory};
-use log_pairs::{Pair, Pairs, behind_passed};
-use std::alloc::Global;
+use log_pairs::{FragmentCopies, Pair, Pairs, behind_passed, copy_passed};
+use std::alloc::{AllocError, Global};
 use std::marker::Model;
 
 /// The greatest window, in bytes.
@@ -379,6 +379,49 @@ impl ImageLog {
                 self.advance(subscription, end);
             }
             None => {}
+        }
+    }
+
+    /// Copies of the fragments that a poll gives from a position on, and the position behind the frames that it passes. What
+    /// stands before the bytes of a copy takes no more than the header of its frame does.
+    fn copies_from(
+        &self,
+        alloc: Global,
+        position: u64,
+        limit: usize,
+    ) -> Result<(FragmentCopies, u64), AllocError>
+        requires to { position ≤ contiguous_of self.now.rebuilt }
+        requires start { IsStart self.now.rebuilt position }
+        ensures copies { IfOk result (λ poll. poll.0 ≡ fragments_of (passed limit (map polled_frame (whole_from self.now.rebuilt position)))) }
+        ensures exact { IfOk result (λ poll. poll.1 ≡ behind position (passed limit (map polled_frame (whole_from self.now.rebuilt position)))) }
+        ensures ahead { IfOk result (λ poll. IsAhead self.now.rebuilt position poll.1) }
+    {
+        let room = room_for(self.contiguous.saturating_sub(position), limit);
+        copy_passed(self.run_from(position), alloc, room, position, limit)
+    }
+
+    /// As [`ImageLog::poll`], with copies of the fragments that it gives, those of [`ImageLog::fragments`]: each frame is looked
+    /// at once, and the memory for all copies is taken at once.
+    ///
+    /// # Errors
+    /// Nothing is changed where there is no memory for the copies.
+    pub fn poll_copies(
+        &mut self,
+        alloc: Global,
+        subscription: u64,
+        limit: usize,
+    ) -> Result<FragmentCopies, AllocError>
+        ensures copies { IfOk result (λ copies. copies ≡ (polled self.old.rebuilt subscription limit).fragments) }
+        ensures exact { OnOk result (self.new ≡ record self.old { rebuilt = (polled self.old.rebuilt subscription limit).after }) }
+        ensures err { OnErr result (self.new ≡ self.old) }
+    {
+        match self.pair_position(subscription) {
+            Some(position) => {
+                let (copies, end) = self.copies_from(alloc, position, limit)?;
+                self.advance(subscription, end);
+                Ok(copies)
+            }
+            None => FragmentCopies::new(alloc, 0),
         }
     }
 

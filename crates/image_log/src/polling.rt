@@ -5,7 +5,8 @@ ghost use Rattle.image_log.specs.Polling.{polled_frame};
 ghost use Rattle.log_pairs.specs.Polling.{fetched_of, polled_by};
 
 use crate::reading::{ImageFrame, Run};
-use log_pairs::{Fragment, PolledFrame, PolledFrames};
+use log_pairs::{Fragment, FragmentCopies, PolledFrame, PolledFrames};
+use std::alloc::AllocError;
 
 /// The fragments that a poll gives, in order. The log lends their bytes.
 pub type Fragments<'a> = log_pairs::Fragments<Run<'a>>;
@@ -44,4 +45,16 @@ impl<'a> PolledFrames for Run<'a> {
             None => None,
         }
     }
+
+    fn copy(fragment: &Fragment<'a>, copies: &mut FragmentCopies) -> Result<(), AllocError> {
+        copies.push(fragment)
+    }
+}
+
+/// No datagram, and so no frame but a pad, has as many bytes.
+const LONGEST: u64 = 65_536;
+
+/// How many bytes copies of so many fragments take at most, where so many positions are left.
+pub(crate) fn room_for(left: u64, limit: usize) -> usize {
+    (limit as u64).saturating_mul(LONGEST).min(left) as usize
 }

@@ -1,6 +1,6 @@
 -- Which logs stand for which whole logs.
 use Rattle.std.proofs.Common.{◌≡◌, ℕ, ◌+◌, ◌/◌, true, false, cond, List, [], ◌∷◌, ◌++◌, Option, Some, None, map, refl, sym, ap, ap₂, ◌∙◌, subst, arith, append_assoc}
-use Rattle.std.specs.Prelude.{nat_le, IfSome}
+use Rattle.std.specs.Prelude.{Result, Ok, Err, IfOk, OnOk, nat_le, IfSome}
 use Rattle.std.proofs.lemmas.Bool.Decides.{nat_tests}
 use Rattle.std.proofs.lemmas.List.{append-nil}
 use Rattle.term_log.specs.declared.ident.Ident.{Ident}
@@ -190,6 +190,16 @@ fetches_none l subscription limit tail left is at_tail gives =
           ∙ sym (ap (λ (p : Poll). p.fragments) (polled_is w l subscription limit None s is));
     }
 
+-- without a pair there is nothing to give
+pub fetches_nothing : (l : Log) (subscription limit : ℕ) → position_of l.pairs subscription ≡ None → Fetches l subscription limit []
+fetches_nothing l subscription limit is =
+    record { on = λ w s. sym (ap (λ (p : Poll). p.fragments) (polled_is w l subscription limit None s is)) }
+
+pub fetches_new : {E : Type 0} (l : Log) (subscription limit : ℕ) (r : Result (List Fetched) E) → position_of l.pairs subscription ≡ None
+    → IfOk r (λ copies. copies ≡ []) → IfOk r (Fetches l subscription limit)
+fetches_new l subscription limit (Ok copies) is new = subst (Fetches l subscription limit) (sym new) (fetches_nothing l subscription limit is)
+fetches_new l subscription limit (Err fault) is new = tt
+
 pub poll_stands : (l new : Log) (subscription limit at end : ℕ) → position_of l.pairs subscription ≡ Some at → PassesTo l.kept at limit end
     → new ≡ record l { pairs = map (moved_one subscription end) l.pairs } → Carries l new (λ w. (polled w subscription limit).after)
 poll_stands l new subscription limit at end is to new_is =
@@ -223,3 +233,9 @@ poll_stands l new subscription limit at end is to new_is =
 pub poll_none_stands : (l : Log) (subscription limit : ℕ) → position_of l.pairs subscription ≡ None → Carries l l (λ w. (polled w subscription limit).after)
 poll_none_stands l subscription limit is =
     record { on = λ w s. subst (λ (p : Poll). Stands l p.after) (sym (polled_is w l subscription limit None s is)) s }
+
+pub poll_new_stands : {A E : Type 0} (l : Log) (subscription limit : ℕ) (r : Result A E) → position_of l.pairs subscription ≡ None
+    → OnOk r (Carries l l (λ w. (polled w subscription limit).after))
+poll_new_stands l subscription limit (Ok copies) is = poll_none_stands l subscription limit is
+poll_new_stands l subscription limit (Err fault) is = tt
+

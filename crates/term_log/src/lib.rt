@@ -24,7 +24,7 @@ mod term_log;
 
 pub use ident::{Ident, LogKind};
 pub use laws::polls_give_frames;
-pub use log_pairs::{Fragment, Pair};
+pub use log_pairs::{CopiedFragments, Fragment, FragmentCopies, Pair};
 pub use offer::Offer;
 pub use polling::Fragments;
 pub use ranges::FramesOver;

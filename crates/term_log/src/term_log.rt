@@ -2,7 +2,7 @@
 
 ghost use Rattle.log_arena.specs.Lease.{lease_bytes, lease_home, lease_len, lease_place};
 ghost use Rattle.log_pairs.specs.Pairs.{ReadsUpTo, is_other, moved_one, position_of};
-ghost use Rattle.std.specs.Prelude.{◌≡◌, ◌+◌, ◌*◌, ◌/◌, ◌%◌, ◌^◌, ◌<◌, ◌≤◌, ◌++◌, ◌∷◌, [], All, IfErr, IfOk, IfSome, List, length, map, min, filter, replicate, true};
+ghost use Rattle.std.specs.Prelude.{◌≡◌, ◌+◌, ◌*◌, ◌/◌, ◌%◌, ◌^◌, ◌<◌, ◌≤◌, ◌++◌, ◌∷◌, [], All, IfErr, IfOk, IfSome, OnErr, OnOk, List, length, map, min, filter, replicate, true};
 ghost use Rattle.term_log.specs.Frames.{Frame};
 ghost use Rattle.term_log.specs.Ident.{IsIdent};
 ghost use Rattle.term_log.specs.Kept.{StandsFor, after_frames, opened};
@@ -17,7 +17,7 @@ use crate::appender::Appender;
 use crate::cutting::size_of;
 use crate::ident::{Ident, LogKind};
 use crate::offer::Offer;
-use crate::polling::{Fragments, end_of, fragments_from};
+use crate::polling::{Fragments, copies_from, end_of, fragments_from};
 use crate::ranges::FramesOver;
 use crate::reading::Frames;
 use crate::room::LogRoom;
@@ -25,8 +25,8 @@ use crate::sender::Sender;
 use crate::status::Status;
 use frame_codec::Header;
 use log_arena::{Lease, NoMemory};
-use log_pairs::{Pair, Pairs};
-use std::alloc::Global;
+use log_pairs::{FragmentCopies, Pair, Pairs};
+use std::alloc::{AllocError, Global};
 use std::marker::Model;
 
 /// No message is longer, however long terms are.
@@ -298,6 +298,33 @@ impl TermLog {
                 self.advance(subscription, end);
             }
             None => {}
+        }
+    }
+
+    /// As [`TermLog::poll`], with copies of the fragments that it gives, those of [`TermLog::fragments`]: each frame is looked
+    /// at once, and the memory for all copies is taken at once.
+    ///
+    /// # Errors
+    /// Nothing is changed where there is no memory for the copies.
+    pub fn poll_copies(
+        &mut self,
+        alloc: Global,
+        subscription: u64,
+        limit: usize,
+    ) -> Result<FragmentCopies, AllocError>
+        ensures copies { IfOk result (Fetches self.old subscription limit) }
+        ensures kept { self.new.kept ≡ self.old.kept }
+        ensures sender { self.new.sender ≡ self.old.sender }
+        ensures whole { OnOk result (Carries self.old self.new (λ w. (polled w subscription limit).after)) }
+        ensures err { OnErr result (self.new ≡ self.old) }
+    {
+        match self.pair_position(subscription) {
+            Some(position) => {
+                let (copies, end) = copies_from(&self.appender, alloc, position, limit)?;
+                self.advance(subscription, end);
+                Ok(copies)
+            }
+            None => FragmentCopies::new(alloc, 0),
         }
     }
 
