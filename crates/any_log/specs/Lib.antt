@@ -1,5 +1,4 @@
 pub mod Asking
-pub mod Fragments
 pub mod Held
 pub mod Reporting
 pub mod Sending

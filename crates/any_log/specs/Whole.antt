@@ -2,8 +2,6 @@
 use Rattle.std.specs.Prelude.{◌≡◌, ℕ, Bool, false, List, [], ◌∷◌, ◌++◌, filter, map, Option}
 use Rattle.any_log.specs.declared.any_log.AnyLog.{AnyLog}
 use Rattle.any_log.specs.declared.any_log.AnyLog.TheVariants.{Term, Image}
-use Rattle.any_log.specs.declared.fragment.Fragment.{Fragment}
-use Rattle.any_log.specs.Fragments.{fragment_of}
 use Rattle.any_log.specs.Held.{Made, for_publication, for_stream}
 use Rattle.frame_codec.specs.Frame.{Sent}
 use Rattle.frame_codec.specs.declared.header.TermPlace.{TermPlace}
@@ -12,6 +10,7 @@ use Rattle.image_log.specs.Rebuilt.{Rebuilt, contiguous_of, is_silent, joined as
 use Rattle.image_log.specs.declared.insert.Insert.{Insert}
 use Rattle.image_receiver.specs.Receiving.{after_beat, after_data, words_of}
 use Rattle.log_pairs.specs.Pairs.{is_other, position_of}
+use Rattle.log_pairs.specs.Polling.{Fetched}
 use Rattle.log_pairs.specs.declared.pair.Pair.{Pair}
 use Rattle.term_log.specs.Frames.{messages_of}
 use Rattle.term_log.specs.Whole.{Whole, Stands, tail_of, rejoined as term_rejoined, polled as term_polled}
@@ -81,16 +80,16 @@ rejoined subscriptions (rebuilt r) = rebuilt (settled (image_rejoined r subscrip
 
 -- what a poll gives, and what it leaves
 pub record Poll : Type 0 where
-  pub fragments : List Fragment
+  pub fragments : List Fetched
   pub after : AnyWhole
 
 abbrev pub polled : AnyWhole → ℕ → ℕ → Poll
 polled (whole w) subscription limit = record {
-  fragments = map fragment_of (term_polled w subscription limit).fragments;
+  fragments = (term_polled w subscription limit).fragments;
   after = whole (term_polled w subscription limit).after;
 }
 polled (rebuilt r) subscription limit = record {
-  fragments = map fragment_of (image_polled r subscription limit).fragments;
+  fragments = (image_polled r subscription limit).fragments;
   after = rebuilt (image_polled r subscription limit).after;
 }
 
@@ -119,7 +118,7 @@ pub record Counts (log : AnyLog) (messages : ℕ) : Type 0 where
   pub on : (w : AnyWhole) → StandsFor log w → messages ≡ messages_in w
 
 -- what a poll is to give
-pub record Fetches (log : AnyLog) (subscription limit : ℕ) (fragments : List Fragment) : Type 0 where
+pub record Fetches (log : AnyLog) (subscription limit : ℕ) (fragments : List Fetched) : Type 0 where
   pub on : (w : AnyWhole) → StandsFor log w → fragments ≡ (polled w subscription limit).fragments
 
 -- the words for the frames of a datagram

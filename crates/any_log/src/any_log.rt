@@ -4,13 +4,12 @@ ghost use Rattle.frame_codec.specs.Frames.{frames_left};
 ghost use Rattle.log_arena.specs.Lease.{lease_home, lease_len, lease_place};
 ghost use Rattle.std.specs.Prelude.{◌≡◌, ◌*◌, ◌<◌, ◌≤◌, IfOk, OnErr, OnOk, length};
 
-use crate::copies::{copies_of_image, copies_of_term};
-use crate::fragment::Fragment;
 use byte_strings::Items;
 use frame_codec::{Frames, TermPlace};
 use image_log::{ImageLog, Insert};
 use image_receiver::{receive, receive_beat};
 use log_arena::Lease;
+use log_pairs::FragmentCopies;
 use std::alloc::{AllocError, Global};
 use term_log::TermLog;
 
@@ -102,34 +101,26 @@ impl AnyLog {
         }
     }
 
-    /// Copies of the fragments that a poll of a subscription gives, so many at most; none where it does not read the log.
-    /// Nothing is passed yet: [`AnyLog::poll`] does that.
+    /// A subscription is polled: it has read the frames from its position on, until so many fragments were given or there
+    /// are no more. Pads do not count, and one behind the last fragment is left. The answer are copies of the fragments; none
+    /// where it does not read the log. Each frame is looked at once, and the memory for all copies is taken at once.
     ///
     /// # Errors
-    /// Where there is no memory for the copies.
-    pub fn fragments(
-        &self,
+    /// Nothing is changed where there is no memory for the copies.
+    pub fn poll(
+        &mut self,
         alloc: Global,
         subscription: u64,
         limit: usize,
-    ) -> Result<Items<Fragment>, AllocError>
-        ensures { IfOk result (λ fragments. Fetches self.now subscription limit fragments) }
-    {
-        match self {
-            AnyLog::Term(log) => copies_of_term(alloc, log.fragments(subscription, limit)),
-            AnyLog::Image(log) => copies_of_image(alloc, log.fragments(subscription, limit)),
-        }
-    }
-
-    /// A subscription is polled: it has read the frames from its position on, until so many fragments were given or there
-    /// are no more. Pads do not count, and one behind the last fragment is left.
-    pub fn poll(&mut self, subscription: u64, limit: usize)
-        ensures whole { Carries self.old self.new (λ w. (polled w subscription limit).after) }
+    ) -> Result<FragmentCopies, AllocError>
+        ensures fetches { IfOk result (λ fragments. Fetches self.old subscription limit fragments) }
+        ensures whole { OnOk result (Carries self.old self.new (λ w. (polled w subscription limit).after)) }
         ensures lies { Lies self.old self.new }
+        ensures err { OnErr result (self.new ≡ self.old) }
     {
         match self {
-            AnyLog::Term(log) => log.poll(subscription, limit),
-            AnyLog::Image(log) => log.poll(subscription, limit),
+            AnyLog::Term(log) => Ok(log.poll_copies(alloc, subscription, limit)?),
+            AnyLog::Image(log) => Ok(log.poll_copies(alloc, subscription, limit)?),
         }
     }
 

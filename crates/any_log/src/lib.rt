@@ -8,13 +8,11 @@
 
 mod any_log;
 mod asking;
-mod copies;
-mod fragment;
 mod reporting;
 mod sending;
 
 pub use any_log::AnyLog;
 pub use asking::NakReply;
-pub use fragment::Fragment;
 pub use image_log::Insert;
+pub use log_pairs::{CopiedFragments, Fragment, FragmentCopies};
 pub use publication_sender::StatusAnswer;

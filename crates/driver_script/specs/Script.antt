@@ -10,7 +10,7 @@ use Rattle.driver_core.specs.declared.replies.Message.{Message}
 use Rattle.driver_core.specs.declared.peer.Peer.{Peer}
 use Rattle.driver_core.specs.declared.send_request.Outlet.{Outlet}
 use Rattle.driver_core.specs.declared.settings.Settings.{Settings}
-use Rattle.any_log.specs.declared.fragment.Fragment.{Fragment}
+use Rattle.log_pairs.specs.Polling.{Fetched}
 use Rattle.channel_uri.specs.Address.{is_same}
 use Rattle.channel_uri.specs.declared.address.Address.{Address}
 use Rattle.driver_steps.specs.declared.step.Step.TheVariants.{Conductor}
@@ -177,7 +177,7 @@ message_text message = reply_text message.client (reply_bytes (layout_of message
 abbrev pub counter_text : ListedCounter → List ℕ
 counter_text counter = counter_line counter.number counter.type_id counter.value counter.label
 
-abbrev pub fragment_text : Fragment → List ℕ
+abbrev pub fragment_text : Fetched → List ℕ
 fragment_text fragment = fragment_line fragment.position fragment.flags fragment.payload
 
 -- a line for each datagram that is sent there

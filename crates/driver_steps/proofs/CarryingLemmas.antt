@@ -3,8 +3,6 @@ use Rattle.std.proofs.Common.{◌≡◌, ℕ, ◌-◌, ◌==◌, not, nat_lt, Li
 use Rattle.std.specs.List.{All, Contains}
 use Rattle.std.proofs.lemmas.Bool.{cond_both, eq-eqb}
 use Rattle.std.proofs.lemmas.List.Elements.{All-nil, All-cons, All-head, All-tail, All-append, All-take, All-drop, All-filter, All-weaker, All-contains_itself, Contains-append_left, Contains-append_right}
-use Rattle.any_log.specs.declared.fragment.Fragment.{Fragment}
-use Rattle.any_log.specs.Fragments.{fragment_of}
 use Rattle.any_log.specs.Whole.{AnyWhole, whole, rebuilt, beaten, polled as any_polled, position_in, received, rejoined, words_in}
 use Rattle.channel_uri.specs.declared.address.Address.{Address}
 use Rattle.driver_core.specs.declared.event.Event.TheVariants.{Setup as SetUp}
@@ -377,26 +375,26 @@ run_holds carried e (reading ∷ readings) (answer ∷ answers) are holds =
 -- ---- what a poll gives then
 
 fetched_carried : (carried : List (List ℕ)) (limit : ℕ) (fs : List Frame) → AreCarried carried fs →
-    All (IsCarried carried) (map fragment_of (fragments_of (passed limit (map polled_frame fs))))
+    All (IsCarried carried) (fragments_of (passed limit (map polled_frame fs)))
 fetched_carried carried limit [] are = All-nil (IsCarried carried)
 fetched_carried carried limit (f ∷ fs) are =
     let P : Frame → Type 0 = λ g. Contains carried g.bytes in
     let left : List Passed = passed (limit - counted (polled_frame f)) (map polled_frame fs) in
     let rest = fetched_carried carried (limit - counted (polled_frame f)) fs (All-tail P f fs are) in
     cond_both (limit == 0) [] (polled_frame f ∷ left)
-    (λ (gs : List Passed). All (IsCarried carried) (map fragment_of (fragments_of gs)))
+    (λ (gs : List Passed). All (IsCarried carried) (fragments_of gs))
     (λ _. All-nil (IsCarried carried))
     (λ _.
     cond_both (is_pad f) None (Some (fetched f))
-    (λ (o : Option Fetched). All (IsCarried carried) (map fragment_of (with_fragment o (fragments_of left))))
+    (λ (o : Option Fetched). All (IsCarried carried) (with_fragment o (fragments_of left)))
     (λ _. rest)
     (λ _.
-    All-cons (IsCarried carried) (fragment_of (fetched f)) (map fragment_of (fragments_of left))
+    All-cons (IsCarried carried) (fetched f) (fragments_of left)
     (record { bytes = f.bytes; there = All-head P f fs are; flags_are = refl; payload_is = refl }) rest))
 
 from_carried : (carried : List (List ℕ)) (r : Rebuilt) (subscription limit : ℕ) (o : Option ℕ) →
     AreCarried carried r.frames →
-    All (IsCarried carried) (map fragment_of (polled_from r subscription limit o).fragments)
+    All (IsCarried carried) (polled_from r subscription limit o).fragments
 from_carried carried r subscription limit None are = All-nil (IsCarried carried)
 from_carried carried r subscription limit (Some at) are =
     fetched_carried carried limit (whole_from r at)
@@ -409,7 +407,7 @@ image_carried carried r subscription limit are =
     from_carried carried r subscription limit (position_of r.pairs subscription) are
 
 poll_carried : (carried : ℕ → List (List ℕ)) (s : State) (e : RunEnd) (client subscription source limit : ℕ)
-    (fragments : List Fragment) (log : WholeLog) (r : Rebuilt) → log_at e.logs source ≡ Some log →
+    (fragments : List Fetched) (log : WholeLog) (r : Rebuilt) → log_at e.logs source ≡ Some log →
     log.whole ≡ rebuilt r → All (Holds carried) e.logs →
     Polled fragments ≡ (on_log e source (poll_move s client subscription limit) IsGone).answer →
     All (IsCarried (carried source)) fragments

@@ -6,8 +6,6 @@ use Rattle.std.specs.Prelude.{IfSome}
 use Rattle.std.proofs.lemmas.Bool.{cond_both, eqb-true, eq-eqb}
 use Rattle.std.proofs.lemmas.Bool.Decides.{nat_tests}
 use Rattle.std.proofs.lemmas.List.Elements.{All-nil, All-cons, All-head, All-tail, All-append, All-map, All-filter, All-weaker, Contains-append_cases, Contains-append_left, Contains-append_right, Contains-push}
-use Rattle.any_log.specs.declared.fragment.Fragment.{Fragment}
-use Rattle.any_log.specs.Fragments.{fragment_of}
 use Rattle.any_log.specs.Whole.{AnyWhole, whole, rebuilt, beaten, polled as any_polled, position_in, received, rejoined}
 use Rattle.any_log.proofs.AnyLemmas.{moved_there}
 use Rattle.any_log.proofs.StillLemmas.{IsStill}
@@ -636,8 +634,8 @@ fetched_granted : (granted : List Frame) (w : Whole) →
     ((flags : Flags) (payload : List ℕ) → Contains w.frames (fragment flags payload) →
     Contains granted (fragment flags payload)) →
     (fs : List Fetched) → AreFragmentsOf w fs →
-    All (λ (part : Fragment). Contains granted (fragment part.flags part.payload)) (map fragment_of fs)
-fetched_granted granted w owned [] are = All-nil (λ (part : Fragment). Contains granted (fragment part.flags part.payload))
+    All (λ (part : Fetched). Contains granted (fragment part.flags part.payload)) fs
+fetched_granted granted w owned [] are = All-nil (λ (part : Fetched). Contains granted (fragment part.flags part.payload))
 fetched_granted granted w owned (f ∷ fs) are =
     let frame : Frame = fragment f.flags f.payload in
     let is = are.0 in
@@ -645,8 +643,8 @@ fetched_granted granted w owned (f ∷ fs) are =
     subst (λ (gs : List Frame). Contains gs frame) (sym is.is)
     (Contains-append_right is.before (frame ∷ is.after) frame
     (Contains-append_left (frame ∷ []) is.after frame (Contains-push [] frame))) in
-    All-cons (λ (part : Fragment). Contains granted (fragment part.flags part.payload)) (fragment_of f)
-    (map fragment_of fs) (owned f.flags f.payload there) (fetched_granted granted w owned fs are.1)
+    All-cons (λ (part : Fetched). Contains granted (fragment part.flags part.payload)) f
+    fs (owned f.flags f.payload there) (fetched_granted granted w owned fs are.1)
 
 polled_is : (w : Whole) (subscription limit at : ℕ) → position_of w.pairs subscription ≡ Some at →
     polled w subscription limit ≡ polled_from w subscription limit (Some at)
@@ -658,9 +656,9 @@ image_polled_is : (r : Rebuilt) (subscription limit at : ℕ) → position_of r.
 unfolding image_polled
 image_polled_is r subscription limit at is = ap (image_polled_from r subscription limit) is
 
-next_of_term : (granted : List Frame) (subscription limit at : ℕ) (fragments : List Fragment) (w : Whole) →
+next_of_term : (granted : List Frame) (subscription limit at : ℕ) (fragments : List Fetched) (w : Whole) →
     OwnsFrames granted w → position_of w.pairs subscription ≡ Some at →
-    fragments ≡ map fragment_of (polled w subscription limit).fragments → AreNext granted subscription limit fragments w
+    fragments ≡ (polled w subscription limit).fragments → AreNext granted subscription limit fragments w
 next_of_term granted subscription limit at fragments w owns stood given_is =
     let start : IsStart w.ident.start w.frames at =
     subst (λ (o : Option ℕ). IfSome o (IsStart w.ident.start w.frames)) stood
@@ -678,31 +676,31 @@ next_of_term granted subscription limit at fragments w owns stood given_is =
       frames_are = passed_behind w limit at from t;
       from = from.place;
       as_many = sym t.passes ∙ ap (λ (fs : List Frame). passed limit (polled_run at fs)) t.is;
-      given_are = given_is ∙ ap (λ (p : Poll). map fragment_of p.fragments) is
-          ∙ ap (λ (fs : List Passed). map fragment_of (fragments_of fs)) t.passes;
+      given_are = given_is ∙ ap (λ (p : Poll). p.fragments) is
+          ∙ ap fragments_of t.passes;
       stands = ap (λ (p : Poll). position_of p.after.pairs subscription) is
           ∙ moved_there subscription (behind_all at (passed limit (polled_run at later))) at w.pairs stood
           ∙ ap (λ (n : ℕ). Some n) (behind_taken at limit later t);
-      offered = subst (All (λ (part : Fragment). Contains granted (fragment part.flags part.payload))) (sym given_is)
+      offered = subst (All (λ (part : Fetched). Contains granted (fragment part.flags part.payload))) (sym given_is)
           (fetched_granted granted w owns.owned (polled w subscription limit).fragments
           (polled_frames w subscription limit owns.read));
     }
 
-next_of_image : (subscription limit at : ℕ) (fragments : List Fragment) (r : Rebuilt) →
+next_of_image : (subscription limit at : ℕ) (fragments : List Fetched) (r : Rebuilt) →
     position_of r.pairs subscription ≡ Some at →
-    fragments ≡ map fragment_of (image_polled r subscription limit).fragments → AreNextWhole subscription limit fragments r
+    fragments ≡ (image_polled r subscription limit).fragments → AreNextWhole subscription limit fragments r
 unfolding settled
 next_of_image subscription limit at fragments r stood given_is =
     let is = image_polled_is r subscription limit at stood in
     record {
       at = at;
       stood = stood;
-      given_are = given_is ∙ ap (λ (p : ImagePoll). map fragment_of p.fragments) is;
+      given_are = given_is ∙ ap (λ (p : ImagePoll). p.fragments) is;
       stands = ap (λ (p : ImagePoll). position_of p.after.pairs subscription) is
           ∙ moved_there subscription (behind_all at (passed limit (map polled_frame (whole_from r at)))) at r.pairs stood;
     }
 
-next_of : (granted : List Frame) (subscription limit at : ℕ) (fragments : List Fragment) (w : AnyWhole) → OwnsAny granted w →
+next_of : (granted : List Frame) (subscription limit at : ℕ) (fragments : List Fetched) (w : AnyWhole) → OwnsAny granted w →
     position_in w subscription ≡ Some at → fragments ≡ (any_polled w subscription limit).fragments →
     AreNextIn granted subscription limit fragments w
 next_of granted subscription limit at fragments (whole frames) owns stood given_is =
@@ -711,14 +709,14 @@ next_of granted subscription limit at fragments (rebuilt frames) owns stood give
     next_of_image subscription limit at fragments frames stood given_is
 
 -- where the subscription stood, and what it is given
-pub record IsGiven (subscription limit : ℕ) (fragments : List Fragment) (w : AnyWhole) : Type 0 where
+pub record IsGiven (subscription limit : ℕ) (fragments : List Fetched) (w : AnyWhole) : Type 0 where
   pub at : ℕ
   pub stood : position_in w subscription ≡ Some at
   pub given_is : fragments ≡ (any_polled w subscription limit).fragments
 
 -- a poll that gives fragments gives those of the log
 pub poll_gives : (subscription limit : ℕ) (log : WholeLog) (o : Option LogRequest) (at : Option ℕ)
-    (fragments : List Fragment) → position_in log.whole subscription ≡ at →
+    (fragments : List Fetched) → position_in log.whole subscription ≡ at →
     Polled fragments ≡ (poll_under subscription limit log o at).answer → IsGiven subscription limit fragments log.whole
 poll_gives subscription limit log None at fragments stood is = absurd (cc is)
 poll_gives subscription limit log (Some request) None fragments stood is = absurd (cc is)
@@ -732,7 +730,7 @@ poll_gives subscription limit log (Some request) (Some at) fragments stood is =
           (λ _ other. absurd (cc other)) (λ _ same. cc same) is;
     }
 
-poll_comes : (granted : ℕ → List Frame) (s : State) (e : RunEnd) (client subscription source limit : ℕ) (fragments : List Fragment)
+poll_comes : (granted : ℕ → List Frame) (s : State) (e : RunEnd) (client subscription source limit : ℕ) (fragments : List Fetched)
     (o : Option WholeLog) → log_at e.logs source ≡ o → All (Owns granted) e.logs →
     Polled fragments ≡ (moved_on e source (poll_move s client subscription limit) IsGone o).answer →
     ComeFromLog e source subscription limit (granted source) fragments

@@ -2,7 +2,7 @@
 use Rattle.std.proofs.Common.{rules, ◌≡◌, ℕ, ◌==◌, nat_lt, true, false, List, length, Option, Some, None, refl, sym, ap, ap₂, subst, ◌∙◌}
 use Rattle.any_log.specs.declared.any_log.AnyLog.{AnyLog}
 use Rattle.any_log.specs.declared.any_log.AnyLog.TheVariants.{Term, Image}
-use Rattle.any_log.specs.declared.fragment.Fragment.{Fragment}
+use Rattle.log_pairs.specs.Polling.{Fetched}
 use Rattle.any_log.specs.Held.{Lies, position_held}
 use Rattle.any_log.specs.Whole.{AnyWhole, whole, rebuilt, StandsFor, Carries, Fetches, Words, beaten, polled, position_in, received}
 use Rattle.any_log.proofs.AnyLemmas.{position_stands}
@@ -173,7 +173,7 @@ some_position None some = absurd (some refl)
 some_position (Some at) some = (at, refl)
 
 -- the log itself is polled
-pub poll_given : (s : State) (client subscription limit : ℕ) (held after : HeldLog) (request : LogRequest) (position : ℕ) (fragments : List Fragment) →
+pub poll_given : (s : State) (client subscription limit : ℕ) (held after : HeldLog) (request : LogRequest) (position : ℕ) (fragments : List Fetched) →
     receiving_of s client subscription held.source ≡ Some request → position_held held.log subscription ≡ Some position →
     request.decision.verdict.allow ≡ true → Fetches held.log subscription limit fragments →
     after.source ≡ held.source → after.recovery ≡ held.recovery → Carries held.log after.log (λ w. (polled w subscription limit).after) →

@@ -1,6 +1,6 @@
 -- What a poll gives of a remote publisher's stream came in datagrams of that publisher. Own rules.
 use Rattle.std.specs.Prelude.{◌≡◌, ℕ, ◌==◌, List, [], ◌∷◌, ◌++◌, map, All, Contains, drop, Option, Some, Result, Ok, Err, if◌then◌else◌}
-use Rattle.any_log.specs.declared.fragment.Fragment.{Fragment}
+use Rattle.log_pairs.specs.Polling.{Fetched}
 use Rattle.any_log.specs.Whole.{rebuilt}
 use Rattle.channel_uri.specs.declared.address.Address.{Address}
 use Rattle.driver_core.specs.declared.image_request.Astray.{Astray}
@@ -62,7 +62,7 @@ abbrev pub flags_in : List ℕ → Flags
 flags_in bytes = record { bits = byte_at 5 bytes }
 
 -- the fragment is what one of these frames holds: its flags, and all that is behind its header of 32 bytes
-pub record IsCarried (carried : List (List ℕ)) (part : Fragment) : Type 0 where
+pub record IsCarried (carried : List (List ℕ)) (part : Fetched) : Type 0 where
   pub bytes : List ℕ
   pub there : Contains carried bytes
   pub flags_are : part.flags ≡ flags_in bytes
@@ -72,7 +72,7 @@ pub record IsCarried (carried : List (List ℕ)) (part : Fragment) : Type 0 wher
 abbrev pub PayloadsComeFromTheirPublisher : Type 0
 PayloadsComeFromTheirPublisher =
     (settings : Settings) (policy : Rules) (peers : List Peer) (readings : List Reading) (answers : List Answer)
-    (older : Option State) (now client subscription source limit : ℕ) (fragments : List Fragment) (log : WholeLog) (r : Rebuilt) →
+    (older : Option State) (now client subscription source limit : ℕ) (fragments : List Fetched) (log : WholeLog) (r : Rebuilt) →
     AreAnswers (opening_end settings policy peers) readings answers →
     log_at (end_of (opening_end settings policy peers) readings answers).logs source ≡ Some log → log.whole ≡ rebuilt r →
     IsAnswerTo (end_of (opening_end settings policy peers) readings answers)

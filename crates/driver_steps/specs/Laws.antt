@@ -1,7 +1,5 @@
 -- What holds at the end of every run, of the offers and polls there, and of the bytes that a poll gives.
 use Rattle.std.specs.Prelude.{◌≡◌, ℕ, ◌+◌, ◌==◌, ◌&&◌, not, nat_lt, true, false, List, [], ◌∷◌, ◌++◌, length, map, All, Contains, Option, Some, None, Result, Ok, if◌then◌else◌}
-use Rattle.any_log.specs.declared.fragment.Fragment.{Fragment}
-use Rattle.any_log.specs.Fragments.{fragment_of}
 use Rattle.any_log.specs.Held.{Made}
 use Rattle.any_log.specs.Whole.{AnyWhole, whole, rebuilt, made_for as made_any, polled, readers_in}
 use Rattle.image_log.specs.Polling.{polled as image_polled, polled_frame, whole_from}
@@ -50,7 +48,7 @@ use Rattle.term_log.specs.Frames.{Frame, fragment, total}
 use Rattle.term_log.specs.Ident.{payload_length}
 use Rattle.term_log.specs.Log.{greatest_message}
 use Rattle.log_pairs.specs.Pairs.{position_of}
-use Rattle.log_pairs.specs.Polling.{behind, fragments_of, passed}
+use Rattle.log_pairs.specs.Polling.{Fetched, behind, fragments_of, passed}
 use Rattle.term_log.specs.Polling.{polled_run}
 use Rattle.term_log.specs.Whole.{Whole, answer_to, is_connected, offered, polled as term_polled}
 
@@ -304,7 +302,7 @@ granted_in e source (reading ∷ readings) (answer ∷ answers) =
 -- fragments were given or there are no more. What they carry is given, in their order, each frame's once: pads carry
 -- nothing, and the subscription stands behind all of them then. Each fragment was put into the log by an offer that was
 -- granted.
-pub record AreNext (granted : List Frame) (subscription limit : ℕ) (given : List Fragment) (w : Whole) : Type 0 where
+pub record AreNext (granted : List Frame) (subscription limit : ℕ) (given : List Fetched) (w : Whole) : Type 0 where
   pub at : ℕ
   pub before : List Frame
   pub next : List Frame
@@ -313,25 +311,25 @@ pub record AreNext (granted : List Frame) (subscription limit : ℕ) (given : Li
   pub frames_are : w.frames ≡ before ++ (next ++ left)
   pub from : at ≡ w.ident.start + total before
   pub as_many : polled_run at next ≡ passed limit (polled_run at (next ++ left))
-  pub given_are : given ≡ map fragment_of (fragments_of (polled_run at next))
+  pub given_are : given ≡ fragments_of (polled_run at next)
   pub stands : position_of (term_polled w subscription limit).after.pairs subscription ≡ Some (at + total next)
   pub offered : All (λ part. Contains granted (fragment part.flags part.payload)) given
 
 -- a poll of a remote stream's log: the same, of the frames from there on up to where the stream is whole
-pub record AreNextWhole (subscription limit : ℕ) (given : List Fragment) (r : Rebuilt) : Type 0 where
+pub record AreNextWhole (subscription limit : ℕ) (given : List Fetched) (r : Rebuilt) : Type 0 where
   pub at : ℕ
   pub stood : position_of r.pairs subscription ≡ Some at
-  pub given_are : given ≡ map fragment_of (fragments_of (passed limit (map polled_frame (whole_from r at))))
+  pub given_are : given ≡ fragments_of (passed limit (map polled_frame (whole_from r at)))
   pub stands :
       position_of (image_polled r subscription limit).after.pairs subscription
       ≡ Some (behind at (passed limit (map polled_frame (whole_from r at))))
 
-abbrev pub AreNextIn : List Frame → ℕ → ℕ → List Fragment → AnyWhole → Type 0
+abbrev pub AreNextIn : List Frame → ℕ → ℕ → List Fetched → AnyWhole → Type 0
 AreNextIn granted subscription limit given (whole frames) = AreNext granted subscription limit given frames
 AreNextIn granted subscription limit given (rebuilt frames) = AreNextWhole subscription limit given frames
 
 -- what was polled comes from the log of that source, which is open
-pub record ComeFromLog (e : RunEnd) (source subscription limit : ℕ) (granted : List Frame) (given : List Fragment) : Type 0 where
+pub record ComeFromLog (e : RunEnd) (source subscription limit : ℕ) (granted : List Frame) (given : List Fetched) : Type 0 where
   pub log : WholeLog
   pub live : log_at e.logs source ≡ Some log
   pub next : AreNextIn granted subscription limit given log.whole
@@ -340,7 +338,7 @@ pub record ComeFromLog (e : RunEnd) (source subscription limit : ℕ) (granted :
 abbrev pub BytesComeFromTheLiveLog : Type 0
 BytesComeFromTheLiveLog =
     (settings : Settings) (policy : Rules) (peers : List Peer) (readings : List Reading) (answers : List Answer)
-    (older : Option State) (now client subscription source limit : ℕ) (fragments : List Fragment) →
+    (older : Option State) (now client subscription source limit : ℕ) (fragments : List Fetched) →
     AreAnswers (opening_end settings policy peers) readings answers →
     IsAnswerTo (end_of (opening_end settings policy peers) readings answers)
     (record { older = older; step = Poll now client subscription source limit }) (Polled fragments) →

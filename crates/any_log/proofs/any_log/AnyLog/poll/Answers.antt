@@ -6,8 +6,8 @@ use Rattle.image_log.specs.Polling.{polled}
 use Rattle.any_log.proofs.AnyLemmas.{image_lies, polled_ident}
 use Rattle.any_log.proofs.any_log.AnyLog.poll.Goals as goal
 
-pub returns-in-Image-clause-lies : goal.returns-in-Image-clause-lies
-returns-in-Image-clause-lies c =
-    subst (λ (old : AnyLog). Lies old (Image c.poll-in-Image.new.self)) (sym c.in-Image.is)
-    (image_lies c.in-Image.log c.poll-in-Image.new.self (polled c.in-Image.log.rebuilt c.args.subscription c.args.limit).after
-    c.poll-in-Image.ensures (polled_ident c.in-Image.log.rebuilt c.args.subscription c.args.limit))
+pub returns-in_ok-poll_copies-in-Image-clause-lies : goal.returns-in_ok-poll_copies-in-Image-clause-lies
+returns-in_ok-poll_copies-in-Image-clause-lies c =
+    subst (λ (old : AnyLog). Lies old (Image c.poll_copies-in-Image.new.self)) (sym c.in-Image.is)
+    (image_lies c.in-Image.log c.poll_copies-in-Image.new.self (polled c.in-Image.log.rebuilt c.args.subscription c.args.limit).after
+    c.in_ok-poll_copies-in-Image.ensures.exact (polled_ident c.in-Image.log.rebuilt c.args.subscription c.args.limit))
