@@ -1,5 +1,6 @@
 -- What the bytes of a command are read as, and the channel that a command names.
-use Rattle.std.specs.Prelude.{Result, Ok, Err}
+use Rattle.std.specs.Prelude.{Option, Some, None, Result, Ok, Err}
+use Rattle.std.specs.declared.boxed.Box.{Box}
 use Rattle.channel_uri.specs.Channel.{Shape, denotes}
 use Rattle.channel_uri.specs.declared.error.UriError.{UriError}
 use Rattle.channel_uri.specs.declared.error.UriError.TheVariants.{NoScheme}
@@ -20,3 +21,8 @@ channel_named other = Err NoScheme
 unfoldable pub channel_in : Result Command CommandFault → Result Shape UriError
 channel_in (Ok command) = channel_named command.body
 channel_in (Err fault) = Err NoScheme
+
+-- the channel of a command that keeps it apart; a command that names none keeps none
+abbrev pub channel_kept : {Z : Type 0} → Option (Box (Result Shape UriError) Z) → Result Shape UriError
+channel_kept None = Err NoScheme
+channel_kept (Some channel) = channel.value

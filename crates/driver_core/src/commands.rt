@@ -224,7 +224,9 @@ impl Registry {
     {
         match received.read() {
             Ok(command) => {
-                self.outcome_of_asked(alloc, now, handle, command, received.channel(), inputs)
+                let none = Err(UriError::NoScheme);
+                let channel = received.channel_or(&none);
+                self.outcome_of_asked(alloc, now, handle, command, channel, inputs)
             }
             Err(fault) => {
                 let correlation = Command::correlation_of(received.as_slice());
@@ -295,7 +297,10 @@ impl Registry {
         ensures { self.new ≡ (command self.old handle received.now).after }
     {
         match received.read() {
-            Ok(command) => self.do_asked(handle, command, received.channel()),
+            Ok(command) => {
+                let none = Err(UriError::NoScheme);
+                self.do_asked(handle, command, received.channel_or(&none));
+            }
             Err(_) => {}
         }
     }

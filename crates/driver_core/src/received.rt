@@ -1,7 +1,8 @@
 ghost use Rattle.channel_uri.specs.Channel.{denotes};
 ghost use Rattle.command_codec.specs.Command.{command_of};
-ghost use Rattle.driver_core.specs.Received.{channel_in, channel_named};
-ghost use Rattle.std.specs.Prelude.{◌≡◌, IfOk};
+ghost use Rattle.driver_core.specs.Received.{channel_in, channel_kept, channel_named};
+ghost use Rattle.channel_uri.specs.declared.error.UriError.TheVariants.{NoScheme};
+ghost use Rattle.std.specs.Prelude.{◌≡◌, Err, IfOk};
 
 use byte_strings::Bytes;
 use channel_uri::{Channel, UriError};
@@ -14,12 +15,13 @@ use std::marker::Model;
 pub struct Received {
     bytes: Bytes,
     command: Result<Command, CommandFault>,
-    channel: Result<Channel, UriError>,
+    /// A channel is large, so it lies apart: an event is handed on by value.
+    channel: Option<Box<Result<Channel, UriError>>>,
 }
 
 impl Model for Received {
     ghost use Rattle.command_codec.specs.Command.{command_of};
-    ghost use Rattle.driver_core.specs.Received.{channel_in};
+    ghost use Rattle.driver_core.specs.Received.{channel_in, channel_kept};
     ghost use Rattle.std.specs.Prelude.{◌≡◌, ℕ, List};
 
     ghost Value = { List ℕ };
@@ -27,41 +29,45 @@ impl Model for Received {
     ghost view = { λ received. received.bytes };
 
     ghost invariant = { λ received. (received.command ≡ command_of received.bytes)
-        × (received.channel ≡ channel_in (command_of received.bytes)) };
+        × (channel_kept received.channel ≡ channel_in (command_of received.bytes)) };
 }
 
-/// The channel that a text denotes. It takes no memory.
-fn parsed(text: &str) -> Result<Channel, UriError>
-    ensures { result ≡ denotes text.now }
+/// The channel that a text denotes.
+fn parsed(alloc: Global, text: &str) -> Result<Option<Box<Result<Channel, UriError>>>, AllocError>
+    ensures { IfOk result (λ channel. channel_kept channel ≡ denotes text.now) }
 {
-    match Channel::parse(text) {
+    let channel = match Channel::parse(text) {
         Ok(channel) => Ok(channel),
         Err(fault) => Err(fault),
-    }
+    };
+    Ok(Some(Box::new(alloc, channel)?))
 }
 
-/// The channel that a command names by what it asks for. It takes no memory.
-fn named(body: &Body) -> Result<Channel, UriError>
-    ensures { result ≡ channel_named body.now }
+/// The channel that a command names by what it asks for.
+fn named(alloc: Global, body: &Body) -> Result<Option<Box<Result<Channel, UriError>>>, AllocError>
+    ensures { IfOk result (λ channel. channel_kept channel ≡ channel_named body.now) }
 {
     match body {
-        Body::AddPublication(fields) => parsed(fields.channel.as_str()),
-        Body::AddExclusivePublication(fields) => parsed(fields.channel.as_str()),
-        Body::AddSubscription(fields) => parsed(fields.channel.as_str()),
-        Body::AddDestination(fields) => parsed(fields.channel.as_str()),
-        Body::RemoveDestination(fields) => parsed(fields.channel.as_str()),
-        _ => Err(UriError::NoScheme),
+        Body::AddPublication(fields) => parsed(alloc, fields.channel.as_str()),
+        Body::AddExclusivePublication(fields) => parsed(alloc, fields.channel.as_str()),
+        Body::AddSubscription(fields) => parsed(alloc, fields.channel.as_str()),
+        Body::AddDestination(fields) => parsed(alloc, fields.channel.as_str()),
+        Body::RemoveDestination(fields) => parsed(alloc, fields.channel.as_str()),
+        _ => Ok(None),
     }
 }
 
-/// The channel of what bytes were read as. It takes no memory.
+/// The channel of what bytes were read as.
 #[tactic(auto, unfolding(crate::specs::Received::channel_in))]
-fn channel_of(command: &Result<Command, CommandFault>) -> Result<Channel, UriError>
-    ensures { result ≡ channel_in command.now }
+fn channel_of(
+    alloc: Global,
+    command: &Result<Command, CommandFault>,
+) -> Result<Option<Box<Result<Channel, UriError>>>, AllocError>
+    ensures { IfOk result (λ channel. channel_kept channel ≡ channel_in command.now) }
 {
     match command {
-        Ok(command) => named(&command.body),
-        Err(_) => Err(UriError::NoScheme),
+        Ok(command) => named(alloc, &command.body),
+        Err(_) => Ok(None),
     }
 }
 
@@ -78,14 +84,21 @@ fn command_copied(
     }
 }
 
-/// Another answer, the same as this one. It takes no memory.
-fn channel_copied(channel: &Result<Channel, UriError>) -> Result<Channel, UriError>
-    ensures { result ≡ channel.now }
+/// Another channel, the same as this one.
+fn channel_copied(
+    channel: &Option<Box<Result<Channel, UriError>>>,
+    alloc: Global,
+) -> Result<Option<Box<Result<Channel, UriError>>>, AllocError>
+    ensures { IfOk result (λ copy. channel_kept copy ≡ channel_kept channel.now) }
 {
-    match channel {
+    let Some(channel) = channel else {
+        return Ok(None);
+    };
+    let copy = match &**channel {
         Ok(channel) => Ok(channel.copy()),
         Err(fault) => Err(*fault),
-    }
+    };
+    Ok(Some(Box::new(alloc, copy)?))
 }
 
 impl Received {
@@ -97,7 +110,7 @@ impl Received {
             Err(CommandFault::NoMemory) => return Err(AllocError),
             command => command,
         };
-        let channel = channel_of(&command);
+        let channel = channel_of(alloc, &command)?;
         Ok(Received {
             bytes: Bytes::new(alloc, bytes)?,
             command,
@@ -112,11 +125,18 @@ impl Received {
         &self.command
     }
 
-    /// The channel that the command names; [`UriError::NoScheme`] where it names none.
-    pub fn channel(&self) -> &Result<Channel, UriError>
+    /// The channel that the command names; `none`, which is [`UriError::NoScheme`], where it names none.
+    pub fn channel_or<'a>(
+        &'a self,
+        none: &'a Result<Channel, UriError>,
+    ) -> &'a Result<Channel, UriError>
+        requires { none.now ≡ Err NoScheme }
         ensures { result.now ≡ channel_in (command_of self.now) }
     {
-        &self.channel
+        match &self.channel {
+            Some(channel) => channel,
+            None => none,
+        }
     }
 
     pub fn as_slice(&self) -> &[u8]
@@ -132,7 +152,7 @@ impl Received {
         Ok(Received {
             bytes: self.bytes.copy(alloc)?,
             command: command_copied(&self.command, alloc)?,
-            channel: channel_copied(&self.channel),
+            channel: channel_copied(&self.channel, alloc)?,
         })
     }
 }

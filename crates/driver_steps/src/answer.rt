@@ -2,7 +2,7 @@ ghost use Rattle.driver_steps.specs.Answers.{answer_of, answer_listed, answer_sh
 ghost use Rattle.std.specs.Prelude.{◌≡◌};
 
 use crate::cause::Cause;
-use any_log::Fragment;
+use any_log::FragmentCopies;
 use byte_strings::{Bytes, Items};
 use driver_core::{Address, Listed, ListedCounter, Message, Outcome, Outlet, Response, Shown};
 use image_log::Insert;
@@ -93,7 +93,7 @@ pub enum Answer {
     /// What became of the message that was offered.
     Offered(Offered),
     /// The fragments that were polled, in their order.
-    Polled(Items<Fragment>),
+    Polled(FragmentCopies),
     /// The client's subscription does not read that log; or there is no publication
     /// over datagrams, or no image, of that number.
     Gone,

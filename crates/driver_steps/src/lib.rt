@@ -35,7 +35,7 @@ mod step;
 mod told;
 
 pub use answer::{Answer, Offered};
-pub use any_log::Fragment;
+pub use any_log::{CopiedFragments, Fragment, FragmentCopies};
 pub use asking::Asks;
 pub use cause::Cause;
 pub use driver::Driver;

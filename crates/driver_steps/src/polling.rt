@@ -56,9 +56,7 @@ fn poll_own<V: View, A: Asks>(
             decision: Some(request.decision),
         });
     }
-    let limit = limit as usize;
-    let fragments = log.log.fragments(alloc, subscription, limit)?;
-    log.log.poll(subscription, limit);
+    let fragments = log.log.poll(alloc, subscription, limit as usize)?;
     Ok(Told {
         answer: Answer::Polled(fragments),
         decision: Some(request.decision),

@@ -15,7 +15,9 @@ mod seats;
 mod world;
 
 pub use actor::Actor;
-pub use driver_steps::{Answer, Cause, Fragment, Insert, Offered, OpenLog, Step, Told};
+pub use driver_steps::{
+    Answer, Cause, CopiedFragments, Fragment, FragmentCopies, Insert, Offered, OpenLog, Step, Told,
+};
 pub use laws::{registries_were_newest, runs_are_of_the_driver, views_only_rise};
 pub use reading::Reading;
 pub use seats::Seat;

@@ -45,6 +45,17 @@ back fs fit = most_back (length (written fs)) fs fit (omega arith)
 pub read_is : (bytes : List ℕ) (are : AreWritten bytes) → read_all bytes ≡ are.fragments
 read_is bytes are = ap read_all are.is ∙ back are.fragments are.fit
 
+pub written_back : (bytes : List ℕ) → AreWritten bytes → written (read_all bytes) ≡ bytes
+written_back bytes are = ap written (read_is bytes are) ∙ sym are.is
+
+few_written : (fs : List Fetched) → length fs ≤ length (written fs)
+few_written [] = omega arith
+few_written (f ∷ fs) = omega (arith, few_written fs, long f (written fs))
+
+-- no more fragments than bytes
+pub few_read : (bytes : List ℕ) → AreWritten bytes → length (read_all bytes) ≤ length bytes
+few_read bytes are = omega (arith, few_written are.fragments, ap length are.is, ap length (read_is bytes are))
+
 written_push : (fs : List Fetched) (f : Fetched) → written (fs ++ f ∷ []) ≡ written fs ++ written_one f
 written_push [] f = append-nil (written_one f)
 written_push (g ∷ gs) f = ap (λ (bytes : List ℕ). written_one g ++ bytes) (written_push gs f) ∙ sym (append_assoc (written_one g) (written gs) (written_one f))

@@ -1,5 +1,9 @@
 -- Copies of fragments, written one behind the other. Own rules.
 use Rattle.std.specs.Prelude.{◌≡◌, ℕ, zero, suc, ◌^◌, ◌<◌, List, [], ◌∷◌, ◌++◌, length, take, drop, slice_index, All}
+use Rattle.std.specs.Prelude.{Bool}
+use Rattle.std.specs.Cmp.{IsEquivalence, on_equiv}
+use Rattle.std.specs.Cmp.Lexicographic.{nat_list_eq_equiv}
+use Rattle.std.specs.Str.{bytes_eq}
 use Rattle.byteorder.specs.Endian.{little_bytes, little_number}
 use Rattle.log_pairs.specs.Polling.{Fetched}
 
@@ -40,3 +44,10 @@ read_most (suc n) (b ∷ bs) = read_one (b ∷ bs) ∷ read_most n (behind_one (
 
 unfoldable pub read_all : List ℕ → List Fetched
 read_all bytes = read_most (length bytes) bytes
+
+-- the same fragments are written alike
+abbrev pub copies_eq : List Fetched → List Fetched → Bool
+copies_eq left right = bytes_eq (written left) (written right)
+
+pub copies_eq_equiv : IsEquivalence copies_eq
+copies_eq_equiv = on_equiv written nat_list_eq_equiv

@@ -89,6 +89,18 @@ impl FragmentCopies {
         put(&mut self.bytes, fragment)
     }
 
+    /// How many there are: each is looked at.
+    pub fn len(&self) -> usize
+        ensures { result ≡ length self.now }
+    {
+        let _ = self.bytes.len();
+        let mut count = 0;
+        for _ in self.iter() {
+            count += 1;
+        }
+        count
+    }
+
     /// The fragments, in their order.
     pub fn iter(&self) -> CopiedFragments<'_>
         ensures { result ≡ self.now }
@@ -97,6 +109,26 @@ impl FragmentCopies {
             rest: self.bytes.as_slice(),
         }
     }
+}
+
+impl PartialEq for FragmentCopies {
+    ghost use Rattle.log_pairs.specs.Copies.{copies_eq, copies_eq_equiv};
+    ghost use Rattle.std.specs.Cmp.{partial_equiv_from_equiv};
+
+    ghost eq = { copies_eq };
+
+    ghost laws = { partial_equiv_from_equiv copies_eq_equiv };
+
+    /// Whether they are copies of the same fragments.
+    fn eq(&self, other: &FragmentCopies) -> bool {
+        self.bytes == other.bytes
+    }
+}
+
+impl Eq for FragmentCopies {
+    ghost use Rattle.log_pairs.specs.Copies.{copies_eq_equiv};
+
+    ghost laws = { copies_eq_equiv };
 }
 
 /// The fragments of copies, in their order.

@@ -1,6 +1,6 @@
 ghost use Rattle.stream_registry.specs.Lingering.{closed, closing_of, is_closing, is_image_of, is_number, is_past, is_used, registrations_of, settled, settled_one, stays_live};
 ghost use Rattle.std.specs.List.{list_any};
-ghost use Rattle.std.specs.Prelude.{◌≡◌, IfOk};
+ghost use Rattle.std.specs.Prelude.{◌≡◌, IfOk, true};
 
 use crate::row::{Registration, Source};
 use crate::streams::Streams;
@@ -16,13 +16,25 @@ pub struct LogPlace {
     pub place: u64,
 }
 
+/// Whether who made the publication of this source number is registered with it still. The publication has the number of
+/// that registration, and registrations ascend by their numbers, so it is found without a look at each.
+fn is_with_maker(registrations: &[Registration], source: u64) -> bool
+    ensures { result ≡ true → is_used registrations.now source ≡ true }
+{
+    match registrations.binary_search_by_key(&source, |registration| registration.number) {
+        Ok(at) => registrations[at].source == source,
+        Err(_) => false,
+    }
+}
+
 /// Whether somebody is registered with the publication of this source number.
 fn is_used(registrations: &[Registration], source: u64) -> bool
     ensures { result ≡ is_used registrations.now source }
 {
-    registrations
-        .iter()
-        .any(|registration| registration.source == source)
+    is_with_maker(registrations, source)
+        || registrations
+            .iter()
+            .any(|registration| registration.source == source)
 }
 
 /// Lets the log linger where nobody is registered with it; an image never does.
