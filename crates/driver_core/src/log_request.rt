@@ -1,5 +1,4 @@
 ghost use Rattle.driver_core.specs.LogRequests.{has_pair, offering_of, receiving_of, row_decision};
-ghost use Rattle.std.specs.Option.{option_map};
 ghost use Rattle.std.specs.Prelude.{◌≡◌};
 
 use crate::registry::Registry;
@@ -63,18 +62,6 @@ impl Registry {
                 publication.stream,
             ),
         })
-    }
-
-    /// The source number of the log that the client's registration is with. `None` where the client is not attached, or has
-    /// no such registration. Nothing is decided, and it takes no memory.
-    #[tactic(auto, unfolding(crate::specs::LogRequests::offering_of))]
-    pub fn source_offered(&self, client: u64, registration: u64) -> Option<u64>
-        ensures { result ≡ option_map (λ request. request.source) (offering_of self.now client registration) }
-    {
-        let _holder = self.clients.get(client)?;
-        let registration = self.own_registration(client, registration)?;
-        let publication = self.source(registration.source)?;
-        Some(publication.number)
     }
 
     /// Whether the subscription of this number reads a log of this source number.

@@ -6,6 +6,7 @@ ghost use Rattle.driver_script.specs.Answers.{data_line, decision_line, line_tex
 ghost use Rattle.driver_script.specs.Ends.{OfAnswering, OfRunning};
 ghost use Rattle.driver_script.specs.Output.{AppendsFront};
 ghost use Rattle.driver_script.specs.Script.{audit_text, message_text, counter_text, fragment_text, outlet_text, outlets_text, sent_text, answer_text, is_bad_step, told_text, ended_text, is_peer_at, may_peer, no_preface};
+ghost use Rattle.log_pairs.specs.Polling.{fetched_of};
 ghost use Rattle.std.specs.Io.KnownBytes.{Appends};
 ghost use Rattle.std.specs.List.{flat_map, list_any};
 ghost use Rattle.driver_script.specs.declared.script.Ended.TheVariants.{BadLine};
@@ -27,7 +28,7 @@ use crate::output::write_whole;
 use audit_ring::Audit;
 use byte_strings::{Bytes, Items, Text};
 use driver_core::{Address, Event, ListedCounter, Message, Outlet, Peer};
-use driver_world::{Actor, Answer, Fragment, Insert, Reading, Step, World};
+use driver_world::{Actor, Answer, Fragment, FragmentCopies, Insert, Reading, Step, World};
 use policy_text::{Names, PolicyFault};
 use script_lines::settings::Choices;
 use script_lines::statements::{LIMIT, Said, Statement, Statements};
@@ -91,23 +92,23 @@ fn push_counters(text: &mut String, counters: &[ListedCounter]) -> Result<(), Al
 
 /// Appends the line of a fragment.
 #[tactic(auto, unfolding(crate::specs::Answers::line_text))]
-fn push_fragment(text: &mut String, fragment: &Fragment) -> Result<(), AllocError>
-    ensures { OnOk result (string_bytes text.new ≡ string_bytes text.old ++ fragment_text fragment.now) }
+fn push_fragment(text: &mut String, fragment: &Fragment<'_>) -> Result<(), AllocError>
+    ensures { OnOk result (string_bytes text.new ≡ string_bytes text.old ++ fragment_text (fetched_of fragment.now)) }
 {
     let line = AnswerLine::Fragment {
         position: fragment.position,
         flags: fragment.flags,
-        payload: fragment.payload.as_slice(),
+        payload: fragment.payload,
     };
     write!(text, "{line}")
 }
 
 /// Appends the line of each fragment.
-fn push_fragments(text: &mut String, fragments: &[Fragment]) -> Result<(), AllocError>
+fn push_fragments(text: &mut String, fragments: &FragmentCopies) -> Result<(), AllocError>
     ensures { OnOk result (string_bytes text.new ≡ string_bytes text.old ++ flat_map fragment_text fragments.now) }
 {
-    for fragment in fragments {
-        push_fragment(text, fragment)?;
+    for fragment in fragments.iter() {
+        push_fragment(text, &fragment)?;
     }
     Ok(())
 }
@@ -231,7 +232,7 @@ fn text_of_outlets(alloc: Global, bytes: &[u8], outlets: &[Outlet]) -> Result<St
 
 /// The text of a poll and its fragments.
 #[tactic(auto, unfolding(crate::specs::Answers::line_text))]
-fn text_of_poll(alloc: Global, fragments: &[Fragment]) -> Result<String, AllocError>
+fn text_of_poll(alloc: Global, fragments: &FragmentCopies) -> Result<String, AllocError>
     ensures { IfOk result (λ text. string_bytes text ≡ poll_line (length fragments.now) ++ flat_map fragment_text fragments.now) }
 {
     let mut text = text_of_line(alloc, AnswerLine::Poll(fragments.len() as u64))?;
@@ -277,7 +278,7 @@ fn text_of(alloc: Global, answer: &Answer) -> Result<String, AllocError>
         Answer::Dropped(why) => text_of_line(alloc, AnswerLine::Dropped(*why)),
         Answer::Replies(messages) => text_of_replies(alloc, messages.as_slice()),
         Answer::Offered(offered) => text_of_line(alloc, AnswerLine::Offer(*offered)),
-        Answer::Polled(fragments) => text_of_poll(alloc, fragments.as_slice()),
+        Answer::Polled(fragments) => text_of_poll(alloc, fragments),
         Answer::Gone => text_of_line(alloc, AnswerLine::Gone),
         Answer::Counters(counters) => text_of_list(alloc, counters.as_slice()),
         Answer::Value(value) => text_of_line(alloc, AnswerLine::Value(*value)),

@@ -48,8 +48,8 @@ pub(crate) fn offer_by<V: View, A: Asks>(
     ensures kept { KeepMatch logs.old logs.new }
     ensures right { A.is_right asker.new (V.shows view.now) }
 {
-    match view.registry().source_offered(client, registration) {
-        Some(source) => logs.offer(view, asker, source, now, client, registration, message),
+    match asker.offering(view.registry(), client, registration) {
+        Some(request) => logs.offer(view, now, client, registration, &request, message),
         None => Told {
             answer: Answer::Offered(Offered::Closed),
             decision: None,

@@ -8,14 +8,15 @@ ghost use Rattle.driver_steps.specs.Decided.{Decides, offer_decision};
 ghost use Rattle.driver_steps.specs.Held.{LiesAsBefore};
 ghost use Rattle.driver_steps.specs.Moves.{Does, offer_move, offers, term_held};
 ghost use Rattle.driver_steps.specs.Recovery.{Recovering};
-ghost use Rattle.std.specs.Prelude.{◌≡◌, ℕ, None};
+ghost use Rattle.driver_core.specs.LogRequests.{offering_of};
+ghost use Rattle.std.specs.Prelude.{◌≡◌, ℕ, None, Some};
 
 use crate::answer::{Answer, Offered};
 use crate::asking::Asks;
 use crate::open_log::OpenLog;
 use crate::told::Told;
 use any_log::AnyLog;
-use driver_core::View;
+use driver_core::{LogRequest, View};
 use policy_core::Verdict;
 use term_log::TermLog;
 
@@ -47,6 +48,36 @@ fn closed() -> Told
     }
 }
 
+/// As [`offer_step`], where whom it asks answered that.
+#[tactic(auto, unfolding(crate::specs::Moves::offer_move))]
+pub(crate) fn offer_asked<V: View>(
+    view: &V,
+    log: &mut OpenLog,
+    now: u64,
+    _client: u64,
+    _registration: u64,
+    request: &LogRequest,
+    message: &[u8],
+) -> Told
+    requires { offering_of (V.shows view.now) _client _registration ≡ Some request.now }
+    ensures does { Does (offer_move (V.shows view.now) now _client _registration message.now) log.old log.new result.answer }
+    ensures decides { Decides (offer_decision (V.shows view.now) _client _registration) log.old result.decision }
+    ensures lies { LiesAsBefore log.old log.new }
+{
+    if request.source != log.source {
+        return closed();
+    }
+    let timeout = view.registry().settings().connection_timeout;
+    let answer = match &mut log.log {
+        AnyLog::Term(term) => offer_to(term, now, timeout, request.decision.verdict, message),
+        AnyLog::Image(_) => Answer::Offered(Offered::Closed),
+    };
+    Told {
+        answer,
+        decision: Some(request.decision),
+    }
+}
+
 /// A client offers a message to the log that its registration is with, at the moment `now` in nanoseconds, as the registry
 /// that the view shows says, with the verdict of whom it asks, as the client's cache. It wants no memory.
 ///
@@ -71,20 +102,8 @@ pub fn offer_step<V: View, A: Asks>(
     ensures lies { LiesAsBefore log.old log.new }
     ensures right { A.is_right asker.new (V.shows view.now) }
 {
-    let registry = view.registry();
-    let Some(request) = asker.offering(registry, client, registration) else {
+    let Some(request) = asker.offering(view.registry(), client, registration) else {
         return closed();
     };
-    if request.source != log.source {
-        return closed();
-    }
-    let timeout = registry.settings().connection_timeout;
-    let answer = match &mut log.log {
-        AnyLog::Term(term) => offer_to(term, now, timeout, request.decision.verdict, message),
-        AnyLog::Image(_) => Answer::Offered(Offered::Closed),
-    };
-    Told {
-        answer,
-        decision: Some(request.decision),
-    }
+    offer_asked(view, log, now, client, registration, &request, message)
 }

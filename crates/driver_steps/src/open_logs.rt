@@ -1,6 +1,7 @@
 //! The open logs of a driver, in one arena.
 
 ghost use Rattle.any_log.specs.Whole.{rebuilt, whole};
+ghost use Rattle.driver_core.specs.LogRequests.{offering_of};
 ghost use Rattle.driver_core.specs.Pairs.{pairs_of as all_pairs};
 ghost use Rattle.driver_core.specs.Readers.{readers_of};
 ghost use Rattle.driver_steps.specs.Held.{IsOpened, is_closed, is_kept, place_at, plots_of, rejoined_held, with_readers, without};
@@ -19,7 +20,7 @@ ghost use Rattle.driver_steps.specs.Sending.{send_move};
 ghost use Rattle.frame_codec.specs.Datagram.{content};
 ghost use Rattle.image_log.specs.Rebuilt.{opened};
 ghost use Rattle.log_arena.specs.Pages.{holes_of};
-ghost use Rattle.std.specs.Prelude.{◌≡◌, ℕ, ◌*◌, ◌%◌, ◌^◌, ◌<◌, ◌≤◌, [], length, map, filter, IfOk, OnOk, OnErr};
+ghost use Rattle.std.specs.Prelude.{◌≡◌, ℕ, ◌*◌, ◌%◌, ◌^◌, ◌<◌, ◌≤◌, [], length, map, filter, IfOk, OnOk, OnErr, Some};
 ghost use Rattle.stream_registry.specs.LogPages.{pages_of};
 ghost use Rattle.term_log.specs.Ident.{IsIdent};
 ghost use Rattle.term_log.specs.Whole.{fresh};
@@ -27,14 +28,14 @@ ghost use Rattle.term_log.specs.Whole.{fresh};
 use crate::answer::{Answer, Offered};
 use crate::asking::Asks;
 use crate::cause::Cause;
-use crate::offering::offer_step;
+use crate::offering::offer_asked;
 use crate::open_log::OpenLog;
 use crate::packets::{PacketRequest, packet_step};
 use crate::polling::poll_step;
 use crate::reporting::image_step;
 use crate::sending::send_step;
 use crate::told::Told;
-use driver_core::{Address, Astray, Registry, Settings, View};
+use driver_core::{Address, Astray, LogRequest, Registry, Settings, View};
 use frame_codec::Packet;
 use image_log::ImageRoom;
 use log_arena::Arena;
@@ -214,35 +215,34 @@ impl OpenLogs {
         }
     }
 
-    /// A client offers a message to the first log of that source, as [`offer_step`] says.
-    pub(crate) fn offer<V: View, A: Asks>(
+    /// A client offers a message to the first log of the source that its registration is with, where whom it asks answered
+    /// that, as [`offer_asked`] says.
+    pub(crate) fn offer<V: View>(
         &mut self,
         view: &V,
-        asker: &mut A,
-        source: u64,
         now: u64,
         client: u64,
         registration: u64,
+        request: &LogRequest,
         message: &[u8],
     ) -> Told
-        requires { A.is_right asker.old (V.shows view.now) }
-        ensures moved { MovesFirst source (offer_move (V.shows view.now) now client registration message.now) (OfferedAs Closed) self.old self.new result.answer }
-        ensures decides { DecidesFirst source (offer_decision (V.shows view.now) client registration) result.decision self.old }
-        ensures right { A.is_right asker.new (V.shows view.now) }
+        requires { offering_of (V.shows view.now) client registration ≡ Some request.now }
+        ensures moved { MovesFirst request.now.source (offer_move (V.shows view.now) now client registration message.now) (OfferedAs Closed) self.old self.new result.answer }
+        ensures decides { DecidesFirst request.now.source (offer_decision (V.shows view.now) client registration) result.decision self.old }
     {
-        let Some(at) = place_of(self.logs.as_slice(), source) else {
+        let Some(at) = place_of(self.logs.as_slice(), request.source) else {
             return Told {
                 answer: Answer::Offered(Offered::Closed),
                 decision: None,
             };
         };
-        offer_step(
+        offer_asked(
             view,
             &mut self.logs[at],
-            asker,
             now,
             client,
             registration,
+            request,
             message,
         )
     }

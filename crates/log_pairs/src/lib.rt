@@ -2,7 +2,8 @@
 //!
 //! [`Pairs`] is the list of the subscriptions that read a log, each with its position, in room for 512 that is reserved.
 //! [`Fragments`] and [`behind_passed`] are the two halves of a poll, over [`PolledFrames`]: each log says from where its
-//! frames are read. But for [`Pairs::new`] nothing here takes memory.
+//! frames are read. [`copy_passed`] is both at once: it copies the fragments as it walks, into one piece of memory
+//! ([`FragmentCopies`]). But for that and [`Pairs::new`] nothing here takes memory.
 #![tactic(auto)]
 
 mod copies;

@@ -21,7 +21,7 @@ returns over c =
     let copies : Fetches held.log c.args.subscription c.args.limit c.in_ok-fragments.fragments = search rules in
     rw (← c.log.view_is) record {
       does = poll_given (over.V.View.shows c.args.view.now) c.args.client c.args.subscription c.args.limit held after
-          c.in-Some.request at.0 c.in_ok-fragments.fragments asked at.1 allowed copies refl refl c.poll.ensures.whole;
+          c.in-Some.request at.0 c.in_ok-fragments.fragments asked at.1 allowed copies refl refl c.in_ok-fragments.ensures.whole;
       decides = read_decides (over.V.View.shows c.args.view.now) c.args.client c.args.subscription held c.in-Some.request at.0 asked at.1;
       lies = held_lies c.log.inside.source c.log.inside.recovery c.log.inside.recovery c.log.inside.log c.poll.new.self c.poll.ensures.lies;
       right = search rules;

@@ -1,4 +1,4 @@
-use Rattle.std.proofs.Common.{◌≡◌, ◌≤◌, length, ap, arith, rules}
+use Rattle.std.proofs.Common.{length, ap, rules}
 use Rattle.log_pairs.proofs.CopyLemmas.{few_read}
 use Rattle.log_pairs.proofs.copies.FragmentCopies.len.Goals as goal
 
