@@ -2,10 +2,12 @@
 //! two compare.
 //!
 //! The plain driver here is the same program, as one would write it in Rust: the same lists are looked through, by the
-//! same tests in their order, the rules of the policy one behind the other, and a poll copies what it gives. It decides
-//! an offer once, and walks the frames of a poll once.
+//! same tests in their order, a verdict is from the client's cache of the last 256 where it is there, and else the rules of
+//! the policy are asked one behind the other; the decision is kept in the client's audit of the last 4,096; and a poll copies
+//! what it gives, each fragment for itself.
 
-use std::collections::BTreeMap;
+use std::collections::{BTreeMap, HashMap, VecDeque};
+use std::hash::{BuildHasherDefault, Hasher};
 use std::hint::black_box;
 use std::time::{Duration, Instant};
 
@@ -62,7 +64,7 @@ const STREAM: i32 = 10;
 // ---- the policy
 
 #[allow(dead_code)]
-#[derive(Clone, Copy)]
+#[derive(Clone, Copy, PartialEq, Eq, Hash)]
 enum Act {
     Publish,
     PublishExclusive,
@@ -256,10 +258,132 @@ struct Subscription {
     stream: i32,
 }
 
+/// What the policy decided, of whom and what.
+#[allow(dead_code)]
+#[derive(Clone, Copy)]
+struct Decision {
+    principal: u32,
+    act: Act,
+    subject: u64,
+    stream: i32,
+    verdict: Verdict,
+}
+
 /// What a client asks of a log: of which one, and what the policy says.
 struct LogRequest {
     source: u64,
+    decision: Decision,
+}
+
+// ---- the cache
+
+/// Numbers are mixed by a product each, which is quick.
+#[derive(Default)]
+struct Mixer(u64);
+
+impl Hasher for Mixer {
+    fn finish(&self) -> u64 {
+        self.0
+    }
+
+    fn write(&mut self, bytes: &[u8]) {
+        for byte in bytes {
+            self.write_u64(u64::from(*byte));
+        }
+    }
+
+    fn write_u32(&mut self, number: u32) {
+        self.write_u64(u64::from(number));
+    }
+
+    fn write_u64(&mut self, number: u64) {
+        self.0 = (self.0.rotate_left(5) ^ number).wrapping_mul(0x517c_c1b7_2722_0a95);
+    }
+
+    fn write_isize(&mut self, number: isize) {
+        self.write_u64(number as u64);
+    }
+}
+
+#[derive(Clone, Copy, PartialEq, Eq, Hash)]
+struct Key {
+    epoch: u64,
+    subject: u64,
+    principal: u32,
+    act: Act,
+}
+
+/// One that is kept, and those that were asked for before and behind it.
+struct Node {
+    key: Key,
     verdict: Verdict,
+    newer: usize,
+    older: usize,
+}
+
+/// How many verdicts are kept.
+const KEPT: usize = 256;
+
+const NOWHERE: usize = usize::MAX;
+
+/// Verdicts in the order in which they were asked for last.
+struct Cache {
+    places: HashMap<Key, usize, BuildHasherDefault<Mixer>>,
+    nodes: Vec<Node>,
+    newest: usize,
+    oldest: usize,
+}
+
+impl Cache {
+    fn new() -> Cache {
+        Cache { places: HashMap::default(), nodes: Vec::new(), newest: NOWHERE, oldest: NOWHERE }
+    }
+
+    fn take_out(&mut self, at: usize) {
+        let (newer, older) = (self.nodes[at].newer, self.nodes[at].older);
+        match newer {
+            NOWHERE => self.newest = older,
+            _ => self.nodes[newer].older = older,
+        }
+        match older {
+            NOWHERE => self.oldest = newer,
+            _ => self.nodes[older].newer = newer,
+        }
+    }
+
+    fn put_first(&mut self, at: usize) {
+        self.nodes[at].newer = NOWHERE;
+        self.nodes[at].older = self.newest;
+        match self.newest {
+            NOWHERE => self.oldest = at,
+            newest => self.nodes[newest].newer = at,
+        }
+        self.newest = at;
+    }
+
+    fn verdict(&mut self, key: Key, decide: impl FnOnce() -> Verdict) -> Verdict {
+        if let Some(at) = self.places.get(&key).copied() {
+            if at != self.newest {
+                self.take_out(at);
+                self.put_first(at);
+            }
+            return self.nodes[at].verdict;
+        }
+        let verdict = decide();
+        let at = if self.nodes.len() < KEPT {
+            self.nodes.push(Node { key, verdict, newer: NOWHERE, older: NOWHERE });
+            self.nodes.len() - 1
+        } else {
+            let at = self.oldest;
+            self.take_out(at);
+            self.places.remove(&self.nodes[at].key);
+            self.nodes[at] = Node { key, verdict, newer: NOWHERE, older: NOWHERE };
+            at
+        };
+        self.put_first(at);
+        self.places.insert(key, at);
+        verdict
+    }
 }
 
 struct Registry {
@@ -270,6 +394,8 @@ struct Registry {
     publications: Vec<Publication>,
     registrations: Vec<Registration>,
     subscriptions: Vec<Subscription>,
+    /// Which subscription reads which log.
+    pairs: Vec<(u64, u64)>,
 }
 
 fn fits(publication: &Publication, subscription: &Subscription) -> bool {
@@ -282,7 +408,7 @@ fn fits(publication: &Publication, subscription: &Subscription) -> bool {
 impl Registry {
     /// Client 1 of principal 1, who subscribed, as number 1, to what it published, as number 2.
     fn new(rules: u64) -> Registry {
-        Registry {
+        let mut registry = Registry {
             connection_timeout: 5_000_000_000,
             policy: Policy::new(rules),
             epoch: 1,
@@ -290,7 +416,12 @@ impl Registry {
             publications: vec![Publication { source: 2, channel: ipc(), stream: STREAM, session: 1 }],
             registrations: vec![Registration { number: 2, client: 1, channel: ipc(), source: 2 }],
             subscriptions: vec![Subscription { number: 1, client: 1, channel: ipc(), stream: STREAM }],
+            pairs: Vec::new(),
+        };
+        if fits(&registry.publications[0], &registry.subscriptions[0]) && registry.has_image(&registry.subscriptions[0]) {
+            registry.pairs.push((2, 1));
         }
+        registry
     }
 
     fn client(&self, number: u64) -> Option<Client> {
@@ -315,33 +446,31 @@ impl Registry {
         self.policy.verdict(self.epoch, &Request { principal, act, channel, stream })
     }
 
-    fn offering(&self, client: u64, registration: u64) -> Option<LogRequest> {
-        let holder = self.client(client)?;
-        let registration = self.registration(client, registration)?;
-        let publication = self.publication(registration.source)?;
-        let stream = publication.stream;
-        Some(LogRequest {
-            source: publication.source,
-            verdict: self.verdict(holder.principal, Act::Offer, &registration.channel, stream),
-        })
-    }
-
     fn has_image(&self, subscription: &Subscription) -> bool {
         self.client(subscription.client).is_some_and(|holder| {
             self.verdict(holder.principal, Act::Image, &subscription.channel, subscription.stream).allow
         })
     }
 
-    fn has_pair(&self, source: u64, number: u64) -> bool {
-        self.publications.iter().filter(|publication| publication.source == source).any(|publication| {
-            self.subscriptions.iter().any(|subscription| {
-                subscription.number == number && fits(publication, subscription) && self.has_image(subscription)
-            })
+    fn decision(&self, cache: &mut Cache, principal: u32, act: Act, subject: u64, channel: &Channel, stream: i32) -> Decision {
+        let key = Key { epoch: self.epoch, subject, principal, act };
+        let verdict = cache.verdict(key, || self.verdict(principal, act, channel, stream));
+        Decision { principal, act, subject, stream, verdict }
+    }
+
+    fn offering(&self, cache: &mut Cache, client: u64, registration: u64) -> Option<LogRequest> {
+        let holder = self.client(client)?;
+        let registration = self.registration(client, registration)?;
+        let publication = self.publication(registration.source)?;
+        let (number, stream) = (registration.number, publication.stream);
+        Some(LogRequest {
+            source: publication.source,
+            decision: self.decision(cache, holder.principal, Act::Offer, number, &registration.channel, stream),
         })
     }
 
-    fn receiving(&self, client: u64, subscription: u64, source: u64) -> Option<LogRequest> {
-        if !self.has_pair(source, subscription) {
+    fn receiving(&self, cache: &mut Cache, client: u64, subscription: u64, source: u64) -> Option<LogRequest> {
+        if !self.pairs.contains(&(source, subscription)) {
             return None;
         }
         let holder = self.client(client)?;
@@ -349,10 +478,10 @@ impl Registry {
         if subscription.client != client {
             return None;
         }
-        let stream = subscription.stream;
+        let (number, stream) = (subscription.number, subscription.stream);
         Some(LogRequest {
             source,
-            verdict: self.verdict(holder.principal, Act::Receive, &subscription.channel, stream),
+            decision: self.decision(cache, holder.principal, Act::Receive, number, &subscription.channel, stream),
         })
     }
 }
@@ -650,9 +779,26 @@ struct OpenLog {
     log: Log,
 }
 
+/// How many decisions an audit keeps.
+const AUDITED: usize = 4_096;
+
+/// What was decided for a client, and the greatest moment of its steps.
+struct Seat {
+    client: u64,
+    moment: u64,
+    audit: VecDeque<Decision>,
+    /// How many decisions went.
+    before: u64,
+}
+
+/// How many caches there are for the clients.
+const CACHES: u64 = 64;
+
 struct World {
     registry: Registry,
     logs: Vec<OpenLog>,
+    caches: Vec<Cache>,
+    seats: Vec<Seat>,
 }
 
 impl World {
@@ -665,18 +811,42 @@ impl World {
             term_length: 65_536,
             mtu: 1_408,
         };
-        World { registry: Registry::new(rules), logs: vec![OpenLog { source: 2, log: Log::new(ident) }] }
+        World {
+            registry: Registry::new(rules),
+            logs: vec![OpenLog { source: 2, log: Log::new(ident) }],
+            caches: (0..CACHES).map(|_| Cache::new()).collect(),
+            seats: vec![Seat { client: 1, moment: 0, audit: VecDeque::with_capacity(AUDITED), before: 0 }],
+        }
+    }
+
+    /// What was decided for a step of the client is told.
+    fn tell(&mut self, client: u64, now: u64, decision: Decision) {
+        let Some(seat) = self.seats.iter_mut().find(|seat| seat.client == client) else {
+            return;
+        };
+        seat.moment = seat.moment.max(now);
+        if seat.audit.len() == AUDITED {
+            seat.audit.pop_front();
+            seat.before += 1;
+        }
+        seat.audit.push_back(decision);
+    }
+
+    fn cache(&mut self, client: u64) -> (&mut Cache, &Registry) {
+        (&mut self.caches[(client % CACHES) as usize], &self.registry)
     }
 
     fn offer(&mut self, now: u64, client: u64, registration: u64, message: &[u8]) -> Answer {
-        let Some(request) = self.registry.offering(client, registration) else {
+        let (cache, registry) = self.cache(client);
+        let Some(request) = registry.offering(cache, client, registration) else {
             return Answer::Offered(Offered::Closed);
         };
+        self.tell(client, now, request.decision);
         let Some(open) = self.logs.iter_mut().find(|open| open.source == request.source) else {
             return Answer::Offered(Offered::Closed);
         };
-        if !request.verdict.allow {
-            return Answer::Denied(request.verdict);
+        if !request.decision.verdict.allow {
+            return Answer::Denied(request.decision.verdict);
         }
         if message.len() > open.log.greatest_message() {
             return Answer::Offered(Offered::TooLong);
@@ -693,18 +863,20 @@ impl World {
         })
     }
 
-    fn poll(&mut self, client: u64, subscription: u64, source: u64, limit: u32) -> Answer {
-        let Some(open) = self.logs.iter_mut().find(|open| open.source == source) else {
+    fn poll(&mut self, now: u64, client: u64, subscription: u64, source: u64, limit: u32) -> Answer {
+        let (cache, registry) = self.cache(client);
+        let Some(request) = registry.receiving(cache, client, subscription, source) else {
             return Answer::Gone;
         };
-        let Some(request) = self.registry.receiving(client, subscription, open.source) else {
+        self.tell(client, now, request.decision);
+        let Some(open) = self.logs.iter_mut().find(|open| open.source == source) else {
             return Answer::Gone;
         };
         let Some(position) = open.log.position_of(subscription) else {
             return Answer::Gone;
         };
-        if !request.verdict.allow {
-            return Answer::Denied(request.verdict);
+        if !request.decision.verdict.allow {
+            return Answer::Denied(request.decision.verdict);
         }
         let (fragments, end) = open.log.fragments(position, limit as usize);
         open.log.advance(subscription, end);
@@ -714,8 +886,8 @@ impl World {
     fn step(&mut self, step: &Step) -> Answer {
         match step {
             Step::Offer { now, client, registration, message } => self.offer(*now, *client, *registration, message),
-            Step::Poll { now: _, client, subscription, source, limit } => {
-                self.poll(*client, *subscription, *source, *limit)
+            Step::Poll { now, client, subscription, source, limit } => {
+                self.poll(*now, *client, *subscription, *source, *limit)
             }
         }
     }
@@ -756,7 +928,7 @@ fn run(rules: u64, rounds: u64) -> Option<u64> {
         }
         sum = sum.wrapping_add(poll(&mut world, &polled)?);
     }
-    black_box(world.logs[0].log.messages);
+    black_box((world.logs[0].log.messages, world.seats[0].moment, world.seats[0].before));
     Some(sum)
 }
 

@@ -238,4 +238,3 @@ pub poll_new_stands : {A E : Type 0} (l : Log) (subscription limit : ℕ) (r : R
     → OnOk r (Carries l l (λ w. (polled w subscription limit).after))
 poll_new_stands l subscription limit (Ok copies) is = poll_none_stands l subscription limit is
 poll_new_stands l subscription limit (Err fault) is = tt
-
