@@ -5,7 +5,7 @@ use crate::moment::is_past;
 use std::marker::Model;
 
 /// How many ranges may linger at once.
-const ROOM: usize = 16;
+pub(crate) const ROOM: usize = 16;
 
 /// A range of positions that was sent again.
 #[derive(Clone, Copy, Debug, PartialEq, Eq)]
@@ -79,6 +79,21 @@ impl ResentList {
         self.as_slice().len() >= ROOM
     }
 
+    /// Forgets those that were sent again longer ago than the linger. Where that is each of them or none, no place changes.
+    pub(crate) fn forget(&mut self, linger: u64, moment: u64)
+        ensures { self.new ≡ lingering linger moment self.old }
+    {
+        let count = self.as_slice().len();
+        let left = count_lingering(linger, moment, self.as_slice());
+        if left == 0 {
+            self.len = 0;
+            return;
+        }
+        if left < count {
+            *self = lingering(linger, moment, self.as_slice());
+        }
+    }
+
     /// Adds a range at the end.
     pub(crate) fn push(&mut self, resent: Resent)
         requires { length self.old < 16 }
@@ -87,6 +102,21 @@ impl ResentList {
         self.places[self.len] = resent;
         self.len += 1;
     }
+}
+
+/// How many were sent again not longer ago than the linger.
+#[tactic(auto, using(crate::proofs::GateLemmas::room_left))]
+pub(crate) fn count_lingering(linger: u64, moment: u64, list: &[Resent]) -> usize
+    requires { length list.now ≤ 16 }
+    ensures { result ≡ length (lingering linger moment list.now) }
+{
+    let mut count = 0;
+    for resent in list {
+        if !is_past(moment, resent.moment, linger) {
+            count += 1;
+        }
+    }
+    count
 }
 
 /// Those that were sent again not longer ago than the linger.
