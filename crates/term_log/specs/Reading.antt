@@ -130,3 +130,13 @@ frames_in (suc n) end budget bytes =
 -- the frames that are still to come
 unfoldable pub frames_left : Frames → List Given
 frames_left frames = frames_in (length frames.rest.now) frames.end frames.budget frames.rest.now
+
+-- the next frame is a data frame of so many bytes that the budget admits, and ends at a position or below
+pub record IsPassed (frames : Frames) (position size : ℕ) : Type 0 where
+  pub first : admitted frames.budget (first_of (frames.end - length frames.rest.now) frames.rest.now)
+      ≡ Some (fragment_at (little_number 4 frames.rest.now) (frames.end - length frames.rest.now) frames.rest.now)
+  pub size_is : size ≡ padded (little_number 4 frames.rest.now)
+  pub least : 32 ≤ little_number 4 frames.rest.now
+  pub there : size ≤ length frames.rest.now
+  pub admits : size ≤ frames.budget
+  pub before : frames.end - length frames.rest.now + size ≤ position

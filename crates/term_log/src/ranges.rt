@@ -28,6 +28,18 @@ fn meets(position: u64, size: u64, frame: &LogFrame<'_>) -> bool
         && frame.position.saturating_sub(position) < size
 }
 
+/// The frames from the first one on that is a pad or ends behind a position: those before it meet no range that begins there,
+/// and of each no more is read than how long it is.
+fn from_behind<'a>(frames: Frames<'a>, position: u64, _size: u64) -> Frames<'a>
+    ensures { filter (meets position _size) (frames_left result) ≡ filter (meets position _size) (frames_left frames.entry) }
+{
+    let mut left = frames;
+    while let Some(size) = left.passed_size(position) {
+        left = left.pass(size);
+    }
+    left
+}
+
 /// The frames from the first one on that meets a range, if any does: those before it are passed.
 fn from_meeting<'a>(frames: Frames<'a>, position: u64, size: u64) -> Frames<'a>
     ensures { filter (meets position size) (frames_left result) ≡ filter (meets position size) (frames_left frames.entry) }
@@ -56,7 +68,7 @@ impl<'a> FramesOver<'a> {
         ensures { over_left result ≡ filter (meets position size) (frames_left first.entry ++ frames_left second.entry ++ frames_left third.entry) }
     {
         FramesOver {
-            first: from_meeting(first, position, size),
+            first: from_meeting(from_behind(first, position, size), position, size),
             second,
             third,
             position,

@@ -2,7 +2,7 @@
 
 ghost use Rattle.byteorder.specs.Endian.{little_number};
 ghost use Rattle.frame_codec.specs.Frame.{padded};
-ghost use Rattle.std.specs.Prelude.{◌≡◌, ◌+◌, ◌-◌, ◌≤◌, length};
+ghost use Rattle.std.specs.Prelude.{◌≡◌, ◌+◌, ◌-◌, ◌≤◌, IfSome, drop, length};
 ghost use Rattle.std.specs.Option.{option_map};
 ghost use Rattle.term_log.specs.Frames.{span};
 ghost use Rattle.term_log.specs.Reading.{admitted, behind, first_of, fragment_at, frame_of, frames_left, given_of, pad_of, sent_bytes, spans};
@@ -126,7 +126,7 @@ pub struct Frames<'a> {
 }
 
 impl<'a> Frames<'a> {
-    ghost use Rattle.term_log.specs.Reading.{frames_in};
+    ghost use Rattle.term_log.specs.Reading.{IsPassed, frames_in};
 
     /// The frames at the front of bytes of a term that end at a position, as far as the budget goes.
     #[tactic(auto, unfolding(crate::specs::Reading::frames_left))]
@@ -147,6 +147,45 @@ impl<'a> Frames<'a> {
         ensures span { result.1 ≡ spans (frames_left self.now) }
     {
         front_of(self, self.rest)
+    }
+
+    /// How many bytes the next frame has, if it is a data frame that the budget admits and that ends at a position or below.
+    pub(crate) fn passed_size(&self, position: u64) -> Option<usize>
+        ensures { IfSome result (IsPassed self.now position) }
+    {
+        let bytes = self.rest;
+        if bytes.len() < Header::SIZE || bytes[6] == 0 {
+            return None;
+        }
+        let size = LittleEndian::read_u32(bytes);
+        if size < 32 {
+            return None;
+        }
+        let span = padded_length(size);
+        if (bytes.len() as u64) < span || (self.budget as u64) < span {
+            return None;
+        }
+        let begin = self.end.saturating_sub(bytes.len() as u64);
+        if position.saturating_sub(begin) < span {
+            return None;
+        }
+        Some(span as usize)
+    }
+
+    /// The frames behind one of so many bytes.
+    pub(crate) fn pass(self, size: usize) -> Frames<'a>
+        requires bytes { size ≤ length self.rest.now }
+        requires budget { size ≤ self.budget }
+        ensures rest { result.rest.now ≡ drop size self.entry.rest.now }
+        ensures end { result.end ≡ self.entry.end }
+        ensures budget { result.budget ≡ self.entry.budget - size }
+    {
+        let (_, rest) = self.rest.split_at(size);
+        Frames {
+            rest,
+            end: self.end,
+            budget: self.budget - size,
+        }
     }
 
     /// The next frame, if the budget admits it.
