@@ -1,4 +1,5 @@
-pub mod GroupLemmas
-pub mod ChainLemmas
-pub mod FollowLemmas
+pub mod ClassLemmas
 pub mod IndexLemmas
+pub mod LineLemmas
+pub mod SearchLemmas
+pub mod SetLemmas

@@ -1,6 +1,8 @@
-pub mod Chain
+pub mod Class
+pub mod Decider
 pub mod Group
 pub mod Index
-pub mod Links
+pub mod Line
 pub mod Numbered
-pub mod Places
+pub mod RuleSet
+pub mod Search

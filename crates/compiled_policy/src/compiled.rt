@@ -8,8 +8,8 @@ use std::alloc::{AllocError, Global};
 use std::marker::Model;
 
 /// A policy and its number, made ready. What it decides of a request takes time by the rules of the request's act and
-/// medium that speak of everybody or of its principal, and of its stream alone or of several, however many others there
-/// are. There is room for 1,024 rules, whatever policy it is.
+/// medium that speak of everybody or of its principal, and of its stream. The others cost little: a binary search among
+/// the bounds of their ranges, and a look at 256 of them at a time. There is room for 1,024 rules, whatever policy it is.
 #[derive(Debug, Drop)]
 pub struct Compiled {
     policy: Policy,

@@ -1,48 +1,29 @@
-ghost use Rattle.compiled_policy.specs.Group.{group_of, group_of_rule, principal_of, stream_of};
-ghost use Rattle.std.specs.Prelude.{◌≡◌, ◌<◌};
+ghost use Rattle.compiled_policy.specs.Group.{group_of, include};
+ghost use Rattle.std.specs.Prelude.{◌≡◌, ◌<◌, ◌≤◌, ◌&&◌, ℕ, nat_le, nat_lt};
 
-use policy_core::{Principals, Rule};
+use policy_core::Principals;
 
-/// The group of this principal, or of everybody, on this stream alone, or on more. Many principals or streams share
-/// one, which costs time and decides nothing.
-pub(crate) fn group_of(principal: Option<u32>, stream: Option<i32>) -> usize
-    ensures value { result ≡ group_of principal stream }
-    ensures small { result < 3073 }
+/// How many groups of principals there are.
+pub(crate) const GROUPS: usize = 64;
+
+/// The group of a principal. Those that are equal by 64 share one, which costs time and decides nothing.
+pub(crate) fn group_of(principal: u32) -> usize
+    ensures value { result ≡ group_of principal }
+    ensures small { result < 64 }
 {
-    match (principal, stream) {
-        (None, None) => 0,
-        (Some(principal), None) => 1 + principal as usize % 1024,
-        (None, Some(stream)) => 1025 + stream.unsigned_abs() as usize % 1024,
-        (Some(principal), Some(stream)) => {
-            2049 + (31 * principal as usize + stream.unsigned_abs() as usize) % 1024
-        }
-    }
+    principal as usize % 64
 }
 
-/// The one principal that is spoken of, unless it is everybody.
-fn principal_of(principals: Principals) -> Option<u32>
-    ensures { result ≡ principal_of principals }
+/// The groups of those spoken of: from the first one to before the second.
+pub(crate) fn groups_of(principals: Principals) -> (usize, usize)
+    ensures value { (group : ℕ) → group < 64 → (nat_le result.0 group && nat_lt group result.1) ≡ include group principals }
+    ensures small { result.1 ≤ 64 }
 {
     match principals {
-        Principals::Any => None,
-        Principals::One(principal) => Some(principal),
+        Principals::Any => (0, GROUPS),
+        Principals::One(principal) => {
+            let group = group_of(principal);
+            (group, group + 1)
+        }
     }
-}
-
-/// The one stream from the lowest to the highest, unless there are more.
-fn stream_of(low: i32, high: i32) -> Option<i32>
-    ensures { result ≡ stream_of low high }
-{
-    if low == high { Some(low) } else { None }
-}
-
-/// The group of a rule.
-pub(crate) fn group_of_rule(rule: &Rule) -> usize
-    ensures value { result ≡ group_of_rule rule.now }
-    ensures small { result < 3073 }
-{
-    group_of(
-        principal_of(rule.principals),
-        stream_of(rule.low, rule.high),
-    )
 }

@@ -1,15 +1,19 @@
 //! A policy made ready for many requests: what it decides, without a look at each of its rules.
 //!
-//! [`Compiled`] is a policy, its number, and an index of its rules. The index has a chain of rules for each act over each
-//! medium, in the order of the policy, which leads through each group of rules on its own. A group is of everybody or of
-//! one principal, and of one stream alone or of more. A request is in four groups, so a verdict looks at the rules of
-//! those four, in their order, and at no other.
+//! [`Compiled`] is a policy, its number, and an index of its rules. The index has sets of rules, a bit for each rule: for
+//! each class, an act over a medium; for each group, of everybody or of principals; and for each interval of streams. An
+//! interval starts wherever the range of a rule starts or ends, so a range holds all of it or nothing. A verdict looks at
+//! the rules that the sets of its request have in common, in their order, and at no other.
 #![tactic(auto)]
 
-mod chain;
+mod bits;
+mod candidates;
+mod class;
 mod compiled;
 mod group;
 mod index;
-mod places;
+mod line;
+mod room;
+mod rule_set;
 
 pub use compiled::Compiled;
