@@ -1,18 +1,18 @@
 -- What scans of the index find.
 use Rattle.std.proofs.Common.{◌≡◌, ℕ, zero, suc, ◌+◌, ◌-◌, ◌/◌, ◌%◌, ◌^◌, ◌<◌, ◌≤◌, Bool, true, false, ltb, List, [], ◌∷◌, length, take, drop, get_or, replicate, refl, sym, ap, ap₂, ◌∙◌, subst, arith}
-use Rattle.std.proofs.lemmas.List.{get_or-map, length-map, take_more}
+use Rattle.std.proofs.lemmas.List.{length-map}
 use Rattle.std.specs.List.{list_any, insert}
 use Rattle.std.proofs.lemmas.List.{length-replicate, with_items_is}
 use Rattle.std.specs.Vec.{with_items}
 use Rattle.log_arena.specs.Lease.{lease_len, with_bytes}
 use Rattle.log_arena.specs.declared.lease.Lease.{Lease}
-use Rattle.image_log.specs.Frame.{Frame, framed, end_of, no_frame}
+use Rattle.image_log.specs.Frame.{Frame, framed, end_of}
 use Rattle.image_log.specs.Kept.{content, contents, Fits, IsStore}
 use Rattle.image_log.specs.Order.{Ordered, rank, meets, next_from}
 use Rattle.image_log.specs.Stored.{frame_at, IsBlank, StandIn}
 use Rattle.image_log.specs.Writing.{written}
 use Rattle.image_log.specs.declared.place.Place.{Place}
-use Rattle.image_log.proofs.Orders.{rank-last, rank-full, takes_some, ranked_before, ranked_behind, meets_some, meets_none, OnlyAt, at_none, length-put, count-within}
+use Rattle.image_log.proofs.Orders.{takes_some, ranked_before, ranked_behind, meets_some, meets_none, OnlyAt, at_none, length-put, count-within}
 use Rattle.image_log.proofs.Ring.{others_stay, contents-put, fits-put, blank-put}
 use Rattle.image_log.proofs.Tests.{by_test, is_lt, is_ge, meet_yes}
 use Rattle.image_log.proofs.Writes.{length-written, written_here, zeros_at}
@@ -29,30 +29,6 @@ pub place_fits : (n : ℕ) (ps : List Place) (i : ℕ) (p : Place) → Fits n ps
 place_fits n [] i p f h is = absurd (omega arith)
 place_fits n (q ∷ ps) zero p f h is = subst (λ (x : Place). (x.size ≤ x.span) × (x.position % n + x.span ≤ n)) (sym is) (f.0, f.1)
 place_fits n (q ∷ ps) (suc i) p f h is = place_fits n ps i p f.2 (omega arith) is
-
--- where the frame of an index begins
-starts : (n : ℕ) (bs : List ℕ) (ps : List Place) (i : ℕ) (p : Place) → i < length ps → p ≡ get_or ps i p → (frame_at (contents n bs ps) i).position ≡ p.position
-starts n bs ps i p h is = ap (λ (f : Frame). f.position) (get_or-map (content n bs) ps i p no_frame h) ∙ ap (λ (x : Place). x.position) (sym is)
-
-pub rank-shorter : (p n : ℕ) (bs : List ℕ) (ps : List Place) (r : ℕ) (x : Place) → 0 < r → r ≤ length ps → x ≡ get_or ps (r - 1) x → p ≤ x.position
-    → rank p (take (r - 1) (contents n bs ps)) ≡ rank p (take r (contents n bs ps))
-rank-shorter p n bs ps r x some within is h =
-    let all : List Frame = contents n bs ps in
-    let more : r - 1 + 1 ≡ r = omega arith in
-    let short : r - 1 < length all = omega (arith, length-map ps (content n bs)) in
-    let at = starts n bs ps (r - 1) x (omega arith) is in
-    let high : p ≤ (frame_at all (r - 1)).position = omega (arith, at) in
-    sym (ap (λ (k : ℕ). rank p (take k all)) (sym more) ∙ ap (λ (l : List Frame). rank p l) (take_more all (r - 1) no_frame short) ∙ rank-last p (take (r - 1) all) (frame_at all (r - 1)) high)
-
-pub rank-found : (p n low end : ℕ) (bs : List ℕ) (ps : List Place) (r : ℕ) (x : Place) → Ordered low end (contents n bs ps) → 0 < r → r ≤ length ps → x ≡ get_or ps (r - 1) x → x.position < p
-    → r ≡ rank p (take r (contents n bs ps))
-rank-found p n low end bs ps r x o some within is h =
-    let all : List Frame = contents n bs ps in
-    let more : suc (r - 1) ≡ r = omega arith in
-    let short : r - 1 < length all = omega (arith, length-map ps (content n bs)) in
-    let at = starts n bs ps (r - 1) x (omega arith) is in
-    let below : (frame_at all (r - 1)).position < p = omega (arith, at) in
-    sym more ∙ sym (rank-full p low end (r - 1) all o short below) ∙ ap (λ (k : ℕ). rank p (take k all)) more
 
 pub has_one : (p low end : ℕ) (t : Frame → Bool) (fs : List Frame) (at : ℕ) → OnlyAt p t → Ordered low end fs → at ≡ rank p fs → at < length fs → t (frame_at fs at) ≡ list_any t fs
 has_one p low end t fs at only o is h =

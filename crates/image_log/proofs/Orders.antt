@@ -1,30 +1,16 @@
 -- Frames in order: where one is put in, what it meets, and how far the chain of frames goes.
-use Rattle.std.proofs.Common.{◌≡◌, ℕ, zero, suc, ◌+◌, ◌*◌, ◌<◌, ◌≤◌, ◌≢◌, Bool, true, false, cond, ltb, eqb, List, [], ◌∷◌, ◌++◌, length, take, drop, refl, sym, ap, ◌∙◌, subst, arith}
+use Rattle.std.proofs.Common.{◌≡◌, ℕ, zero, suc, ◌+◌, ◌*◌, ◌<◌, ◌≤◌, ◌≢◌, Bool, true, false, cond, ltb, eqb, List, [], ◌∷◌, length, drop, refl, sym, ap, ◌∙◌, subst, arith}
 use Rattle.std.specs.List.{list_any, insert}
 use Rattle.image_log.specs.Frame.{Frame, framed, end_of}
 use Rattle.image_log.specs.Order.{Ordered, begins_at, rank, is_same, meets, chain}
 use Rattle.image_log.specs.Stored.{frame_at}
 use Rattle.image_log.proofs.Tests.{by_test, lt_yes, lt_no, is_lt, is_ge, eq_no, is_eq, meet_behind, meet_before, apart_before, apart_behind, or_first, or_second, or_of}
 
--- a frame that begins at p or above, put at the end, changes no rank
-pub rank-last : (p : ℕ) (fs : List Frame) (f : Frame) → p ≤ f.position → rank p (fs ++ f ∷ []) ≡ rank p fs
-rank-last p [] f h = rw (lt_no f.position p h) refl
-rank-last p (g ∷ fs) f h = rw (rank-last p fs f h) refl
-
 -- no frame begins below the first
 pub starts_above : (low end : ℕ) (fs : List Frame) (k : ℕ) → Ordered low end fs → k < length fs → low ≤ (frame_at fs k).position
 starts_above low end [] k o h = absurd (omega arith)
 starts_above low end (f ∷ fs) zero o h = o.0
 starts_above low end (f ∷ fs) (suc k) o h = let rest = starts_above (end_of f) end fs k o.3 (omega arith) in omega (arith, rest, o.0)
-
--- where the last of the first n frames begins below p, all of them do
-pub rank-full : (p low end n : ℕ) (fs : List Frame) → Ordered low end fs → n < length fs → (frame_at fs n).position < p → rank p (take (suc n) fs) ≡ suc n
-rank-full p low end n [] o h b = absurd (omega arith)
-rank-full p low end zero (f ∷ fs) o h b = rw (lt_yes f.position p b) refl
-rank-full p low end (suc n) (f ∷ fs) o h b =
-    let above = starts_above (end_of f) end fs n o.3 (omega arith) in
-    let below : f.position < p = omega (arith, above, b) in
-    rw (lt_yes f.position p below, rank-full p (end_of f) end n fs o.3 (omega arith) b) refl
 
 pub rank-le : (p : ℕ) (fs : List Frame) → rank p fs ≤ length fs
 rank-le p [] = omega arith
@@ -100,6 +86,13 @@ ranked_behind p low end (f ∷ fs) (suc k) o r h =
     by_test (ltb f.position p)
     (λ e. let here : rank p (f ∷ fs) ≡ suc (rank p fs) = rw e refl in ranked_behind p (end_of f) end fs k o.3 (omega (arith, here)) (omega arith))
     (λ e. let above = starts_above (end_of f) end fs k o.3 (omega arith) in let first = is_ge f.position p e in omega (arith, above, first))
+
+-- the frames below a position are those of the indices below its rank
+pub below_rank : (p low end : ℕ) (fs : List Frame) (k : ℕ) → Ordered low end fs → k < length fs → ltb (frame_at fs k).position p ≡ ltb k (rank p fs)
+below_rank p low end fs k o h =
+    by_test (ltb k (rank p fs))
+    (λ e. lt_yes (frame_at fs k).position p (ranked_before p fs k (is_lt k (rank p fs) e)) ∙ sym e)
+    (λ e. lt_no (frame_at fs k).position p (ranked_behind p low end fs k o (is_ge k (rank p fs) e) h) ∙ sym e)
 
 -- a test that only a frame at p passes
 abbrev pub OnlyAt : ℕ → (Frame → Bool) → Type 0

@@ -1,4 +1,4 @@
-ghost use Rattle.std.specs.Prelude.{◌≡◌, ◌+◌, ◌/◌, ◌%◌, ◌^◌, ◌<◌, ◌≤◌, [], length, drop, filter, insert, replicate};
+ghost use Rattle.std.specs.Prelude.{◌≡◌, ◌+◌, ◌/◌, ◌%◌, ◌^◌, ◌<◌, ◌≤◌, [], length, drop, filter, insert, nat_lt, replicate};
 ghost use Rattle.std.specs.List.{list_any};
 ghost use Rattle.std.specs.VecDeque.{deque_capacity, deque_len};
 ghost use Rattle.log_arena.specs.Lease.{lease_bytes, lease_len};
@@ -103,16 +103,36 @@ impl Store {
         ImageFrame::new(place.position, place.span, self.bytes_of(index))
     }
 
-    /// How many frames begin below a position. The last ones are looked at first, so a frame that comes in order costs
-    /// no more however many there are.
+    /// Whether the frame at an index begins below a position: whether it is one of those that do.
+    fn is_below(&self, index: usize, position: u64) -> bool
+        requires { index < length self.now.frames }
+        ensures { result ≡ nat_lt index (rank position self.now.frames) }
+    {
+        let _ = &self.places;
+        self.start_of(index) < position
+    }
+
+    /// How many frames begin below a position. The last one is looked at first, so a frame that comes in order costs no more
+    /// however many there are; else each look halves what is left. It is a call of its own, so that its loop has all
+    /// registers.
+    #[inline(never)]
     pub(crate) fn rank(&self, position: u64) -> usize
         ensures { result ≡ rank position self.now.frames }
     {
-        let mut rank = self.places.len();
-        while rank > 0 && self.places[rank - 1].position >= position {
-            rank -= 1;
+        let mut high = self.len();
+        if high == 0 || self.is_below(high - 1, position) {
+            return high;
         }
-        rank
+        let mut low = 0;
+        while low < high {
+            let middle = low + (high - low) / 2;
+            if self.is_below(middle, position) {
+                low = middle + 1;
+            } else {
+                high = middle;
+            }
+        }
+        low
     }
 
     /// Whether the frame at an index is the one of these bytes at a position.
@@ -290,6 +310,16 @@ fn put_in(places: &mut VecDeque<Place>, at: usize, place: Place)
         places.push_back_reserved(place);
         return;
     }
+    put_between(places, at, place);
+}
+
+/// As [`put_in`], of a frame that comes late. It is a call of its own, whose loops have all registers.
+#[inline(never)]
+fn put_between(places: &mut VecDeque<Place>, at: usize, place: Place)
+    requires { (at ≤ deque_len places.old) × (deque_len places.old < deque_capacity places.old) }
+    ensures items { places.new.items ≡ insert places.old.items at place }
+    ensures capacity { deque_capacity places.old ≤ deque_capacity places.new }
+{
     match places.insert(at, place) {
         Ok(()) => {}
         Err(_) => unreachable!(),

@@ -1,13 +1,13 @@
 //! Tests of `image_receiver`.
 
+ghost use Rattle.std.specs.Prelude.{◌≡◌, []};
+
 use crate::reading::join;
-use crate::shuffling::{hand_in, open};
-use crate::tests::STREAM;
+use crate::shuffling::hand_in;
 use frame_codec::TermPlace;
 use image_log::{ImageLog, Insert};
 use image_receiver::{Due, Receiver, Status, receive_beat};
 use retransmit_gate::Nak;
-use std::test::Fail;
 
 // Moments, and whether a NAK and a status message are due then.
 const TICKS: [(u64, bool, bool); 5] = [
@@ -42,26 +42,24 @@ fn ticks(receiver: &mut Receiver, log: &mut ImageLog) -> bool {
     same
 }
 
-#[test]
-fn nak_and_status_timing(rt: HostRuntime) -> Result<(), Fail> {
-    let mut log = open(rt.alloc(), STREAM, 0)?;
-    join(&mut log, 1);
-    let late = hand_in(&mut log, 64, 1) == Some(Insert::Taken);
+/// Whether NAKs and status messages are due in their time, of a gap in front of one frame.
+pub(crate) fn is_answered_in_time(log: &mut ImageLog) -> bool
+    requires { log.old.rebuilt.pairs ≡ [] }
+{
+    join(log, 1);
+    let late = hand_in(log, 64, 1) == Some(Insert::Taken);
     let mut receiver = Receiver::new(200_000_000, 1_000_000, 60_000_000);
-    assert!(rt; late && ticks(&mut receiver, &mut log));
-    Ok(())
+    late && ticks(&mut receiver, log)
 }
 
-#[test]
-fn heartbeats_are_heard(rt: HostRuntime) -> Result<(), Fail> {
-    let mut log = open(rt.alloc(), STREAM, 0)?;
+/// Whether a heartbeat tells of the gap in front of it, and when it came.
+pub(crate) fn beat_is_heard(log: &mut ImageLog) -> bool {
     let place = TermPlace {
         session_id: 9,
         stream_id: 10,
         term_id: 5,
         term_offset: 96,
     };
-    receive_beat(&mut log, 1000, &place);
-    assert!(rt; log.gap() == Some((0, 96)) && log.silent(1201, 200) && !log.silent(1200, 200));
-    Ok(())
+    receive_beat(log, 1000, &place);
+    log.gap() == Some((0, 96)) && log.silent(1201, 200) && !log.silent(1200, 200)
 }

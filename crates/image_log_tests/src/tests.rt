@@ -1,11 +1,12 @@
 ghost use Rattle.std.specs.Prelude.{◌≡◌, []};
 
 use crate::reading::{fill, gives, join, polls, read_to, reads, take_all};
+use crate::receiving::{beat_is_heard, is_answered_in_time};
 use crate::shuffling::{agree, go_on, hand_in, open, open_later};
 use crate::table::{Cell, Table};
 use image_log::{Ident, ImageLog, Insert};
+use log_arena::NoRoom;
 use std::alloc::Global;
-use std::test::Fail;
 
 // Session 9, stream 10: terms of 64 KiB from term 5 on.
 pub(crate) const STREAM: Ident = Ident {
@@ -50,14 +51,6 @@ fn goes_on_to_the_next_term(log: &mut ImageLog) -> bool {
     filled && inserts(log, &[(0, 1, Insert::Below)])
 }
 
-#[test]
-fn image_log_inserts(rt: HostRuntime) -> Result<(), Fail> {
-    let mut log = open(rt.alloc(), STREAM, 0)?;
-    let filled = fills_a_gap(&mut log) && inserts(&mut log, &INSERTS);
-    assert!(rt; filled && goes_on_to_the_next_term(&mut log));
-    Ok(())
-}
-
 fn stands_at(log: &ImageLog, subscription: u64, position: u64) -> bool {
     log.pair_position(subscription) == Some(position)
 }
@@ -78,14 +71,6 @@ fn slowest_moves_the_base(log: &mut ImageLog) -> bool {
     let alone = log.base() == 128;
     log.leave_pair(9);
     fast && slow && alone && log.pair_position(9) == None && log.base() == 128
-}
-
-// The base is the least position of a pair, and stays where none is left.
-#[test]
-fn slowest_pair_is_the_base(rt: HostRuntime) -> Result<(), Fail> {
-    let mut log = open(rt.alloc(), STREAM, 0)?;
-    assert!(rt; two_read(&mut log) && slowest_moves_the_base(&mut log));
-    Ok(())
 }
 
 // Whether bytes are zeros but for the 64 from a place on, of which 32 are 7.
@@ -112,28 +97,29 @@ fn four_terms_are_read(log: &mut ImageLog) -> bool
 }
 
 // Frames of terms that all have read go, and their bytes are zeros again; the room serves later terms.
-#[test]
-fn terms_that_are_read_go(rt: HostRuntime) -> Result<(), Fail> {
-    let mut log = open(rt.alloc(), STREAM, 0)?;
-    assert!(rt; four_terms_are_read(&mut log) && gives_back(log, 65_536));
-    Ok(())
+fn read_terms_go(alloc: Global) -> Result<bool, NoRoom> {
+    let mut log = open(alloc, STREAM, 0)?;
+    Ok(four_terms_are_read(&mut log) && gives_back(log, 65_536))
 }
 
 // A lease comes back with the frames and zeros.
-#[test]
-fn lease_comes_back(rt: HostRuntime) -> Result<(), Fail> {
-    let mut log = open(rt.alloc(), STREAM, 0)?;
-    assert!(rt; inserts(&mut log, &[(64, 7, Insert::Taken)]) && gives_back(log, 64));
-    Ok(())
+fn frame_comes_back(alloc: Global) -> Result<bool, NoRoom> {
+    let mut log = open(alloc, STREAM, 0)?;
+    Ok(inserts(&mut log, &[(64, 7, Insert::Taken)]) && gives_back(log, 64))
 }
 
 // A log opens in memory that was taken before, in a lease whose bytes are those of its frames.
-#[test]
-fn log_opens_in_room_that_was_taken(rt: HostRuntime) -> Result<(), Fail> {
-    let mut log = open_later(rt.alloc(), STREAM, 64)?;
+fn later_log_gives_back(alloc: Global) -> Result<bool, NoRoom> {
+    let mut log = open_later(alloc, STREAM, 64)?;
     let opened = is_at(&log, 64, 64, None) && inserts(&mut log, &[(64, 7, Insert::Taken)]);
-    assert!(rt; opened && gives_back(log, 64));
-    Ok(())
+    Ok(opened && gives_back(log, 64))
+}
+
+#[test]
+fn leases_come_back(rt: HostRuntime) {
+    assert!(rt; read_terms_go(rt.alloc()) == Ok(true));
+    assert!(rt; frame_comes_back(rt.alloc()) == Ok(true));
+    assert!(rt; later_log_gives_back(rt.alloc()) == Ok(true));
 }
 
 fn falls_silent(log: &mut ImageLog) -> bool {
@@ -141,14 +127,6 @@ fn falls_silent(log: &mut ImageLog) -> bool {
     log.heard(300);
     let limit = !log.silent(600, 100) && log.silent(601, 100);
     limit && !log.silent(0, 0) && !log.silent(u64::MAX, u64::MAX)
-}
-
-// A log is silent where nothing was heard for longer than the limit. Moments may come out of order.
-#[test]
-fn sender_falls_silent(rt: HostRuntime) -> Result<(), Fail> {
-    let mut log = open(rt.alloc(), STREAM, 0)?;
-    assert!(rt; falls_silent(&mut log));
-    Ok(())
 }
 
 fn gap_grows(log: &mut ImageLog) -> bool {
@@ -162,11 +140,14 @@ fn gap_grows(log: &mut ImageLog) -> bool {
 }
 
 // The gap without a frame behind it goes to the greatest position heard of, but within the window.
+fn gap_goes_on(alloc: Global) -> Result<bool, NoRoom> {
+    let mut log = open(alloc, STREAM, 64)?;
+    Ok(gap_grows(&mut log))
+}
+
 #[test]
-fn gap_to_the_greatest_position(rt: HostRuntime) -> Result<(), Fail> {
-    let mut log = open(rt.alloc(), STREAM, 64)?;
-    assert!(rt; gap_grows(&mut log));
-    Ok(())
+fn gap_within_the_window(rt: HostRuntime) {
+    assert!(rt; gap_goes_on(rt.alloc()) == Ok(true));
 }
 
 // Bytes that are no frame of the stream, or not at their header's position, are told.
@@ -230,16 +211,6 @@ fn tells_other_reads(log: &mut ImageLog) -> bool {
     !(order | few | end | reads(log, 288, 1024, 0, 288))
 }
 
-// What is whole is read frame by frame: up to the contiguous position or the end of a term, within so many bytes, and
-// nothing behind a pad, which takes 32 of them.
-#[test]
-fn whole_frames_are_read(rt: HostRuntime) -> Result<(), Fail> {
-    let mut log = open(rt.alloc(), STREAM, 0)?;
-    let read = take_all(&mut log, &FRAMES) && reads_each(&log, &READS);
-    assert!(rt; read && tells_other_reads(&mut log));
-    Ok(())
-}
-
 // The first and the last position at which a subscription may stand, and those beside them.
 fn starts(log: &ImageLog) -> bool {
     let frames = log.is_start(0) && log.is_start(64) && log.is_start(128);
@@ -268,14 +239,6 @@ fn all_go_and_come(log: &mut ImageLog) -> bool {
     none && stands_at(log, 4, 128)
 }
 
-// Exactly the subscriptions that are named read on: one that was there from where it was, another from what is whole.
-#[test]
-fn named_subscriptions_read_on(rt: HostRuntime) -> Result<(), Fail> {
-    let mut log = open(rt.alloc(), STREAM, 0)?;
-    assert!(rt; slow_and_fast_read(&mut log) && others_come(&mut log) && all_go_and_come(&mut log));
-    Ok(())
-}
-
 // With a pad and a gap: polls of so many fragments, at which positions they end, and where the subscription then stands.
 fn polls_go_on(log: &mut ImageLog) -> bool {
     let none = polls(log, 1, 0, &[], 0);
@@ -285,28 +248,11 @@ fn polls_go_on(log: &mut ImageLog) -> bool {
     none && one && rest && filled && polls(log, 1, 5, &[320, 384], 384)
 }
 
-// A poll is given as many fragments as it asks for of what is whole. A pad does not count, and one behind the last
-// fragment is left.
-#[test]
-fn polls_give_what_is_whole(rt: HostRuntime) -> Result<(), Fail> {
-    let mut log = open(rt.alloc(), STREAM, 0)?;
-    let begun = join(&mut log, 1) == 0 && take_all(&mut log, &POLLED) && starts(&log);
-    assert!(rt; begun && polls_go_on(&mut log) && log.base() == 384);
-    Ok(())
-}
-
 fn polls_go_into_the_next_term(log: &mut ImageLog) -> bool {
     let filled = fill(log, 1, 65_472, 1023);
     let frames = take_all(log, &[(65_472, Cell::Long(7)), (65_536, Cell::Long(7))]);
     let polled = polls(log, 1, 9, &[65_536, 65_600], 65_600);
     filled && frames && polled && inserts(log, &[(65_472, 7, Insert::Below)])
-}
-
-#[test]
-fn polls_go_over_the_ends_of_terms(rt: HostRuntime) -> Result<(), Fail> {
-    let mut log = open(rt.alloc(), STREAM, 0)?;
-    assert!(rt; join(&mut log, 1) == 0 && polls_go_into_the_next_term(&mut log));
-    Ok(())
 }
 
 fn other_stays(log: &mut ImageLog) -> bool {
@@ -320,15 +266,6 @@ fn tells_other_polls(log: &mut ImageLog) -> bool {
     let ends = gives(log, 1, 1, &[]) | gives(log, 1, 1, &[96]) | gives(log, 1, 1, &[64, 96]);
     let same = gives(log, 1, 1, &[64]);
     same & !ends & !polls(log, 1, 1, &[64], 96)
-}
-
-// A poll of a subscription that does not read the log gives nothing, and leaves the others where they are.
-#[test]
-fn others_are_not_polled(rt: HostRuntime) -> Result<(), Fail> {
-    let mut log = open(rt.alloc(), STREAM, 0)?;
-    let begun = join(&mut log, 1) == 0 && take_all(&mut log, &POLLED);
-    assert!(rt; begun && other_stays(&mut log) && tells_other_polls(&mut log));
-    Ok(())
 }
 
 fn status_is_due_in_time(log: &mut ImageLog) -> bool
@@ -348,29 +285,24 @@ fn status_is_due_by_the_base(log: &mut ImageLog) -> bool {
     less && quarter && !log.status_due(1000, 200)
 }
 
-// A status message is due where none was sent yet, past the interval, and where the base moved by a quarter of the
-// window, which is a fourth of 32 KiB here.
-#[test]
-fn status_messages_are_due(rt: HostRuntime) -> Result<(), Fail> {
-    let mut log = open(rt.alloc(), STREAM, 0)?;
-    assert!(rt; status_is_due_in_time(&mut log) && status_is_due_by_the_base(&mut log));
-    Ok(())
-}
-
 // A table with a frame that the log does not have.
-fn other_table_agrees(alloc: Global) -> Result<bool, Fail> {
+fn other_table_agrees(alloc: Global) -> Result<bool, NoRoom> {
     let mut log = open(alloc, STREAM, 0)?;
     join(&mut log, 1);
-    let mut table = Table::new(alloc, 16_384)?;
-    table.insert(64, Cell::Short);
-    Ok(go_on(&mut log, &mut table, 100))
+    match Table::new(alloc, 16_384) {
+        Ok(mut table) => {
+            table.insert(64, Cell::Short);
+            Ok(go_on(&mut log, &mut table, 100))
+        }
+        Err(_) => Err(NoRoom),
+    }
 }
 
 #[test]
-fn shuffled_frames(rt: HostRuntime) -> Result<(), Fail> {
-    assert!(rt; agree(rt.alloc(), STREAM, 5000)? && !agree(rt.alloc(), STREAM, 100)?);
-    assert!(rt; !other_table_agrees(rt.alloc())?);
-    Ok(())
+fn frames_in_another_order(rt: HostRuntime) {
+    assert!(rt; agree(rt.alloc(), STREAM, 5000) == Ok(true));
+    assert!(rt; agree(rt.alloc(), STREAM, 100) == Ok(false));
+    assert!(rt; other_table_agrees(rt.alloc()) == Ok(false));
 }
 
 fn tells_other_answers(log: &mut ImageLog) -> bool {
@@ -398,11 +330,113 @@ fn tells_other_fillings(log: &mut ImageLog) -> bool {
     !few && !reader && !read_to(log, 2, 256) && !read_to(log, 1, 257)
 }
 
+fn polls_give_what_is_whole(log: &mut ImageLog) -> bool
+    requires { log.old.rebuilt.pairs ≡ [] }
+{
+    let begun = join(log, 1) == 0 && take_all(log, &POLLED) && starts(log);
+    begun && polls_go_on(log) && log.base() == 384
+}
+
+fn others_are_not_polled(log: &mut ImageLog) -> bool
+    requires { log.old.rebuilt.pairs ≡ [] }
+{
+    let begun = join(log, 1) == 0 && take_all(log, &POLLED);
+    begun && other_stays(log) && tells_other_polls(log)
+}
+
+fn other_answers_are_told(log: &mut ImageLog) -> bool
+    requires { log.old.rebuilt.pairs ≡ [] }
+{
+    join(log, 1);
+    tells_other_answers(log) && tells_other_bytes() && tells_other_fillings(log)
+}
+
+/// What a log shows.
+#[derive(Clone, Copy)]
+enum Case {
+    Inserts,
+    /// The base is the least position of a pair, and stays where none is left.
+    SlowestPairIsTheBase,
+    /// A log is silent where nothing was heard for longer than the limit. Moments may come out of order.
+    SenderFallsSilent,
+    /// What is whole is read frame by frame: up to the contiguous position or the end of a term, within so many bytes, and
+    /// nothing behind a pad, which takes 32 of them.
+    WholeFramesAreRead,
+    /// Exactly the subscriptions that are named read on: one that was there from where it was, another from what is whole.
+    NamedSubscriptionsReadOn,
+    /// A poll is given as many fragments as it asks for of what is whole. A pad does not count, and one behind the last
+    /// fragment is left.
+    PollsGiveWhatIsWhole,
+    PollsGoOverTheEndsOfTerms,
+    /// A poll of a subscription that does not read the log gives nothing, and leaves the others where they are.
+    OthersAreNotPolled,
+    /// A status message is due where none was sent yet, past the interval, and where the base moved by a quarter of the
+    /// window, which is a fourth of 32 KiB here.
+    StatusMessagesAreDue,
+    NakAndStatusTiming,
+    HeartbeatsAreHeard,
+    OtherAnswersAreTold,
+}
+
+/// Whether a log in which nothing happened yet goes as the case says.
+fn goes(log: &mut ImageLog, case: Case) -> bool
+    requires { log.old.rebuilt.pairs ≡ [] }
+{
+    match case {
+        Case::Inserts => fills_a_gap(log)
+            && inserts(log, &INSERTS)
+            && goes_on_to_the_next_term(log),
+        Case::SlowestPairIsTheBase => two_read(log) && slowest_moves_the_base(log),
+        Case::SenderFallsSilent => falls_silent(log),
+        Case::WholeFramesAreRead => take_all(log, &FRAMES)
+            && reads_each(log, &READS)
+            && tells_other_reads(log),
+        Case::NamedSubscriptionsReadOn => slow_and_fast_read(log)
+            && others_come(log)
+            && all_go_and_come(log),
+        Case::PollsGiveWhatIsWhole => polls_give_what_is_whole(log),
+        Case::PollsGoOverTheEndsOfTerms => join(log, 1) == 0 && polls_go_into_the_next_term(log),
+        Case::OthersAreNotPolled => others_are_not_polled(log),
+        Case::StatusMessagesAreDue => status_is_due_in_time(log) && status_is_due_by_the_base(log),
+        Case::NakAndStatusTiming => is_answered_in_time(log),
+        Case::HeartbeatsAreHeard => beat_is_heard(log),
+        Case::OtherAnswersAreTold => other_answers_are_told(log),
+    }
+}
+
+const CASES: [Case; 12] = [
+    Case::Inserts,
+    Case::SlowestPairIsTheBase,
+    Case::SenderFallsSilent,
+    Case::WholeFramesAreRead,
+    Case::NamedSubscriptionsReadOn,
+    Case::PollsGiveWhatIsWhole,
+    Case::PollsGoOverTheEndsOfTerms,
+    Case::OthersAreNotPolled,
+    Case::StatusMessagesAreDue,
+    Case::NakAndStatusTiming,
+    Case::HeartbeatsAreHeard,
+    Case::OtherAnswersAreTold,
+];
+
+/// Whether a log goes as the case says; false without memory.
+fn is_shown(alloc: Global, case: Case) -> bool {
+    match open(alloc, STREAM, 0) {
+        Ok(mut log) => goes(&mut log, case),
+        Err(_) => false,
+    }
+}
+
+fn are_shown(alloc: Global, cases: &[Case]) -> bool {
+    for &case in cases {
+        if !is_shown(alloc, case) {
+            return false;
+        }
+    }
+    true
+}
+
 #[test]
-fn other_answers_are_told(rt: HostRuntime) -> Result<(), Fail> {
-    let mut log = open(rt.alloc(), STREAM, 0)?;
-    join(&mut log, 1);
-    let told = tells_other_answers(&mut log) && tells_other_bytes();
-    assert!(rt; told && tells_other_fillings(&mut log));
-    Ok(())
+fn logs_go_as_they_should(rt: HostRuntime) {
+    assert!(rt; are_shown(rt.alloc(), &CASES));
 }

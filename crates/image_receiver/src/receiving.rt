@@ -44,7 +44,9 @@ fn hand_in(log: &mut ImageLog, frame: &Frame<'_>) -> Insert
     log.insert(position, frame.bytes)
 }
 
-/// Hands in frames one after the other, and puts the word for each behind those that are there.
+/// Hands in frames one after the other, and puts the word for each behind those that are there. A call of its own, so that the
+/// walk has the registers to itself.
+#[inline(never)]
 fn hand_in_all(log: &mut ImageLog, frames: Frames<'_>, words: &mut Vec<Insert>)
     requires of { AreOf log.old.rebuilt.ident (frames_left frames) }
     requires room { length words.old.items + length (frames_left frames) ≤ vec_capacity words.old }
@@ -62,6 +64,7 @@ fn hand_in_all(log: &mut ImageLog, frames: Frames<'_>, words: &mut Vec<Insert>)
 /// # Errors
 /// Without memory for the words nothing is changed.
 #[tactic(auto, unfolding(crate::specs::Receiving::after_data))]
+#[inline(always)]
 pub fn receive(
     log: &mut ImageLog,
     alloc: Global,

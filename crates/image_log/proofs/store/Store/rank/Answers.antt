@@ -1,17 +1,14 @@
-use Rattle.std.proofs.Common.{ap, ◌∙◌, arith}
+use Rattle.std.proofs.Common.{◌-◌, sym, ◌∙◌, arith}
+use Rattle.image_log.proofs.Orders.{rank-le}
+use Rattle.image_log.proofs.Tests.{is_lt}
 use Rattle.image_log.specs.Order.{rank}
-use Rattle.image_log.specs.Stored.{Stored}
-use Rattle.image_log.proofs.Found.{rank-shorter, rank-found}
 use Rattle.image_log.proofs.store.Store.rank.Goals as goal
+use Rattle.image_log.proofs.store.Store.rank.Goals.{then-high-eq0-via-then-high-eq0, then-high-eq0-via-else-high-eq0+then-is_below}
 
-pub loop-rank-preserved : goal.loop-rank-preserved
-loop-rank-preserved c = (
-  omega (arith, c.loop-rank.invariant.0),
-  rank-shorter _ _ _ _ _ _ c.loop-rank-test.true c.loop-rank.invariant.0 c.index.ensures c.if-index-position.true ∙ c.loop-rank.invariant.1,
-)
-
-pub returns-else-index-position : goal.returns-else-index-position
-returns-else-index-position c =
-    rank-found _ _ _ _ _ _ _ _ c.self.invariant.order c.loop-rank-test.true c.loop-rank.invariant.0 c.index.ensures c.if-index-position.false
-    ∙ c.loop-rank.invariant.1
-    ∙ ap (λ (s : Stored). rank c.args.position s.frames) c.self.view_is
+pub returns-then-high-eq0 : goal.returns-then-high-eq0
+returns-then-high-eq0 c =
+    let most = rank-le c.args.position c.args.self.now.frames in
+    elim c.then-high-eq0.branch [
+      | then-high-eq0-via-then-high-eq0 w ↦ omega (arith, most, c.len-high.ensures, w.if-high-eq0.true)
+      | then-high-eq0-via-else-high-eq0+then-is_below w ↦ (let below = is_lt (c.len-high.result - 1) (rank c.args.position c.args.self.now.frames) (sym w.is_below.ensures ∙ w.if-is_below.true) in omega (arith, most, c.len-high.ensures, w.if-high-eq0.false, below))
+    ]
