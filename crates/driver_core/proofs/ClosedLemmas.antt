@@ -1,5 +1,5 @@
 -- Which images are unread behind an event is known from the pairs that go and come.
-use Rattle.std.proofs.Common.{◌≡◌, ℕ, ◌==◌, Bool, true, false, not, ◌&&◌, List, [], ◌∷◌, map, filter, ◌⊎◌, inl, inr, ⊎_elim, refl, sym, ap, ◌∙◌, eq-eqb, eqb-true}
+use Rattle.std.proofs.Common.{◌≡◌, ℕ, ◌==◌, Bool, true, false, not, ◌&&◌, cond, List, [], ◌∷◌, map, filter, ◌⊎◌, inl, inr, ⊎_elim, refl, sym, ap, ◌∙◌, eq-eqb, eqb-true}
 use Rattle.std.specs.Prelude.{◌||◌}
 use Rattle.std.specs.List.{Contains, list_any}
 use Rattle.std.proofs.lemmas.List.Elements.{All-contains, All-contains_itself, All-head, Contains-append_cases, Contains-append_left, Contains-append_right, filter_agree, filter_passes}
@@ -8,9 +8,15 @@ use Rattle.driver_core.specs.Change.{Change}
 use Rattle.driver_core.specs.Pairs.{is_lacked_by, is_same_pair, lacking, pairs_of}
 use Rattle.driver_core.specs.Renewal.{come_to, gone_from}
 use Rattle.driver_core.specs.State.{State}
-use Rattle.driver_core.specs.Unread.{closed_from, is_closed}
+use Rattle.driver_core.specs.Unread.{closed_from, is_closed, without_unread as without_unread_from}
 use Rattle.driver_core.proofs.ListLemmas.{contains_none, left_was_there, only_one, passes_are_left}
-use Rattle.log_readers.specs.Unread.{has_left, has_pair, is_closed as is_closed_by, is_left, is_of_source}
+use Rattle.driver_core.specs.Kept.{AreRead}
+use Rattle.client_registry.specs.declared.client.Client.{Client}
+use Rattle.log_readers.specs.Numbering.{source_of}
+use Rattle.log_readers.specs.Unread.{has_left, has_pair, is_closed as is_closed_by, is_kept, is_left, is_of_source, is_unread, unread_of, without_unread}
+use Rattle.policy_core.specs.RuleList.{Rules}
+use Rattle.stream_registry.specs.Pairs.{pairs_of as pairs_in}
+use Rattle.stream_registry.specs.Streams.{Streams}
 use Rattle.stream_registry.specs.declared.pairs.Pair.{Pair}
 use Rattle.stream_registry.specs.declared.row.Source.{Source}
 use Rattle.stream_registry.specs.Lingering.{place_of}
@@ -160,3 +166,63 @@ closed_is s change outcome is gone come =
     rw (gone, come, ← is)
     (ap (λ (b : Bool). not (is_left change.outcome.closes log) || (is_remote log && not b))
     (left_is (pairs_of s) (pairs_of change.after) log))) s.streams.sources)
+
+-- ---- where each image has a pair
+
+lack_none : (pairs : List Pair) → lacking pairs [] ≡ pairs
+lack_none [] = refl
+lack_none (pair ∷ pairs) = ap (λ (rest : List Pair). pair ∷ rest) (lack_none pairs)
+
+closed_step : (remote read comes : Bool) (log : Source) (rest others : List Source) →
+    cond (remote && not read) (log ∷ rest) rest ≡ [] → (rest ≡ [] → others ≡ []) →
+    cond (remote && not (read || comes)) (log ∷ others) others ≡ []
+closed_step true true comes log rest others none step = step none
+closed_step true false comes log rest others none step = absurd (cc none)
+closed_step false read comes log rest others none step = step none
+
+none_closed_by : (pairs come : List Pair) (logs : List Source) → filter (is_unread pairs) logs ≡ [] →
+    filter (λ log. is_remote log && not (has_pair pairs log || has_pair come log)) logs ≡ []
+none_closed_by pairs come [] none = refl
+none_closed_by pairs come (log ∷ logs) none =
+    closed_step (is_remote log) (has_pair pairs log) (has_pair come log) log (filter (is_unread pairs) logs)
+    (filter (λ log. is_remote log && not (has_pair pairs log || has_pair come log)) logs) none
+    (none_closed_by pairs come logs)
+
+-- none closes where none is closed and no pair goes
+pub none_closed : (pairs come : List Pair) (logs : List Source) → filter (is_unread pairs) logs ≡ [] →
+    map place_of (filter (is_closed_by pairs [] [] come) logs) ≡ []
+none_closed pairs come logs none =
+    ap (λ (all : List Pair). map place_of (filter (λ log. is_remote log && not (has_pair all log || has_pair come log)) logs)) (lack_none pairs)
+    ∙ ap (map place_of) (none_closed_by pairs come logs none)
+
+kept_step : (unread : Bool) (log : Source) (rest others logs : List Source) → cond unread (log ∷ rest) rest ≡ [] →
+    (rest ≡ [] → others ≡ logs) → cond (not unread) (log ∷ others) others ≡ log ∷ logs
+kept_step true log rest others logs none step = absurd (cc none)
+kept_step false log rest others logs none step = ap (λ (more : List Source). log ∷ more) (step none)
+
+all_kept : (pairs : List Pair) (logs : List Source) → filter (is_unread pairs) logs ≡ [] → filter (is_kept pairs) logs ≡ logs
+all_kept pairs [] none = refl
+all_kept pairs (log ∷ logs) none =
+    kept_step (is_unread pairs log) log (filter (is_unread pairs) logs) (filter (is_kept pairs) logs) logs none
+    (all_kept pairs logs)
+
+-- and none goes
+pub read_stays : (s : Streams) (clients : List Client) (policy : Rules) (epoch : ℕ) → AreRead s clients policy epoch →
+    without_unread s clients policy epoch ≡ s
+unfolding without_unread
+read_stays s clients policy epoch read =
+    ap (λ (logs : List Source). record s { sources = logs }) (all_kept (pairs_in s clients policy epoch) s.sources read.all)
+
+pub read_registry : (s : State) → AreRead s.streams s.clients.rows s.policy s.epoch → without_unread_from s ≡ s
+unfolding without_unread_from
+read_registry s read =
+    ap (λ (streams : Streams). record s { streams = streams }) (read_stays s.streams s.clients.rows s.policy s.epoch read)
+
+none_mapped : (logs : List Source) → map source_of logs ≡ [] → logs ≡ []
+none_mapped [] none = refl
+none_mapped (log ∷ logs) none = absurd (cc none)
+
+-- so where none is unread
+pub read_by : (s : Streams) (clients : List Client) (policy : Rules) (epoch : ℕ) →
+    unread_of s (pairs_in s clients policy epoch) ≡ [] → AreRead s clients policy epoch
+read_by s clients policy epoch none = record { all = none_mapped (filter (is_unread (pairs_in s clients policy epoch)) s.sources) none }

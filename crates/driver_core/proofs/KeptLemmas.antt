@@ -1,9 +1,9 @@
 -- Each change of the lists keeps what is kept beside them.
-use Rattle.std.proofs.Common.{arith, ◌≡◌, ℕ, ℤ, ◌+◌, ◌≤◌, Bool, true, List, [], false, ◌==◌, ◌∷◌, cond, Option, Some, length, is_some, refl, sym, ap, ◌∙◌}
+use Rattle.std.proofs.Common.{arith, ◌≡◌, ℕ, ℤ, ◌+◌, ◌≤◌, Bool, true, List, [], false, ◌==◌, ◌∷◌, cond, Option, Some, length, is_some, filter, refl, sym, ap, ◌∙◌}
 use Rattle.std.proofs.lemmas.List.Elements.{All-nil}
 use Rattle.std.proofs.lemmas.Bool.{eqb-true}
 use Rattle.driver_core.specs.Commands.{heard}
-use Rattle.driver_core.specs.Kept.{IsKept}
+use Rattle.driver_core.specs.Kept.{AreRead, IsKept, IsTended}
 use Rattle.driver_core.specs.State.{State}
 use Rattle.driver_core.proofs.PairLemmas.{principal_heard}
 use Rattle.channel_uri.specs.Channel.{Shape}
@@ -11,6 +11,7 @@ use Rattle.client_registry.specs.declared.client.Client.{Client}
 use Rattle.client_registry.specs.Clients.{ClientList, admitted, client_at, principal_at, touched, without}
 use Rattle.log_readers.specs.Numbering.{IsOwned}
 use Rattle.log_readers.specs.Readers.{all_readers}
+use Rattle.log_readers.specs.Unread.{is_unread}
 use Rattle.log_readers.proofs.OrderLemmas.{admitted_in_order, cleared_in_order, closed_in_order, imaged_in_order, joined_in_order, later_in_order, left_in_order, made_in_order, subscribed_in_order, touched_in_order, unregistered_in_order, unsubscribed_in_order, without_images_in_order}
 use Rattle.log_readers.proofs.ReaderLemmas.{as_many_as_logs}
 use Rattle.log_readers.proofs.SameLemmas.{admitted_alike, touched_alike, unregistered_alike}
@@ -25,6 +26,8 @@ use Rattle.stream_registry.specs.Leaving.{left, unregistered, unsubscribed}
 use Rattle.stream_registry.specs.Lingering.{closed}
 use Rattle.stream_registry.specs.declared.measures.Measures.{Measures}
 use Rattle.stream_registry.specs.declared.row.Subscription.{Subscription}
+use Rattle.stream_registry.specs.declared.pairs.Pair.{Pair}
+use Rattle.stream_registry.specs.Pairs.{pairs_of}
 use Rattle.stream_registry.specs.Streams.{Streams, cleared, opened as nothing_published}
 
 -- ---- clients
@@ -189,3 +192,46 @@ pub heard_owned : (s : State) (handle client : ℕ) → is_some (principal_at s.
 unfolding heard touched
 heard_owned s handle client owned =
     ap (λ (found : Option ℕ). is_some found) (principal_heard s.clients.rows handle s.moment client) ∙ owned
+
+-- ---- whether each image has a pair
+
+-- nothing is known of that
+pub unknown : {s : Streams} {clients : List Client} {policy : Rules} {epoch last : ℕ} {readers : List (List ℕ)} →
+    IsKept s clients policy epoch last readers → IsTended s clients policy epoch last readers false
+unknown kept = record { kept = kept; read = λ is. absurd (cc is) }
+
+read_alike : (s : Streams) (clients others : List Client) (policy : Rules) (epoch : ℕ) →
+    pairs_of s others policy epoch ≡ pairs_of s clients policy epoch → AreRead s clients policy epoch → AreRead s others policy epoch
+read_alike s clients others policy epoch same read =
+    record { all = ap (λ (pairs : List Pair). filter (is_unread pairs) s.sources) same ∙ read.all }
+
+pub tended_touched : (s : Streams) (clients : ClientList) (policy : Rules) (epoch last : ℕ) (readers : List (List ℕ)) (known : Bool)
+    (number now : ℕ) → IsTended s clients.rows policy epoch last readers known →
+    IsTended s (touched clients number now).rows policy epoch last readers known
+tended_touched s clients policy epoch last readers known number now tended = record {
+  kept = kept_touched s clients policy epoch last readers number now tended.kept;
+  read = λ is.
+      read_alike s clients.rows (touched clients number now).rows policy epoch (touched_alike policy epoch s clients number now).pairs
+      (tended.read is);
+}
+
+pub tended_admitted : (s : Streams) (clients : ClientList) (policy : Rules) (epoch last : ℕ) (readers : List (List ℕ)) (known : Bool)
+    (principal now : ℕ) → IsTended s clients.rows policy epoch last readers known →
+    IsTended s (admitted clients principal now).rows policy epoch last readers known
+tended_admitted s clients policy epoch last readers known principal now tended = record {
+  kept = kept_admitted s clients policy epoch last readers principal now tended.kept;
+  read = λ is.
+      read_alike s clients.rows (admitted clients principal now).rows policy epoch
+      (admitted_alike policy epoch s clients principal now tended.kept.order.owned).pairs
+      (tended.read is);
+}
+
+pub tended_later : (s : Streams) (clients : List Client) (policy : Rules) (epoch last next : ℕ) (readers : List (List ℕ)) (known : Bool) →
+    IsTended s clients policy epoch last readers known → last ≤ next → IsTended s clients policy epoch next readers known
+tended_later s clients policy epoch last next readers known tended more =
+    record { kept = kept_later s clients policy epoch last next readers tended.kept more; read = tended.read }
+
+pub tended_opened : (defaults : Measures) (first_session : ℤ) (policy : Rules) →
+    IsTended (nothing_published defaults first_session) [] policy 1 0 [] true
+tended_opened defaults first_session policy =
+    record { kept = kept_opened defaults first_session policy; read = λ is. record { all = refl } }

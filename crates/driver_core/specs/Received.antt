@@ -1,6 +1,7 @@
 -- What the bytes of a command are read as, and the channel that a command names.
 use Rattle.std.specs.Prelude.{Option, Some, None, Result, Ok, Err}
 use Rattle.std.specs.declared.boxed.Box.{Box}
+use denote.Ref.{Bor}
 use Rattle.channel_uri.specs.Channel.{Shape, denotes}
 use Rattle.channel_uri.specs.declared.error.UriError.{UriError}
 use Rattle.channel_uri.specs.declared.error.UriError.TheVariants.{NoScheme}
@@ -26,3 +27,8 @@ channel_in (Err fault) = Err NoScheme
 abbrev pub channel_kept : {Z : Type 0} → Option (Box (Result Shape UriError) Z) → Result Shape UriError
 channel_kept None = Err NoScheme
 channel_kept (Some channel) = channel.value
+
+-- the channel behind the reference
+abbrev pub channel_lent : Result (Bor Shape) UriError → Result Shape UriError
+channel_lent (Ok channel) = Ok channel.now
+channel_lent (Err fault) = Err fault

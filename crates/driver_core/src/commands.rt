@@ -1,6 +1,6 @@
 ghost use Rattle.driver_core.specs.Commands.{requested, heard, asked, at_asking, command, keeps_pairs, refusal_for};
 ghost use Rattle.driver_core.specs.Draft.{refused};
-ghost use Rattle.driver_core.specs.Received.{channel_named};
+ghost use Rattle.driver_core.specs.Received.{channel_lent, channel_named};
 ghost use Rattle.driver_core.specs.Refusing.{refused_by};
 ghost use Rattle.driver_core.specs.Renewal.{outcome_by, outcome_gone};
 ghost use Rattle.driver_core.specs.State.{at_moment};
@@ -60,10 +60,10 @@ impl Registry {
         alloc: Global,
         client: Client,
         command: &Command,
-        channel: &Result<Channel, UriError>,
+        channel: Result<&Channel, UriError>,
     ) -> Result<Told, AllocError>
         requires quiet { keeps_pairs command.now.body ≡ true }
-        requires named { channel.now ≡ channel_named command.now.body }
+        requires named { channel_lent channel ≡ channel_named command.now.body }
         ensures { IfOk result (λ told. told ≡ told_of (requested self.now client command.now)) }
     {
         let correlation = command.correlation;
@@ -92,10 +92,10 @@ impl Registry {
         alloc: Global,
         asking: Asking,
         command: &Command,
-        channel: &Result<Channel, UriError>,
+        channel: Result<&Channel, UriError>,
     ) -> Result<Told, AllocError>
         requires quiet { keeps_pairs command.now.body ≡ true }
-        requires named { channel.now ≡ channel_named command.now.body }
+        requires named { channel_lent channel ≡ channel_named command.now.body }
         ensures { IfOk result (λ told. told ≡ told_of (requested (at_asking self.now asking) asking.client command.now)) }
     {
         self.tell_quiet(alloc, asking.client, command, channel)
@@ -107,10 +107,10 @@ impl Registry {
         alloc: Global,
         asking: Asking,
         command: &Command,
-        channel: &Result<Channel, UriError>,
+        channel: Result<&Channel, UriError>,
     ) -> Result<Outcome, AllocError>
         requires quiet { keeps_pairs command.now.body ≡ true }
-        requires named { channel.now ≡ channel_named command.now.body }
+        requires named { channel_lent channel ≡ channel_named command.now.body }
         ensures { (inputs : InputsSpec) → IfOk result (λ outcome. outcome ≡ outcome_by self.now inputs (requested (at_asking self.now asking) asking.client command.now)) }
     {
         let told = self.tell_at(alloc, asking, command, channel)?;
@@ -124,10 +124,10 @@ impl Registry {
         alloc: Global,
         asking: Asking,
         command: &Command,
-        channel: &Result<Channel, UriError>,
+        channel: Result<&Channel, UriError>,
         inputs: &Inputs,
     ) -> Result<Outcome, AllocError>
-        requires named { channel.now ≡ channel_named command.now.body }
+        requires named { channel_lent channel ≡ channel_named command.now.body }
         requires own { asking.correlation ≡ command.now.correlation }
         ensures { IfOk result (λ outcome. outcome ≡ outcome_by self.now inputs.now (requested (at_asking self.now asking) asking.client command.now)) }
     {
@@ -186,10 +186,10 @@ impl Registry {
         now: u64,
         handle: u64,
         command: &Command,
-        channel: &Result<Channel, UriError>,
+        channel: Result<&Channel, UriError>,
         inputs: &Inputs,
     ) -> Result<Outcome, AllocError>
-        requires { channel.now ≡ channel_named command.now.body }
+        requires { channel_lent channel ≡ channel_named command.now.body }
         ensures { IfOk result (λ outcome. outcome ≡ outcome_by self.now inputs.now (asked (at_moment self.now now) handle command.now)) }
     {
         let correlation = command.correlation;
@@ -224,8 +224,7 @@ impl Registry {
     {
         match received.read() {
             Ok(command) => {
-                let none = Err(UriError::NoScheme);
-                let channel = received.channel_or(&none);
+                let channel = received.channel();
                 self.outcome_of_asked(alloc, now, handle, command, channel, inputs)
             }
             Err(fault) => {
@@ -241,9 +240,9 @@ impl Registry {
         &mut self,
         client: Client,
         command: &Command,
-        channel: &Result<Channel, UriError>,
+        channel: Result<&Channel, UriError>,
     )
-        requires named { channel.now ≡ channel_named command.now.body }
+        requires named { channel_lent channel ≡ channel_named command.now.body }
         requires owned { is_some (principal_at self.old.clients.rows client.number) ≡ true }
         ensures { self.new ≡ (requested self.old client command.now).after }
     {
@@ -277,8 +276,8 @@ impl Registry {
 
     /// The command of a handle.
     #[tactic(auto, unfolding(crate::specs::Commands::asked, crate::specs::Draft::refused, crate::specs::Draft::replied, crate::specs::Draft::told))]
-    fn do_asked(&mut self, handle: u64, command: &Command, channel: &Result<Channel, UriError>)
-        requires { channel.now ≡ channel_named command.now.body }
+    fn do_asked(&mut self, handle: u64, command: &Command, channel: Result<&Channel, UriError>)
+        requires { channel_lent channel ≡ channel_named command.now.body }
         ensures { self.new ≡ (asked self.old handle command.now).after }
     {
         if command.client != handle {
@@ -298,8 +297,7 @@ impl Registry {
     {
         match received.read() {
             Ok(command) => {
-                let none = Err(UriError::NoScheme);
-                self.do_asked(handle, command, received.channel_or(&none));
+                self.do_asked(handle, command, received.channel());
             }
             Err(_) => {}
         }

@@ -3,6 +3,7 @@ ghost use Rattle.driver_core.specs.Directing.{add_destination, destination_decis
 ghost use Rattle.driver_core.specs.State.{has_number};
 ghost use Rattle.driver_core.specs.Told.{told_of};
 ghost use Rattle.destinations.specs.Destinations.{adding, has};
+ghost use Rattle.driver_core.specs.Received.{channel_lent};
 ghost use Rattle.std.specs.Option.{option_copied};
 ghost use Rattle.stream_registry.specs.Places.{is_manual};
 ghost use Rattle.std.specs.Prelude.{◌≡◌, ℕ, IfOk, Ok, true};
@@ -184,9 +185,9 @@ impl Registry {
         &self,
         client: Client,
         fields: &Destination,
-        channel: &Result<Channel, UriError>,
+        channel: Result<&Channel, UriError>,
     ) -> Result<Directed, Refused>
-        requires { channel.now ≡ denotes fields.now.channel }
+        requires { channel_lent channel ≡ denotes fields.now.channel }
         ensures decided { result ≡ directing_of self.now client fields.now }
         ensures taken { IfOk result (λ granted. is_taken (adding self.now.destinations granted.target.source granted.target.address) ≡ true) }
     {
@@ -207,9 +208,9 @@ impl Registry {
         client: Client,
         correlation: u64,
         fields: &Destination,
-        channel: &Result<Channel, UriError>,
+        channel: Result<&Channel, UriError>,
     ) -> Result<Told, AllocError>
-        requires { channel.now ≡ denotes fields.now.channel }
+        requires { channel_lent channel ≡ denotes fields.now.channel }
         ensures { IfOk result (λ told. told ≡ told_of (add_destination self.now client correlation fields.now)) }
     {
         match self.directing(client, fields, channel) {
@@ -242,9 +243,9 @@ impl Registry {
         &mut self,
         client: Client,
         fields: &Destination,
-        channel: &Result<Channel, UriError>,
+        channel: Result<&Channel, UriError>,
     )
-        requires { channel.now ≡ denotes fields.now.channel }
+        requires { channel_lent channel ≡ denotes fields.now.channel }
         ensures { (correlation : ℕ) → self.new ≡ (add_destination self.old client correlation fields.now).after }
     {
         match self.directing(client, fields, channel) {
@@ -259,9 +260,9 @@ impl Registry {
         &self,
         client: u64,
         fields: &Destination,
-        channel: &Result<Channel, UriError>,
+        channel: Result<&Channel, UriError>,
     ) -> Result<Target, Refused>
-        requires { channel.now ≡ denotes fields.now.channel }
+        requires { channel_lent channel ≡ denotes fields.now.channel }
         ensures decided { result ≡ recalling_of self.now client fields.now }
         ensures known { IfOk result (λ target. has self.now.destinations.rows target.source target.address ≡ true) }
     {
@@ -284,9 +285,9 @@ impl Registry {
         client: Client,
         correlation: u64,
         fields: &Destination,
-        channel: &Result<Channel, UriError>,
+        channel: Result<&Channel, UriError>,
     ) -> Result<Told, AllocError>
-        requires { channel.now ≡ denotes fields.now.channel }
+        requires { channel_lent channel ≡ denotes fields.now.channel }
         ensures { IfOk result (λ told. told ≡ told_of (remove_destination self.now client correlation fields.now)) }
     {
         match self.recalling(client.number, fields, channel) {
@@ -304,9 +305,9 @@ impl Registry {
         &mut self,
         client: Client,
         fields: &Destination,
-        channel: &Result<Channel, UriError>,
+        channel: Result<&Channel, UriError>,
     )
-        requires { channel.now ≡ denotes fields.now.channel }
+        requires { channel_lent channel ≡ denotes fields.now.channel }
         ensures { (correlation : ℕ) → self.new ≡ (remove_destination self.old client correlation fields.now).after }
     {
         match self.recalling(client.number, fields, channel) {

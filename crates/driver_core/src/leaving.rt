@@ -10,6 +10,7 @@ impl Registry {
         ensures { self.new ≡ left self.old client }
     {
         let now = self.moment;
+        self.all_read = false;
         self.readers.client_left(&self.streams, client);
         self.clients.remove(client);
         self.streams.client_left(client, now);

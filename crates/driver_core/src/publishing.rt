@@ -1,11 +1,12 @@
-ghost use Rattle.driver_core.specs.Publishing.{add_publication, granting_of, has_place, has_room_for_publication, is_publishable, new_log, publication_decision, publish, published, publishing_act, publishing_of, ready_for, refused_by_streams, session_of, with_directed_publication, with_publication};
+ghost use Rattle.driver_core.specs.Publishing.{add_publication, granting_of, has_place, has_room_for_publication, is_publishable, new_log, place_of_new, publication_decision, publish, published, publishing_act, publishing_of, ready_for, refused_by_streams, session_of, with_directed_publication, with_publication};
 ghost use Rattle.channel_uri.specs.Channel.{denotes};
 ghost use Rattle.driver_core.specs.Commands.{at_asking};
 ghost use Rattle.driver_core.specs.Renewal.{outcome_by, outcome_opening};
 ghost use Rattle.driver_core.specs.Pairs.{pairs_of};
-ghost use Rattle.std.specs.Prelude.{◌≡◌, true, Ok, Some, length, ℕ, IfOk};
+ghost use Rattle.driver_core.specs.Received.{channel_lent};
+ghost use Rattle.std.specs.Prelude.{◌≡◌, true, Ok, Some, length, ℕ, IfOk, unwrap_or};
 ghost use Rattle.driver_core.specs.State.{has_number};
-ghost use Rattle.stream_registry.specs.Adding.{adding_of};
+ghost use Rattle.stream_registry.specs.Adding.{added, adding_of};
 ghost use Rattle.stream_registry.specs.Lingering.{place_of};
 
 use crate::asking::Asking;
@@ -117,6 +118,21 @@ impl Registry {
         }
     }
 
+    /// The page at which the memory of the log begins that would be made. For one that is joined, which has its place, no
+    /// place is looked for.
+    fn place_of_added(&self, wanted: &Wanted, adding: Adding) -> u64
+        ensures { (number client : ℕ) → added self.now.streams number client wanted.now result adding ≡ added self.now.streams number client wanted.now (unwrap_or (place_of_new self.now wanted.now) 0) adding }
+    {
+        match adding {
+            Adding::Join { .. } => 0,
+            Adding::Make { .. } => {
+                self.streams
+                    .place_for(self.settings.arena_pages, wanted)
+                    .unwrap_or(0)
+            }
+        }
+    }
+
     /// The row of the log that would be made under the next number.
     fn new_log(&self, wanted: &Wanted, session: i32) -> Source
         requires { has_number self.now ≡ true }
@@ -135,7 +151,7 @@ impl Registry {
         requires { has_number self.now ≡ true }
         ensures { result ≡ length (pairs_of (with_publication self.now client wanted.now adding)) }
     {
-        let place = self.streams.place_for(self.settings.arena_pages, wanted);
+        let place = self.place_of_added(wanted, adding);
         self.readers.pair_count_with_publication(
             &self.streams,
             &self.clients,
@@ -144,7 +160,7 @@ impl Registry {
             self.next_number(),
             client,
             wanted,
-            place.unwrap_or(0),
+            place,
             adding,
         )
     }
@@ -293,11 +309,11 @@ impl Registry {
         alloc: Global,
         asking: Asking,
         fields: &AddPublication,
-        channel: &Result<Channel, UriError>,
+        channel: Result<&Channel, UriError>,
         exclusive: bool,
         inputs: &Inputs,
     ) -> Result<Outcome, AllocError>
-        requires { channel.now ≡ denotes fields.now.channel }
+        requires { channel_lent channel ≡ denotes fields.now.channel }
         ensures { IfOk result (λ outcome. outcome ≡ outcome_by self.now inputs.now (add_publication (at_asking self.now asking) asking.client asking.correlation fields.now exclusive)) }
     {
         let invalid = Refused::plainly(Refusal::InvalidChannel);
@@ -325,10 +341,7 @@ impl Registry {
         ensures { self.new ≡ with_publication self.old client wanted.now adding }
     {
         let number = self.next_number();
-        let place = self
-            .streams
-            .place_for(self.settings.arena_pages, wanted)
-            .unwrap_or(0);
+        let place = self.place_of_added(wanted, adding);
         self.readers.add_publication(
             &self.streams,
             &self.clients,
@@ -343,6 +356,7 @@ impl Registry {
         self.streams
             .add_publication(number, client, wanted, place, adding);
         self.last_number = number;
+        self.all_read = false;
     }
 
     /// The client is registered under the next number, and a log that is made has its one destination, if its channel
@@ -378,10 +392,10 @@ impl Registry {
         &mut self,
         client: Client,
         fields: &AddPublication,
-        channel: &Result<Channel, UriError>,
+        channel: Result<&Channel, UriError>,
         exclusive: bool,
     )
-        requires { channel.now ≡ denotes fields.now.channel }
+        requires { channel_lent channel ≡ denotes fields.now.channel }
         ensures { (correlation : ℕ) → self.new ≡ (add_publication self.old client correlation fields.now exclusive).after }
     {
         match channel {

@@ -1,8 +1,7 @@
 ghost use Rattle.channel_uri.specs.Channel.{denotes};
 ghost use Rattle.command_codec.specs.Command.{command_of};
-ghost use Rattle.driver_core.specs.Received.{channel_in, channel_kept, channel_named};
-ghost use Rattle.channel_uri.specs.declared.error.UriError.TheVariants.{NoScheme};
-ghost use Rattle.std.specs.Prelude.{◌≡◌, Err, IfOk};
+ghost use Rattle.driver_core.specs.Received.{channel_in, channel_kept, channel_lent, channel_named};
+ghost use Rattle.std.specs.Prelude.{◌≡◌, IfOk};
 
 use byte_strings::Bytes;
 use channel_uri::{Channel, UriError};
@@ -125,17 +124,16 @@ impl Received {
         &self.command
     }
 
-    /// The channel that the command names; `none`, which is [`UriError::NoScheme`], where it names none.
-    pub fn channel_or<'a>(
-        &'a self,
-        none: &'a Result<Channel, UriError>,
-    ) -> &'a Result<Channel, UriError>
-        requires { none.now ≡ Err NoScheme }
-        ensures { result.now ≡ channel_in (command_of self.now) }
+    /// The channel that the command names; [`UriError::NoScheme`] where it names none.
+    pub fn channel(&self) -> Result<&Channel, UriError>
+        ensures { channel_lent result ≡ channel_in (command_of self.now) }
     {
-        match &self.channel {
-            Some(channel) => channel,
-            None => none,
+        let Some(channel) = &self.channel else {
+            return Err(UriError::NoScheme);
+        };
+        match &**channel {
+            Ok(channel) => Ok(channel),
+            Err(fault) => Err(*fault),
         }
     }
 

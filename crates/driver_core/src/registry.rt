@@ -33,10 +33,12 @@ pub struct Registry {
     pub(crate) counters: Counters,
     pub(crate) last_number: u64,
     pub(crate) stopped: bool,
+    /// Whether it is known that each image has a pair, so that none is looked for that has none.
+    pub(crate) all_read: bool,
 }
 
 impl Model for Registry {
-    ghost use Rattle.driver_core.specs.Kept.{IsKept};
+    ghost use Rattle.driver_core.specs.Kept.{IsTended};
     ghost use Rattle.driver_core.specs.State.{State};
 
     ghost Value = { State };
@@ -56,7 +58,7 @@ impl Model for Registry {
     } };
 
     ghost invariant = { λ registry.
-        IsKept registry.streams registry.clients.rows registry.compiled.policy registry.compiled.epoch registry.last_number registry.readers };
+        IsTended registry.streams registry.clients.rows registry.compiled.policy registry.compiled.epoch registry.last_number registry.readers registry.all_read };
 }
 
 impl Registry {
@@ -93,6 +95,7 @@ impl Registry {
             counters: Counters::new(alloc)?,
             last_number: 0,
             stopped: false,
+            all_read: true,
         })
     }
 
@@ -112,6 +115,7 @@ impl Registry {
             counters: self.counters.copy(alloc)?,
             last_number: self.last_number,
             stopped: self.stopped,
+            all_read: self.all_read,
         })
     }
 

@@ -93,6 +93,7 @@ impl Registry {
         ensures { self.new ≡ in_force self.old policy.now }
     {
         let epoch = self.compiled.epoch() + 1;
+        self.all_read = false;
         self.compiled.compile(policy, epoch);
         self.readers
             .ask_again(&self.streams, &self.clients, policy, epoch);

@@ -228,6 +228,7 @@ impl Registry {
         );
         self.streams.add_image(number, wanted, place);
         self.last_number = number;
+        self.all_read = false;
     }
 
     /// A SETUP came to `local` from `from`.

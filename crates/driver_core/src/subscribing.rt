@@ -3,6 +3,7 @@ ghost use Rattle.channel_uri.specs.Channel.{denotes};
 ghost use Rattle.driver_core.specs.Commands.{at_asking};
 ghost use Rattle.driver_core.specs.Renewal.{outcome_by, outcome_coming};
 ghost use Rattle.stream_registry.specs.Wish.{row_of};
+ghost use Rattle.driver_core.specs.Received.{channel_lent};
 ghost use Rattle.std.specs.Prelude.{◌≡◌, true, length, is_some, ℕ, IfOk};
 ghost use Rattle.client_registry.specs.Clients.{principal_at};
 ghost use Rattle.driver_core.specs.State.{has_number};
@@ -195,10 +196,10 @@ impl Registry {
         alloc: Global,
         asking: Asking,
         fields: &AddSubscription,
-        channel: &Result<Channel, UriError>,
+        channel: Result<&Channel, UriError>,
         inputs: &Inputs,
     ) -> Result<Outcome, AllocError>
-        requires { channel.now ≡ denotes fields.now.channel }
+        requires { channel_lent channel ≡ denotes fields.now.channel }
         ensures { IfOk result (λ outcome. outcome ≡ outcome_by self.now inputs.now (add_subscription (at_asking self.now asking) asking.client asking.correlation fields.now)) }
     {
         let invalid = Refused::plainly(Refusal::InvalidChannel);
@@ -236,6 +237,7 @@ impl Registry {
         self.streams
             .add_subscription(wish.number, client, channel, stream);
         self.last_number = wish.number;
+        self.all_read = false;
     }
 
     /// A subscription on a channel that such a command takes.
@@ -256,9 +258,9 @@ impl Registry {
         &mut self,
         client: Client,
         fields: &AddSubscription,
-        channel: &Result<Channel, UriError>,
+        channel: Result<&Channel, UriError>,
     )
-        requires named { channel.now ≡ denotes fields.now.channel }
+        requires named { channel_lent channel ≡ denotes fields.now.channel }
         requires owned { is_some (principal_at self.old.clients.rows client.number) ≡ true }
         ensures { (correlation : ℕ) → self.new ≡ (add_subscription self.old client correlation fields.now).after }
     {

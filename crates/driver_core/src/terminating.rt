@@ -108,6 +108,7 @@ impl Registry {
         self.destinations.clear();
         self.counters.clear();
         self.stopped = true;
+        self.all_read = false;
     }
 
     /// The command TERMINATE_DRIVER of a client that is there.

@@ -158,6 +158,7 @@ impl Registry {
         ensures { self.new ≡ closed_past self.old silent.now }
     {
         let now = self.moment;
+        self.all_read = false;
         recall_of_closing(&mut self.destinations, self.streams.sources(), now, silent);
         self.readers.close(&self.streams, now, silent);
         self.streams.close(now, silent);

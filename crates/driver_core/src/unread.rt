@@ -21,6 +21,9 @@ impl Registry {
     ) -> Result<Items<LogPlace>, AllocError>
         ensures { (change : Change) → change.outcome ≡ outcome.now → outcome.now.gone ≡ gone_from self.now change.after → outcome.now.come ≡ come_to self.now change.after → IfOk result (λ places. places ≡ closed_from self.now change) }
     {
+        if self.all_read && outcome.closes.is_empty() && outcome.gone.is_empty() {
+            return Ok(Items::new(alloc));
+        }
         self.readers.closed(
             alloc,
             &self.streams,
@@ -35,7 +38,14 @@ impl Registry {
     pub(crate) fn drop_unread(&mut self)
         ensures { self.new ≡ without_unread self.old }
     {
+        if self.all_read {
+            return;
+        }
         let numbers = self.readers.unread(&self.streams);
+        if numbers.is_empty() {
+            self.all_read = true;
+            return;
+        }
         self.readers
             .remove_images(&self.streams, numbers.as_slice());
         self.streams.remove_images(numbers.as_slice());

@@ -68,6 +68,7 @@ impl Registry {
     pub(crate) fn do_remove_subscription(&mut self, client: Client, fields: Removal)
         ensures { (correlation : ℕ) → self.new ≡ (remove_subscription self.old client correlation fields).after }
     {
+        self.all_read = false;
         match self
             .streams
             .remove_subscription(client.number, fields.registration)

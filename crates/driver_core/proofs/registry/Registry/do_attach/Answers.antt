@@ -1,6 +1,6 @@
 use Rattle.std.proofs.Common.{◌≡◌, rules}
 use Rattle.client_registry.specs.Clients.{admitted}
-use Rattle.driver_core.proofs.KeptLemmas.{kept_admitted}
+use Rattle.driver_core.proofs.KeptLemmas.{tended_admitted}
 use Rattle.driver_core.proofs.registry.Registry.do_attach.Goals.{in-Ok, in-Err}
 use Rattle.driver_core.proofs.registry.Registry.do_attach.Goals as goal
 
@@ -10,7 +10,7 @@ invariant_of-self c =
       | in-Ok w ↦
           let is : c.admit.new.self ≡ admitted c.self.inside.clients c.args.principal c.self.inside.moment = search rules in
           rw is
-          (kept_admitted c.self.inside.streams c.self.inside.clients c.self.inside.compiled.policy c.self.inside.compiled.epoch c.self.inside.last_number c.self.inside.readers
+          (tended_admitted c.self.inside.streams c.self.inside.clients c.self.inside.compiled.policy c.self.inside.compiled.epoch c.self.inside.last_number c.self.inside.readers c.self.inside.all_read
           c.args.principal c.self.inside.moment c.self.invariant)
       | in-Err w ↦
           let is : c.admit.new.self ≡ c.self.inside.clients = search rules in

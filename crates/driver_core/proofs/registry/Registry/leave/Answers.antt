@@ -1,11 +1,11 @@
-use Rattle.driver_core.proofs.KeptLemmas.{kept_left}
+use Rattle.driver_core.proofs.KeptLemmas.{kept_left, unknown}
 use Rattle.driver_core.proofs.registry.Registry.leave.Goals as goal
 
 pub invariant_of-self : goal.invariant_of-self
 invariant_of-self c =
     let after = c.client_left.ensures.gone c.self.inside.clients c.self.inside.compiled.policy c.self.inside.compiled.epoch c.self.inside.moment 0
-    c.self.inside.last_number c.self.invariant.order.numbers c.self.invariant.exact
+    c.self.inside.last_number c.self.invariant.kept.order.numbers c.self.invariant.kept.exact
     in
     rw (c.client_left-2.ensures, c.remove.ensures)
-    (kept_left c.self.inside.streams c.self.inside.clients c.self.inside.compiled.policy c.self.inside.compiled.epoch c.self.inside.last_number
-    c.args.client c.self.inside.moment c.self.inside.readers c.client_left.new.self c.self.invariant after)
+    (unknown (kept_left c.self.inside.streams c.self.inside.clients c.self.inside.compiled.policy c.self.inside.compiled.epoch c.self.inside.last_number
+    c.args.client c.self.inside.moment c.self.inside.readers c.client_left.new.self c.self.invariant.kept after))

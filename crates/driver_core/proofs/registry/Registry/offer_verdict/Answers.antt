@@ -38,9 +38,9 @@ returns-clause-cached c =
     let s : State = c.args.self.now in
     let number = c.args.registration.now.number in
     let question = offer_question c.args.principal c.args.registration.now c.args.log.now in
-    let sources : Rises source_of 0 s.last_number s.streams.sources = rw (← c.self.view_is) c.self.invariant.order.sources in
+    let sources : Rises source_of 0 s.last_number s.streams.sources = rw (← c.self.view_is) c.self.invariant.kept.order.sources in
     let registered : Rises registered_as 0 s.last_number s.streams.registrations =
-    rw (← c.self.view_is) c.self.invariant.order.registered in
+    rw (← c.self.view_is) c.self.invariant.kept.order.registered in
     let adds : AddsAtMost c.args.cache.now c.verdict.new.self (key_of s.epoch number question) c.verdict.result =
     subst (λ (t : State). AddsAtMost c.args.cache.now c.verdict.new.self (key_of t.epoch number question) c.verdict.result)
     c.self.view_is c.verdict.ensures.entries in

@@ -7,7 +7,7 @@ use Rattle.driver_core.proofs.registry.Registry.outcome_of_add_publication.Goals
 pub returns-then-not-is_publishable : goal.returns-then-not-is_publishable
 returns-then-not-is_publishable c =
     rw (not_taken (at_asking c.args.self.now c.args.asking) c.args.asking.client c.args.asking.correlation c.args.fields.now c.args.exclusive
-    c.in-Ok.channel (search rules) (search rules)) (rw c.plainly-invalid.ensures at (c.outcome_of_refused.ensures c.args.inputs.now))
+    c.in-Ok.channel.now (search rules) (search rules)) (rw c.plainly-invalid.ensures at (c.outcome_of_refused.ensures c.args.inputs.now))
 
 -- the text is no channel
 pub returns-in-Err : goal.returns-in-Err

@@ -5,10 +5,10 @@ use Rattle.driver_core.proofs.registry.Registry.pairs.Goals as goal
 pub pairs-requires : goal.pairs-requires
 pairs-requires c =
     kept_length c.self.inside.streams c.self.inside.clients.rows c.self.inside.compiled.policy c.self.inside.compiled.epoch c.self.inside.last_number
-    c.self.inside.readers c.self.invariant
+    c.self.inside.readers c.self.invariant.kept
 
 pub returns : goal.returns
 unfolding pairs_of
 returns c =
     rw (← c.self.view_is)
-    (c.pairs.ensures c.self.inside.clients.rows c.self.inside.compiled.policy c.self.inside.compiled.epoch c.self.invariant.exact)
+    (c.pairs.ensures c.self.inside.clients.rows c.self.inside.compiled.policy c.self.inside.compiled.epoch c.self.invariant.kept.exact)

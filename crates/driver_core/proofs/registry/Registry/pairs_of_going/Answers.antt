@@ -5,13 +5,13 @@ use Rattle.driver_core.proofs.registry.Registry.pairs_of_going.Goals as goal
 pub pairs_of_going-requires : goal.pairs_of_going-requires
 pairs_of_going-requires c =
     kept_length c.self.inside.streams c.self.inside.clients.rows c.self.inside.compiled.policy c.self.inside.compiled.epoch c.self.inside.last_number
-    c.self.inside.readers c.self.invariant
+    c.self.inside.readers c.self.invariant.kept
 
 pub returns-clause-exact : goal.returns-clause-exact
 unfolding pairs_of
 returns-clause-exact c =
     rw (← c.self.view_is)
-    (c.pairs_of_going.ensures c.self.inside.clients.rows c.self.inside.compiled.policy c.self.inside.compiled.epoch c.self.invariant.exact)
+    (c.pairs_of_going.ensures c.self.inside.clients.rows c.self.inside.compiled.policy c.self.inside.compiled.epoch c.self.invariant.kept.exact)
 
 pub returns-clause-in_order : goal.returns-clause-in_order
-returns-clause-in_order c = rw (← c.self.view_is) c.self.invariant.order
+returns-clause-in_order c = rw (← c.self.view_is) c.self.invariant.kept.order

@@ -38,7 +38,7 @@ returns-clause-cached c =
     let s : State = c.args.self.now in
     let number = c.args.subscription.now.number in
     let question = poll_question c.args.principal c.args.subscription.now in
-    let numbers : Rises number_of 0 s.last_number s.streams.subscriptions = rw (← c.self.view_is) c.self.invariant.order.numbers in
+    let numbers : Rises number_of 0 s.last_number s.streams.subscriptions = rw (← c.self.view_is) c.self.invariant.kept.order.numbers in
     let adds : AddsAtMost c.args.cache.now c.verdict.new.self (key_of s.epoch number question) c.verdict.result =
     subst (λ (t : State). AddsAtMost c.args.cache.now c.verdict.new.self (key_of t.epoch number question) c.verdict.result)
     c.self.view_is c.verdict.ensures.entries in

@@ -1,8 +1,8 @@
 use Rattle.std.proofs.Common.{arith, ◌+◌}
-use Rattle.driver_core.proofs.KeptLemmas.{kept_later}
+use Rattle.driver_core.proofs.KeptLemmas.{tended_later}
 use Rattle.driver_core.proofs.registry.Registry.put_counter.Goals as goal
 
 pub invariant_of-self : goal.invariant_of-self
 invariant_of-self c =
-    kept_later c.self.inside.streams c.self.inside.clients.rows c.self.inside.compiled.policy c.self.inside.compiled.epoch c.self.inside.last_number
-    (c.self.inside.last_number + 1) c.self.inside.readers c.self.invariant (omega arith)
+    tended_later c.self.inside.streams c.self.inside.clients.rows c.self.inside.compiled.policy c.self.inside.compiled.epoch c.self.inside.last_number
+    (c.self.inside.last_number + 1) c.self.inside.readers c.self.inside.all_read c.self.invariant (omega arith)

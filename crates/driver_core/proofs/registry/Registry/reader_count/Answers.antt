@@ -8,12 +8,12 @@ use Rattle.driver_core.proofs.registry.Registry.reader_count.Goals as goal
 pub of_source-requires : goal.of_source-requires
 of_source-requires c =
     kept_length c.self.inside.streams c.self.inside.clients.rows c.self.inside.compiled.policy c.self.inside.compiled.epoch c.self.inside.last_number
-    c.self.inside.readers c.self.invariant
+    c.self.inside.readers c.self.invariant.kept
 
 pub returns : goal.returns
 unfolding pairs_of
 returns c =
     rw (← c.self.view_is)
     (ap length (c.of_source.ensures.exact c.self.inside.clients.rows c.self.inside.compiled.policy c.self.inside.compiled.epoch 0
-    c.self.inside.last_number c.self.invariant.order.sources c.self.invariant.exact)
+    c.self.inside.last_number c.self.invariant.kept.order.sources c.self.invariant.kept.exact)
     ∙ length-map _ (λ (pair : Pair). pair.subscription))

@@ -7,7 +7,7 @@ use Rattle.driver_core.proofs.registry.Registry.readers.Goals as goal
 pub of_source-requires : goal.of_source-requires
 of_source-requires c =
     kept_length c.self.inside.streams c.self.inside.clients.rows c.self.inside.compiled.policy c.self.inside.compiled.epoch c.self.inside.last_number
-    c.self.inside.readers c.self.invariant
+    c.self.inside.readers c.self.invariant.kept
 
 pub returns : goal.returns
 unfolding pairs_of readers_of
@@ -15,4 +15,4 @@ returns c =
     rw (← c.self.view_is)
     (c.put.ensures
     ∙ c.of_source.ensures.exact c.self.inside.clients.rows c.self.inside.compiled.policy c.self.inside.compiled.epoch 0 c.self.inside.last_number
-    c.self.invariant.order.sources c.self.invariant.exact)
+    c.self.invariant.kept.order.sources c.self.invariant.kept.exact)
