@@ -1,7 +1,8 @@
 -- What a turn of the sender comes to, by what is due.
-use Rattle.std.proofs.Common.{◌≡◌, ℕ, Bool, true, false, cond, List, Some, None, refl, ap, subst, ◌∙◌}
+use Rattle.std.proofs.Common.{◌≡◌, ℕ, Bool, true, false, cond, List, Option, Some, None, refl, ap, subst, ◌∙◌}
 use Rattle.std.specs.Option.{option_map}
-use Rattle.any_log.specs.Sending.{CutsCopy, after_turn, due_in, turn_of}
+use Rattle.any_log.specs.Sending.{CutsCopy, Dues, after_turn, due_in, turn_of}
+use Rattle.any_log.specs.declared.any_log.AnyLog.TheVariants.{Term}
 use Rattle.any_log.specs.Whole.{AnyWhole, whole, rebuilt}
 use Rattle.publication_sender.specs.declared.cutting.DatagramKind.{DatagramKind}
 use Rattle.publication_sender.specs.declared.cutting.Pace.{Pace}
@@ -58,6 +59,15 @@ pub some_turn : (pace : Pace) (now : ℕ) (lingers : Bool) (w : AnyWhole) (kind 
     → (bytes : List ℕ) × (turn_of pace now lingers w ≡ Some (Some bytes))
 some_turn pace now lingers (whole w) kind is = (bytes_as lingers w kind, some_by (is_udp w.ident.kind) pace now lingers w kind is)
 some_turn pace now lingers (rebuilt r) kind is = absurd (cc is)
+
+-- ---- what is due of a publication's log is due of any whole log that it stands for
+
+due_by : (b : Bool) (due : Option DatagramKind) (kind : DatagramKind) → Some (Some kind) ≡ cond b (Some due) None → Some kind ≡ due
+due_by true due kind is = cc is
+due_by false due kind is = absurd (cc is)
+
+pub due_held : (pace : Pace) (now : ℕ) (log : Log) (kind : DatagramKind) → Dues (Term log) pace now (Some (Some kind)) → IsDue pace now log (Some kind)
+due_held pace now log kind dues = record { on = λ w s. due_by (is_udp w.ident.kind) (due_of pace now w) kind (dues.on (whole w) s) }
 
 -- ---- frames are copied where they are due
 

@@ -129,6 +129,7 @@ impl AnyLog {
     ///
     /// # Errors
     /// Without memory for the words nothing is changed.
+    #[inline(always)]
     pub fn receive(
         &mut self,
         alloc: Global,

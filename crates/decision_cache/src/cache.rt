@@ -4,7 +4,7 @@ ghost use Rattle.policy_core.specs.Question.{Question, question_of};
 ghost use Rattle.policy_core.specs.RuleList.{Rules};
 ghost use Rattle.policy_core.specs.Rules.{verdict_of};
 ghost use Rattle.policy_core.specs.declared.verdict.Verdict.{Verdict};
-ghost use Rattle.std.specs.Prelude.{◌≡◌, ◌≤◌, ℕ, List, [], IfOk, length};
+ghost use Rattle.std.specs.Prelude.{◌≡◌, ◌≤◌, ℕ, List, [], Contains, IfOk, IfSome, length};
 
 use crate::deciding::Decides;
 use crate::key::Key;
@@ -49,6 +49,16 @@ impl Cache {
         self.entries.len()
     }
 
+    /// The verdict under the key, where that was asked for last: then its place in the order stays.
+    fn latest(&self, key: Key) -> Option<Verdict>
+        ensures { IfSome result (λ verdict. Contains self.now (key, verdict)) }
+    {
+        match self.entries.peek_mru() {
+            Some((held, verdict)) => { if *held == key { Some(*verdict) } else { None } }
+            None => None,
+        }
+    }
+
     /// What the policy decides of `request`, which acts on the subject of this number: from the cache where it is there.
     /// Else the verdict is left in the cache, if there is memory for it; the answer is the same where there is none.
     pub fn verdict<P: Decides>(
@@ -70,6 +80,9 @@ impl Cache {
             principal: request.principal,
             act: request.act,
         };
+        if let Some(found) = self.latest(key) {
+            return found;
+        }
         if let Some(found) = self.entries.get(&key) {
             return *found;
         }

@@ -1,7 +1,8 @@
 //! Steps of actors on the open logs, by whichever registry is shown.
 
 ghost use Rattle.driver_core.specs.LogRequests.{offering_of};
-ghost use Rattle.driver_steps.specs.declared.answer.Answer.TheVariants.{Gone, NoMemory};
+ghost use Rattle.driver_steps.specs.declared.answer.Answer.TheVariants.{Gone, NoMemory, Offered as OfferedAs};
+ghost use Rattle.driver_steps.specs.declared.answer.Offered.TheVariants.{Closed};
 ghost use Rattle.driver_steps.specs.Decided.{DecidesAs, DecidesUnless, offer_decided, poll_decided};
 ghost use Rattle.driver_steps.specs.Ends.{on_log, on_offered_by};
 ghost use Rattle.driver_steps.specs.Moves.{poll_move};
@@ -22,12 +23,24 @@ use driver_core::{Address, Astray, View};
 use frame_codec::Packet;
 use std::alloc::Global;
 
-/// A step was refused memory.
+/// A step was refused memory. It is told by a call of its own, so that what the other steps are told is not copied once more.
+#[inline(never)]
 fn refused() -> Told
     ensures { result ≡ record { answer = NoMemory; decision = None } }
 {
     Told {
         answer: Answer::NoMemory,
+        decision: None,
+    }
+}
+
+/// The client has no such registration. As [`refused`], by a call of its own.
+#[inline(never)]
+fn unregistered() -> Told
+    ensures { result ≡ record { answer = OfferedAs Closed; decision = None } }
+{
+    Told {
+        answer: Answer::Offered(Offered::Closed),
         decision: None,
     }
 }
@@ -50,10 +63,7 @@ pub(crate) fn offer_by<V: View, A: Asks>(
 {
     match asker.offering(view.registry(), client, registration) {
         Some(request) => logs.offer(view, now, client, registration, &request, message),
-        None => Told {
-            answer: Answer::Offered(Offered::Closed),
-            decision: None,
-        },
+        None => unregistered(),
     }
 }
 
@@ -116,6 +126,7 @@ pub(crate) fn report_by<V: View>(
 
 /// A datagram came from the address `from`, of which the registry says that. The decision is told where the log is open that
 /// it is for, whatever comes of it.
+#[inline(always)]
 pub(crate) fn packet_by(
     logs: &mut OpenLogs,
     alloc: Global,

@@ -166,6 +166,7 @@ impl Driver {
     }
 
     /// A datagram came to the address `local`, from the address `from`, that is no SETUP.
+    #[inline(always)]
     fn packet(
         &mut self,
         alloc: Global,
@@ -202,6 +203,7 @@ impl Driver {
     /// their session and stream, whatever address they came to. A SETUP is an event: it is handed back, and nothing is
     /// changed. `read` is what [`Datagram::read`](frame_codec::Datagram::read) says of the bytes: whoever calls asked it whose step
     /// this is.
+    #[inline(always)]
     pub fn datagram(
         &mut self,
         alloc: Global,

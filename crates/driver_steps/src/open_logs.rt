@@ -284,6 +284,7 @@ impl OpenLogs {
     }
 
     /// A datagram comes to the first log of the source that it is for, as [`packet_step`] says.
+    #[inline(always)]
     pub(crate) fn packet(
         &mut self,
         alloc: Global,

@@ -1,4 +1,7 @@
 //! A datagram that comes to an open log: data, a heartbeat, a NAK or a status message.
+//!
+//! Each call on its way is made in place (`inline`), so that for each kind of datagram only what that kind may be answered is
+//! handed on.
 
 ghost use Rattle.any_log.specs.Held.{made_held};
 ghost use Rattle.driver_steps.specs.Decided.{Decides, decision_for};
@@ -31,6 +34,7 @@ pub struct PacketRequest {
 }
 
 /// What comes of an image.
+#[inline(always)]
 fn of_stream(
     registry: &Registry,
     local: &Address,
@@ -96,6 +100,7 @@ fn of_told(source: Option<u64>) -> Result<PacketRequest, Astray>
 /// shows says. Data and a heartbeat are for the image of that address, session and stream, where they are from its publisher;
 /// a NAK and a status message are for the publication of their session and stream, whatever address they came to. A SETUP is
 /// for none.
+#[inline(always)]
 pub fn packet_request<V: View>(
     view: &V,
     local: &Address,
@@ -158,6 +163,7 @@ fn unheard() -> Answer
 }
 
 /// The datagram comes to the log that it is for.
+#[inline(always)]
 fn take_packet(
     log: &mut OpenLog,
     alloc: Global,
@@ -194,6 +200,7 @@ fn take_packet(
 ///
 /// # Errors
 /// Nothing is changed where there is no memory for the words or the datagrams. Any other answer takes none.
+#[inline(always)]
 pub fn packet_step(
     log: &mut OpenLog,
     alloc: Global,

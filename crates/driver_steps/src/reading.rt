@@ -115,6 +115,7 @@ impl Driver {
     }
 
     /// [`Driver::datagram`] or [`Driver::datagram_seen`].
+    #[inline(always)]
     pub fn datagram_read(
         &mut self,
         older: Option<&Registry>,

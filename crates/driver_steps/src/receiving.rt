@@ -17,6 +17,7 @@ use std::alloc::{AllocError, Global};
 ///
 /// # Errors
 /// Nothing is changed where there is no memory for a word for each frame.
+#[inline(always)]
 pub(crate) fn receive_step(
     log: &mut OpenLog,
     alloc: Global,

@@ -42,6 +42,7 @@ fn answer_asked(from: &Address, reply: Option<NakReply>) -> Answer
 ///
 /// # Errors
 /// Nothing is changed where there is no memory for the datagrams. Any other answer takes none.
+#[inline(never)]
 pub(crate) fn nak_step(
     log: &mut OpenLog,
     alloc: Global,

@@ -23,7 +23,8 @@ use frame_codec::{BadPacket, Packet, frames_are_of_one_term, frames_are_told};
 use std::alloc::Global;
 
 impl Driver {
-    /// As [`Driver::offer`], by the registry that the view shows.
+    /// As [`Driver::offer`], by the registry that the view shows. A call of its own, since few offers go by it.
+    #[inline(never)]
     pub fn offer_seen<V: View>(
         &mut self,
         view: &V,
@@ -46,7 +47,8 @@ impl Driver {
         )
     }
 
-    /// As [`Driver::poll`], by the registry that the view shows.
+    /// As [`Driver::poll`], by the registry that the view shows. A call of its own, as [`Driver::offer_seen`] is.
+    #[inline(never)]
     pub fn poll_seen<V: View>(
         &mut self,
         view: &V,

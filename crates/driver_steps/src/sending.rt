@@ -57,9 +57,9 @@ fn send_own<V: View>(
     match log.log.due(now, &pace) {
         None => Ok(Answer::Gone),
         Some(None) => Ok(Answer::Idle),
-        Some(Some(_)) => {
+        Some(Some(kind)) => {
             let outlets = registry.outlets(alloc, log.source)?;
-            let turn = log.log.turn(alloc, now, &pace, lingers)?;
+            let turn = log.log.turn(alloc, now, &pace, lingers, kind)?;
             Ok(answer_sent(outlets, turn))
         }
     }

@@ -157,6 +157,7 @@ impl World {
     ///
     /// # Errors
     /// The answer of the step, where it may not look there, or there is no memory for the registry.
+    #[inline(always)]
     fn look(&mut self, alloc: Global, actor: Actor, view: Option<u64>) -> Result<Look, Answer>
         ensures same { self.new ≡ self.old }
         ensures ok { IfOk result (λ look. IsLook self.old.past (seat_of actor self.old.seats) view look) }
@@ -185,6 +186,7 @@ impl World {
 
     /// The actor took a step by that look, at that moment. One that was refused memory leaves it where it stood. The registry
     /// is kept for it, where it is not the newest.
+    #[inline(always)]
     fn sit(&mut self, actor: Actor, look: Look, now: u64, answer: &Answer)
         requires { IsShown self.old.past look.older }
         ensures { Sits self.old self.new actor look.view now answer.now }
@@ -265,7 +267,9 @@ impl World {
         self.conduct_at(alloc, view, &event)
     }
 
-    /// The sender or the receiver takes a datagram, of which `read` is what it holds.
+    /// The sender or the receiver takes a datagram, of which `read` is what it holds. It is made once for each kind of datagram,
+    /// so that each has the answers of its own kind alone.
+    #[inline(always)]
     fn take(
         &mut self,
         alloc: Global,

@@ -17,11 +17,11 @@ returns-in_err-outlets-in-Some-Some-clause-without_memory g c =
     let lets : sending_of s held.source ≡ Some c.in-Some.lingers = search rules in
     let settings : c.settings.result ≡ s.settings = search rules in
     let pace : c.pace_of-pace.result ≡ pace_of s.settings = c.pace_of-pace.ensures ∙ ap pace_of settings in
-    let due : Dues held.log c.pace_of-pace.result c.args.now (Some (Some c.in-Some-Some.field-0-0)) = search rules in
+    let due : Dues held.log c.pace_of-pace.result c.args.now (Some (Some c.in-Some-Some.kind)) = search rules in
     rw (← c.log.view_is)
     (err_given (Gives (send_move s c.args.now) held)
-    (send_gives s c.args.now held c.in-Some.lingers c.in-Some-Some.field-0-0 lets
-    (subst (λ (p : Pace). Dues held.log p c.args.now (Some (Some c.in-Some-Some.field-0-0))) pace due))
+    (send_gives s c.args.now held c.in-Some.lingers c.in-Some-Some.kind lets
+    (subst (λ (p : Pace). Dues held.log p c.args.now (Some (Some c.in-Some-Some.kind))) pace due))
     c.from_residual.result)
 
 pub returns-in_err-turn-in-Some-Some-clause-without_memory :
@@ -32,11 +32,11 @@ returns-in_err-turn-in-Some-Some-clause-without_memory g c =
     let lets : sending_of s held.source ≡ Some c.in-Some.lingers = search rules in
     let settings : c.settings.result ≡ s.settings = search rules in
     let pace : c.pace_of-pace.result ≡ pace_of s.settings = c.pace_of-pace.ensures ∙ ap pace_of settings in
-    let due : Dues held.log c.pace_of-pace.result c.args.now (Some (Some c.in-Some-Some.field-0-0)) = search rules in
+    let due : Dues held.log c.pace_of-pace.result c.args.now (Some (Some c.in-Some-Some.kind)) = search rules in
     rw (← c.log.view_is)
     (err_given (Gives (send_move s c.args.now) held)
-    (send_gives s c.args.now held c.in-Some.lingers c.in-Some-Some.field-0-0 lets
-    (subst (λ (p : Pace). Dues held.log p c.args.now (Some (Some c.in-Some-Some.field-0-0))) pace due))
+    (send_gives s c.args.now held c.in-Some.lingers c.in-Some-Some.kind lets
+    (subst (λ (p : Pace). Dues held.log p c.args.now (Some (Some c.in-Some-Some.kind))) pace due))
     c.from_residual-in_err-turn-in-Some-Some.result)
 
 pub returns-in-Some-None-clause-does : goal.returns-in-Some-None-clause-does

@@ -1,4 +1,4 @@
-use Rattle.std.proofs.Common.{◌≡◌, ◌⊎◌, ℕ, List, Contains, subst, inl, inr, ⊎_elim}
+use Rattle.std.proofs.Common.{◌≡◌, ◌⊎◌, ℕ, List, Option, Contains, IfSome, subst, inl, inr, ⊎_elim}
 use Rattle.policy_core.specs.Question.{question_of}
 use Rattle.policy_core.specs.declared.verdict.Verdict.{Verdict}
 use Rattle.decision_cache.specs.declared.key.Key.{Key}
@@ -10,13 +10,24 @@ use Rattle.decision_cache.proofs.cache.Cache.verdict.Goals as goal
 pub returns-in-Some-clause-verdict : goal.returns-in-Some-clause-verdict
 returns-in-Some-clause-verdict g c =
     let question = question_of c.args.request.now in
-    let viewed : c.self.inside.entries.entries ≡ c.args.self.now = c.self.view_is in
-    let there = found_is c.self.inside.entries.entries (key_of c.epoch.result c.args.subject question) c.in-Some.found.now c.in-Some.ensures.value in
-    let there' = subst (λ (es : List (Key × Verdict)). Contains es (key_of c.epoch.result c.args.subject question, c.in-Some.found.now)) viewed there in
-    c.requires c.in-Some.found.now (subst (λ (e : ℕ). Contains c.args.self.now (key_of e c.args.subject question, c.in-Some.found.now)) c.epoch.ensures there')
+    c.requires c.in-Some.found (subst (λ (e : ℕ). Contains c.args.self.now (key_of e c.args.subject question, c.in-Some.found)) c.epoch.ensures (subst (λ (r : Option Verdict). IfSome r (λ verdict. Contains c.args.self.now (key_of c.epoch.result c.args.subject question, verdict))) c.in-Some.is c.latest.ensures))
 
 pub returns-in-Some-clause-entries : goal.returns-in-Some-clause-entries
-returns-in-Some-clause-entries g c =
+returns-in-Some-clause-entries g c = λ entry there. inl there
+
+pub returns-in-Some-clause-keeps : goal.returns-in-Some-clause-keeps
+returns-in-Some-clause-keeps g c = λ policies question among same sound. sound
+
+pub returns-in-Some-get-clause-verdict : goal.returns-in-Some-get-clause-verdict
+returns-in-Some-get-clause-verdict g c =
+    let question = question_of c.args.request.now in
+    let viewed : c.self.inside.entries.entries ≡ c.args.self.now = c.self.view_is in
+    let there = found_is c.self.inside.entries.entries (key_of c.epoch.result c.args.subject question) c.in-Some-get.found.now c.in-Some-get.ensures.value in
+    let there' = subst (λ (es : List (Key × Verdict)). Contains es (key_of c.epoch.result c.args.subject question, c.in-Some-get.found.now)) viewed there in
+    c.requires c.in-Some-get.found.now (subst (λ (e : ℕ). Contains c.args.self.now (key_of e c.args.subject question, c.in-Some-get.found.now)) c.epoch.ensures there')
+
+pub returns-in-Some-get-clause-entries : goal.returns-in-Some-get-clause-entries
+returns-in-Some-get-clause-entries g c =
     let viewed : c.self.inside.entries.entries ≡ c.args.self.now = c.self.view_is in
     λ entry there.
     inl (subst (λ (es : List (Key × Verdict)). Contains es entry) viewed
@@ -37,11 +48,11 @@ returns-clause-entries g c =
     (λ is. inr is)
     added
 
-pub returns-in-Some-clause-keeps : goal.returns-in-Some-clause-keeps
-returns-in-Some-clause-keeps g c =
+pub returns-in-Some-get-clause-keeps : goal.returns-in-Some-get-clause-keeps
+returns-in-Some-get-clause-keeps g c =
     λ policies question among same sound.
     sound_kept policies question c.args.self.now c.get.follows.lender-at-none.entries _ _ c.args.subject (question_of c.args.request.now)
-    c.in-Some.found.now (returns-in-Some-clause-entries g c) (returns-in-Some-clause-verdict g c) among same sound
+    c.in-Some-get.found.now (returns-in-Some-get-clause-entries g c) (returns-in-Some-get-clause-verdict g c) among same sound
 
 pub returns-clause-keeps : goal.returns-clause-keeps
 returns-clause-keeps g c =
