@@ -1,4 +1,3 @@
-use crate::layouts::is_so;
 use byte_strings::{Bytes, ShortBytes, ShortText, Text};
 use command_codec::{
     AddCounter, AddPublication, AddSubscription, Body, Command, CommandFault, Destination, Removal,
@@ -291,26 +290,49 @@ const COMMANDS: [Row; 16] = [
     (3, 6, Plain::SetCounter(258, i64::MAX), &SET_GREATEST),
 ];
 
+/// Whether the command is written as these bytes.
+fn is_written(alloc: Global, command: &Command, bytes: &[u8]) -> bool {
+    match command.write(alloc) {
+        Ok(written) => written.as_slice() == bytes,
+        Err(_) => false,
+    }
+}
+
+/// Whether these bytes are read as the command.
+fn is_read(alloc: Global, command: &Command, bytes: &[u8]) -> bool {
+    match Command::read(alloc, bytes) {
+        Ok(read) => read == *command,
+        Err(_) => false,
+    }
+}
+
+fn is_copied(alloc: Global, command: &Command) -> bool {
+    match command.copy(alloc) {
+        Ok(copy) => copy == *command,
+        Err(_) => false,
+    }
+}
+
 /// Whether the command of the row is written as its bytes, read from them, copied, and named by its correlation id.
-fn is_row(alloc: Global, row: Row) -> Result<bool, CommandFault> {
+fn is_row(alloc: Global, row: Row) -> bool {
     let (client, correlation, plain, bytes) = row;
-    let body = body(alloc, plain)?;
+    let Ok(body) = body(alloc, plain) else {
+        return false;
+    };
     let command = Command {
         client,
         correlation,
         body,
     };
-    Ok(
-        command.write(alloc)?.as_slice() == bytes
-            && Command::read(alloc, bytes)? == command
-            && command.copy(alloc)? == command
-            && Command::correlation_of(bytes) == correlation,
-    )
+    is_written(alloc, &command, bytes)
+        && is_read(alloc, &command, bytes)
+        && is_copied(alloc, &command)
+        && Command::correlation_of(bytes) == correlation
 }
 
 fn are_rows(alloc: Global, rows: &[Row]) -> bool {
     for &row in rows {
-        if !is_so(is_row(alloc, row)) {
+        if !is_row(alloc, row) {
             return false;
         }
     }

@@ -3,14 +3,6 @@
 use command_codec::{CommandFault, Reply};
 use std::alloc::{AllocError, Global};
 
-/// Whether it came about.
-pub(crate) fn is_so(answered: Result<bool, CommandFault>) -> bool {
-    match answered {
-        Ok(so) => so,
-        Err(_) => false,
-    }
-}
-
 /// Why the bytes are no reply; none where they are one.
 pub(crate) fn reply_fault(alloc: Global, bytes: &[u8]) -> Option<CommandFault> {
     match Reply::read(alloc, bytes) {

@@ -1,4 +1,4 @@
-use crate::layouts::{changed, each_front_is_a_malformed_reply, is_so, longer, reply_fault};
+use crate::layouts::{changed, each_front_is_a_malformed_reply, longer, reply_fault};
 use byte_strings::Text;
 use command_codec::{
     AvailableImage, ClientTimeout, CommandFault, CounterReady, ErrorCode, ErrorReply,
@@ -213,56 +213,69 @@ const REPLIES: [Row; 11] = [
     (Plain::ClientTimeout(258), &TIMEOUT),
 ];
 
-/// Whether the reply of the row is written as its bytes, read from them, and copied.
-fn is_row(alloc: Global, row: Row) -> Result<bool, CommandFault> {
-    let (plain, bytes) = row;
-    let reply = reply(alloc, plain)?;
-    Ok(
-        reply.write(alloc)?.as_slice() == bytes
-            && Reply::read(alloc, bytes)? == reply
-            && reply.copy(alloc)? == reply,
-    )
+/// Whether the reply is written as these bytes.
+fn is_written(alloc: Global, reply: &Reply, bytes: &[u8]) -> bool {
+    match reply.write(alloc) {
+        Ok(written) => written.as_slice() == bytes,
+        Err(_) => false,
+    }
 }
 
+/// Whether these bytes are read as the reply.
+fn is_read(alloc: Global, reply: &Reply, bytes: &[u8]) -> bool {
+    match Reply::read(alloc, bytes) {
+        Ok(read) => read == *reply,
+        Err(_) => false,
+    }
+}
+
+fn is_copied(alloc: Global, reply: &Reply) -> bool {
+    match reply.copy(alloc) {
+        Ok(copy) => copy == *reply,
+        Err(_) => false,
+    }
+}
+
+/// Whether the reply of the row is written as its bytes, read from them, and copied.
+fn is_row(alloc: Global, row: Row) -> bool {
+    let (plain, bytes) = row;
+    match reply(alloc, plain) {
+        Ok(reply) => {
+            is_written(alloc, &reply, bytes)
+                && is_read(alloc, &reply, bytes)
+                && is_copied(alloc, &reply)
+        }
+        Err(_) => false,
+    }
+}
+
+/// Whether the bytes with another one, a zero, are no reply because of a field, nor is a front of them.
+fn is_whole(alloc: Global, bytes: &[u8]) -> bool {
+    match longer(alloc, bytes) {
+        Ok(longer) => {
+            each_front_is_a_malformed_reply(alloc, bytes)
+                && reply_fault(alloc, longer.as_slice()) == Some(CommandFault::Malformed)
+        }
+        Err(_) => false,
+    }
+}
+
+/// Whether the bytes of each row are those of its reply, to their end.
 fn are_rows(alloc: Global, rows: &[Row]) -> bool {
-    for &row in rows {
-        if !is_so(is_row(alloc, row)) {
+    for &(plain, bytes) in rows {
+        if !is_row(alloc, (plain, bytes)) || !is_whole(alloc, bytes) {
             return false;
         }
     }
     true
 }
 
-/// With ample memory.
+/// No front of a reply is one, and neither is a reply with another byte. With ample memory.
 #[test]
 fn replies_have_their_bytes(rt: HostRuntime) {
     assert!(rt; are_rows(rt.alloc(), &REPLIES));
     assert!(rt; !are_rows(rt.alloc(), &[(Plain::OperationSuccess(12), &SUCCESS)]));
-}
-
-/// Whether the bytes with another one, a zero, are no reply because of a field, nor is a front of them.
-fn is_whole(alloc: Global, bytes: &[u8]) -> Result<bool, CommandFault> {
-    let longer = longer(alloc, bytes)?;
-    Ok(
-        each_front_is_a_malformed_reply(alloc, bytes)
-            && reply_fault(alloc, longer.as_slice()) == Some(CommandFault::Malformed),
-    )
-}
-
-fn are_whole(alloc: Global, rows: &[Row]) -> bool {
-    for &(_, bytes) in rows {
-        if !is_so(is_whole(alloc, bytes)) {
-            return false;
-        }
-    }
-    true
-}
-
-/// No front of a reply is one, and neither is a reply with another byte.
-#[test]
-fn replies_end_with_their_bytes(rt: HostRuntime) {
-    assert!(rt; are_whole(rt.alloc(), &REPLIES));
-    assert!(rt; !are_whole(rt.alloc(), &[(Plain::OperationSuccess(13), &LONGER)]));
+    assert!(rt; !is_whole(rt.alloc(), &LONGER));
     assert!(rt; !each_front_is_a_malformed_reply(rt.alloc(), &LONGER));
 }
 
@@ -282,15 +295,17 @@ const CHANGED: [ChangedRow; 7] = [
 ];
 
 /// Whether the bytes with another one at a place have this fault.
-fn is_faulty_at(alloc: Global, row: ChangedRow) -> Result<bool, CommandFault> {
+fn is_faulty_at(alloc: Global, row: ChangedRow) -> bool {
     let (bytes, place, byte, fault) = row;
-    let changed = changed(alloc, bytes, place, byte)?;
-    Ok(reply_fault(alloc, changed.as_slice()) == Some(fault))
+    match changed(alloc, bytes, place, byte) {
+        Ok(changed) => reply_fault(alloc, changed.as_slice()) == Some(fault),
+        Err(_) => false,
+    }
 }
 
 fn are_faulty_there(alloc: Global, rows: &[ChangedRow]) -> bool {
     for &row in rows {
-        if !is_so(is_faulty_at(alloc, row)) {
+        if !is_faulty_at(alloc, row) {
             return false;
         }
     }

@@ -4,25 +4,28 @@ ghost use Rattle.log_arena_tests.specs.Leases.{AllOf};
 use log_arena::{Arena, Lease, NoRoom, PAGE};
 use std::alloc::{AllocError, Global};
 
-/// Takes `steps` steps in an arena without a lease, beside a page table of `listed` pages. Whether the holes were those of
-/// the page table after each, and the bytes used and free were its counts. The leases that are left then are dropped, so
-/// the arena stays as the last step left it.
-pub fn churn(
+/// Takes `steps` steps in an arena without a lease, beside a page table of `listed` pages. How many leases that took; none
+/// where after some step the holes weren't those of the page table, or the bytes used and free not its counts. The leases
+/// that are left then are dropped, so the arena stays as the last step left it.
+pub(crate) fn churn(
     alloc: Global,
     arena: &mut Arena,
     listed: usize,
     steps: u32,
-) -> Result<bool, AllocError> {
+) -> Result<Option<u32>, AllocError> {
     let mut leases = Vec::new(alloc);
     let mut table = Vec::from_elem(alloc, false, listed)?;
     let mut word = 1;
+    let mut taken: u32 = 0;
     let mut same = true;
     for _ in 0..steps {
         word = next(word);
-        step(arena, &mut leases, &mut table, word)?;
+        if step(arena, &mut leases, &mut table, word)? {
+            taken = taken.wrapping_add(1);
+        }
         same &= agrees(alloc, arena, &table)?;
     }
-    Ok(same)
+    Ok(if same { Some(taken) } else { None })
 }
 
 // The next word of a linear congruence, as the C standard's example has it, but for 64 bits (Knuth's MMIX).
@@ -31,13 +34,13 @@ fn next(word: u64) -> u64 {
         .wrapping_add(1442695040888963407)
 }
 
-// Leases 1 to 5 pages, or gives a lease back.
+// Leases 1 to 5 pages, or gives a lease back. Whether a lease was taken.
 fn step(
     arena: &mut Arena,
     leases: &mut Vec<Lease>,
     table: &mut Vec<bool>,
     word: u64,
-) -> Result<(), AllocError>
+) -> Result<bool, AllocError>
     requires { AllOf arena.old.home leases.old.items }
     ensures { AllOf arena.new.home leases.new.items }
 {
@@ -47,17 +50,17 @@ fn step(
         let count = (choice / 5 % 5 + 1) as usize;
         let lease = match arena.lease(count * PAGE) {
             Ok(lease) => lease,
-            Err(NoRoom) => return Ok(()),
+            Err(NoRoom) => return Ok(false),
         };
         mark(table, lease.place() / PAGE, count, true);
         leases.push(lease)?;
-        return Ok(());
+        return Ok(true);
     }
     let at = (choice / 25) as usize % held;
     let lease = leases.remove(at);
     mark(table, lease.place() / PAGE, lease.len() / PAGE, false);
     arena.give(lease);
-    Ok(())
+    Ok(false)
 }
 
 // Writes down whether the `count` pages from `at` on have a lease.
@@ -68,7 +71,7 @@ fn mark(table: &mut Vec<bool>, at: usize, count: usize, leased: bool) {
 }
 
 /// Whether the arena's holes, used and free bytes are those of the table.
-pub fn agrees(alloc: Global, arena: &Arena, table: &[bool]) -> Result<bool, AllocError> {
+pub(crate) fn agrees(alloc: Global, arena: &Arena, table: &[bool]) -> Result<bool, AllocError> {
     let mut holes: Vec<(usize, usize)> = Vec::new(alloc);
     let mut free: usize = 0;
     let mut all: usize = 0;

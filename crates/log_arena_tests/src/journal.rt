@@ -7,7 +7,7 @@ use log_arena::{Arena, Lease};
 
 /// Pages that are written from the front on.
 #[derive(Drop)]
-pub struct Journal {
+pub(crate) struct Journal {
     lease: Lease,
     // how many bytes were written
     written: usize,
@@ -18,14 +18,14 @@ impl Journal {
     ghost use Rattle.log_arena.specs.Lease.{IsOf, lease_bytes, lease_home, lease_len, lease_place};
 
     /// Nothing is written yet.
-    pub fn new(lease: Lease) -> Journal
+    pub(crate) fn new(lease: Lease) -> Journal
         ensures { (result.lease ≡ lease) × (result.written ≡ 0) }
     {
         Journal { lease, written: 0 }
     }
 
     /// Writes `text` behind what was written. Whether there was room; else nothing is written.
-    pub fn append(&mut self, text: &[u8]) -> bool
+    pub(crate) fn append(&mut self, text: &[u8]) -> bool
         ensures written { result ≡ true → self.new.written ≡ self.old.written + length text.now }
         ensures bytes { result ≡ true → lease_bytes self.new.lease
             ≡ take self.old.written (lease_bytes self.old.lease) ++ (text.now ++ drop self.new.written (lease_bytes self.old.lease)) }
@@ -45,14 +45,14 @@ impl Journal {
     }
 
     /// What was written.
-    pub fn text(&self) -> &[u8]
+    pub(crate) fn text(&self) -> &[u8]
         ensures { result.now ≡ take self.now.written (lease_bytes self.now.lease) }
     {
         &self.lease.bytes()[..self.written]
     }
 
     /// Gives the pages back to their arena.
-    pub fn close(self, arena: &mut Arena)
+    pub(crate) fn close(self, arena: &mut Arena)
         requires { IsOf arena.old self.lease }
         ensures { arena.new ≡ record arena.old {
           leased

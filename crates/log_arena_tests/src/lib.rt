@@ -1,13 +1,11 @@
 //! Tests of `log_arena`, and the programs that they run.
 #![tactic(auto)]
 
+#[cfg(test)]
 mod churning;
+#[cfg(test)]
 mod journal;
+#[cfg(test)]
 mod owners;
-
-pub use churning::{agrees, churn};
-pub use journal::Journal;
-pub use owners::hand_over;
-
 #[cfg(test)]
 mod tests;

@@ -6,7 +6,7 @@ ghost use Rattle.log_arena.specs.Pages.{marked};
 use log_arena::{Arena, Lease};
 
 /// Gives `old` back and leaves `new` with its holder.
-pub fn hand_over(arena: &mut Arena, old: Lease, new: Lease) -> Lease
+pub(crate) fn hand_over(arena: &mut Arena, old: Lease, new: Lease) -> Lease
     requires { IsOf arena.old old }
     ensures kept { result ≡ new }
     ensures given { arena.new ≡ record arena.old {

@@ -1,8 +1,10 @@
-use super::*;
+use crate::churning::{agrees, churn};
+use crate::journal::Journal;
+use crate::owners::hand_over;
 use log_arena::laws::{
     held_pages_have_a_lease, holes_are_the_maximal_runs, others_leave_a_lease, share_no_page,
 };
-use log_arena::{Arena, NoRoom, PAGE};
+use log_arena::{Arena, Lease, NoRoom, PAGE};
 use std::alloc::{AllocError, Global};
 use std::test::Fail;
 use std::thread;
@@ -25,15 +27,6 @@ fn is_taken_and_given(arena: &mut Arena) -> Result<bool, NoRoom> {
     arena.give(lease);
     let hole = arena.holes() == [(0, 196_608)].as_slice();
     Ok(placed && zeros && full && refused && filled && hole)
-}
-
-// An arena of three terms of 64 KiB holds one log: the next has no room until it is gone, and starts from zeros.
-#[test]
-fn place_reused_after_linger(rt: HostRuntime) -> Result<(), Fail> {
-    let mut arena = Arena::new(rt.alloc(), 48)?;
-    assert!(rt; is_taken_and_given(&mut arena)? && is_taken_and_given(&mut arena)?);
-    assert!(rt; !is_filled(&[7, 7, 6], 7) && !is_filled(&[0, 7], 7) && !is_filled(&[7], 0));
-    Ok(())
 }
 
 fn fits_and_merges(arena: &mut Arena) -> Result<bool, NoRoom> {
@@ -59,50 +52,29 @@ fn fits_and_merges(arena: &mut Arena) -> Result<bool, NoRoom> {
     Ok(placed && three && first && two && one && whole)
 }
 
-// The first hole that fits, not the best; neighbours merge.
-#[test]
-fn first_fit_and_merge(rt: HostRuntime) -> Result<(), Fail> {
-    let mut arena = Arena::new(rt.alloc(), 10)?;
-    assert!(rt; fits_and_merges(&mut arena)?);
-    Ok(())
+// How many leases are taken, and the holes that are left, were worked out beside the arena, by the same steps on a page
+// table alone; a step fewer and a step more leave other holes.
+const LEFT: [(usize, usize); 7] = [
+    (0, 2 * PAGE),
+    (17 * PAGE, 2 * PAGE),
+    (25 * PAGE, 2 * PAGE),
+    (46 * PAGE, 2 * PAGE),
+    (49 * PAGE, PAGE),
+    (57 * PAGE, 3 * PAGE),
+    (63 * PAGE, PAGE),
+];
+
+fn are_left(alloc: Global, arena: &mut Arena) -> Result<bool, AllocError> {
+    Ok(churn(alloc, arena, 64, 1001)? == Some(418) && arena.holes() == LEFT.as_slice())
 }
 
-// In an order that looks random, the holes are those of a plain page table. Those that are left were worked out beside it,
-// by the same steps on a page table alone; a step fewer and a step more leave others.
-#[test]
-fn holes_of_a_plain_page_table(rt: HostRuntime) -> Result<(), Fail> {
-    let mut arena = Arena::new(rt.alloc(), 64)?;
-    assert!(rt; churn(rt.alloc(), &mut arena, 64, 1001)?);
-    let left = [
-        (0, 2 * PAGE),
-        (17 * PAGE, 2 * PAGE),
-        (25 * PAGE, 2 * PAGE),
-        (46 * PAGE, 2 * PAGE),
-        (49 * PAGE, PAGE),
-        (57 * PAGE, 3 * PAGE),
-        (63 * PAGE, PAGE),
-    ];
-    assert!(rt; arena.holes() == left.as_slice());
-    Ok(())
+fn single_page_is_left(alloc: Global, arena: &mut Arena) -> Result<bool, AllocError> {
+    Ok(churn(alloc, arena, 1, 95)? == Some(16) && arena.holes().is_empty())
 }
 
-#[test]
-fn holes_of_a_single_page(rt: HostRuntime) -> Result<(), Fail> {
-    let mut arena = Arena::new(rt.alloc(), 1)?;
-    assert!(rt; churn(rt.alloc(), &mut arena, 1, 95)? && arena.holes().is_empty());
-    Ok(())
-}
-
-fn is_told_by(alloc: Global, listed: usize) -> Result<bool, AllocError> {
-    let mut arena = Arena::new(alloc, 64)?;
-    churn(alloc, &mut arena, listed, 10)
-}
-
-// They are not those of a page table that has a page less or more.
-#[test]
-fn holes_of_no_other_page_table(rt: HostRuntime) -> Result<(), Fail> {
-    assert!(rt; !is_told_by(rt.alloc(), 63)? && !is_told_by(rt.alloc(), 65)?);
-    Ok(())
+// Whether the holes are those of a page table of so many pages.
+fn is_told_by(alloc: Global, arena: &mut Arena, listed: usize) -> Result<bool, AllocError> {
+    Ok(churn(alloc, arena, listed, 10)?.is_some())
 }
 
 /// Page tables, and whether they are that of four pages of which the first two have a lease.
@@ -137,27 +109,6 @@ fn a_lease_moves_into_a_thread(rt: HostRuntime) -> Result<(), Fail> {
     Ok(())
 }
 
-// A lease outlives its arena, whose region is kept for it.
-#[test]
-fn a_lease_outlives_its_arena(rt: HostRuntime) -> Result<(), Fail> {
-    let mut arena = Arena::new(rt.alloc(), 4)?;
-    let mut lease = arena.lease(2 * PAGE)?;
-    drop(arena);
-    lease.bytes_mut().fill(3);
-    assert!(rt; is_filled(lease.bytes(), 3));
-    Ok(())
-}
-
-// Dropping a lease is no way to give it back.
-#[test]
-fn a_dropped_lease_keeps_its_pages(rt: HostRuntime) -> Result<(), Fail> {
-    let mut arena = Arena::new(rt.alloc(), 4)?;
-    drop(arena.lease(2 * PAGE)?);
-    assert!(rt; arena.used() == 2 * PAGE && arena.holes() == [(2 * PAGE, 2 * PAGE)].as_slice());
-    assert!(rt; tells_tables(rt.alloc(), &arena)?);
-    Ok(())
-}
-
 fn journal_writes(arena: &mut Arena) -> Result<bool, NoRoom> {
     let first = arena.lease(PAGE)?;
     let lease = arena.lease(PAGE)?;
@@ -174,15 +125,6 @@ fn journal_writes(arena: &mut Arena) -> Result<bool, NoRoom> {
     Ok(one && two && text && full && same && placed && given)
 }
 
-// A holder of a lease writes into it, and gives it back.
-#[test]
-fn a_journal_gives_its_pages_back(rt: HostRuntime) -> Result<(), Fail> {
-    let mut arena = Arena::new(rt.alloc(), 4)?;
-    assert!(rt; journal_writes(&mut arena)?);
-    holes_are_the_maximal_runs();
-    Ok(())
-}
-
 fn change_hands(arena: &mut Arena) -> Result<bool, NoRoom> {
     let a = arena.lease(PAGE)?;
     let b = arena.lease(PAGE)?;
@@ -195,9 +137,105 @@ fn change_hands(arena: &mut Arena) -> Result<bool, NoRoom> {
     Ok(placed && d.is_err() && is_filled(b.bytes(), 9))
 }
 
+fn lease_is_dropped(arena: &mut Arena) -> bool {
+    let leased = arena.lease(2 * PAGE).is_ok();
+    leased && arena.used() == 2 * PAGE && arena.holes() == [(2 * PAGE, 2 * PAGE)].as_slice()
+}
+
+/// What an arena shows.
+#[derive(Clone, Copy)]
+enum Case {
+    /// Of three terms of 64 KiB, it holds one log: the next has no room until it is gone, and starts from zeros.
+    PlaceIsReused,
+    /// The first hole that fits, not the best; neighbours merge.
+    FirstFitAndMerge,
+    /// In an order that looks random, the holes are those of a plain page table.
+    PlainPageTable,
+    SinglePage,
+    /// They are not those of a page table that has a page less or more.
+    PageLess,
+    PageMore,
+    /// Dropping a lease is no way to give it back.
+    DroppedLease,
+    /// A holder of a lease writes into it, and gives it back.
+    Journal,
+    LeasesChangeHands,
+}
+
+/// Whether an arena without a lease goes as the case says.
+fn goes(alloc: Global, arena: &mut Arena, case: Case) -> bool {
+    match case {
+        Case::PlaceIsReused => {
+            is_taken_and_given(arena) == Ok(true) && is_taken_and_given(arena) == Ok(true)
+        }
+        Case::FirstFitAndMerge => fits_and_merges(arena) == Ok(true),
+        Case::PlainPageTable => are_left(alloc, arena) == Ok(true),
+        Case::SinglePage => single_page_is_left(alloc, arena) == Ok(true),
+        Case::PageLess => is_told_by(alloc, arena, 63) == Ok(false),
+        Case::PageMore => is_told_by(alloc, arena, 65) == Ok(false),
+        Case::DroppedLease => lease_is_dropped(arena) && tells_tables(alloc, arena) == Ok(true),
+        Case::Journal => journal_writes(arena) == Ok(true),
+        Case::LeasesChangeHands => change_hands(arena) == Ok(true),
+    }
+}
+
+/// How many pages an arena has, and what it shows.
+const CASES: [(usize, Case); 9] = [
+    (48, Case::PlaceIsReused),
+    (10, Case::FirstFitAndMerge),
+    (64, Case::PlainPageTable),
+    (1, Case::SinglePage),
+    (64, Case::PageLess),
+    (64, Case::PageMore),
+    (4, Case::DroppedLease),
+    (4, Case::Journal),
+    (3, Case::LeasesChangeHands),
+];
+
+/// Whether an arena of so many pages goes as the case says; false without memory.
+fn is_shown(alloc: Global, pages: usize, case: Case) -> bool {
+    if pages == 0 || pages > 65_536 {
+        return false;
+    }
+    match Arena::new(alloc, pages) {
+        Ok(mut arena) => goes(alloc, &mut arena, case),
+        Err(_) => false,
+    }
+}
+
+fn are_shown(alloc: Global, cases: &[(usize, Case)]) -> bool {
+    for &(pages, case) in cases {
+        if !is_shown(alloc, pages, case) {
+            return false;
+        }
+    }
+    true
+}
+
 #[test]
-fn leases_change_hands(rt: HostRuntime) -> Result<(), Fail> {
-    let mut arena = Arena::new(rt.alloc(), 3)?;
-    assert!(rt; change_hands(&mut arena)?);
-    Ok(())
+fn arenas_go_as_they_should(rt: HostRuntime) {
+    assert!(rt; are_shown(rt.alloc(), &CASES));
+    assert!(rt; !is_filled(&[7, 7, 6], 7) && !is_filled(&[0, 7], 7) && !is_filled(&[7], 0));
+    holes_are_the_maximal_runs();
+}
+
+fn lease_of_two(alloc: Global) -> Option<Lease> {
+    let mut arena = Arena::new(alloc, 4).ok()?;
+    arena.lease(2 * PAGE).ok()
+}
+
+// A lease outlives its arena, whose region is kept for it.
+fn lease_outlives_its_arena(alloc: Global) -> bool {
+    match lease_of_two(alloc) {
+        Some(mut lease) => {
+            lease.bytes_mut().fill(3);
+            is_filled(lease.bytes(), 3)
+        }
+        None => false,
+    }
+}
+
+#[test]
+fn a_lease_outlives_its_arena(rt: HostRuntime) {
+    assert!(rt; lease_outlives_its_arena(rt.alloc()));
 }

@@ -1,11 +1,9 @@
 //! The pairs of what is about to come.
 
-use crate::play::{Play, all_allowed, image_denied, pair, wanted};
+use crate::play::{Play, pair, wanted};
 use channel_uri::Channel;
 use log_readers::{logs_read, pairs_of_log, pairs_of_subscription, readers_of};
-use policy_core::Policy;
 use std::alloc::Global;
-use std::test::Fail;
 use stream_registry::{Pair, Wish};
 
 /// Whether a subscription of this client would have these pairs.
@@ -24,21 +22,12 @@ fn would_read(alloc: Global, play: &Play, client: u64, pairs: &[Pair]) -> bool {
     }
 }
 
-/// Whether subscriptions of the two clients would have these pairs, where `image` is denied to the second.
-fn subscriptions_would_read(alloc: Global, first: &[Pair], second: &[Pair]) -> Result<bool, Fail> {
-    let mut play = Play::new(alloc, image_denied(alloc)?)?;
-    Ok(
-        play.publishes(3, 1)
-            && play.publishes(4, 2)
-            && would_read(alloc, &play, 1, first)
-            && would_read(alloc, &play, 2, second),
-    )
-}
-
-#[test]
-fn a_subscription_has_pairs(rt: HostRuntime) -> Result<(), Fail> {
-    assert!(rt; subscriptions_would_read(rt.alloc(), &[pair(3, 9), pair(4, 9)], &[])?);
-    Ok(())
+/// Whether subscriptions of the two clients would have their pairs, where `image` is denied to the second.
+pub(crate) fn subscriptions_would_read(alloc: Global, play: &mut Play) -> bool {
+    play.publishes(3, 1)
+        && play.publishes(4, 2)
+        && would_read(alloc, play, 1, &[pair(3, 9), pair(4, 9)])
+        && would_read(alloc, play, 2, &[])
 }
 
 /// Whether a log would have these pairs.
@@ -51,17 +40,7 @@ fn would_be_read(alloc: Global, play: &Play, pairs: &[Pair]) -> bool {
     }
 }
 
-/// Whether a log would have these pairs beside two subscriptions, under this policy.
-fn is_read_under(alloc: Global, policy: Policy, pairs: &[Pair]) -> Result<bool, Fail> {
-    let mut play = Play::new(alloc, policy)?;
-    Ok(play.subscribes(1, 1) && play.subscribes(2, 2) && would_be_read(alloc, &play, pairs))
-}
-
-#[test]
-fn a_log_has_pairs(rt: HostRuntime) -> Result<(), Fail> {
-    let denied = image_denied(rt.alloc())?;
-    assert!(rt; is_read_under(rt.alloc(), denied, &[pair(9, 1)])?);
-    let all = all_allowed(rt.alloc())?;
-    assert!(rt; is_read_under(rt.alloc(), all, &[pair(9, 1), pair(9, 2)])?);
-    Ok(())
+/// Whether a log would have these pairs beside two subscriptions.
+pub(crate) fn is_read_beside_two(alloc: Global, play: &mut Play, pairs: &[Pair]) -> bool {
+    play.subscribes(1, 1) && play.subscribes(2, 2) && would_be_read(alloc, play, pairs)
 }

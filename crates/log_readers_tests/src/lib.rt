@@ -10,4 +10,6 @@ mod play;
 #[cfg(test)]
 mod reloading;
 #[cfg(test)]
+mod tests;
+#[cfg(test)]
 mod unread;

@@ -1,13 +1,12 @@
 //! Lists and their readers that tests play with, all on stream 10.
 
 use byte_strings::ShortText;
-use channel_uri::{Channel, Pattern};
+use channel_uri::{Channel, Pattern, UriError};
 use client_registry::Clients;
 use log_readers::Readers;
 use policy_core::{Act, Acts, Policy, Principals, Rule};
 use std::alloc::{AllocError, Global};
 use std::marker::Model;
-use std::test::Fail;
 use stream_registry::{ImageWanted, LogPlace, Measures, Pair, Streams, Wanted, Wish};
 
 /// How long a log lingers.
@@ -51,13 +50,13 @@ pub(crate) fn wanted() -> Wanted {
 }
 
 /// Allows everything.
-pub(crate) fn all_allowed(alloc: Global) -> Result<Policy, AllocError> {
+fn all_allowed(alloc: Global) -> Result<Policy, AllocError> {
     Policy::new(Vec::new(alloc), true)
 }
 
-/// Allows everything but `image` to principal 2.
-pub(crate) fn image_denied(alloc: Global) -> Result<Policy, Fail> {
-    let rule = Rule {
+/// Denies `image` to principal 2.
+fn image_rule() -> Result<Rule, UriError> {
+    Ok(Rule {
         name: ShortText::new("images"),
         principals: Principals::One(2),
         acts: Acts::none().with(Act::Image),
@@ -65,8 +64,32 @@ pub(crate) fn image_denied(alloc: Global) -> Result<Policy, Fail> {
         low: i32::MIN,
         high: i32::MAX,
         allow: false,
-    };
-    Ok(Policy::new(vec![in alloc; rule]?, true)?)
+    })
+}
+
+/// Allows everything but `image` to principal 2.
+fn image_denied(alloc: Global) -> Result<Policy, AllocError> {
+    match image_rule() {
+        Ok(rule) => Policy::new(vec![in alloc; rule]?, true),
+        Err(_) => all_allowed(alloc),
+    }
+}
+
+/// The one, or the other.
+pub(crate) fn policy(alloc: Global, is_denied: bool) -> Result<Policy, AllocError> {
+    if is_denied {
+        image_denied(alloc)
+    } else {
+        all_allowed(alloc)
+    }
+}
+
+/// Of principals 1 and 2.
+fn two_clients(alloc: Global) -> Result<Clients, AllocError> {
+    let mut clients = Clients::new(alloc, 10)?;
+    let _first = clients.admit(1, 0);
+    let _second = clients.admit(2, 0);
+    Ok(clients)
 }
 
 impl Play {
@@ -78,17 +101,20 @@ impl Play {
             linger: LINGER,
         };
         let streams = Streams::new(alloc, defaults, 1)?;
-        let mut clients = Clients::new(alloc, 10)?;
-        let _first = clients.admit(1, 0);
-        let _second = clients.admit(2, 0);
-        let mut readers = Readers::new(alloc)?;
+        let clients = two_clients(alloc)?;
+        let readers = Readers::new(alloc)?;
+        Ok(Play::of(streams, clients, policy, readers))
+    }
+
+    /// The readers are asked from the beginning.
+    fn of(streams: Streams, clients: Clients, policy: Policy, mut readers: Readers) -> Play {
         readers.ask_again(&streams, &clients, &policy, 1);
-        Ok(Play {
+        Play {
             streams,
             clients,
             policy,
             readers,
-        })
+        }
     }
 
     /// Whether there is room for the subscription. It is there then.

@@ -1,9 +1,7 @@
 //! Images that no subscription reads.
 
-use crate::play::{Play, all_allowed};
+use crate::play::Play;
 use channel_uri::{Address, Channel, UriError};
-use std::alloc::Global;
-use std::test::Fail;
 use stream_registry::{ImageWanted, Measures};
 
 /// The log of a remote publisher.
@@ -27,9 +25,10 @@ fn wanted() -> Result<ImageWanted, UriError> {
 }
 
 /// Whether an image is told once its subscriber left, until it goes, and a publication never is.
-fn unread_image_is_told(alloc: Global) -> Result<bool, Fail> {
-    let mut play = Play::new(alloc, all_allowed(alloc)?)?;
-    let wanted = wanted()?;
+pub(crate) fn unread_image_is_told(play: &mut Play) -> bool {
+    let Ok(wanted) = wanted() else {
+        return false;
+    };
     let read = play.publishes(1, 1)
         && play.subscribes_to(2, 1, &wanted.channel)
         && play.images(3, &wanted)
@@ -38,11 +37,5 @@ fn unread_image_is_told(alloc: Global) -> Result<bool, Fail> {
     play.leaves(1);
     let told = play.reads(0) && play.has_unread(&[3]);
     play.removes_images(&[3]);
-    Ok(read && told && play.has_unread(&[]))
-}
-
-#[test]
-fn unread_images_are_told(rt: HostRuntime) -> Result<(), Fail> {
-    assert!(rt; unread_image_is_told(rt.alloc())?);
-    Ok(())
+    read && told && play.has_unread(&[])
 }

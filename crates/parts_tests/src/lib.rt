@@ -8,9 +8,15 @@ mod audits;
 #[cfg(test)]
 mod compilations;
 #[cfg(test)]
+mod desk;
+#[cfg(test)]
+mod desks;
+#[cfg(test)]
 mod destination_rows;
 #[cfg(test)]
 mod policies;
+#[cfg(test)]
+mod policy_texts;
 #[cfg(test)]
 mod resends;
 #[cfg(test)]

@@ -1,7 +1,7 @@
 //! Images: the logs of remote publishers.
 
 use crate::play::{Play, image_wanted, made};
-use std::test::Fail;
+use std::alloc::{AllocError, Global};
 use stream_registry::LogPlace;
 
 const HERE: &str = "aeron:udp?endpoint=127.0.0.1:40123";
@@ -23,16 +23,15 @@ fn four_others_subscribe(play: &mut Play) -> bool {
         && play.subscribes(9, 1, "aeron:udp?control-mode=manual")
 }
 
-#[test]
-fn images_are_read_at_their_endpoint(rt: HostRuntime) -> Result<(), Fail> {
-    let mut play = Play::new(rt.alloc())?;
-    assert!(rt;
-        two_come(&mut play) && three_subscribe(&mut play) && four_others_subscribe(&mut play)
-    );
-    assert!(rt; play.reads(1, 3) && play.reads(1, 4) && !play.reads(1, 5));
-    assert!(rt; !play.reads(1, 6) && !play.reads(1, 7) && !play.reads(1, 8) && !play.reads(1, 9));
-    assert!(rt; !play.reads(2, 3));
-    Ok(())
+fn first_image_is_read(play: &Play) -> bool {
+    play.reads(1, 3)
+        && play.reads(1, 4)
+        && !play.reads(1, 5)
+        && !play.reads(1, 6)
+        && !play.reads(1, 7)
+        && !play.reads(1, 8)
+        && !play.reads(1, 9)
+        && !play.reads(2, 3)
 }
 
 fn sessions_stay_ours(play: &mut Play) -> bool {
@@ -47,13 +46,6 @@ fn sessions_stay_ours(play: &mut Play) -> bool {
         )
 }
 
-#[test]
-fn images_take_no_session_of_ours(rt: HostRuntime) -> Result<(), Fail> {
-    let mut play = Play::new(rt.alloc())?;
-    assert!(rt; sessions_stay_ours(&mut play));
-    Ok(())
-}
-
 fn two_of_each_come(play: &mut Play) -> bool {
     play.images(1, HERE, 10, 7)
         && play.publishes(2, 1, "aeron:ipc", made(1))
@@ -61,16 +53,12 @@ fn two_of_each_come(play: &mut Play) -> bool {
         && play.publishes(4, 1, HERE, made(2))
 }
 
-#[test]
-fn slots_are_of_one_kind(rt: HostRuntime) -> Result<(), Fail> {
-    let mut play = Play::new(rt.alloc())?;
-    assert!(rt; two_of_each_come(&mut play));
-    assert!(rt; play.has_slot(1, 0) && play.has_slot(2, 0));
-    assert!(rt; play.has_slot(3, 1) && play.has_slot(4, 1));
+fn slots_are_of_one_kind_each(play: &mut Play) -> bool {
+    let first = two_of_each_come(play) && play.has_slot(1, 0) && play.has_slot(2, 0);
+    let second = play.has_slot(3, 1) && play.has_slot(4, 1);
     play.streams.remove_images(&[1, 2]);
-    assert!(rt; play.has(3, 2, 0) && play.images(5, HERE, 12, 9));
-    assert!(rt; play.has_slot(5, 0) && play.has_slot(3, 1));
-    Ok(())
+    let next = play.has(3, 2, 0) && play.images(5, HERE, 12, 9);
+    first && second && next && play.has_slot(5, 0) && play.has_slot(3, 1)
 }
 
 /// Whether the image of this session is found on the stream.
@@ -90,14 +78,11 @@ fn is_found(play: &Play, stream: i32, session: i32) -> bool {
     }
 }
 
-#[test]
-fn images_are_found_until_they_go(rt: HostRuntime) -> Result<(), Fail> {
-    let mut play = Play::new(rt.alloc())?;
-    assert!(rt; two_come(&mut play) && is_found(&play, 10, 7) && is_found(&play, 11, 8));
-    assert!(rt; !is_found(&play, 10, 8) && !is_found(&play, 11, 7));
+fn are_found_until_they_go(play: &mut Play) -> bool {
+    let found = two_come(play) && is_found(play, 10, 7) && is_found(play, 11, 8);
+    let others = is_found(play, 10, 8) || is_found(play, 11, 7);
     play.streams.remove_images(&[1]);
-    assert!(rt; !is_found(&play, 10, 7) && is_found(&play, 11, 8));
-    Ok(())
+    found && !others && !is_found(play, 10, 7) && is_found(play, 11, 8)
 }
 
 /// Where an image would go in an arena of so many pages.
@@ -108,32 +93,83 @@ fn goes_to(play: &Play, arena_pages: u32, place: Option<u64>) -> bool {
     }
 }
 
-#[test]
-fn images_have_pages_of_their_own(rt: HostRuntime) -> Result<(), Fail> {
-    let mut play = Play::new(rt.alloc())?;
-    assert!(rt; goes_to(&play, 48, Some(0)) && play.makes(1, 96, "aeron:ipc", 0));
-    assert!(rt; goes_to(&play, 96, Some(48)) && goes_to(&play, 95, None));
-    Ok(())
+fn have_pages_of_their_own(play: &mut Play) -> bool {
+    goes_to(play, 48, Some(0))
+        && play.makes(1, 96, "aeron:ipc", 0)
+        && goes_to(play, 96, Some(48))
+        && goes_to(play, 95, None)
 }
 
-#[test]
-fn images_do_not_linger(rt: HostRuntime) -> Result<(), Fail> {
-    let mut play = Play::new(rt.alloc())?;
-    assert!(rt; two_come(&mut play));
+fn do_not_linger(play: &mut Play) -> bool {
+    let came = two_come(play);
     play.streams.client_left(1, 0);
-    assert!(rt; play.lingers(1, None) && play.closes(u64::MAX, &[]) && play.has(2, 0, 0));
-    Ok(())
+    came && play.lingers(1, None) && play.closes(u64::MAX, &[]) && play.has(2, 0, 0)
 }
 
-#[test]
-fn silent_images_close(rt: HostRuntime) -> Result<(), Fail> {
-    let mut play = Play::new(rt.alloc())?;
+fn close_when_silent(play: &mut Play) -> bool {
     let first = LogPlace {
         source: 1,
         place: 1,
     };
-    assert!(rt; two_come(&mut play) && play.publishes(3, 1, "aeron:ipc", made(1)));
-    assert!(rt; play.closes_silent(0, &[1, 3], &[first]));
-    assert!(rt; !is_found(&play, 10, 7) && is_found(&play, 11, 8) && play.lingers(3, None));
-    Ok(())
+    two_come(play)
+        && play.publishes(3, 1, "aeron:ipc", made(1))
+        && play.closes_silent(0, &[1, 3], &[first])
+        && !is_found(play, 10, 7)
+        && is_found(play, 11, 8)
+        && play.lingers(3, None)
+}
+
+/// What images do.
+#[derive(Clone, Copy)]
+enum Case {
+    AreReadAtTheirEndpoint,
+    TakeNoSessionOfOurs,
+    HaveSlotsOfOneKind,
+    AreFoundUntilTheyGo,
+    HavePagesOfTheirOwn,
+    DoNotLinger,
+    CloseWhenSilent,
+}
+
+/// Whether a play in which nothing happened yet goes as the case says.
+fn goes(play: &mut Play, case: Case) -> bool {
+    match case {
+        Case::AreReadAtTheirEndpoint => {
+            two_come(play)
+                && three_subscribe(play)
+                && four_others_subscribe(play)
+                && first_image_is_read(play)
+        },
+        Case::TakeNoSessionOfOurs => sessions_stay_ours(play),
+        Case::HaveSlotsOfOneKind => slots_are_of_one_kind_each(play),
+        Case::AreFoundUntilTheyGo => are_found_until_they_go(play),
+        Case::HavePagesOfTheirOwn => have_pages_of_their_own(play),
+        Case::DoNotLinger => do_not_linger(play),
+        Case::CloseWhenSilent => close_when_silent(play),
+    }
+}
+
+const CASES: [Case; 7] = [
+    Case::AreReadAtTheirEndpoint,
+    Case::TakeNoSessionOfOurs,
+    Case::HaveSlotsOfOneKind,
+    Case::AreFoundUntilTheyGo,
+    Case::HavePagesOfTheirOwn,
+    Case::DoNotLinger,
+    Case::CloseWhenSilent,
+];
+
+fn all_go(alloc: Global, cases: &[Case]) -> Result<bool, AllocError> {
+    for &case in cases {
+        let mut play = Play::new(alloc)?;
+        if !goes(&mut play, case) {
+            return Ok(false);
+        }
+    }
+    Ok(true)
+}
+
+#[test]
+fn images_are_logs_of_others(rt: HostRuntime) {
+    assert!(rt; all_go(rt.alloc(), &CASES) == Ok(true));
 }

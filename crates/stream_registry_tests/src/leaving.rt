@@ -1,7 +1,7 @@
 //! What goes, and when.
 
 use crate::play::{LINGER, Play, joined, made};
-use std::test::Fail;
+use std::alloc::{AllocError, Global};
 use stream_registry::{LogPlace, StreamFault};
 
 fn lingers_and_closes(play: &mut Play) -> bool {
@@ -23,13 +23,6 @@ fn lingers_and_closes(play: &mut Play) -> bool {
         && play.has(0, 0, 0)
 }
 
-#[test]
-fn a_log_lingers_and_then_closes(rt: HostRuntime) -> Result<(), Fail> {
-    let mut play = Play::new(rt.alloc())?;
-    assert!(rt; lingers_and_closes(&mut play));
-    Ok(())
-}
-
 fn lingering_is_not_joined(play: &mut Play) -> bool {
     let opened = play.publishes(1, 1, "aeron:ipc", made(1));
     play.streams.client_left(1, 7);
@@ -40,13 +33,6 @@ fn lingering_is_not_joined(play: &mut Play) -> bool {
         && play.lingers(2, None)
 }
 
-#[test]
-fn a_lingering_log_is_not_joined(rt: HostRuntime) -> Result<(), Fail> {
-    let mut play = Play::new(rt.alloc())?;
-    assert!(rt; lingering_is_not_joined(&mut play));
-    Ok(())
-}
-
 fn two_clients_come(play: &mut Play) -> bool {
     play.publishes(1, 1, "aeron:ipc", made(1))
         && play.publishes(2, 2, "aeron:ipc", joined(1, 1))
@@ -55,28 +41,25 @@ fn two_clients_come(play: &mut Play) -> bool {
         && play.has(1, 2, 2)
 }
 
-#[test]
-fn what_a_client_has_goes_with_it(rt: HostRuntime) -> Result<(), Fail> {
-    let mut play = Play::new(rt.alloc())?;
-    assert!(rt; two_clients_come(&mut play));
+fn a_client_goes(play: &mut Play) -> bool {
+    let came = two_clients_come(play);
     play.streams.client_left(1, 0);
-    assert!(rt; play.has(1, 1, 1) && play.streams.remove_subscription(2, 4) == Ok(()));
+    let left = play.has(1, 1, 1) && play.streams.remove_subscription(2, 4) == Ok(());
     play.streams.close_all();
-    assert!(rt; play.has(0, 0, 0));
-    Ok(())
+    came && left && play.has(0, 0, 0)
 }
 
-#[test]
-fn a_copy_is_on_its_own(rt: HostRuntime) -> Result<(), Fail> {
-    let mut play = Play::new(rt.alloc())?;
-    assert!(rt; two_clients_come(&mut play));
-    let copy = Play {
-        alloc: rt.alloc(),
-        streams: play.streams.copy(rt.alloc())?,
+/// Whether a copy has what was there, once all is closed behind it.
+fn is_copied(play: &mut Play) -> bool {
+    let Ok(streams) = play.streams.copy(play.alloc) else {
+        return false;
     };
     play.streams.close_all();
-    assert!(rt; copy.has(1, 2, 2));
-    Ok(())
+    let copy = Play {
+        alloc: play.alloc,
+        streams,
+    };
+    copy.has(1, 2, 2)
 }
 
 fn own_subscriptions_go(play: &mut Play) -> bool {
@@ -88,9 +71,46 @@ fn own_subscriptions_go(play: &mut Play) -> bool {
         && play.streams.remove_subscription(1, 1) == unknown
 }
 
+/// What goes.
+#[derive(Clone, Copy)]
+enum Case {
+    LogLingersAndCloses,
+    LingeringLogIsNotJoined,
+    ClientGoesWithAllItHas,
+    CopyIsOnItsOwn,
+    OwnSubscriptionsGo,
+}
+
+/// Whether a play in which nothing happened yet goes as the case says.
+fn goes(play: &mut Play, case: Case) -> bool {
+    match case {
+        Case::LogLingersAndCloses => lingers_and_closes(play),
+        Case::LingeringLogIsNotJoined => lingering_is_not_joined(play),
+        Case::ClientGoesWithAllItHas => a_client_goes(play),
+        Case::CopyIsOnItsOwn => two_clients_come(play) && is_copied(play),
+        Case::OwnSubscriptionsGo => own_subscriptions_go(play),
+    }
+}
+
+const CASES: [Case; 5] = [
+    Case::LogLingersAndCloses,
+    Case::LingeringLogIsNotJoined,
+    Case::ClientGoesWithAllItHas,
+    Case::CopyIsOnItsOwn,
+    Case::OwnSubscriptionsGo,
+];
+
+fn all_go(alloc: Global, cases: &[Case]) -> Result<bool, AllocError> {
+    for &case in cases {
+        let mut play = Play::new(alloc)?;
+        if !goes(&mut play, case) {
+            return Ok(false);
+        }
+    }
+    Ok(true)
+}
+
 #[test]
-fn a_client_removes_its_own_subscriptions(rt: HostRuntime) -> Result<(), Fail> {
-    let mut play = Play::new(rt.alloc())?;
-    assert!(rt; own_subscriptions_go(&mut play));
-    Ok(())
+fn what_goes_is_gone(rt: HostRuntime) {
+    assert!(rt; all_go(rt.alloc(), &CASES) == Ok(true));
 }

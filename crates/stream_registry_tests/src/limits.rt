@@ -1,7 +1,7 @@
 //! How much there may be.
 
 use crate::play::{Play, joined, made};
-use std::test::Fail;
+use std::alloc::{AllocError, Global};
 use stream_registry::StreamFault;
 
 /// Whether 256 logs can be made.
@@ -22,13 +22,6 @@ fn further_logs_are_refused(play: &mut Play) -> bool {
         && play.publishes_on(257, "aeron:ipc?session-id=7", 10, true, conflict)
 }
 
-#[test]
-fn there_are_256_logs_at_most(rt: HostRuntime) -> Result<(), Fail> {
-    let mut play = Play::new(rt.alloc())?;
-    assert!(rt; logs_are_made(&mut play) && further_logs_are_refused(&mut play));
-    Ok(())
-}
-
 /// Whether 1,024 can be registered with one log.
 fn one_log_is_joined(play: &mut Play) -> bool {
     for number in 2..1025u64 {
@@ -43,14 +36,6 @@ fn further_registrations_are_refused(play: &mut Play) -> bool {
     let full = Err(StreamFault::Full);
     play.publishes(1025, 1, "aeron:ipc", full)
         && play.publishes_on(1025, "aeron:ipc", 11, false, full)
-}
-
-#[test]
-fn there_are_1024_registrations_at_most(rt: HostRuntime) -> Result<(), Fail> {
-    let mut play = Play::new(rt.alloc())?;
-    assert!(rt; play.publishes(1, 1, "aeron:ipc", made(1)));
-    assert!(rt; one_log_is_joined(&mut play) && further_registrations_are_refused(&mut play));
-    Ok(())
 }
 
 /// Whether 512 can subscribe.
@@ -71,9 +56,40 @@ fn a_further_one_waits_for_another_to_go(play: &mut Play) -> bool {
         && !play.subscribes(514, 1, "aeron:ipc")
 }
 
+/// What there may be so much of.
+#[derive(Clone, Copy)]
+enum Case {
+    Logs,
+    Registrations,
+    Subscriptions,
+}
+
+/// Whether a play in which nothing happened yet goes as the case says.
+fn goes(play: &mut Play, case: Case) -> bool {
+    match case {
+        Case::Logs => logs_are_made(play) && further_logs_are_refused(play),
+        Case::Registrations => {
+            play.publishes(1, 1, "aeron:ipc", made(1))
+                && one_log_is_joined(play)
+                && further_registrations_are_refused(play)
+        },
+        Case::Subscriptions => many_subscribe(play) && a_further_one_waits_for_another_to_go(play),
+    }
+}
+
+const CASES: [Case; 3] = [Case::Logs, Case::Registrations, Case::Subscriptions];
+
+fn all_go(alloc: Global, cases: &[Case]) -> Result<bool, AllocError> {
+    for &case in cases {
+        let mut play = Play::new(alloc)?;
+        if !goes(&mut play, case) {
+            return Ok(false);
+        }
+    }
+    Ok(true)
+}
+
 #[test]
-fn there_are_512_subscriptions_at_most(rt: HostRuntime) -> Result<(), Fail> {
-    let mut play = Play::new(rt.alloc())?;
-    assert!(rt; many_subscribe(&mut play) && a_further_one_waits_for_another_to_go(&mut play));
-    Ok(())
+fn there_is_so_much_at_most(rt: HostRuntime) {
+    assert!(rt; all_go(rt.alloc(), &CASES) == Ok(true));
 }

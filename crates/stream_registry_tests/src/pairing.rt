@@ -2,11 +2,10 @@
 
 use crate::play::{Play, made};
 use byte_strings::ShortText;
-use channel_uri::{Channel, Pattern};
+use channel_uri::{Channel, Pattern, UriError};
 use client_registry::Clients;
 use policy_core::{Act, Acts, Policy, Principals, Rule};
 use std::alloc::{AllocError, Global};
-use std::test::Fail;
 use stream_registry::{Pair, Streams, Wish, reads};
 
 /// Two clients, of principals 1 and 2.
@@ -22,9 +21,9 @@ fn all_allowed(alloc: Global) -> Result<Policy, AllocError> {
     Policy::new(Vec::new(alloc), true)
 }
 
-/// Allows everything but `image` to principal 2.
-fn image_denied(alloc: Global) -> Result<Policy, Fail> {
-    let rule = Rule {
+/// Denies `image` to principal 2.
+fn image_rule() -> Result<Rule, UriError> {
+    Ok(Rule {
         name: ShortText::new("images"),
         principals: Principals::One(2),
         acts: Acts::none().with(Act::Image),
@@ -32,8 +31,15 @@ fn image_denied(alloc: Global) -> Result<Policy, Fail> {
         low: i32::MIN,
         high: i32::MAX,
         allow: false,
-    };
-    Ok(Policy::new(vec![in alloc; rule]?, true)?)
+    })
+}
+
+/// Allows everything but `image` to principal 2.
+fn image_denied(alloc: Global) -> Result<Policy, AllocError> {
+    match image_rule() {
+        Ok(rule) => Policy::new(vec![in alloc; rule]?, true),
+        Err(_) => all_allowed(alloc),
+    }
 }
 
 fn pair(source: u64, subscription: u64) -> Pair {
@@ -69,13 +75,12 @@ fn two_subscribe_and_one_publishes(play: &mut Play) -> bool {
         && all_pairs_are(play, &[pair(3, 1), pair(3, 2)])
 }
 
-#[test]
-fn reload_closes_one_image(rt: HostRuntime) -> Result<(), Fail> {
-    let mut play = Play::new(rt.alloc())?;
-    assert!(rt; two_subscribe_and_one_publishes(&mut play));
-    let closed = image_denied(rt.alloc())?;
-    assert!(rt; pairs_are(rt.alloc(), &play.streams, &closed, &[pair(3, 1)]));
-    Ok(())
+/// Whether these are the pairs where `image` is denied to principal 2.
+fn denied_pairs_are(play: &Play, pairs: &[Pair]) -> bool {
+    match image_denied(play.alloc) {
+        Ok(policy) => pairs_are(play.alloc, &play.streams, &policy, pairs),
+        Err(_) => false,
+    }
 }
 
 // A pair changed, one too few, one too many, and in another order.
@@ -85,13 +90,6 @@ fn tells_other_pairs(play: &Play) -> bool {
     let many = all_pairs_are(play, &[pair(3, 1), pair(3, 2), pair(3, 2)]);
     let order = all_pairs_are(play, &[pair(3, 2), pair(3, 1)]);
     !changed && !few && !many && !order
-}
-
-#[test]
-fn other_pairs_are_told(rt: HostRuntime) -> Result<(), Fail> {
-    let mut play = Play::new(rt.alloc())?;
-    assert!(rt; two_subscribe_and_one_publishes(&mut play) && tells_other_pairs(&play));
-    Ok(())
 }
 
 /// Whether the subscription reads the log under this policy.
@@ -106,16 +104,17 @@ fn is_read(
         .has_pair(clients, policy, 1, source, subscription)
 }
 
-#[test]
-fn one_subscription_reads_a_log(rt: HostRuntime) -> Result<(), Fail> {
-    let mut play = Play::new(rt.alloc())?;
-    assert!(rt; two_subscribe_and_one_publishes(&mut play));
-    let closed = image_denied(rt.alloc())?;
-    let clients = two_clients(rt.alloc())?;
-    assert!(rt; is_read(&play, &clients, &closed, 3, 1));
-    assert!(rt; !is_read(&play, &clients, &closed, 3, 2));
-    assert!(rt; !is_read(&play, &clients, &closed, 4, 1));
-    Ok(())
+/// Whether the first subscription alone reads the log where `image` is denied to principal 2.
+fn first_alone_reads(play: &Play) -> bool {
+    let Ok(policy) = image_denied(play.alloc) else {
+        return false;
+    };
+    let Ok(clients) = two_clients(play.alloc) else {
+        return false;
+    };
+    is_read(play, &clients, &policy, 3, 1)
+        && !is_read(play, &clients, &policy, 3, 2)
+        && !is_read(play, &clients, &policy, 4, 1)
 }
 
 /// Whether a subscription would read each log under this policy, which isn't there.
@@ -132,18 +131,19 @@ fn would_read(play: &Play, clients: &Clients, policy: &Policy, client: u64, stre
         .all(|log| reads(clients, policy, 1, log, &wish))
 }
 
-#[test]
-fn a_subscription_is_only_asked_about(rt: HostRuntime) -> Result<(), Fail> {
-    let mut play = Play::new(rt.alloc())?;
-    assert!(rt; play.publishes(3, 1, "aeron:ipc", made(1)));
-    let closed = image_denied(rt.alloc())?;
-    let clients = two_clients(rt.alloc())?;
-    assert!(rt; would_read(&play, &clients, &closed, 1, 10));
-    assert!(rt; !would_read(&play, &clients, &closed, 2, 10));
-    assert!(rt; !would_read(&play, &clients, &closed, 3, 10));
-    assert!(rt; !would_read(&play, &clients, &closed, 1, 11));
-    assert!(rt; play.has(1, 1, 0));
-    Ok(())
+/// Whether client 1 alone would read the log, on its stream, where `image` is denied to principal 2; it isn't there then.
+fn first_client_would_read(play: &Play) -> bool {
+    let Ok(policy) = image_denied(play.alloc) else {
+        return false;
+    };
+    let Ok(clients) = two_clients(play.alloc) else {
+        return false;
+    };
+    would_read(play, &clients, &policy, 1, 10)
+        && !would_read(play, &clients, &policy, 2, 10)
+        && !would_read(play, &clients, &policy, 3, 10)
+        && !would_read(play, &clients, &policy, 1, 11)
+        && play.has(1, 1, 0)
 }
 
 fn lingering_is_read(play: &mut Play) -> bool {
@@ -152,13 +152,6 @@ fn lingering_is_read(play: &mut Play) -> bool {
     let read = all_pairs_are(play, &[pair(1, 2)]);
     play.streams.client_left(2, 0);
     opened && read && all_pairs_are(play, &[])
-}
-
-#[test]
-fn lingering_logs_are_read(rt: HostRuntime) -> Result<(), Fail> {
-    let mut play = Play::new(rt.alloc())?;
-    assert!(rt; lingering_is_read(&mut play));
-    Ok(())
 }
 
 fn logs_of_two_media(play: &mut Play) -> bool {
@@ -175,10 +168,54 @@ fn three_subscribe(play: &mut Play) -> bool {
         && play.subscribes(7, 3, "aeron:ipc")
 }
 
+/// Who reads in a play.
+#[derive(Clone, Copy)]
+enum Case {
+    ReloadClosesOneImage,
+    OtherPairsAreTold,
+    OneSubscriptionReadsALog,
+    ASubscriptionIsOnlyAskedAbout,
+    LingeringLogsAreRead,
+    StatedSessionIsTheOneRead,
+}
+
+/// Whether a play in which nothing happened yet goes as the case says.
+fn goes(play: &mut Play, case: Case) -> bool {
+    match case {
+        Case::ReloadClosesOneImage => two_subscribe_and_one_publishes(play)
+            && denied_pairs_are(play, &[pair(3, 1)]),
+        Case::OtherPairsAreTold => two_subscribe_and_one_publishes(play) && tells_other_pairs(play),
+        Case::OneSubscriptionReadsALog => two_subscribe_and_one_publishes(play)
+            && first_alone_reads(play),
+        Case::ASubscriptionIsOnlyAskedAbout => play.publishes(3, 1, "aeron:ipc", made(1))
+            && first_client_would_read(play),
+        Case::LingeringLogsAreRead => lingering_is_read(play),
+        Case::StatedSessionIsTheOneRead => {
+            logs_of_two_media(play) && three_subscribe(play) && all_pairs_are(play, &[pair(2, 5)])
+        },
+    }
+}
+
+const CASES: [Case; 6] = [
+    Case::ReloadClosesOneImage,
+    Case::OtherPairsAreTold,
+    Case::OneSubscriptionReadsALog,
+    Case::ASubscriptionIsOnlyAskedAbout,
+    Case::LingeringLogsAreRead,
+    Case::StatedSessionIsTheOneRead,
+];
+
+fn all_go(alloc: Global, cases: &[Case]) -> Result<bool, AllocError> {
+    for &case in cases {
+        let mut play = Play::new(alloc)?;
+        if !goes(&mut play, case) {
+            return Ok(false);
+        }
+    }
+    Ok(true)
+}
+
 #[test]
-fn a_session_that_is_stated_is_the_one_read(rt: HostRuntime) -> Result<(), Fail> {
-    let mut play = Play::new(rt.alloc())?;
-    assert!(rt; logs_of_two_media(&mut play) && three_subscribe(&mut play));
-    assert!(rt; all_pairs_are(&play, &[pair(2, 5)]));
-    Ok(())
+fn subscriptions_read_logs(rt: HostRuntime) {
+    assert!(rt; all_go(rt.alloc(), &CASES) == Ok(true));
 }

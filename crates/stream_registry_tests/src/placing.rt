@@ -1,7 +1,7 @@
 //! Where logs go. A log with terms of 64 KiB has 48 pages, and one with terms of 128 KiB has 96.
 
 use crate::play::{LINGER, Play};
-use std::test::Fail;
+use std::alloc::{AllocError, Global};
 use stream_registry::LogPlace;
 
 const SHORT: &str = "aeron:ipc?term-length=64k";
@@ -23,22 +23,19 @@ fn its_place_is_free_once_it_closes(play: &mut Play) -> bool {
         && play.goes_to(48, "aeron:ipc", Some(0))
 }
 
-#[test]
-fn place_reused_after_linger(rt: HostRuntime) -> Result<(), Fail> {
-    let mut play = Play::new(rt.alloc())?;
-    assert!(rt; first_log_fills_the_arena(&mut play));
+fn place_is_reused(play: &mut Play) -> bool {
+    let filled = first_log_fills_the_arena(play);
     play.streams.client_left(1, 0);
-    assert!(rt; its_place_is_free_once_it_closes(&mut play));
-    Ok(())
+    filled && its_place_is_free_once_it_closes(play)
 }
 
-#[test]
-fn a_log_has_three_terms(rt: HostRuntime) -> Result<(), Fail> {
-    let mut play = Play::new(rt.alloc())?;
-    assert!(rt; play.goes_to(47, SHORT, None) && play.goes_to(95, LONG, None));
-    assert!(rt; play.makes(1, 144, LONG, 0) && play.goes_to(144, LONG, None));
-    assert!(rt; play.makes(2, 144, SHORT, 96) && play.goes_to(144, SHORT, None));
-    Ok(())
+fn logs_have_three_terms(play: &mut Play) -> bool {
+    play.goes_to(47, SHORT, None)
+        && play.goes_to(95, LONG, None)
+        && play.makes(1, 144, LONG, 0)
+        && play.goes_to(144, LONG, None)
+        && play.makes(2, 144, SHORT, 96)
+        && play.goes_to(144, SHORT, None)
 }
 
 fn three_logs_in_a_row(play: &mut Play) -> bool {
@@ -58,13 +55,6 @@ fn hole_is_filled(play: &mut Play) -> bool {
         && play.goes_to(240, LONG, Some(144))
 }
 
-#[test]
-fn the_first_hole_that_is_long_enough_is_filled(rt: HostRuntime) -> Result<(), Fail> {
-    let mut play = Play::new(rt.alloc())?;
-    assert!(rt; three_logs_in_a_row(&mut play) && hole_is_filled(&mut play));
-    Ok(())
-}
-
 fn least_place_stands_later_in_the_list(play: &mut Play) -> bool {
     one_goes(play, 1, 0)
         && play.makes(4, 192, SHORT, 0)
@@ -72,10 +62,44 @@ fn least_place_stands_later_in_the_list(play: &mut Play) -> bool {
         && play.goes_to(192, SHORT, Some(48))
 }
 
+/// Where logs go.
+#[derive(Clone, Copy)]
+enum Case {
+    PlaceIsReusedAfterLinger,
+    LogsHaveThreeTerms,
+    FirstHoleThatIsLongEnough,
+    OrderOfLogsDoesNotMatter,
+}
+
+/// Whether a play in which nothing happened yet goes as the case says.
+fn goes(play: &mut Play, case: Case) -> bool {
+    match case {
+        Case::PlaceIsReusedAfterLinger => place_is_reused(play),
+        Case::LogsHaveThreeTerms => logs_have_three_terms(play),
+        Case::FirstHoleThatIsLongEnough => three_logs_in_a_row(play) && hole_is_filled(play),
+        Case::OrderOfLogsDoesNotMatter => three_logs_in_a_row(play)
+            && least_place_stands_later_in_the_list(play),
+    }
+}
+
+const CASES: [Case; 4] = [
+    Case::PlaceIsReusedAfterLinger,
+    Case::LogsHaveThreeTerms,
+    Case::FirstHoleThatIsLongEnough,
+    Case::OrderOfLogsDoesNotMatter,
+];
+
+fn all_go(alloc: Global, cases: &[Case]) -> Result<bool, AllocError> {
+    for &case in cases {
+        let mut play = Play::new(alloc)?;
+        if !goes(&mut play, case) {
+            return Ok(false);
+        }
+    }
+    Ok(true)
+}
+
 #[test]
-fn the_order_of_logs_does_not_matter(rt: HostRuntime) -> Result<(), Fail> {
-    let mut play = Play::new(rt.alloc())?;
-    assert!(rt; three_logs_in_a_row(&mut play));
-    assert!(rt; least_place_stands_later_in_the_list(&mut play));
-    Ok(())
+fn logs_have_their_places(rt: HostRuntime) {
+    assert!(rt; all_go(rt.alloc(), &CASES) == Ok(true));
 }

@@ -1,7 +1,7 @@
 //! Who joins whose log.
 
 use crate::play::{Play, joined, made};
-use std::test::Fail;
+use std::alloc::{AllocError, Global};
 use stream_registry::StreamFault;
 
 fn equal_channels_share(play: &mut Play) -> bool {
@@ -16,13 +16,6 @@ fn equal_channels_share(play: &mut Play) -> bool {
         && play.streams.registrations_of(2) == 0
 }
 
-#[test]
-fn one_log_for_equal_channels(rt: HostRuntime) -> Result<(), Fail> {
-    let mut play = Play::new(rt.alloc())?;
-    assert!(rt; equal_channels_share(&mut play));
-    Ok(())
-}
-
 fn missing_keys_are_defaults(play: &mut Play) -> bool {
     let said = "aeron:ipc?mtu=1408|term-length=64k|linger=5s";
     let conflict = Err(StreamFault::Conflict);
@@ -30,13 +23,6 @@ fn missing_keys_are_defaults(play: &mut Play) -> bool {
         && play.publishes(2, 1, said, joined(1, 1))
         && play.publishes(3, 1, "aeron:ipc?mtu=1440", conflict)
         && play.publishes(3, 1, "aeron:ipc?linger=4s", conflict)
-}
-
-#[test]
-fn a_missing_key_is_as_the_defaults(rt: HostRuntime) -> Result<(), Fail> {
-    let mut play = Play::new(rt.alloc())?;
-    assert!(rt; missing_keys_are_defaults(&mut play));
-    Ok(())
 }
 
 fn own_logs_are_not_joined(play: &mut Play) -> bool {
@@ -50,9 +36,40 @@ fn own_logs_are_not_joined(play: &mut Play) -> bool {
         && play.publishes_on(7, "aeron:ipc", 11, false, made(6))
 }
 
+/// What publications share.
+#[derive(Clone, Copy)]
+enum Case {
+    OneLogForEqualChannels,
+    AMissingKeyIsAsTheDefaults,
+    SomeLogsAreNeverJoined,
+}
+
+/// Whether a play in which nothing happened yet goes as the case says.
+fn goes(play: &mut Play, case: Case) -> bool {
+    match case {
+        Case::OneLogForEqualChannels => equal_channels_share(play),
+        Case::AMissingKeyIsAsTheDefaults => missing_keys_are_defaults(play),
+        Case::SomeLogsAreNeverJoined => own_logs_are_not_joined(play),
+    }
+}
+
+const CASES: [Case; 3] = [
+    Case::OneLogForEqualChannels,
+    Case::AMissingKeyIsAsTheDefaults,
+    Case::SomeLogsAreNeverJoined,
+];
+
+fn all_go(alloc: Global, cases: &[Case]) -> Result<bool, AllocError> {
+    for &case in cases {
+        let mut play = Play::new(alloc)?;
+        if !goes(&mut play, case) {
+            return Ok(false);
+        }
+    }
+    Ok(true)
+}
+
 #[test]
-fn some_logs_are_never_joined(rt: HostRuntime) -> Result<(), Fail> {
-    let mut play = Play::new(rt.alloc())?;
-    assert!(rt; own_logs_are_not_joined(&mut play));
-    Ok(())
+fn publications_join_by_their_channels(rt: HostRuntime) {
+    assert!(rt; all_go(rt.alloc(), &CASES) == Ok(true));
 }

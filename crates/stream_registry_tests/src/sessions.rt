@@ -1,15 +1,20 @@
 //! Which session a log has.
 
 use crate::play::{LINGER, Play, joined, made};
-use std::test::Fail;
+use std::alloc::{AllocError, Global};
 use stream_registry::{LogPlace, StreamFault};
 
+fn session_wraps(alloc: Global) -> Result<bool, AllocError> {
+    let mut play = Play::from_session(alloc, i32::MAX)?;
+    Ok(
+        play.publishes_on(1, "aeron:ipc", 10, false, made(i32::MAX))
+            && play.publishes_on(2, "aeron:ipc", 11, false, made(i32::MIN)),
+    )
+}
+
 #[test]
-fn sessions_wrap(rt: HostRuntime) -> Result<(), Fail> {
-    let mut play = Play::from_session(rt.alloc(), i32::MAX)?;
-    assert!(rt; play.publishes_on(1, "aeron:ipc", 10, false, made(i32::MAX)));
-    assert!(rt; play.publishes_on(2, "aeron:ipc", 11, false, made(i32::MIN)));
-    Ok(())
+fn sessions_wrap(rt: HostRuntime) {
+    assert!(rt; session_wraps(rt.alloc()) == Ok(true));
 }
 
 fn stated_moves_nothing(play: &mut Play) -> bool {
@@ -17,13 +22,6 @@ fn stated_moves_nothing(play: &mut Play) -> bool {
         && play.publishes_on(2, "aeron:ipc", 10, true, made(1))
         && play.publishes_on(3, "aeron:ipc", 10, true, made(3))
         && play.publishes_on(4, "aeron:ipc", 10, true, made(4))
-}
-
-#[test]
-fn a_session_that_is_stated_moves_nothing(rt: HostRuntime) -> Result<(), Fail> {
-    let mut play = Play::new(rt.alloc())?;
-    assert!(rt; stated_moves_nothing(&mut play));
-    Ok(())
 }
 
 fn stated_again_is_refused(play: &mut Play) -> bool {
@@ -39,13 +37,6 @@ fn stated_again_is_refused(play: &mut Play) -> bool {
         && play.publishes_on(4, other_medium, 10, false, made(-7))
 }
 
-#[test]
-fn a_session_that_is_stated_again_is_refused(rt: HostRuntime) -> Result<(), Fail> {
-    let mut play = Play::new(rt.alloc())?;
-    assert!(rt; stated_again_is_refused(&mut play));
-    Ok(())
-}
-
 fn closed_session_is_not_next(play: &mut Play) -> bool {
     let log = LogPlace {
         source: 1,
@@ -56,9 +47,40 @@ fn closed_session_is_not_next(play: &mut Play) -> bool {
     opened && play.closes(1 + LINGER, &[log]) && play.publishes(2, 1, "aeron:ipc", made(2))
 }
 
+/// What the sessions of a play are.
+#[derive(Clone, Copy)]
+enum Case {
+    StatedMovesNothing,
+    StatedAgainIsRefused,
+    NotGivenAgainAtOnce,
+}
+
+/// Whether a play in which nothing happened yet goes as the case says.
+fn goes(play: &mut Play, case: Case) -> bool {
+    match case {
+        Case::StatedMovesNothing => stated_moves_nothing(play),
+        Case::StatedAgainIsRefused => stated_again_is_refused(play),
+        Case::NotGivenAgainAtOnce => closed_session_is_not_next(play),
+    }
+}
+
+const CASES: [Case; 3] = [
+    Case::StatedMovesNothing,
+    Case::StatedAgainIsRefused,
+    Case::NotGivenAgainAtOnce,
+];
+
+fn all_go(alloc: Global, cases: &[Case]) -> Result<bool, AllocError> {
+    for &case in cases {
+        let mut play = Play::new(alloc)?;
+        if !goes(&mut play, case) {
+            return Ok(false);
+        }
+    }
+    Ok(true)
+}
+
 #[test]
-fn a_session_is_not_given_again_at_once(rt: HostRuntime) -> Result<(), Fail> {
-    let mut play = Play::new(rt.alloc())?;
-    assert!(rt; closed_session_is_not_next(&mut play));
-    Ok(())
+fn sessions_are_stated_or_next(rt: HostRuntime) {
+    assert!(rt; all_go(rt.alloc(), &CASES) == Ok(true));
 }

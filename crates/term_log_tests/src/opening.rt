@@ -23,7 +23,7 @@ fn open(alloc: Global, arena: &mut Arena, ident: Ident) -> Result<TermLog, NoRoo
 }
 
 /// A log without frames, in an arena of its own, which its lease outlives.
-pub fn opened(alloc: Global, ident: Ident) -> Result<TermLog, NoRoom>
+pub(crate) fn opened(alloc: Global, ident: Ident) -> Result<TermLog, NoRoom>
     requires ident { IsIdent ident }
     requires pages { ident.term_length % 4096 ≡ 0 }
     ensures ident { IfOk result (λ log. log.kept.ident ≡ ident) }

@@ -1,12 +1,8 @@
 ghost use Rattle.std.specs.Prelude.{◌≡◌, []};
 
 use crate::filling::follow;
-use crate::opening::opened;
 use crate::stepping::send;
-use crate::tests::ident;
-use std::alloc::Global;
-use std::test::Fail;
-use term_log::{LogKind, Offer, Status, TermLog};
+use term_log::{Offer, Status, TermLog};
 
 /// For how long a log is connected behind a status message, in nanoseconds.
 const TIMEOUT: u64 = 5_000_000_000;
@@ -31,7 +27,7 @@ fn heartbeat_due_past(log: &TermLog, moment: u64) -> bool {
 }
 
 // The first status message connects a log over UDP, and lets its sender send.
-fn opens_by_status(log: &mut TermLog) -> bool {
+pub(crate) fn opens_by_status(log: &mut TermLog) -> bool {
     let closed = !log.connected(0, TIMEOUT) && log.send_budget() == 0;
     let taken = log.status(0, 0, 32_768) == Status::Accepted(32_768);
     let open = log.connected(0, TIMEOUT) && log.send_budget() == 1408;
@@ -40,15 +36,8 @@ fn opens_by_status(log: &mut TermLog) -> bool {
     closed && taken && open && offered && sent && log.tail() == 64
 }
 
-#[test]
-fn status_opens_the_log(rt: HostRuntime) -> Result<(), Fail> {
-    let mut log = opened(rt.alloc(), ident(LogKind::Udp, 0))?;
-    assert!(rt; opens_by_status(&mut log));
-    Ok(())
-}
-
 // Of a log that begins at 65440: a status message beyond what was sent changes nothing, no limit and no moment.
-fn drops_out_of_window(log: &mut TermLog) -> bool {
+pub(crate) fn drops_out_of_window(log: &mut TermLog) -> bool {
     let above = log.status(0, 65_441, 32_768) == Status::OutOfWindow;
     let far = log.status(0, u64::MAX, u32::MAX) == Status::OutOfWindow;
     let closed = !log.connected(0, TIMEOUT) && log.send_budget() == 0;
@@ -59,30 +48,22 @@ fn drops_out_of_window(log: &mut TermLog) -> bool {
 }
 
 // The sender comes to stand behind its limit of 65472, by a pad, and then sends nothing.
-fn stops_behind_its_limit(log: &mut TermLog) -> bool {
+pub(crate) fn stops_behind_its_limit(log: &mut TermLog) -> bool {
     let padded = log.offer(&[1; 65]) == Offer::AdminAction;
     follow(log);
     padded && log.sender_position() == 65_536 && log.send_budget() == 0
 }
 
 // The limit is the greatest that any status message allowed, of whose window half a term counts at most.
-fn keeps_the_greatest_limit(log: &mut TermLog) -> bool {
+pub(crate) fn keeps_the_greatest_limit(log: &mut TermLog) -> bool {
     let half = log.status(0, 65_440, 32_769) == Status::Accepted(98_208);
     let most = log.status(0, 65_536, u32::MAX) == Status::Accepted(98_304);
     let less = log.status(0, 65_536, 0) == Status::Accepted(98_304);
     half && most && less && log.send_budget() == 1408
 }
 
-#[test]
-fn status_messages_limit(rt: HostRuntime) -> Result<(), Fail> {
-    let mut log = opened(rt.alloc(), ident(LogKind::Udp, 65_440))?;
-    assert!(rt; drops_out_of_window(&mut log));
-    assert!(rt; stops_behind_its_limit(&mut log) && keeps_the_greatest_limit(&mut log));
-    Ok(())
-}
-
 // A log over UDP is connected up to the timeout behind the latest status message, and by no wish for a SETUP.
-fn connects_by_status(log: &mut TermLog) -> bool {
+pub(crate) fn connects_by_status(log: &mut TermLog) -> bool {
     log.elicit();
     let alone = !log.connected(0, u64::MAX);
     let first = log.status(20, 0, 0) == Status::Accepted(0) && connected_until(log, TIMEOUT + 20);
@@ -93,27 +74,13 @@ fn connects_by_status(log: &mut TermLog) -> bool {
 }
 
 // A log over IPC is connected while it has a pair, whatever status messages say.
-fn connects_by_pairs(log: &mut TermLog) -> bool
+pub(crate) fn connects_by_pairs(log: &mut TermLog) -> bool
     requires { log.old.pairs ≡ [] }
 {
     let status = log.status(0, 0, 0) == Status::Accepted(0) && !log.connected(0, TIMEOUT);
     let joined = log.join_pair(1) == 0 && log.connected(u64::MAX, 0);
     log.leave_pair(1);
     status && joined && !log.connected(0, TIMEOUT)
-}
-
-fn connects(alloc: Global, kind: LogKind) -> Result<bool, Fail> {
-    let mut log = opened(alloc, ident(kind, 0))?;
-    Ok(match kind {
-        LogKind::Udp => connects_by_status(&mut log),
-        LogKind::Ipc => connects_by_pairs(&mut log),
-    })
-}
-
-#[test]
-fn connected_within_the_timeout(rt: HostRuntime) -> Result<(), Fail> {
-    assert!(rt; connects(rt.alloc(), LogKind::Udp)? && connects(rt.alloc(), LogKind::Ipc)?);
-    Ok(())
 }
 
 // A heartbeat is due past its interval since the last datagram of any kind; moments never go back.
@@ -140,10 +107,6 @@ fn asks_by_setups(log: &mut TermLog) -> bool {
     unheard && heard && asked && setup_due_past(log, TIMEOUT + INTERVAL)
 }
 
-#[test]
-fn setups_and_heartbeats(rt: HostRuntime) -> Result<(), Fail> {
-    let mut log = opened(rt.alloc(), ident(LogKind::Udp, 0))?;
-    assert!(rt; log.setup_due(0, TIMEOUT, INTERVAL) && beats_behind_all_datagrams(&mut log));
-    assert!(rt; asks_by_setups(&mut log));
-    Ok(())
+pub(crate) fn setups_and_heartbeats(log: &mut TermLog) -> bool {
+    log.setup_due(0, TIMEOUT, INTERVAL) && beats_behind_all_datagrams(log) && asks_by_setups(log)
 }

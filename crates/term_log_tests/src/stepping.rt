@@ -7,7 +7,7 @@ use term_log::{LogKind, TermLog};
 
 /// Takes the frames of a log's next datagram as sent, and says how many bytes the datagram has. A log over IPC has no
 /// sender.
-pub fn send(log: &mut TermLog) -> usize
+pub(crate) fn send(log: &mut TermLog) -> usize
     ensures { log.old.kept.ident.kind ≡ LogKind.Udp → Carries log.old log.new sent_on }
 {
     match log.ident().kind {

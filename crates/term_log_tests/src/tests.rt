@@ -2,12 +2,9 @@ ghost use Rattle.std.specs.Prelude.{◌≡◌, ◌%◌, ◌^◌, ◌*◌, ◌<�
 ghost use Rattle.term_log.specs.Ident.{IsIdent};
 
 use crate::filling::{fill, is_held};
-use crate::opening::opened;
 use crate::plain::Plain;
 use crate::reading::{begin_at, gives_all};
-use log_arena::NoRoom;
 use std::alloc::{AllocError, Global};
-use std::test::Fail;
 use term_log::{Ident, LogKind, Offer, TermLog};
 
 // What a log is made for that reads its frames in this host, from a position on.
@@ -60,16 +57,13 @@ fn list_of(alloc: Global, message: &[u8]) -> Result<Plain, AllocError> {
     Ok(plain)
 }
 
-// The first bytes of a log, and of a list, as they are laid out by the transport's specification.
-#[test]
-fn bytes_of_a_frame(rt: HostRuntime) -> Result<(), Fail> {
-    let log = opened(rt.alloc(), ident(LogKind::Udp, 0))?;
-    let plain = list_of(rt.alloc(), b"abc")?;
-    let other = list_of(rt.alloc(), b"abd")?;
-    assert!(rt; plain.tail() == 64 && begins_with_abc(plain.bytes.as_slice()));
-    assert!(rt; !begins_with_abc(other.bytes.as_slice()) && !begins_with_abc(&HEADER));
-    assert!(rt; lease_begins_with_abc(log, &plain, &other));
-    Ok(())
+// Whether the first bytes of lists, and of a log without frames, are laid out as by the transport's specification.
+pub(crate) fn begin_with_abc(alloc: Global, log: TermLog) -> Result<bool, AllocError> {
+    let plain = list_of(alloc, b"abc")?;
+    let other = list_of(alloc, b"abd")?;
+    let same = plain.tail() == 64 && begins_with_abc(plain.bytes.as_slice());
+    let told = !begins_with_abc(other.bytes.as_slice()) && !begins_with_abc(&HEADER);
+    Ok(same && told && lease_begins_with_abc(log, &plain, &other))
 }
 
 // Whether a log gives the frames of a list with this message.
@@ -79,7 +73,7 @@ fn gives_message(alloc: Global, log: &TermLog, message: &[u8]) -> Result<bool, A
 }
 
 // A log of one message, and lists with it, with another byte, with a byte less, and with a frame more.
-fn tells_lists(alloc: Global, log: &mut TermLog) -> Result<bool, AllocError> {
+pub(crate) fn tells_lists(alloc: Global, log: &mut TermLog) -> Result<bool, AllocError> {
     let offered = log.offer(b"abc") == Offer::At(64);
     let same = gives_message(alloc, log, b"abc")?;
     let byte = gives_message(alloc, log, b"abd")?;
@@ -88,14 +82,7 @@ fn tells_lists(alloc: Global, log: &mut TermLog) -> Result<bool, AllocError> {
     Ok(offered && same && !byte && !less && !more)
 }
 
-#[test]
-fn other_lists_are_told(rt: HostRuntime) -> Result<(), Fail> {
-    let mut log = opened(rt.alloc(), ident(LogKind::Udp, 0))?;
-    assert!(rt; tells_lists(rt.alloc(), &mut log)?);
-    Ok(())
-}
-
-fn pads_the_rest(log: &mut TermLog) -> bool
+pub(crate) fn pads_the_rest(log: &mut TermLog) -> bool
     requires { log.old.pairs ≡ [] }
 {
     let joined = log.join_pair(1) == 65_504;
@@ -105,22 +92,12 @@ fn pads_the_rest(log: &mut TermLog) -> bool
     joined && padded && passed && taken && log.low() == 65_504 && log.messages() == 1
 }
 
-fn ends_at_the_greatest(log: &mut TermLog) -> bool
+pub(crate) fn ends_at_the_greatest(log: &mut TermLog) -> bool
     requires { log.old.pairs ≡ [] }
 {
     let joined = log.join_pair(1) == 140_737_488_355_264;
     let last = log.offer(b"x") == Offer::At(140_737_488_355_328);
     joined && last && log.offer(b"x") == Offer::MaxPosition
-}
-
-// A message that the rest of a term has no room for, and one that would end behind the greatest position.
-#[test]
-fn padding_and_greatest_position(rt: HostRuntime) -> Result<(), Fail> {
-    let mut log = opened(rt.alloc(), ident(LogKind::Ipc, 65_504))?;
-    assert!(rt; pads_the_rest(&mut log));
-    let mut last = opened(rt.alloc(), ident(LogKind::Ipc, 140_737_488_355_264))?;
-    assert!(rt; ends_at_the_greatest(&mut last));
-    Ok(())
 }
 
 // A subscription reads up to a position. False where it can't.
@@ -134,7 +111,7 @@ fn read_to(log: &mut TermLog, subscription: u64, position: u64) -> bool {
     }
 }
 
-fn waits_for_the_slowest(log: &mut TermLog) -> bool
+pub(crate) fn waits_for_the_slowest(log: &mut TermLog) -> bool
     requires { log.old.pairs ≡ [] }
 {
     let closed = log.offer(b"x") == Offer::BackPressured;
@@ -143,20 +120,12 @@ fn waits_for_the_slowest(log: &mut TermLog) -> bool
     closed && first && second
 }
 
-fn follows_the_slowest(log: &mut TermLog) -> bool {
+pub(crate) fn follows_the_slowest(log: &mut TermLog) -> bool {
     let placed = log.pair_position(9) == Some(32) && log.pair_position(5) == None;
     let moved = read_to(log, 4, 32) && log.limit() == 32_800;
     log.leave_pair(4);
     log.leave_pair(9);
     placed && moved && log.limit() == 32
-}
-
-// The slowest pair limits the log; without a pair it takes nothing.
-#[test]
-fn slowest_pair_limits(rt: HostRuntime) -> Result<(), Fail> {
-    let mut log = opened(rt.alloc(), ident(LogKind::Ipc, 0))?;
-    assert!(rt; waits_for_the_slowest(&mut log) && follows_the_slowest(&mut log));
-    Ok(())
 }
 
 // Offers so many messages, and then looks at all frames that the log gives for each budget.
@@ -184,14 +153,11 @@ fn lists_are_kept(alloc: Global, log: &mut TermLog, plain: &mut Plain) -> Result
 
 // Three terms many times over: each answer, the frames from each frame on, and at the end each byte are those of plain
 // lists.
-#[test]
-fn terms_are_used_again(rt: HostRuntime) -> Result<(), Fail> {
-    let mut log = opened(rt.alloc(), ident(LogKind::Udp, 0))?;
-    let mut plain = Plain::new(rt.alloc());
-    assert!(rt; lists_are_kept(rt.alloc(), &mut log, &mut plain)?);
-    assert!(rt; plain.tail() > 655_360 && log.tail() == plain.tail() && log.messages() == 400);
-    assert!(rt; keeps_list(log, &plain));
-    Ok(())
+pub(crate) fn terms_are_used_again(alloc: Global, mut log: TermLog) -> Result<bool, AllocError> {
+    let mut plain = Plain::new(alloc);
+    let kept = lists_are_kept(alloc, &mut log, &mut plain)?;
+    let all = plain.tail() > 655_360 && log.tail() == plain.tail() && log.messages() == 400;
+    Ok(kept && all && keeps_list(log, &plain))
 }
 
 // A list with a frame more than the log: the first answer is told apart, and so are those up to the end of the term. Behind
@@ -205,22 +171,13 @@ fn tells_answers(alloc: Global, log: &mut TermLog, plain: &mut Plain) -> Result<
     Ok(!first && !term && level && behind)
 }
 
-#[test]
-fn other_answers_are_told(rt: HostRuntime) -> Result<(), Fail> {
-    let mut log = opened(rt.alloc(), ident(LogKind::Udp, 0))?;
-    let mut plain = Plain::new(rt.alloc());
-    assert!(rt; tells_answers(rt.alloc(), &mut log, &mut plain)?);
-    Ok(())
+pub(crate) fn other_answers_are_told(alloc: Global, log: &mut TermLog) -> Result<bool, AllocError> {
+    let mut plain = Plain::new(alloc);
+    tells_answers(alloc, log, &mut plain)
 }
 
-// A log with a pad at the end of a term, and two messages behind it: of 64 and of 160 positions.
-fn padded_log(alloc: Global) -> Result<TermLog, NoRoom> {
-    let mut log = opened(alloc, ident(LogKind::Udp, 65_504))?;
-    put_three(&mut log);
-    Ok(log)
-}
-
-fn put_three(log: &mut TermLog) {
+// A pad at the end of a term, and two messages behind it: of 64 and of 160 positions.
+pub(crate) fn put_three(log: &mut TermLog) {
     log.offer(b"x");
     log.offer(b"x");
     log.offer(&[7; 100]);
@@ -249,20 +206,13 @@ const BUDGETS: [(u64, usize, usize); 7] = [
     (65_760, 224, 0),
 ];
 
-fn counts_each(log: &TermLog) -> bool {
+// A budget ends between frames; of a pad it counts 32 bytes, and nothing is given behind one.
+pub(crate) fn counts_each(log: &TermLog) -> bool {
     let mut same = true;
     for (position, budget, count) in BUDGETS {
         same &= count_from(log, position, budget) == count;
     }
     same
-}
-
-// A budget ends between frames; of a pad it counts 32 bytes, and nothing is given behind one.
-#[test]
-fn frames_within_a_budget(rt: HostRuntime) -> Result<(), Fail> {
-    let log = padded_log(rt.alloc())?;
-    assert!(rt; log.tail() == 65_760 && counts_each(&log));
-    Ok(())
 }
 
 /// Which frames meet a range of so many positions, from a position on.
@@ -303,9 +253,6 @@ fn tells_each(log: &TermLog, rows: &[(u64, u64, &[u64])]) -> bool {
 }
 
 // A frame meets a range also where they share but its filling, over the end of a term too.
-#[test]
-fn frames_over_a_range(rt: HostRuntime) -> Result<(), Fail> {
-    let log = padded_log(rt.alloc())?;
-    assert!(rt; meets_each(&log, &RANGES) && tells_each(&log, &OTHER_RANGES));
-    Ok(())
+pub(crate) fn meets_ranges(log: &TermLog) -> bool {
+    meets_each(log, &RANGES) && tells_each(log, &OTHER_RANGES)
 }

@@ -1,5 +1,5 @@
 ghost use Rattle.decision_cache.specs.Entries.{AddsAtMost, key_of};
-ghost use Rattle.decision_cache_tests.specs.Questions.{answer_of, asked};
+ghost use Rattle.parts_tests.specs.Questions.{answer_of, asked};
 ghost use Rattle.std.specs.Prelude.{◌≡◌, ◌++◌, ◌∷◌, [], IfNone, IfOk, IfSome, OnErr, OnOk, length};
 
 use channel_uri::Channel;
@@ -19,7 +19,7 @@ pub struct Desk {
 
 impl Model for Desk {
     ghost use Rattle.decision_cache.specs.Entries.{IsSoundIn};
-    ghost use Rattle.decision_cache_tests.specs.Questions.{Held, question_on};
+    ghost use Rattle.parts_tests.specs.Questions.{Held, question_on};
 
     ghost Value = { Held };
 

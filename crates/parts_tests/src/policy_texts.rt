@@ -1,3 +1,5 @@
+//! Tests of `policy_text` that no script can say: what is read is kept as the text says.
+
 use byte_strings::Text;
 use policy_core::Policy;
 use policy_text::{Field, Names, PolicyFault, read};

@@ -7,8 +7,8 @@ use Rattle.policy_core.specs.Question.{Question}
 use Rattle.policy_core.specs.declared.act.Act.{Act}
 use Rattle.policy_core.specs.declared.verdict.Verdict.{Verdict}
 use Rattle.decision_cache.specs.declared.key.Key.{Key}
-use Rattle.decision_cache_tests.specs.Questions.{Held, question_on}
-use Rattle.decision_cache_tests.proofs.desk.Desk.ask.Goals as goal
+use Rattle.parts_tests.specs.Questions.{Held, question_on}
+use Rattle.parts_tests.proofs.desk.Desk.ask.Goals as goal
 
 asked : ℕ → Act → Shape → ℤ → Question
 asked principal act channel stream = record { principal = principal; act = act; channel = channel; stream = stream }

@@ -1,4 +1,6 @@
-use super::*;
+//! Tests of `decision_cache`: policies one after the other, over one cache.
+
+use crate::desk::Desk;
 use byte_strings::ShortText;
 use channel_uri::{Channel, Pattern, UriError};
 use policy_core::{Act, Acts, Policy, Principals, Rule, Verdict};

@@ -1,8 +1,8 @@
+//! Tests of `publication_sender`: of the datagrams that are due.
+
 use frame_codec::{Flags, StatusMessage};
 use publication_sender::{Pace, StatusAnswer, cut, receive_status};
-use std::test::Fail;
 use term_log::{Ident, LogKind, Offer, TermLog};
-use term_log_tests::opened;
 
 pub(crate) const PACE: Pace = Pace {
     connection_timeout: 5_000_000_000,
@@ -83,42 +83,27 @@ pub(crate) fn status(log: &mut TermLog, flags: Flags, offset: u32, window: u32) 
 }
 
 // While nobody answers, SETUPs alone are sent, each past the interval since the one before.
-fn sends_setups(log: &mut TermLog) -> bool {
+pub(crate) fn sends_setups(log: &mut TermLog) -> bool {
     cuts(log, 0, false, &SETUP)
         && cuts(log, 100_000_000, false, &[])
         && cuts(log, 100_000_001, false, &SETUP)
 }
 
 // Heartbeats are sent past their interval since the datagram before, where nothing may be sent.
-fn sends_beats(log: &mut TermLog) -> bool {
+pub(crate) fn sends_beats(log: &mut TermLog) -> bool {
     let heard = status(log, Flags::NONE, 0, 0) == StatusAnswer::Limit(0);
     let beats = cuts(log, 0, false, &BEAT) && cuts(log, 100_000_000, false, &[]);
     heard && beats && cuts(log, 100_000_001, true, &LAST_BEAT)
 }
 
-#[test]
-fn setups_and_heartbeats(rt: HostRuntime) -> Result<(), Fail> {
-    let mut silent = opened(rt.alloc(), STREAM)?;
-    assert!(rt; sends_setups(&mut silent));
-    let mut heard = opened(rt.alloc(), STREAM)?;
-    assert!(rt; sends_beats(&mut heard));
-    Ok(())
-}
-
 // A status message lets the log be sent; beyond what was sent it is dropped, and a wish for a SETUP is one alone.
-fn opens_by_status(log: &mut TermLog) -> bool {
+pub(crate) fn sends_by_status(log: &mut TermLog) -> bool {
     let heard = status(log, Flags::NONE, 0, 32_768) == StatusAnswer::Limit(32_768);
     let offered = log.offer(b"x") == Offer::At(64);
     let beyond = status(log, Flags::NONE, 64, 32_768) == StatusAnswer::OutOfWindow;
     let sent = cuts(log, 0, false, &FRAME) && log.sender_position() == 64;
     let less = status(log, Flags::NONE, 0, 0) == StatusAnswer::Limit(32_768);
     let asked = status(log, Flags::SEND_SETUP, 96, 0) == StatusAnswer::Elicited;
-    heard && offered && beyond && sent && less && asked && cuts(log, 0, false, &LATER_SETUP)
-}
-
-#[test]
-fn status_opens_the_log(rt: HostRuntime) -> Result<(), Fail> {
-    let mut log = opened(rt.alloc(), STREAM)?;
-    assert!(rt; opens_by_status(&mut log) && cuts(&mut log, 0, false, &[]));
-    Ok(())
+    let setup = cuts(log, 0, false, &LATER_SETUP) && cuts(log, 0, false, &[]);
+    heard && offered && beyond && sent && less && asked && setup
 }

@@ -1,13 +1,11 @@
 //! Tests of what NAKs are answered by.
 
-use crate::tests::{FRAME, PACE, STREAM, status};
+use crate::datagrams::{FRAME, PACE, STREAM, status};
 use frame_codec::{Flags, Nak};
 use policy_core::{Act, Decision, Verdict};
 use publication_sender::{Datagrams, NakAnswer, StatusAnswer, answer_nak, cut, note_nak};
 use retransmit_gate::Gate;
-use std::test::Fail;
 use term_log::{Ident, LogKind, Offer, TermLog};
-use term_log_tests::opened;
 
 const ONE_SECOND: u64 = 1_000_000_000;
 
@@ -15,7 +13,7 @@ const ONE_SECOND: u64 = 1_000_000_000;
 const LINGER: u64 = 60_000_000;
 
 /// The same stream from 128 positions before the end of term 0 on.
-const LATE_STREAM: Ident = Ident {
+pub(crate) const LATE_STREAM: Ident = Ident {
     start: 65_408,
     ..STREAM
 };
@@ -173,13 +171,9 @@ fn refuses_naks(log: &TermLog, gate: &mut Gate) -> bool {
     empty && beyond
 }
 
-#[test]
-fn one_frame_is_sent_again(rt: HostRuntime) -> Result<(), Fail> {
-    let mut log = opened(rt.alloc(), STREAM)?;
+pub(crate) fn one_frame_is_sent_again(log: &mut TermLog) -> bool {
     let mut gate = Gate::new(LINGER);
-    assert!(rt; sends_two(&mut log));
-    assert!(rt; answers_naks(&log, &mut gate) && refuses_naks(&log, &mut gate));
-    Ok(())
+    sends_two(log) && answers_naks(log, &mut gate) && refuses_naks(log, &mut gate)
 }
 
 // Three frames of 640 bytes are sent.
@@ -190,9 +184,8 @@ fn sends_three(log: &mut TermLog) -> bool {
     hears(log, 0, 32_768) && first && second && third && sends(log, 1280) && sends(log, 640)
 }
 
-#[test]
-fn frames_fill_datagrams(rt: HostRuntime) -> Result<(), Fail> {
-    let mut log = opened(rt.alloc(), STREAM)?;
+// The range meets the first frame and the last one in a part alone.
+pub(crate) fn frames_fill_datagrams(log: &mut TermLog) -> bool {
     let mut gate = Gate::new(LINGER);
     let mut two = [b'a'; 1280];
     two[640..].copy_from_slice(&[b'b'; 640]);
@@ -200,11 +193,12 @@ fn frames_fill_datagrams(rt: HostRuntime) -> Result<(), Fail> {
     two[640..672].copy_from_slice(&HEADERS[1]);
     let mut third = [b'c'; 640];
     third[..32].copy_from_slice(&HEADERS[2]);
-    assert!(rt; sends_three(&mut log));
-    // the range meets the first frame and the last one in a part alone
-    let answer = ask(&log, &mut gate, ONE_SECOND, (608, 704), true);
-    assert!(rt; resends(answer, &two, &third));
-    Ok(())
+    let sent = sends_three(log);
+    sent && resends(
+        ask(log, &mut gate, ONE_SECOND, (608, 704), true),
+        &two,
+        &third,
+    )
 }
 
 // A frame and a pad end the term, and a frame of the next one is sent.
@@ -215,16 +209,15 @@ fn crosses_the_term(log: &mut TermLog) -> bool {
     hears(log, 65_408, 98_176) && first && padded && next && sends(log, 96) && sends(log, 96)
 }
 
-#[test]
-fn terms_stay_apart(rt: HostRuntime) -> Result<(), Fail> {
-    let mut log = opened(rt.alloc(), LATE_STREAM)?;
+pub(crate) fn terms_stay_apart(log: &mut TermLog) -> bool {
     let mut gate = Gate::new(LINGER);
-    assert!(rt; crosses_the_term(&mut log));
-    let below = ask(&log, &mut gate, ONE_SECOND, (65_376, 64), true);
-    assert!(rt; matches!(below, NakAnswer::OutOfWindow));
-    let answer = ask(&log, &mut gate, ONE_SECOND, (65_440, 192), true);
-    assert!(rt; resends(answer, &TERM_END, &NEXT_TERM));
-    Ok(())
+    let sent = crosses_the_term(log);
+    let below = matches!(
+        ask(log, &mut gate, ONE_SECOND, (65_376, 64), true),
+        NakAnswer::OutOfWindow
+    );
+    let answer = ask(log, &mut gate, ONE_SECOND, (65_440, 192), true);
+    sent && below && resends(answer, &TERM_END, &NEXT_TERM)
 }
 
 // Seventeen frames are sent.
@@ -250,10 +243,7 @@ fn is_busy_at_last(log: &TermLog, gate: &mut Gate) -> bool {
     first && matches!(last, NakAnswer::Busy)
 }
 
-#[test]
-fn few_ranges_linger(rt: HostRuntime) -> Result<(), Fail> {
-    let mut log = opened(rt.alloc(), STREAM)?;
+pub(crate) fn few_ranges_linger(log: &mut TermLog) -> bool {
     let mut gate = Gate::new(LINGER);
-    assert!(rt; sends_many(&mut log) && is_busy_at_last(&log, &mut gate));
-    Ok(())
+    sends_many(log) && is_busy_at_last(log, &mut gate)
 }
