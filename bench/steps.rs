@@ -362,6 +362,10 @@ impl Cache {
     }
 
     fn verdict(&mut self, key: Key, decide: impl FnOnce() -> Verdict) -> Verdict {
+        // What was asked last is answered without a look-up.
+        if self.newest != NOWHERE && self.nodes[self.newest].key == key {
+            return self.nodes[self.newest].verdict;
+        }
         if let Some(at) = self.places.get(&key).copied() {
             if at != self.newest {
                 self.take_out(at);
