@@ -4,6 +4,7 @@ pub mod Ends
 pub mod Fronts
 pub mod Held
 pub mod Nears
+pub mod Offsets
 pub mod Passing
 pub mod Places
 pub mod Polls

@@ -1,6 +1,7 @@
 -- What a log keeps of all frames that were ever appended to it.
-use Rattle.std.specs.Prelude.{◌≡◌, ℕ, ◌+◌, ◌-◌, ◌*◌, ◌%◌, ◌<◌, ◌≤◌, ◌==◌, List, [], ◌∷◌, ◌++◌, length, replicate, refl}
+use Rattle.std.specs.Prelude.{◌≡◌, ℕ, ℤ, ◌+◌, ◌-◌, ◌*◌, ◌%◌, ◌<◌, ◌≤◌, ◌==◌, List, [], ◌∷◌, ◌++◌, length, replicate, refl}
 use Rattle.std.specs.Coded.{Coded, code_by, coded×, coded_ℕ}
+use Rattle.frame_codec.specs.Position.{term_id_of}
 use Rattle.log_arena.specs.Lease.{lease_home, lease_place}
 use Rattle.log_arena.specs.declared.lease.Lease.{Lease}
 use Rattle.term_log.specs.declared.ident.Ident.{Ident}
@@ -74,11 +75,13 @@ abbrev pub after_frames : Kept → List Frame → Kept
 after_frames k [] = k
 after_frames k (f ∷ fs) = after_frames (after_frame k f) fs
 
--- facts on numbers that every log keeps
-pub record IsKept (i : Ident) (tail messages : ℕ) (buffers : Buffers) : Type 0 where
+-- facts on numbers that every log keeps; where the tail is in its term is kept beside it
+pub record IsKept (i : Ident) (tail offset : ℕ) (term_id : ℤ) (messages : ℕ) (buffers : Buffers) : Type 0 where
   pub ident : IsIdent i
   pub same : buffers.term_length ≡ i.term_length
   pub low : i.start ≤ tail
   pub high : tail ≤ greatest_position i
   pub aligned : tail % 32 ≡ 0
   pub counted : i.start + 32 * messages ≤ tail
+  pub offset_is : offset ≡ tail % i.term_length
+  pub term_is : term_id ≡ term_id_of i.initial_term tail i.term_length

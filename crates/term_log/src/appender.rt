@@ -29,6 +29,10 @@ pub(crate) struct Appender {
     ident: Ident,
     /// The position behind the last frame.
     tail: u64,
+    /// How many bytes of the newest term are before the tail, and the id of that term: a frame that is appended divides
+    /// nothing.
+    offset: u64,
+    term_id: i32,
     /// How many messages were appended.
     messages: u64,
     buffers: TermBuffers,
@@ -43,7 +47,7 @@ impl Model for Appender {
 
     ghost view = { λ a. record { ident = a.ident; tail = a.tail; messages = a.messages; buffers = a.buffers } };
 
-    ghost invariant = { λ a. IsKept a.ident a.tail a.messages a.buffers };
+    ghost invariant = { λ a. IsKept a.ident a.tail a.offset a.term_id a.messages a.buffers };
 }
 
 impl Appender {
@@ -54,9 +58,12 @@ impl Appender {
         requires zeros { lease_bytes lease ≡ replicate (3 * ident.term_length) 0 }
         ensures { result ≡ opened lease ident }
     {
+        let (term_id, offset) = term_of(ident.initial_term, ident.start, ident.term_length);
         Appender {
             ident,
             tail: ident.start,
+            offset: u64::from(offset),
+            term_id,
             messages: 0,
             buffers: TermBuffers::new(lease, ident.term_length),
         }
@@ -89,8 +96,7 @@ impl Appender {
         ensures value { result ≡ rest_of self.now }
         ensures some { 0 < result }
     {
-        let term_length = u64::from(self.ident.term_length);
-        term_length - self.tail % term_length
+        u64::from(self.ident.term_length) - self.offset
     }
 
     /// Where a frame at the tail stands.
@@ -98,16 +104,11 @@ impl Appender {
         ensures value { result ≡ place_at self.now.ident self.now.tail }
         ensures offset { result.term_offset < self.now.buffers.term_length }
     {
-        let (term_id, term_offset) = term_of(
-            self.ident.initial_term,
-            self.tail,
-            self.ident.term_length,
-        );
         TermPlace {
             session_id: self.ident.session,
             stream_id: self.ident.stream,
-            term_id,
-            term_offset,
+            term_id: self.term_id,
+            term_offset: self.offset as u32,
         }
     }
 
@@ -127,11 +128,48 @@ impl Appender {
               };
         } }
     {
-        let term_length = u64::from(self.ident.term_length);
-        let full = self.tail % term_length + span == term_length;
+        let full = self.offset + span == u64::from(self.ident.term_length);
         self.tail += span;
         self.messages += begun;
         self.buffers.settle(full);
+        if full {
+            let (term_id, offset) = term_of(
+                self.ident.initial_term,
+                self.tail,
+                self.ident.term_length,
+            );
+            self.term_id = term_id;
+            self.offset = u64::from(offset);
+        } else {
+            self.offset += span;
+        }
+    }
+
+    /// The first position whose frame is held.
+    pub(crate) fn low(&self) -> u64
+        ensures { result ≡ low_of self.now }
+    {
+        let newest = self.tail - self.offset;
+        let terms = 2 * u64::from(self.ident.term_length);
+        self.ident.start.max(newest.saturating_sub(terms))
+    }
+
+    /// Where the term begins of a position that is held, or of the tail: it is one of three.
+    fn term_start(&self, position: u64) -> u64
+        requires low { low_of self.now ≤ position }
+        requires high { position ≤ self.now.tail }
+        ensures { result ≡ position - position % self.now.ident.term_length }
+    {
+        let term_length = u64::from(self.ident.term_length);
+        let newest = self.tail - self.offset;
+        if newest <= position {
+            return newest;
+        }
+        let before = newest.saturating_sub(term_length);
+        if before <= position {
+            return before;
+        }
+        before.saturating_sub(term_length)
     }
 
     /// Appends a part of a message.
@@ -191,9 +229,9 @@ impl Appender {
         ensures size { length (sent_bytes (frames_left result)) ≤ budget }
     {
         let term_length = u64::from(self.ident.term_length);
-        let offset = position % term_length;
-        let begin = position - offset;
-        let newest = self.tail - self.tail % term_length;
+        let begin = self.term_start(position);
+        let offset = position - begin;
+        let newest = self.tail - self.offset;
         let base = begin + 2 * term_length - newest;
         let end = self.tail.min(begin + term_length);
         let count = end - position;
@@ -205,13 +243,13 @@ impl Appender {
 
     /// Where the term behind that of a position begins, or the tail where that is before it.
     fn next_term(&self, position: u64) -> u64
-        requires { position ≤ self.now.tail }
+        requires low { low_of self.now ≤ position }
+        requires high { position ≤ self.now.tail }
         ensures value { result ≡ min self.now.tail (position - position % self.now.ident.term_length + self.now.ident.term_length) }
         ensures after { position ≤ result }
     {
-        let term_length = u64::from(self.ident.term_length);
-        self.tail
-            .min(position - position % term_length + term_length)
+        let begin = self.term_start(position);
+        self.tail.min(begin + u64::from(self.ident.term_length))
     }
 
     /// The frames from a position on that is held: a frame's start or the tail. They are those of its term, of the next one
@@ -233,6 +271,17 @@ impl Appender {
         )
     }
 
+    /// Where the term begins of any position.
+    fn any_start(&self, low: u64, position: u64) -> u64
+        requires { low ≡ low_of self.now }
+        ensures { result ≡ position - position % self.now.ident.term_length }
+    {
+        if low <= position && position <= self.tail {
+            return self.term_start(position);
+        }
+        position - position % u64::from(self.ident.term_length)
+    }
+
     /// Where frames that meet a range may begin: at the start of the term in which the range begins, as far as that is held.
     fn over_start(&self, low: u64, position: u64) -> u64
         requires exact { low ≡ low_of self.now }
@@ -244,8 +293,7 @@ impl Appender {
         ensures start { self.now.ident.start ≤ self.now.tail }
         ensures fits { self.now.tail < 2 ^ 64 }
     {
-        let term_length = u64::from(self.ident.term_length);
-        low.max(position - position % term_length).min(self.tail)
+        low.max(self.any_start(low, position)).min(self.tail)
     }
 
     /// How many bytes of frames are looked at from a position on, for a range: up to its end, and those of a frame more.

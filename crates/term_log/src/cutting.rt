@@ -12,7 +12,11 @@ pub(crate) fn last_part(size: usize, payload: usize) -> usize
     requires { 0 < payload }
     ensures { result ≡ last_part payload size }
 {
-    size.saturating_sub(1) / payload
+    // most messages are of one frame, and a division takes long
+    if size <= payload {
+        return 0;
+    }
+    (size - 1) / payload
 }
 
 /// The flags of one of a message's frames.

@@ -127,10 +127,7 @@ impl TermLog {
         ensures value { result ≡ low_of self.now.kept }
         ensures within { result ≤ self.now.kept.tail }
     {
-        let ident = self.appender.ident();
-        let term_length = u64::from(ident.term_length);
-        let terms = (self.appender.tail() / term_length).saturating_sub(2);
-        ident.start.max(terms * term_length)
+        self.appender.low()
     }
 
     /// The frames from a position on that is not below [`TermLog::low`], and that is a frame's start or the tail: the

@@ -1,5 +1,5 @@
 -- The bytes that are lent are those of the frames from the position on.
-use Rattle.std.proofs.Common.{◌≡◌, ℕ, ◌+◌, ◌-◌, ◌*◌, ◌/◌, ◌%◌, ◌<◌, ◌≤◌, min, refl, sym, ap, subst, arith}
+use Rattle.std.proofs.Common.{◌≡◌, ℕ, ◌+◌, ◌-◌, ◌*◌, ◌/◌, ◌%◌, ◌<◌, ◌≤◌, min, refl, sym, subst, arith}
 use Rattle.term_log.specs.Buffers.{IsBase}
 use Rattle.term_log.specs.Kept.{Kept}
 use Rattle.term_log.specs.Reading.{frames_left}
@@ -17,10 +17,12 @@ part-bytes-requires-clause-base c =
     let term : ℕ = s.ident.term_length in
     let term_low = c.self.invariant.ident.term_low in
     let is : c.from-term_length.result ≡ term = c.from-term_length.ensures in
+    let begin : c.term_start-begin.result ≡ c.args.position - c.args.position % term = rw (← c.self.view_is) at c.term_start-begin.ensures in
+    let offset = c.self.invariant.offset_is in
     let base : ℕ = c.args.position - c.args.position % term + 2 * term - (s.tail - s.tail % term) in
     let here : IsBase term base = base_is s.tail c.args.position term base (omega arith) (omega (arith, low)) high refl in
-    subst (λ (t : ℕ). IsBase s.buffers.term_length (c.args.position - c.args.position % t + 2 * t - (s.tail - s.tail % t))) (sym is)
-    (subst (λ (t : ℕ). IsBase t base) (sym same) here)
+    let same_base : base ≡ c.term_start-begin.result + 2 * c.from-term_length.result - (s.tail - s.offset) = omega arith in
+    subst (λ (n : ℕ). IsBase s.buffers.term_length n) same_base (subst (λ (t : ℕ). IsBase t base) (sym same) here)
 
 pub returns-clause-gives : goal.returns-clause-gives
 returns-clause-gives c =
@@ -29,10 +31,11 @@ returns-clause-gives c =
     let position : ℕ = c.args.position in
     let low = rw (← c.self.view_is) at c.requires.low in
     let high = rw (← c.self.view_is) at c.requires.high in
-    let t : ℕ = c.from-term_length.result in
     let term : ℕ = s.ident.term_length in
     let term_low = c.self.invariant.ident.term_low in
-    let is : t ≡ term = c.from-term_length.ensures in
+    let is : c.from-term_length.result ≡ term = c.from-term_length.ensures in
+    let begin : c.term_start-begin.result ≡ position - position % term = rw (← c.self.view_is) at c.term_start-begin.ensures in
+    let tail_offset = c.self.invariant.offset_is in
     let own = div-add-mod' s.tail term in
     let base : IsBase term (position - position % term + 2 * term - (s.tail - s.tail % term)) =
     base_is s.tail position term (position - position % term + 2 * term - (s.tail - s.tail % term)) (omega arith) (omega (arith, low)) high refl in
@@ -40,12 +43,10 @@ returns-clause-gives c =
     let near = term_near s.tail position term (omega arith) (omega (arith, low)) in
     let more : (position / term + 2) * term ≡ position / term * term + 2 * term = omega arith in
     let below : s.tail / term * term ≤ (position / term + 2) * term = mul-le (s.tail / term) term (position / term + 2) term near (omega arith) in
-    let offset : position % t ≡ position % term = ap (λ (n : ℕ). position % n) is in
-    let tail_offset : s.tail % t ≡ s.tail % term = ap (λ (n : ℕ). s.tail % n) is in
-    let end : c.min-end.result ≡ min s.tail (position - position % t + t) = c.min-end.ensures in
+    let end : c.min-end.result ≡ min s.tail (c.term_start-begin.result + c.from-term_length.result) = c.min-end.ensures in
     let rest : position % term < term = omega arith in
     rw (← c.self.view_is)
-    (gives_from k position c.args.budget (position - position % t + 2 * t - (s.tail - s.tail % t) + position % t) (c.min-end.result - position) c.min-end.result
+    (gives_from k position c.args.budget (c.term_start-begin.result + 2 * c.from-term_length.result - (s.tail - s.offset) + (position - c.term_start-begin.result)) (c.min-end.result - position) c.min-end.result
     c.part-bytes.result.now (frames_left c.new.result) c.self.invariant.ident (omega arith) (omega arith) (omega arith) c.part-bytes.ensures.bytes c.new.ensures)
 
 pub returns-clause-behind : goal.returns-clause-behind
@@ -53,24 +54,24 @@ returns-clause-behind c =
     let s = c.self.inside in
     let position : ℕ = c.args.position in
     let high = rw (← c.self.view_is) at c.requires.high in
-    let t : ℕ = c.from-term_length.result in
     let term_low = c.self.invariant.ident.term_low in
-    let is : t ≡ s.ident.term_length = c.from-term_length.ensures in
-    let rest : position % t < t = omega arith in
-    let end : c.min-end.result ≡ min s.tail (position - position % t + t) = c.min-end.ensures in
-    (row_from (frames_left c.new.result) position (c.min-end.result - position) c.min-end.result c.args.budget c.part-bytes.result.now c.new.ensures c.part-bytes.ensures.size (omega (arith, high, rest, end))).0
+    let is : c.from-term_length.result ≡ s.ident.term_length = c.from-term_length.ensures in
+    let begin : c.term_start-begin.result ≡ position - position % s.ident.term_length = rw (← c.self.view_is) at c.term_start-begin.ensures in
+    let rest : position % s.ident.term_length < s.ident.term_length = omega arith in
+    let end : c.min-end.result ≡ min s.tail (c.term_start-begin.result + c.from-term_length.result) = c.min-end.ensures in
+    (row_from (frames_left c.new.result) position (c.min-end.result - position) c.min-end.result c.args.budget c.part-bytes.result.now c.new.ensures c.part-bytes.ensures.size (omega (arith, high, rest, end, begin))).0
 
 pub returns-clause-within : goal.returns-clause-within
 returns-clause-within c =
     let s = c.self.inside in
     let position : ℕ = c.args.position in
     let high = rw (← c.self.view_is) at c.requires.high in
-    let t : ℕ = c.from-term_length.result in
     let term_low = c.self.invariant.ident.term_low in
-    let is : t ≡ s.ident.term_length = c.from-term_length.ensures in
-    let rest : position % t < t = omega arith in
-    let end : c.min-end.result ≡ min s.tail (position - position % t + t) = c.min-end.ensures in
-    let row = row_from (frames_left c.new.result) position (c.min-end.result - position) c.min-end.result c.args.budget c.part-bytes.result.now c.new.ensures c.part-bytes.ensures.size (omega (arith, high, rest, end)) in
+    let is : c.from-term_length.result ≡ s.ident.term_length = c.from-term_length.ensures in
+    let begin : c.term_start-begin.result ≡ position - position % s.ident.term_length = rw (← c.self.view_is) at c.term_start-begin.ensures in
+    let rest : position % s.ident.term_length < s.ident.term_length = omega arith in
+    let end : c.min-end.result ≡ min s.tail (c.term_start-begin.result + c.from-term_length.result) = c.min-end.ensures in
+    let row = row_from (frames_left c.new.result) position (c.min-end.result - position) c.min-end.result c.args.budget c.part-bytes.result.now c.new.ensures c.part-bytes.ensures.size (omega (arith, high, rest, end, begin)) in
     rw (← c.self.view_is) (omega (arith, row.1, end))
 
 pub returns-clause-fits : goal.returns-clause-fits
