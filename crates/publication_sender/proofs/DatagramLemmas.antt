@@ -1,9 +1,10 @@
 -- How frames go into datagrams.
-use Rattle.std.proofs.Common.{◌≡◌, ◌≤◌, ℕ, zero, suc, ◌+◌, ◌-◌, ◌/◌, true, false, List, [], ◌∷◌, length, take, Option, Some, None, refl, sym, ap, subst, ◌∙◌, arith}
-use Rattle.std.specs.Prelude.{◌++◌, drop, nat_le}
+use Rattle.std.proofs.Common.{◌≡◌, ◌<◌, ◌≤◌, ℕ, zero, suc, ◌+◌, ◌-◌, ◌*◌, ◌/◌, ◌%◌, true, false, List, [], ◌∷◌, length, take, Option, Some, None, refl, sym, ap, subst, ◌∙◌, arith}
+use Rattle.std.specs.Prelude.{◌++◌, ◌==◌, drop, nat_le, nat_lt}
 use Rattle.std.proofs.lemmas.Bool.{eq-eqb}
 use Rattle.std.proofs.lemmas.Bool.Decides.{nat_tests}
 use Rattle.std.proofs.lemmas.List.{append-nil, append_assoc, drop_at, length-append, length-drop, take_at}
+use Rattle.std.proofs.lemmas.Nat.{div-add-mod', div-mul-add}
 use Rattle.std.proofs.lemmas.Slice.{drop-append-drop}
 use Rattle.publication_sender.specs.Datagrams.{Copies, CopiesFirst, Fills, FillsFirst, GivesFirst, TakesNext, ahead, datagrams_in, datagrams_of, first_run, fits, fitting}
 use Rattle.term_log.specs.Reading.{Given, sent_bytes}
@@ -23,6 +24,38 @@ take_whole (b ∷ bs) = ap (λ (rest : List ℕ). b ∷ rest) (take_whole bs)
 sent-append : (gs hs : List Given) → sent_bytes (gs ++ hs) ≡ sent_bytes gs ++ sent_bytes hs
 sent-append [] hs = refl
 sent-append (g ∷ gs) hs = ap (λ (bs : List ℕ). g.bytes ++ bs) (sent-append gs hs) ∙ sym (append_assoc g.bytes (sent_bytes gs) (sent_bytes hs))
+
+-- ---- the term of a position
+
+-- it has that number where the position lies at most a term behind that term's start
+pub in_term : (term number position : ℕ) → 0 < term → number * term ≤ position
+    → nat_lt (position - number * term) term ≡ (position / term == number)
+in_term term number position some low =
+    let own = div-add-mod' position term in
+    let rest : position % term < term = omega arith in
+    elim (nat_lt (position - number * term) term) as (λ b. nat_lt (position - number * term) term ≡ b → b ≡ (position / term == number)) [
+      | true ↦ λ is.
+          let near : position - number * term < term = grind (arith, nat_tests, is) in
+          let here : position ≡ number * term + (position - number * term) = omega arith in
+          let same : position / term ≡ number = ap (λ (n : ℕ). n / term) here ∙ div-mul-add number term (position - number * term) near in
+          sym (eq-eqb (position / term) number same)
+      | false ↦ λ is.
+          let far : term ≤ position - number * term = grind (arith, nat_tests, is) in
+          elim (position / term == number) as (λ e. (position / term == number) ≡ e → false ≡ e) [
+            | true ↦ λ same.
+                let alike : position / term ≡ number = grind (arith, nat_tests, same) in
+                let product : position / term * term ≡ number * term = ap (λ (n : ℕ). n * term) alike in
+                absurd (omega arith)
+            | false ↦ λ differs. refl
+          ]
+          refl
+    ]
+    refl
+
+pub starts_before : (position term : ℕ) → position / term * term ≤ position
+starts_before position term =
+    let own = div-add-mod' position term in
+    omega arith
 
 -- ---- the run of one datagram
 

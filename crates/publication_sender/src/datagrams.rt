@@ -1,7 +1,7 @@
 //! Frames that are sent again, in datagrams.
 
 ghost use Rattle.publication_sender.specs.Datagrams.{Copies, CopiesFirst, Fills, FillsFirst, GivesFirst, TakesFitting, TakesNext, datagrams_of, first_run, fitting, frames_in};
-ghost use Rattle.std.specs.Prelude.{◌≡◌, ◌+◌, ◌==◌, ◌<◌, ◌≤◌, ◌++◌, drop, length, take, IfOk};
+ghost use Rattle.std.specs.Prelude.{◌≡◌, ◌+◌, ◌*◌, ◌/◌, ◌^◌, ◌==◌, ◌<◌, ◌≤◌, ◌++◌, drop, length, take, IfOk};
 ghost use Rattle.std.specs.Option.{option_map};
 ghost use Rattle.std.specs.Vec.{vec_items};
 ghost use Rattle.term_log.specs.Ranges.{over_left};
@@ -53,6 +53,16 @@ impl<'a> Model for Datagrams<'a> {
     ghost invariant = { λ d. 0 < d.term_length };
 }
 
+/// Whether a position lies in the term of that number. Frame by frame is asked, and a division takes long.
+fn is_in_term(term_length: u64, number: u64, position: u64) -> bool
+    requires some { 0 < term_length }
+    requires fits { number * term_length < 2 ^ 64 }
+    ensures { result ≡ (position / term_length == number) }
+{
+    let begin = number * term_length;
+    begin <= position && position - begin < term_length
+}
+
 /// The next frame, if it is of that term and has at most so many bytes. Else it is left.
 fn next_fitting<'a>(
     frames: &mut Ahead<'a>,
@@ -60,11 +70,12 @@ fn next_fitting<'a>(
     number: u64,
     budget: usize,
 ) -> Option<LogFrame<'a>>
-    requires { 0 < term_length }
+    requires term { 0 < term_length }
+    requires number { number * term_length < 2 ^ 64 }
     ensures { TakesFitting term_length number budget (frames_in frames.old) (frames_in frames.new) result }
 {
     let frame = frames.next?;
-    if frame.position / term_length != number || frame.bytes.len() > budget {
+    if !is_in_term(term_length, number, frame.position) || frame.bytes.len() > budget {
         return None;
     }
     frames.next = frames.later.next();
@@ -83,6 +94,7 @@ fn put(out: &mut [u8], at: usize, bytes: &[u8])
 #[tactic(auto, using(crate::proofs::DatagramLemmas::filled_none, crate::proofs::DatagramLemmas::filled_all, crate::proofs::DatagramLemmas::filled_length, crate::proofs::DatagramLemmas::fits_within))]
 fn fill(frames: &mut Ahead<'_>, term_length: u64, number: u64, mtu: usize, out: &mut [u8]) -> usize
     requires term { 0 < term_length }
+    requires number { number * term_length < 2 ^ 64 }
     requires room { mtu ≤ length out.old }
     ensures { Fills (fitting term_length number mtu (frames_in frames.old)) (frames_in frames.old) (frames_in frames.new) out.old out.new result }
 {
@@ -103,7 +115,8 @@ fn copy_run(
     number: u64,
     mtu: usize,
 ) -> Result<Vec<u8>, AllocError>
-    requires { 0 < term_length }
+    requires term { 0 < term_length }
+    requires number { number * term_length < 2 ^ 64 }
     ensures { IfOk result (λ copy. Copies (fitting term_length number mtu (frames_in frames.old)) (frames_in frames.old) (frames_in frames.new) copy.items) }
 {
     let mut copy = Vec::with_capacity(alloc, mtu)?;
@@ -111,6 +124,16 @@ fn copy_run(
         copy.extend_from_slice(frame.bytes)?;
     }
     Ok(copy)
+}
+
+/// The number of the term in which a frame begins.
+#[tactic(auto, using(crate::proofs::DatagramLemmas::starts_before))]
+fn term_number(frame: &LogFrame<'_>, term_length: u64) -> u64
+    requires { 0 < term_length }
+    ensures value { result ≡ frame.now.position / term_length }
+    ensures fits { result * term_length < 2 ^ 64 }
+{
+    frame.position / term_length
 }
 
 /// A copy of the frames of the first datagram, which are taken; none where no frame is left.
@@ -131,13 +154,8 @@ fn copy_first(
     if first.bytes.len() > mtu {
         return Ok(None);
     }
-    let copy = copy_run(
-        frames,
-        alloc,
-        term_length,
-        first.position / term_length,
-        mtu,
-    )?;
+    let number = term_number(&first, term_length);
+    let copy = copy_run(frames, alloc, term_length, number, mtu)?;
     Ok(Some(copy))
 }
 
@@ -153,7 +171,8 @@ fn fill_first(frames: &mut Ahead<'_>, term_length: u64, mtu: usize, out: &mut [u
     if first.bytes.len() > mtu {
         return None;
     }
-    Some(fill(frames, term_length, first.position / term_length, mtu, out))
+    let number = term_number(&first, term_length);
+    Some(fill(frames, term_length, number, mtu, out))
 }
 
 impl<'a> Datagrams<'a> {
