@@ -4,6 +4,7 @@ pub mod Dropping
 pub mod Found
 pub mod FrameLaws
 pub mod Naming
+pub mod Offsets
 pub mod Orders
 pub mod Pairing
 pub mod Polls

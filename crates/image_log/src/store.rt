@@ -22,6 +22,8 @@ pub(crate) struct Store {
     lease: Lease,
     /// No frame begins below this position.
     low: u64,
+    /// Where that position stands in the lease.
+    offset: usize,
     places: VecDeque<Place>,
 }
 
@@ -32,10 +34,27 @@ impl Model for Store {
 
     ghost use Rattle.std.specs.VecDeque.{deque_capacity};
     ghost use Rattle.image_log.specs.Kept.{stored_of, IsStore};
+    ghost use Rattle.log_arena.specs.Lease.{lease_len};
+    ghost use Rattle.std.specs.Prelude.{◌≡◌, ◌%◌};
 
     ghost view = { λ s. stored_of s.lease s.low s.places.items };
 
-    ghost invariant = { λ s. IsStore s.lease s.low s.places.items (deque_capacity s.places) };
+    ghost invariant = { λ s. IsStore s.lease s.low s.places.items (deque_capacity s.places) × (s.offset ≡ s.low % lease_len s.lease) };
+}
+
+/// Where a position stands in a lease of `len` bytes, in which the position `low` stands at `offset`. Nothing is divided where it
+/// is from there on, and less than the lease's length.
+fn start_in(len: usize, low: u64, offset: usize, position: u64) -> usize
+    requires some { 0 < len }
+    requires fits { len < 2 ^ 63 }
+    requires offset { offset ≡ low % len }
+    ensures { result ≡ position % len }
+{
+    if position < low || position - low >= len as u64 {
+        return (position % len as u64) as usize;
+    }
+    let at = offset + (position - low) as usize;
+    if at < len { at } else { at - len }
 }
 
 impl Store {
@@ -49,7 +68,13 @@ impl Store {
     {
         let mut lease = lease;
         clear(lease.bytes_mut());
-        Store { lease, low, places }
+        let offset = (low % lease.len() as u64) as usize;
+        Store {
+            lease,
+            low,
+            offset,
+            places,
+        }
     }
 
     /// The position below which no frame begins.
@@ -89,7 +114,7 @@ impl Store {
         ensures { result.now ≡ (frame_at self.now.frames index).bytes }
     {
         let place = self.places[index];
-        let start = (place.position % self.lease.len() as u64) as usize;
+        let start = start_in(self.lease.len(), self.low, self.offset, place.position);
         &self.lease.bytes()[start..start + place.size as usize]
     }
 
@@ -196,7 +221,7 @@ impl Store {
             (insert self.old.frames at (framed position span bytes.now)) }
         ensures { self.new ≡ record self.old { frames = insert self.old.frames at (framed position span bytes.now) } }
     {
-        let start = (position % self.lease.len() as u64) as usize;
+        let start = start_in(self.lease.len(), self.low, self.offset, position);
         write_at(self.lease.bytes_mut(), start, bytes);
         let place = Place {
             position,
@@ -213,7 +238,7 @@ impl Store {
     {
         match self.places.pop_front() {
             Some(place) => {
-                let start = (place.position % self.lease.len() as u64) as usize;
+                let start = start_in(self.lease.len(), self.low, self.offset, place.position);
                 clear_at(self.lease.bytes_mut(), start, place.size as usize);
             }
             None => unreachable!(),
@@ -229,6 +254,7 @@ impl Store {
         while self.len() > 0 && self.start_of(0) < low {
             self.drop_first();
         }
+        self.offset = start_in(self.lease.len(), self.low, self.offset, low);
         self.low = low;
     }
 
@@ -268,6 +294,7 @@ impl Store {
         let Store {
             lease,
             low: _,
+            offset: _,
             places: _,
         } = self;
         lease

@@ -1,4 +1,4 @@
-use Rattle.std.proofs.Common.{◌≡◌, ℕ, ◌+◌, ◌<◌, ◌≤◌, List, length, sym, ap, ap₂, ◌∙◌, subst, arith}
+use Rattle.std.proofs.Common.{◌≡◌, ℕ, ◌+◌, ◌%◌, ◌<◌, ◌≤◌, List, length, sym, ap, ap₂, ◌∙◌, subst, arith}
 use Rattle.std.specs.Prelude.{filter}
 use Rattle.image_log.specs.Frame.{Frame}
 use Rattle.image_log.specs.Kept.{contents}
@@ -21,13 +21,15 @@ invariant_of-self c =
       | else-loop-self-test w ↦ absurd (omega (arith, c.len.ensures, some, w.loop-self-test.false))
     ] in
     let all : filter (begins_from c.args.low) fs ≡ fs =
-    kept_rest c.args.low s.low (s.low + n) fs c.self.invariant.order (subst (λ (gs : List Frame). 0 < length gs → c.args.low ≤ (frame_at gs 0).position) (sym same) first) in
+    kept_rest c.args.low s.low (s.low + n) fs c.self.invariant.0.order (subst (λ (gs : List Frame). 0 < length gs → c.args.low ≤ (frame_at gs 0).position) (sym same) first) in
     let low : s.low ≡ c.args.self.now.low = ap (λ (x : Stored). x.low) c.self.view_is ∙ c.loop-self.invariant.1 in
     let len : n ≡ c.args.self.now.held.len = ap (λ (x : Stored). x.held.len) c.self.view_is ∙ ap (λ (h : Held). h.len) c.loop-self.invariant.0 in
-    let up : s.low ≤ c.args.low = omega (arith, c.requires.up, low) in
-    raised s.lease s.low c.args.low _ s.places.items c.self.invariant up (omega (arith, c.requires.high, len))
-    (subst (λ (gs : List Frame). Ordered c.args.low (c.args.low + n) gs) all
-    (ordered_from c.args.low s.low (s.low + n) (c.args.low + n) fs c.self.invariant.order (omega (arith, up))))
+    let up : s.low ≤ c.args.low = omega (arith, c.requires.up, low) in (
+      raised s.lease s.low c.args.low _ s.places.items c.self.invariant.0 up (omega (arith, c.requires.high, len))
+          (subst (λ (gs : List Frame). Ordered c.args.low (c.args.low + n) gs) all
+          (ordered_from c.args.low s.low (s.low + n) (c.args.low + n) fs c.self.invariant.0.order (omega (arith, up)))),
+      c.start_in-self-inside.ensures ∙ ap (λ (k : ℕ). c.args.low % k) c.len-2.ensures,
+    )
 
 pub returns : goal.returns
 returns c =
@@ -41,7 +43,7 @@ returns c =
       | else-loop-self-test w ↦ absurd (omega (arith, c.len.ensures, some, w.loop-self-test.false))
     ] in
     let all : filter (begins_from c.args.low) fs ≡ fs =
-    kept_rest c.args.low s.low (s.low + n) fs c.self.invariant.order (subst (λ (gs : List Frame). 0 < length gs → c.args.low ≤ (frame_at gs 0).position) (sym same) first) in
+    kept_rest c.args.low s.low (s.low + n) fs c.self.invariant.0.order (subst (λ (gs : List Frame). 0 < length gs → c.args.low ≤ (frame_at gs 0).position) (sym same) first) in
     let left : fs ≡ filter (begins_from c.args.low) c.args.self.now.frames =
     sym all ∙ ap (λ (gs : List Frame). filter (begins_from c.args.low) gs) same ∙ c.loop-self.invariant.2 in
     let held : Rattle.image_log.specs.Stored.held_of s.lease ≡ c.args.self.now.held = ap (λ (x : Stored). x.held) c.self.view_is ∙ c.loop-self.invariant.0 in

@@ -12,9 +12,11 @@ invariant_of-self c =
     let lease = c.self.inside.lease in
     let p : Place = c.in-Some.place in
     let now : c.clear_at.new.out ≡ written (p.position % lease.bytes.len) (replicate {A = ℕ} p.size 0) lease.bytes.items =
-    c.clear_at.ensures ∙ ap₂ (λ (k : ℕ) (l : List ℕ). written (p.position % k) (replicate {A = ℕ} p.size 0) l) c.len.ensures c.bytes_mut.ensures.value in
-    drop_store lease c.self.inside.low _ _ c.clear_at.new.out c.self.inside.places.items c.pop_front.new.self.items p c.self.invariant c.in-Some.ensures.items
-    lease.bytes.ok.0 lease.housed.some now (omega (arith, c.pop_front.ensures.capacity))
+    c.clear_at.ensures ∙ ap₂ (λ (n : ℕ) (l : List ℕ). written n (replicate {A = ℕ} p.size 0) l) (c.start_in-start.ensures ∙ ap (λ (k : ℕ). p.position % k) c.len.ensures) c.bytes_mut.ensures.value in (
+      drop_store lease c.self.inside.low _ _ c.clear_at.new.out c.self.inside.places.items c.pop_front.new.self.items p c.self.invariant.0 c.in-Some.ensures.items
+          lease.bytes.ok.0 lease.housed.some now (omega (arith, c.pop_front.ensures.capacity)),
+      c.self.invariant.1,
+    )
 
 pub returns : goal.returns
 returns c =
@@ -22,8 +24,8 @@ returns c =
     let p : Place = c.in-Some.place in
     let qs : List Place = c.pop_front.new.self.items in
     let now : c.clear_at.new.out ≡ written (p.position % lease.bytes.len) (replicate {A = ℕ} p.size 0) lease.bytes.items =
-    c.clear_at.ensures ∙ ap₂ (λ (k : ℕ) (l : List ℕ). written (p.position % k) (replicate {A = ℕ} p.size 0) l) c.len.ensures c.bytes_mut.ensures.value in
-    let all = drop_all lease c.self.inside.low _ c.clear_at.new.out c.self.inside.places.items qs p c.self.invariant c.in-Some.ensures.items
+    c.clear_at.ensures ∙ ap₂ (λ (n : ℕ) (l : List ℕ). written n (replicate {A = ℕ} p.size 0) l) (c.start_in-start.ensures ∙ ap (λ (k : ℕ). p.position % k) c.len.ensures) c.bytes_mut.ensures.value in
+    let all = drop_all lease c.self.inside.low _ c.clear_at.new.out c.self.inside.places.items qs p c.self.invariant.0 c.in-Some.ensures.items
     lease.bytes.ok.0 lease.housed.some now in
     let rest : contents lease.bytes.len lease.bytes.items qs ≡ drop 1 (contents lease.bytes.len lease.bytes.items c.self.inside.places.items) =
     sym (ap (λ (ps : List Place). drop 1 (contents lease.bytes.len lease.bytes.items ps)) c.in-Some.ensures.items) in

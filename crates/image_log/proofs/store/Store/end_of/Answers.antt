@@ -7,5 +7,5 @@ pub overflow_add-result : goal.overflow_add-result
 overflow_add-result c =
     let n = counted _ _ _ _ (ap (λ (s : Stored). s.frames) c.self.view_is) in
     let here : c.args.index < length c.self.inside.places.items = omega (arith, c.requires, n) in
-    let end = place_end _ _ _ _ _ _ _ c.self.invariant.order here c.index-place.ensures in
-    omega (arith, end, c.self.invariant.high, c.from.ensures)
+    let end = place_end _ _ _ _ _ _ _ c.self.invariant.0.order here c.index-place.ensures in
+    omega (arith, end, c.self.invariant.0.high, c.from.ensures)

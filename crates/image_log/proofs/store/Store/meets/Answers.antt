@@ -22,7 +22,7 @@ returns-then-at-len c =
     let fs : List Frame = c.args.self.now.frames in
     let p : ℕ = c.args.position in
     let n = counted _ _ _ _ (ap (λ (s : Stored). s.frames) c.self.view_is) in
-    let order = subst (λ (s : Stored). Ordered s.low (s.low + s.held.len) s.frames) c.self.view_is c.self.invariant.order in
+    let order = subst (λ (s : Stored). Ordered s.low (s.low + s.held.len) s.frames) c.self.view_is c.self.invariant.0.order in
     let before : (k : ℕ) → rank p fs ≡ suc k → end_of (frame_at fs k) ≤ p = λ k r.
     elim c.else-at-gt0.branch [
       | else-at-gt0-via-then-at-gt0+else-end_of-position w ↦ (
@@ -38,7 +38,7 @@ returns-else-at-len c =
     let fs : List Frame = c.args.self.now.frames in
     let p : ℕ = c.args.position in
     let n = counted _ _ _ _ (ap (λ (s : Stored). s.frames) c.self.view_is) in
-    let order = subst (λ (s : Stored). Ordered s.low (s.low + s.held.len) s.frames) c.self.view_is c.self.invariant.order in
+    let order = subst (λ (s : Stored). Ordered s.low (s.low + s.held.len) s.frames) c.self.view_is c.self.invariant.0.order in
     let before : (k : ℕ) → rank p fs ≡ suc k → end_of (frame_at fs k) ≤ p = λ k r.
     elim c.else-at-gt0.branch [
       | else-at-gt0-via-then-at-gt0+else-end_of-position w ↦ (

@@ -14,7 +14,7 @@ put_in-requires c =
     let n = counted _ _ _ _ (ap (λ (s : Stored). s.frames) c.self.view_is) in
     let len = ap (λ (s : Stored). s.held.len) c.self.view_is in
     let order = subst (λ (k : ℕ). Ordered c.args.self.now.low (c.args.self.now.low + k) (insert c.args.self.now.frames c.args.at (framed c.args.position c.args.span c.args.bytes.now))) (sym len) c.requires.order in
-    let more = put_room _ _ _ _ _ _ order c.requires.place c.self.invariant.roomy in
+    let more = put_room _ _ _ _ _ _ order c.requires.place c.self.invariant.0.roomy in
     (omega (arith, n, c.requires.place, c.self.inside.places.ok), omega (arith, n, more, c.self.inside.places.ok))
 
 pub invariant_of-self : goal.invariant_of-self
@@ -29,9 +29,11 @@ invariant_of-self c =
     let here : c.args.at ≤ length ps = omega (arith, n, c.requires.place) in
     let whole : c.args.position % len + c.args.span ≤ len = subst (λ (k : ℕ). c.args.position % k + c.args.span ≤ k) (sym is) c.requires.whole in
     let now : c.write_at.new.out ≡ written (c.args.position % len) c.args.bytes.now xs =
-    c.write_at.ensures ∙ ap₂ (λ (k : ℕ) (l : List ℕ). written (c.args.position % k) c.args.bytes.now l) c.len.ensures c.bytes_mut.ensures.value in
-    put_store c.self.inside.lease c.self.inside.low c.args.at _ _ c.args.bytes.now c.write_at.new.out ps _ p c.self.invariant here refl c.requires.size whole order
-    c.self.inside.lease.bytes.ok.0 c.self.inside.lease.housed.some now c.put_in.ensures.items c.put_in.ensures.capacity
+    c.write_at.ensures ∙ ap₂ (λ (n : ℕ) (l : List ℕ). written n c.args.bytes.now l) (c.start_in-start.ensures ∙ ap (λ (k : ℕ). c.args.position % k) c.len.ensures) c.bytes_mut.ensures.value in (
+      put_store c.self.inside.lease c.self.inside.low c.args.at _ _ c.args.bytes.now c.write_at.new.out ps _ p c.self.invariant.0 here refl c.requires.size whole order
+          c.self.inside.lease.bytes.ok.0 c.self.inside.lease.housed.some now c.put_in.ensures.items c.put_in.ensures.capacity,
+      c.self.invariant.1,
+    )
 
 pub returns : goal.returns
 returns c =
@@ -45,8 +47,8 @@ returns c =
     let here : c.args.at ≤ length ps = omega (arith, n, c.requires.place) in
     let whole : c.args.position % len + c.args.span ≤ len = subst (λ (k : ℕ). c.args.position % k + c.args.span ≤ k) (sym is) c.requires.whole in
     let now : c.write_at.new.out ≡ written (c.args.position % len) c.args.bytes.now xs =
-    c.write_at.ensures ∙ ap₂ (λ (k : ℕ) (l : List ℕ). written (c.args.position % k) c.args.bytes.now l) c.len.ensures c.bytes_mut.ensures.value in
-    let all = put_all c.self.inside.lease c.self.inside.low c.args.at c.args.bytes.now c.write_at.new.out ps _ p c.self.invariant.fits here refl c.requires.size whole order
+    c.write_at.ensures ∙ ap₂ (λ (n : ℕ) (l : List ℕ). written n c.args.bytes.now l) (c.start_in-start.ensures ∙ ap (λ (k : ℕ). c.args.position % k) c.len.ensures) c.bytes_mut.ensures.value in
+    let all = put_all c.self.inside.lease c.self.inside.low c.args.at c.args.bytes.now c.write_at.new.out ps _ p c.self.invariant.0.fits here refl c.requires.size whole order
     c.self.inside.lease.bytes.ok.0 c.self.inside.lease.housed.some now c.put_in.ensures.items in
     rw (← c.self.view_is)
     (ap (λ (fs : List Frame). let s : Stored = record { held = held_of c.self.inside.lease; low = c.self.inside.low; frames = fs } in s) all.1)
