@@ -50,6 +50,7 @@ impl Cache {
     }
 
     /// The verdict under the key, where that was asked for last: then its place in the order stays.
+    #[inline(always)]
     fn latest(&self, key: Key) -> Option<Verdict>
         ensures { IfSome result (λ verdict. Contains self.now (key, verdict)) }
     {
@@ -60,7 +61,9 @@ impl Cache {
     }
 
     /// What the policy decides of `request`, which acts on the subject of this number: from the cache where it is there.
-    /// Else the verdict is left in the cache, if there is memory for it; the answer is the same where there is none.
+    /// Else the verdict is left in the cache, if there is memory for it; the answer is the same where there is none. It is made in
+    /// place, since most questions are those of the step before, and handing the verdict on would take longer than finding it.
+    #[inline(always)]
     pub fn verdict<P: Decides>(
         &mut self,
         policy: &P,
