@@ -34,8 +34,8 @@ fn refused() -> Told
     }
 }
 
-/// The client has no such registration. As [`refused`], by a call of its own.
-#[inline(never)]
+/// The client has no such registration.
+#[inline(always)]
 fn unregistered() -> Told
     ensures { result ≡ record { answer = OfferedAs Closed; decision = None } }
 {

@@ -1,4 +1,6 @@
 //! A message that a client offers to a log.
+//!
+//! Each call on its way is made in place (`inline`): what an offer is told is larger than what it takes to find it out.
 
 ghost use Rattle.any_log.specs.declared.any_log.AnyLog.TheVariants.{Term};
 ghost use Rattle.any_log.specs.Held.{Lies};
@@ -22,6 +24,7 @@ use term_log::TermLog;
 
 /// A message is offered to a publication's log, where the verdict is that: denied, too long, to nobody, or taken as the log
 /// can.
+#[inline(always)]
 fn offer_to(log: &mut TermLog, now: u64, timeout: u64, verdict: Verdict, message: &[u8]) -> Answer
     ensures does { (source : ℕ) (recovery : Recovering) → Does (offers now timeout verdict message.now) (term_held source recovery log.old) (term_held source recovery log.new) result }
     ensures lies { Lies (Term log.old) (Term log.new) }
@@ -50,6 +53,7 @@ fn closed() -> Told
 
 /// As [`offer_step`], where whom it asks answered that.
 #[tactic(auto, unfolding(crate::specs::Moves::offer_move))]
+#[inline(always)]
 pub(crate) fn offer_asked<V: View>(
     view: &V,
     log: &mut OpenLog,

@@ -217,6 +217,7 @@ impl OpenLogs {
 
     /// A client offers a message to the first log of the source that its registration is with, where whom it asks answered
     /// that, as [`offer_asked`] says.
+    #[inline(always)]
     pub(crate) fn offer<V: View>(
         &mut self,
         view: &V,
