@@ -168,6 +168,7 @@ impl Registries {
 
     /// The actor looked at that registry, which is kept for it, or at the newest. Where there is no memory it is not kept, and
     /// is made anew the next time.
+    #[inline(always)]
     pub(crate) fn keep(&mut self, actor: Actor, shown: Option<Shown>)
         requires { IsShown self.old.past shown }
         ensures { self.new ≡ self.old }

@@ -88,6 +88,7 @@ impl AllSeats {
     }
 
     /// The actor stands there now. A client that no attach named stands where it stood.
+    #[inline(always)]
     pub(crate) fn set(&mut self, actor: Actor, seat: Seat)
         ensures { self.new ≡ record self.old { seats = seated actor seat self.old.seats } }
     {
