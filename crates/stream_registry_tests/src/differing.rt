@@ -1,7 +1,6 @@
 //! Each question to a play is answered with false beside something that differs in one place.
 
 use crate::play::{LINGER, Play, joined, made};
-use std::alloc::{AllocError, Global};
 use stream_registry::{LogPlace, StreamFault};
 
 // The log is of session 1 and source 1, and it is joined; no publication is of a text that is no channel.
@@ -45,14 +44,15 @@ fn tells_closing(play: &mut Play) -> bool {
 }
 
 /// What a play is asked beside.
+/// What a play shows.
 #[derive(Clone, Copy)]
-enum Case {
+pub(crate) enum Case {
     Answers,
     Closings,
 }
 
 /// Whether a play in which nothing happened yet goes as the case says.
-fn goes(play: &mut Play, case: Case) -> bool {
+pub(crate) fn goes(play: &mut Play, case: Case) -> bool {
     match case {
         Case::Answers => {
             tells_answers(play)
@@ -62,21 +62,4 @@ fn goes(play: &mut Play, case: Case) -> bool {
         },
         Case::Closings => tells_closing(play) && play.has(0, 0, 0),
     }
-}
-
-const CASES: [Case; 2] = [Case::Answers, Case::Closings];
-
-fn all_go(alloc: Global, cases: &[Case]) -> Result<bool, AllocError> {
-    for &case in cases {
-        let mut play = Play::new(alloc)?;
-        if !goes(&mut play, case) {
-            return Ok(false);
-        }
-    }
-    Ok(true)
-}
-
-#[test]
-fn other_answers_are_told(rt: HostRuntime) {
-    assert!(rt; all_go(rt.alloc(), &CASES) == Ok(true));
 }

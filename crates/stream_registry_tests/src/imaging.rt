@@ -1,7 +1,6 @@
 //! Images: the logs of remote publishers.
 
 use crate::play::{Play, image_wanted, made};
-use std::alloc::{AllocError, Global};
 use stream_registry::LogPlace;
 
 const HERE: &str = "aeron:udp?endpoint=127.0.0.1:40123";
@@ -120,8 +119,9 @@ fn close_when_silent(play: &mut Play) -> bool {
 }
 
 /// What images do.
+/// What a play shows.
 #[derive(Clone, Copy)]
-enum Case {
+pub(crate) enum Case {
     AreReadAtTheirEndpoint,
     TakeNoSessionOfOurs,
     HaveSlotsOfOneKind,
@@ -132,7 +132,7 @@ enum Case {
 }
 
 /// Whether a play in which nothing happened yet goes as the case says.
-fn goes(play: &mut Play, case: Case) -> bool {
+pub(crate) fn goes(play: &mut Play, case: Case) -> bool {
     match case {
         Case::AreReadAtTheirEndpoint => {
             two_come(play)
@@ -147,29 +147,4 @@ fn goes(play: &mut Play, case: Case) -> bool {
         Case::DoNotLinger => do_not_linger(play),
         Case::CloseWhenSilent => close_when_silent(play),
     }
-}
-
-const CASES: [Case; 7] = [
-    Case::AreReadAtTheirEndpoint,
-    Case::TakeNoSessionOfOurs,
-    Case::HaveSlotsOfOneKind,
-    Case::AreFoundUntilTheyGo,
-    Case::HavePagesOfTheirOwn,
-    Case::DoNotLinger,
-    Case::CloseWhenSilent,
-];
-
-fn all_go(alloc: Global, cases: &[Case]) -> Result<bool, AllocError> {
-    for &case in cases {
-        let mut play = Play::new(alloc)?;
-        if !goes(&mut play, case) {
-            return Ok(false);
-        }
-    }
-    Ok(true)
-}
-
-#[test]
-fn images_are_logs_of_others(rt: HostRuntime) {
-    assert!(rt; all_go(rt.alloc(), &CASES) == Ok(true));
 }

@@ -1,7 +1,6 @@
 //! What goes, and when.
 
 use crate::play::{LINGER, Play, joined, made};
-use std::alloc::{AllocError, Global};
 use stream_registry::{LogPlace, StreamFault};
 
 fn lingers_and_closes(play: &mut Play) -> bool {
@@ -72,8 +71,9 @@ fn own_subscriptions_go(play: &mut Play) -> bool {
 }
 
 /// What goes.
+/// What a play shows.
 #[derive(Clone, Copy)]
-enum Case {
+pub(crate) enum Case {
     LogLingersAndCloses,
     LingeringLogIsNotJoined,
     ClientGoesWithAllItHas,
@@ -82,7 +82,7 @@ enum Case {
 }
 
 /// Whether a play in which nothing happened yet goes as the case says.
-fn goes(play: &mut Play, case: Case) -> bool {
+pub(crate) fn goes(play: &mut Play, case: Case) -> bool {
     match case {
         Case::LogLingersAndCloses => lingers_and_closes(play),
         Case::LingeringLogIsNotJoined => lingering_is_not_joined(play),
@@ -90,27 +90,4 @@ fn goes(play: &mut Play, case: Case) -> bool {
         Case::CopyIsOnItsOwn => two_clients_come(play) && is_copied(play),
         Case::OwnSubscriptionsGo => own_subscriptions_go(play),
     }
-}
-
-const CASES: [Case; 5] = [
-    Case::LogLingersAndCloses,
-    Case::LingeringLogIsNotJoined,
-    Case::ClientGoesWithAllItHas,
-    Case::CopyIsOnItsOwn,
-    Case::OwnSubscriptionsGo,
-];
-
-fn all_go(alloc: Global, cases: &[Case]) -> Result<bool, AllocError> {
-    for &case in cases {
-        let mut play = Play::new(alloc)?;
-        if !goes(&mut play, case) {
-            return Ok(false);
-        }
-    }
-    Ok(true)
-}
-
-#[test]
-fn what_goes_is_gone(rt: HostRuntime) {
-    assert!(rt; all_go(rt.alloc(), &CASES) == Ok(true));
 }

@@ -19,3 +19,5 @@ mod play;
 mod publishing;
 #[cfg(test)]
 mod sessions;
+#[cfg(test)]
+mod tests;

@@ -1,7 +1,6 @@
 //! How much there may be.
 
 use crate::play::{Play, joined, made};
-use std::alloc::{AllocError, Global};
 use stream_registry::StreamFault;
 
 /// Whether 256 logs can be made.
@@ -57,15 +56,16 @@ fn a_further_one_waits_for_another_to_go(play: &mut Play) -> bool {
 }
 
 /// What there may be so much of.
+/// What a play shows.
 #[derive(Clone, Copy)]
-enum Case {
+pub(crate) enum Case {
     Logs,
     Registrations,
     Subscriptions,
 }
 
 /// Whether a play in which nothing happened yet goes as the case says.
-fn goes(play: &mut Play, case: Case) -> bool {
+pub(crate) fn goes(play: &mut Play, case: Case) -> bool {
     match case {
         Case::Logs => logs_are_made(play) && further_logs_are_refused(play),
         Case::Registrations => {
@@ -75,21 +75,4 @@ fn goes(play: &mut Play, case: Case) -> bool {
         },
         Case::Subscriptions => many_subscribe(play) && a_further_one_waits_for_another_to_go(play),
     }
-}
-
-const CASES: [Case; 3] = [Case::Logs, Case::Registrations, Case::Subscriptions];
-
-fn all_go(alloc: Global, cases: &[Case]) -> Result<bool, AllocError> {
-    for &case in cases {
-        let mut play = Play::new(alloc)?;
-        if !goes(&mut play, case) {
-            return Ok(false);
-        }
-    }
-    Ok(true)
-}
-
-#[test]
-fn there_is_so_much_at_most(rt: HostRuntime) {
-    assert!(rt; all_go(rt.alloc(), &CASES) == Ok(true));
 }

@@ -169,8 +169,9 @@ fn three_subscribe(play: &mut Play) -> bool {
 }
 
 /// Who reads in a play.
+/// What a play shows.
 #[derive(Clone, Copy)]
-enum Case {
+pub(crate) enum Case {
     ReloadClosesOneImage,
     OtherPairsAreTold,
     OneSubscriptionReadsALog,
@@ -180,7 +181,7 @@ enum Case {
 }
 
 /// Whether a play in which nothing happened yet goes as the case says.
-fn goes(play: &mut Play, case: Case) -> bool {
+pub(crate) fn goes(play: &mut Play, case: Case) -> bool {
     match case {
         Case::ReloadClosesOneImage => two_subscribe_and_one_publishes(play)
             && denied_pairs_are(play, &[pair(3, 1)]),
@@ -194,28 +195,4 @@ fn goes(play: &mut Play, case: Case) -> bool {
             logs_of_two_media(play) && three_subscribe(play) && all_pairs_are(play, &[pair(2, 5)])
         },
     }
-}
-
-const CASES: [Case; 6] = [
-    Case::ReloadClosesOneImage,
-    Case::OtherPairsAreTold,
-    Case::OneSubscriptionReadsALog,
-    Case::ASubscriptionIsOnlyAskedAbout,
-    Case::LingeringLogsAreRead,
-    Case::StatedSessionIsTheOneRead,
-];
-
-fn all_go(alloc: Global, cases: &[Case]) -> Result<bool, AllocError> {
-    for &case in cases {
-        let mut play = Play::new(alloc)?;
-        if !goes(&mut play, case) {
-            return Ok(false);
-        }
-    }
-    Ok(true)
-}
-
-#[test]
-fn subscriptions_read_logs(rt: HostRuntime) {
-    assert!(rt; all_go(rt.alloc(), &CASES) == Ok(true));
 }

@@ -1,7 +1,6 @@
 //! Where logs go. A log with terms of 64 KiB has 48 pages, and one with terms of 128 KiB has 96.
 
 use crate::play::{LINGER, Play};
-use std::alloc::{AllocError, Global};
 use stream_registry::LogPlace;
 
 const SHORT: &str = "aeron:ipc?term-length=64k";
@@ -63,8 +62,9 @@ fn least_place_stands_later_in_the_list(play: &mut Play) -> bool {
 }
 
 /// Where logs go.
+/// What a play shows.
 #[derive(Clone, Copy)]
-enum Case {
+pub(crate) enum Case {
     PlaceIsReusedAfterLinger,
     LogsHaveThreeTerms,
     FirstHoleThatIsLongEnough,
@@ -72,7 +72,7 @@ enum Case {
 }
 
 /// Whether a play in which nothing happened yet goes as the case says.
-fn goes(play: &mut Play, case: Case) -> bool {
+pub(crate) fn goes(play: &mut Play, case: Case) -> bool {
     match case {
         Case::PlaceIsReusedAfterLinger => place_is_reused(play),
         Case::LogsHaveThreeTerms => logs_have_three_terms(play),
@@ -80,26 +80,4 @@ fn goes(play: &mut Play, case: Case) -> bool {
         Case::OrderOfLogsDoesNotMatter => three_logs_in_a_row(play)
             && least_place_stands_later_in_the_list(play),
     }
-}
-
-const CASES: [Case; 4] = [
-    Case::PlaceIsReusedAfterLinger,
-    Case::LogsHaveThreeTerms,
-    Case::FirstHoleThatIsLongEnough,
-    Case::OrderOfLogsDoesNotMatter,
-];
-
-fn all_go(alloc: Global, cases: &[Case]) -> Result<bool, AllocError> {
-    for &case in cases {
-        let mut play = Play::new(alloc)?;
-        if !goes(&mut play, case) {
-            return Ok(false);
-        }
-    }
-    Ok(true)
-}
-
-#[test]
-fn logs_have_their_places(rt: HostRuntime) {
-    assert!(rt; all_go(rt.alloc(), &CASES) == Ok(true));
 }

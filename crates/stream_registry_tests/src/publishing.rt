@@ -1,7 +1,6 @@
 //! Who joins whose log.
 
 use crate::play::{Play, joined, made};
-use std::alloc::{AllocError, Global};
 use stream_registry::StreamFault;
 
 fn equal_channels_share(play: &mut Play) -> bool {
@@ -37,39 +36,19 @@ fn own_logs_are_not_joined(play: &mut Play) -> bool {
 }
 
 /// What publications share.
+/// What a play shows.
 #[derive(Clone, Copy)]
-enum Case {
+pub(crate) enum Case {
     OneLogForEqualChannels,
     AMissingKeyIsAsTheDefaults,
     SomeLogsAreNeverJoined,
 }
 
 /// Whether a play in which nothing happened yet goes as the case says.
-fn goes(play: &mut Play, case: Case) -> bool {
+pub(crate) fn goes(play: &mut Play, case: Case) -> bool {
     match case {
         Case::OneLogForEqualChannels => equal_channels_share(play),
         Case::AMissingKeyIsAsTheDefaults => missing_keys_are_defaults(play),
         Case::SomeLogsAreNeverJoined => own_logs_are_not_joined(play),
     }
-}
-
-const CASES: [Case; 3] = [
-    Case::OneLogForEqualChannels,
-    Case::AMissingKeyIsAsTheDefaults,
-    Case::SomeLogsAreNeverJoined,
-];
-
-fn all_go(alloc: Global, cases: &[Case]) -> Result<bool, AllocError> {
-    for &case in cases {
-        let mut play = Play::new(alloc)?;
-        if !goes(&mut play, case) {
-            return Ok(false);
-        }
-    }
-    Ok(true)
-}
-
-#[test]
-fn publications_join_by_their_channels(rt: HostRuntime) {
-    assert!(rt; all_go(rt.alloc(), &CASES) == Ok(true));
 }

@@ -48,39 +48,19 @@ fn closed_session_is_not_next(play: &mut Play) -> bool {
 }
 
 /// What the sessions of a play are.
+/// What a play shows.
 #[derive(Clone, Copy)]
-enum Case {
+pub(crate) enum Case {
     StatedMovesNothing,
     StatedAgainIsRefused,
     NotGivenAgainAtOnce,
 }
 
 /// Whether a play in which nothing happened yet goes as the case says.
-fn goes(play: &mut Play, case: Case) -> bool {
+pub(crate) fn goes(play: &mut Play, case: Case) -> bool {
     match case {
         Case::StatedMovesNothing => stated_moves_nothing(play),
         Case::StatedAgainIsRefused => stated_again_is_refused(play),
         Case::NotGivenAgainAtOnce => closed_session_is_not_next(play),
     }
-}
-
-const CASES: [Case; 3] = [
-    Case::StatedMovesNothing,
-    Case::StatedAgainIsRefused,
-    Case::NotGivenAgainAtOnce,
-];
-
-fn all_go(alloc: Global, cases: &[Case]) -> Result<bool, AllocError> {
-    for &case in cases {
-        let mut play = Play::new(alloc)?;
-        if !goes(&mut play, case) {
-            return Ok(false);
-        }
-    }
-    Ok(true)
-}
-
-#[test]
-fn sessions_are_stated_or_next(rt: HostRuntime) {
-    assert!(rt; all_go(rt.alloc(), &CASES) == Ok(true));
 }
