@@ -30,6 +30,7 @@ impl Registry {
 
     /// What it tells, and does outside the registry, that a client comes: it brings no images, since it has no subscription
     /// yet.
+    #[inline(never)]
     pub(crate) fn outcome_of_attach(
         &self,
         alloc: Global,
@@ -44,6 +45,7 @@ impl Registry {
 
     /// A client comes, which acts for this principal.
     #[tactic(auto, unfolding(crate::specs::Attaching::attach, crate::specs::Attaching::attached, crate::specs::Draft::answered, client_registry::specs::Clients::admission))]
+    #[inline(never)]
     pub(crate) fn do_attach(&mut self, principal: u32)
         ensures { self.new ≡ (attach self.old principal).after }
     {

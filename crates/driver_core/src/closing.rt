@@ -43,6 +43,7 @@ impl Registry {
 
     /// What the command CLIENT_CLOSE of a client that is there tells, and does outside the registry: the pairs of its
     /// subscriptions go, and nobody is told of them, since these are gone.
+    #[inline(never)]
     pub(crate) fn outcome_of_close(
         &self,
         alloc: Global,

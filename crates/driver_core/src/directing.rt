@@ -64,12 +64,12 @@ fn target_address(channel: &Channel) -> Option<Address>
     }
 }
 
-/// Whether the destinations of such a publication are named by hand.
-#[tactic(auto, unfolding(stream_registry::specs::Places::is_manual))]
-fn is_manual(channel: &Channel) -> bool
+/// Whether the destinations of such a publication are named by hand. Its endpoint is not looked for.
+#[tactic(auto, unfolding(stream_registry::specs::Places::is_manual, channel_uri::specs::Place::spot_of))]
+pub(crate) fn is_manual(channel: &Channel) -> bool
     ensures { result ≡ is_manual channel.now }
 {
-    matches!(channel.place(), Some(Place::Manual))
+    channel.media() == Media::Udp && channel.is_manual()
 }
 
 /// Why an address is not named.

@@ -388,6 +388,7 @@ impl Registry {
 
     /// The command ADD_PUBLICATION of a client that is there, or ADD_EXCLUSIVE_PUBLICATION.
     #[tactic(auto, unfolding(crate::specs::Publishing::add_publication, crate::specs::Draft::refused, crate::specs::Draft::replied, crate::specs::Draft::told))]
+    #[inline(never)]
     pub(crate) fn do_add_publication(
         &mut self,
         client: Client,

@@ -159,7 +159,8 @@ impl Registry {
         self.moment = self.moment.max(now);
     }
 
-    /// What the event's own rule makes of the registry.
+    /// What the event's own rule makes of the registry. The rules of large events are calls of their own, so that a small event
+    /// has no room cleared for them; so in [`Registry::told`].
     #[tactic(auto, unfolding(crate::specs::Conduct::drafted))]
     fn take(&mut self, event: &Event, inputs: &Inputs)
         ensures { self.new ≡ (drafted self.old event.now inputs.now).after }

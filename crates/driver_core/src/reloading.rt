@@ -71,6 +71,7 @@ impl Registry {
     }
 
     /// What it tells, and does outside the registry, that a policy is to be in force.
+    #[inline(never)]
     pub(crate) fn outcome_of_reload(
         &self,
         alloc: Global,
@@ -101,6 +102,7 @@ impl Registry {
 
     /// Puts a policy in force, unless there would be too many pairs.
     #[tactic(auto, unfolding(crate::specs::Reloading::reload, crate::specs::Reloading::reloaded, crate::specs::Draft::answered))]
+    #[inline(never)]
     pub(crate) fn do_reload(&mut self, policy: &Policy)
         ensures { self.new ≡ (reload self.old policy.now).after }
     {

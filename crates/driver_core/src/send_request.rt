@@ -5,9 +5,10 @@ ghost use Rattle.driver_core.specs.SendRequests.{outlet_of, outlets_of, sending_
 ghost use Rattle.policy_core.specs.declared.act.Act.TheVariants.{Send};
 ghost use Rattle.std.specs.Prelude.{◌≡◌, IfOk, map};
 
+use crate::directing::is_manual;
 use crate::registry::Registry;
 use byte_strings::Items;
-use channel_uri::{Address, Channel, Media, Place};
+use channel_uri::{Address, Channel, Media};
 use destinations::Destination;
 use policy_core::{Act, Decision};
 use std::alloc::{AllocError, Global};
@@ -61,11 +62,10 @@ impl Registry {
 
     /// Where a datagram of the log goes, and whether it may: of an address that was named by hand its channel is asked, else
     /// the log's own.
-    #[tactic(auto, unfolding(stream_registry::specs::Places::is_manual))]
     fn outlet(&self, log: &Source, destination: &Destination) -> Outlet
         ensures { result ≡ outlet_of self.now log.now destination.now }
     {
-        let decision = if let Some(Place::Manual) = log.channel.place() {
+        let decision = if is_manual(&log.channel) {
             self.decision_by_hand(log, destination)
         } else {
             self.send_decision(log, destination, &log.channel)

@@ -183,6 +183,7 @@ impl Registry {
     }
 
     /// What a SETUP tells, and does outside the registry.
+    #[inline(never)]
     pub(crate) fn outcome_of_setup(
         &self,
         alloc: Global,
@@ -233,6 +234,7 @@ impl Registry {
 
     /// A SETUP came to `local` from `from`.
     #[tactic(auto, unfolding(crate::specs::SettingUp::set_up, crate::specs::SettingUp::setting_of, crate::specs::Draft::answered))]
+    #[inline(never)]
     pub(crate) fn do_setup(&mut self, local: &Address, from: &Address, setup: &Setup)
         ensures { self.new ≡ (set_up self.old local.now from.now setup.now).after }
     {

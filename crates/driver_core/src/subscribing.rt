@@ -191,6 +191,7 @@ impl Registry {
 
     /// What the command ADD_SUBSCRIPTION of a client that is there tells, and does outside the registry.
     #[tactic(auto, unfolding(crate::specs::Subscribing::add_subscription))]
+    #[inline(never)]
     pub(crate) fn outcome_of_add_subscription(
         &self,
         alloc: Global,
@@ -254,6 +255,7 @@ impl Registry {
 
     /// The command ADD_SUBSCRIPTION of a client that is there.
     #[tactic(auto, unfolding(crate::specs::Subscribing::add_subscription, crate::specs::Draft::refused, crate::specs::Draft::replied, crate::specs::Draft::told))]
+    #[inline(never)]
     pub(crate) fn do_add_subscription(
         &mut self,
         client: Client,

@@ -83,6 +83,7 @@ impl Registry {
     }
 
     /// What the command TERMINATE_DRIVER of a client that is there tells, and does outside the registry.
+    #[inline(never)]
     pub(crate) fn outcome_of_terminate(
         &self,
         alloc: Global,

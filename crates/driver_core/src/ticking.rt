@@ -129,6 +129,7 @@ impl Registry {
     }
 
     /// What it tells, and does outside the registry, that time goes on.
+    #[inline(never)]
     pub(crate) fn outcome_of_tick(
         &self,
         alloc: Global,
@@ -167,6 +168,7 @@ impl Registry {
     /// Time went on: the clients go of which nothing was heard for too long, and then the logs close that linger for too
     /// long, and these images, which are silent.
     #[tactic(auto, unfolding(crate::specs::Ticking::tick, crate::specs::Ticking::ticked))]
+    #[inline(never)]
     pub(crate) fn do_tick(&mut self, silent: &[u64])
         ensures { self.new ≡ (tick self.old silent.now).after }
     {

@@ -46,6 +46,7 @@ impl Registry {
     }
 
     /// What the command REMOVE_SUBSCRIPTION of a client that is there tells, and does outside the registry.
+    #[inline(never)]
     pub(crate) fn outcome_of_remove_subscription(
         &self,
         alloc: Global,
