@@ -9,8 +9,10 @@ use Rattle.image_log.specs.Rebuilt.{Rebuilt, joined as image_joined, left as ima
 use Rattle.log_pairs.proofs.Pairing.{at_filter, at_push}
 use Rattle.log_pairs.specs.Pairs.{is_other}
 use Rattle.log_pairs.specs.declared.pair.Pair.{Pair}
-use Rattle.term_log.proofs.Standing.{end_start, tail_stands}
-use Rattle.term_log.specs.Whole.{IsStart, tail_of}
+use Rattle.term_log.proofs.Standing.{tail_stands}
+use Rattle.term_log.proofs.Starts.{end_start}
+use Rattle.term_log.specs.Kept.{IsStart}
+use Rattle.term_log.specs.Whole.{tail_of}
 
 joined_at : (subscription : ℕ) (log : AnyLog) (w : AnyWhole) → StandsFor log w → StandsFor (joined_held subscription log) (joined subscription w)
 joined_at subscription (Term log) (whole w) stands = record {

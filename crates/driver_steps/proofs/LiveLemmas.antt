@@ -66,10 +66,12 @@ use Rattle.term_log.specs.PollLaws.{AreFragmentsOf}
 use Rattle.log_pairs.specs.Polling.{Fetched, Polled as Passed, behind as behind_all, fragments_of, passed}
 use Rattle.log_pairs.proofs.Pairing.{at_found, at_map, at_rejoined}
 use Rattle.term_log.specs.Polling.{polled_run}
-use Rattle.term_log.specs.Whole.{Whole, Poll, tail_of, answer_to, is_connected, offered, rejoined as term_rejoined, frames_behind, polled_from, polled, IsStart, AreStarts}
+use Rattle.term_log.specs.Whole.{Whole, Poll, tail_of, answer_to, is_connected, offered, rejoined as term_rejoined, frames_behind, polled_from, polled, AreStarts}
+use Rattle.term_log.specs.Kept.{IsStart}
 use Rattle.term_log.proofs.Held.{total_both}
 use Rattle.term_log.proofs.Polls.{Taken, behind_taken, taken as taken_from}
-use Rattle.term_log.proofs.Standing.{end_start, starts_more}
+use Rattle.term_log.proofs.Standing.{starts_more}
+use Rattle.term_log.proofs.Starts.{end_start}
 use Rattle.term_log.proofs.WholeLaws.{fragments_are}
 
 -- ---- polls of a whole log

@@ -12,6 +12,7 @@ pub mod Sends
 pub mod Sizes
 pub mod Standing
 pub mod Stands
+pub mod Starts
 pub mod Terms
 pub mod Turns
 pub mod Walks

@@ -6,12 +6,12 @@ use Rattle.term_log.specs.declared.ident.LogKind.{LogKind}
 use Rattle.term_log.specs.declared.ident.LogKind.TheVariants.{Ipc, Udp}
 use Rattle.term_log.specs.declared.status.Status.{Status}
 use Rattle.term_log.specs.Frames.{Frame, span, total}
-use Rattle.term_log.specs.Kept.{Kept}
+use Rattle.term_log.specs.Kept.{IsStart, Kept}
 use Rattle.term_log.specs.Log.{Log, IsSenderNear, low_of}
 use Rattle.term_log.specs.Reading.{Given, all_given, spans, sent_size, of_term, within, GivesFrom}
 use Rattle.term_log.specs.Sender.{Sending, status_of, after_status, after_setup, later_of}
 use Rattle.term_log.specs.SenderSteps.{IsStartIn, ReadsFrom, frames_for, sent_to, heard, elicited, setup_cut, datagram_cut}
-use Rattle.term_log.specs.Whole.{Whole, IsStart, Stands, Carries, frames_behind}
+use Rattle.term_log.specs.Whole.{Whole, Stands, Carries, frames_behind}
 use Rattle.term_log.proofs.Held.{total_both}
 use Rattle.term_log.proofs.Nears.{near_held}
 use Rattle.term_log.proofs.Standing.{start_from}

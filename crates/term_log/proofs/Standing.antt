@@ -10,29 +10,18 @@ use Rattle.log_pairs.specs.Polling.{Fetched, Polled, behind, passed, fragments_o
 use Rattle.log_pairs.specs.declared.pair.Pair.{Pair}
 use Rattle.log_pairs.proofs.Pairing.{at_found, at_map, at_rejoined, at_weaker}
 use Rattle.term_log.specs.Frames.{Frame, span, total, IsRun}
-use Rattle.term_log.specs.Kept.{Kept, StandsFor, after_frames}
+use Rattle.term_log.specs.Kept.{IsStart, Kept, StandsFor, after_frames}
 use Rattle.term_log.specs.Log.{Log, limit_among, limit_of, connected_of, answer_of, offer_of, appended, appended_at}
 use Rattle.term_log.specs.Polling.{polled_run, GivesFragments, PassesTo}
 use Rattle.term_log.specs.Sender.{Sending, sending}
-use Rattle.term_log.specs.Whole.{Whole, tail_of, limit_at, is_connected, fresh, answer_to, offered, rejoined, rejoined_kept, frames_behind, Poll, passes, polled_from, polled, IsStart, AreStarts, Stands, Carries, Offers, Fetches}
+use Rattle.term_log.specs.Whole.{Whole, tail_of, limit_at, is_connected, fresh, answer_to, offered, rejoined, rejoined_kept, frames_behind, Poll, passes, polled_from, polled, AreStarts, Stands, Carries, Offers, Fetches}
 use Rattle.term_log.proofs.Appending.{ident_after}
 use Rattle.term_log.proofs.Held.{run_front, total_both}
 use Rattle.term_log.proofs.Polls.{behind_taken, taken}
+use Rattle.term_log.proofs.Starts.{end_start, start_more}
 use Rattle.term_log.proofs.Terms.{some_span}
 
 -- ---- where frames begin
-
-abbrev pub end_start : (position : ℕ) (fs : List Frame) → IsStart position fs (position + total fs)
-end_start position fs = record { before = fs; after = []; is = sym (append-nil fs); place = refl }
-
-pub start_more : (position at : ℕ) (fs gs : List Frame) → IsStart position fs at → IsStart position (fs ++ gs) at
-start_more position at fs gs s =
-    record {
-      before = s.before;
-      after = s.after ++ gs;
-      is = ap (λ (xs : List Frame). xs ++ gs) s.is ∙ append_assoc s.before s.after gs;
-      place = s.place;
-    }
 
 pub starts_more : (position : ℕ) (fs gs : List Frame) (pairs : List Pair) → AreStarts position fs pairs → AreStarts position (fs ++ gs) pairs
 starts_more position fs gs pairs starts =

@@ -11,9 +11,11 @@ use Rattle.term_log.specs.Ident.{IsIdent, payload_length, place_at}
 use Rattle.term_log.specs.Cut.{last_part, part_of, cut}
 use Rattle.term_log.specs.Buffers.{written, turned, settled}
 use Rattle.term_log.specs.Frames.{Frame, fragment, pad, pad_flags, span, total, begins, messages_of, front_of, bytes_of, run_of, IsFrame, IsRun}
-use Rattle.term_log.specs.Kept.{Kept, StandsFor, all_of, offset_of, rest_of, after_frame, after_frames, opened}
+use Rattle.term_log.specs.Kept.{IsStart, Kept, StandsFor, all_of, offset_of, rest_of, after_frame, after_frames, opened}
 use Rattle.term_log.proofs.Cuts.{total-append, part_within, length_part}
 use Rattle.term_log.proofs.Places.{mod_within, mod_full, aligned_rest}
+use Rattle.term_log.proofs.Starts.{marks_more}
+use Rattle.std.proofs.lemmas.List.Elements.{All-replicate}
 use Rattle.term_log.proofs.Sizes.{length-data_bytes, length-pad_bytes}
 use Rattle.term_log.proofs.Turns.{written_behind}
 
@@ -114,6 +116,7 @@ stays k fs f s is other =
       bytes = ap (λ (b : Bool). settled k.buffers.term_length b (written (2 * k.buffers.term_length + offset_of k) (front_of i k.tail f) k.buffers.bytes)) other
           ∙ bytes_written k fs f s is
           ∙ ap (λ (n : ℕ). (s.held ++ bytes_of i k.tail f) ++ replicate n 0) left;
+      starts = marks_more i.start k.tail fs (f ∷ []) k.marks s.tail s.starts;
     }
 
 turns : (k : Kept) (fs : List Frame) (f : Frame) → (s : StandsFor k fs) → IsFrame k.ident k.tail f
@@ -144,6 +147,7 @@ turns k fs f s is full =
       bytes = ap (λ (b : Bool). settled k.buffers.term_length b (written (2 * k.buffers.term_length + offset_of k) (front_of i k.tail f) k.buffers.bytes)) full
           ∙ ap₂ (λ (t : ℕ) (x : List ℕ). turned t x) s.same (bytes_written k fs f s is ∙ ap (λ (n : ℕ). more ++ replicate n 0) left ∙ append-nil more)
           ∙ ap (λ (n : ℕ). drop i.term_length more ++ replicate n 0) filled;
+      starts = marks_more i.start k.tail fs (f ∷ []) k.marks s.tail s.starts;
     }
 
 -- a frame more
@@ -218,4 +222,5 @@ opened_stands lease i sound =
       all = append-nil (replicate front 0);
       size = length-replicate front 0;
       bytes = ap (λ (n : ℕ). replicate {A = ℕ} n 0) count ∙ sym (replicate-append-replicate front (i.term_length - i.start % i.term_length) 0);
+      starts = All-replicate (IsStart i.start []) 64 i.start (record { before = []; after = []; is = refl; place = omega arith });
     }

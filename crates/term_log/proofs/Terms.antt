@@ -1,17 +1,17 @@
 -- All frames that are held, term by term.
 use Rattle.std.proofs.Common.{◌≡◌, ℕ, ◌+◌, ◌*◌, ◌-◌, ◌/◌, ◌%◌, ◌^◌, ◌<◌, ◌≤◌, Bool, true, false, cond, List, [], ◌∷◌, ◌++◌, min, refl, sym, ap, ap₂, ◌∙◌, subst, arith, append_assoc}
-use Rattle.std.specs.Prelude.{max, nat_lt, nat_le, ◌&&◌, if◌then◌else◌, filter}
+use Rattle.std.specs.Prelude.{Contains, max, nat_lt, nat_le, ◌&&◌, if◌then◌else◌, filter}
 use Rattle.std.proofs.lemmas.Bool.Decides.{nat_tests}
 use Rattle.std.proofs.lemmas.List.{append-nil}
-use Rattle.std.proofs.lemmas.List.Elements.{filter-append}
+use Rattle.std.proofs.lemmas.List.Elements.{All-contains, filter-append}
 use Rattle.std.proofs.lemmas.Nat.{div-add-mod', mod-mul-add, mul-le}
 use Rattle.term_log.specs.declared.ident.Ident.{Ident}
 use Rattle.term_log.specs.Ident.{IsIdent}
 use Rattle.term_log.specs.Frames.{Frame, fragment, pad, span, total, IsFrame, IsRun}
-use Rattle.term_log.specs.Kept.{Kept, StandsFor}
+use Rattle.term_log.specs.Kept.{IsStart, Kept, StandsFor}
 use Rattle.term_log.specs.Log.{low_of}
 use Rattle.term_log.specs.Reading.{Given, given, all_given, sent_size, of_term, within, GivesFrom, GivesAll}
-use Rattle.term_log.specs.Ranges.{meets, is_over, over_start, GivesOver, Reaches}
+use Rattle.term_log.specs.Ranges.{meets, is_over, over_start, GivesOver, IsSearchStart, Reaches}
 use Rattle.term_log.proofs.Held.{run_front, run_rest, total_both, term_near}
 use Rattle.term_log.proofs.Places.{mod_within}
 use Rattle.term_log.proofs.Stands.{frame_fits}
@@ -441,36 +441,69 @@ part_over k at frames sound s =
     ]
     refl
 
+-- the start of the range's term is where the search may begin
+pub over_search : (k : Kept) (at : ℕ) → IsIdent k.ident → k.ident.start ≤ k.tail → IsSearchStart k at (over_start k at)
+over_search k at sound start =
+    let before_tail = low_before k start in
+    record {
+      low = omega arith;
+      high = omega arith;
+      near = omega arith;
+      starts = λ frames s.
+          let parted = part_over k at frames sound s in
+          record { before = parted.before; after = parted.after; is = parted.is; place = parted.place };
+    }
+
+later_start : (k : Kept) (at one mark : ℕ) (b : Bool) → nat_le mark one ≡ b → mark ≤ at → mark ≤ k.tail
+    → ((frames : List Frame) → StandsFor k frames → IsStart k.ident.start frames mark) → IsSearchStart k at one → IsSearchStart k at (max one mark)
+later_start k at one mark true is near high starts start =
+    let under : mark ≤ one = grind (arith, nat_tests, is) in
+    let same : one ≡ max one mark = omega arith in
+    subst (λ (n : ℕ). IsSearchStart k at n) same start
+later_start k at one mark false is near high starts start =
+    let over : one < mark = grind (arith, nat_tests, is) in
+    let same : mark ≡ max one mark = omega arith in
+    let low = start.low in
+    let found : IsSearchStart k at mark = record { low = omega arith; high = high; near = omega arith; starts = starts } in
+    subst (λ (n : ℕ). IsSearchStart k at n) same found
+
+-- so is a mark that lies behind it
+pub mark_search : (k : Kept) (at one mark : ℕ) → Contains k.marks mark → mark ≤ min at k.tail → IsSearchStart k at one
+    → IsSearchStart k at (max one mark)
+mark_search k at one mark there near start =
+    later_start k at one mark (nat_le mark one) refl (omega arith) (omega arith)
+    (λ frames s. All-contains (IsStart k.ident.start frames) k.marks mark s.starts there) start
+
 -- no frame before the search's start is asked for
-none_before : (k : Kept) (at size : ℕ) (fs : List Frame) → IsRun k.ident k.ident.start fs → k.ident.start + total fs ≡ over_start k at
-    → filter (is_over (low_of k) at size) (all_given k.ident k.ident.start fs) ≡ []
-none_before k at size fs run ends =
+none_before : (k : Kept) (at size begin : ℕ) (fs : List Frame) → IsRun k.ident k.ident.start fs → begin ≤ max (low_of k) at
+    → k.ident.start + total fs ≡ begin → filter (is_over (low_of k) at size) (all_given k.ident k.ident.start fs) ≡ []
+none_before k at size begin fs run near ends =
     let i : Ident = k.ident in
     let low : ℕ = low_of k in
-    elim (nat_le (over_start k at) low) as (λ b. nat_le (over_start k at) low ≡ b → filter (is_over low at size) (all_given i i.start fs) ≡ []) [
+    elim (nat_le begin low) as (λ b. nat_le begin low ≡ b → filter (is_over low at size) (all_given i i.start fs) ≡ []) [
       | true ↦ λ under.
-          let less : over_start k at ≤ low = grind (arith, nat_tests, under) in
+          let less : begin ≤ low = grind (arith, nat_tests, under) in
           none_below i i.start low at size fs run (omega arith)
       | false ↦ λ over.
-          let more : low < over_start k at = grind (arith, nat_tests, over) in
+          let more : low < begin = grind (arith, nat_tests, over) in
           none_under i i.start low at size fs (omega arith)
     ]
     refl
 
 -- what meets a range of what is given from the search's start on is all that is held and meets it
-pub gives_over : (k : Kept) (at size second third budget budget_2 budget_3 : ℕ) (a b c left : List Given) → IsIdent k.ident → k.ident.start ≤ k.tail
-    → k.tail < 2 ^ 64 → GivesFrom k (over_start k at) budget a → GivesFrom k second budget_2 b → GivesFrom k third budget_3 c
-    → Reaches k.ident at size (over_start k at) budget → Reaches k.ident at size second budget_2 → Reaches k.ident at size third budget_3
-    → second ≡ min k.tail (term_end k.ident.term_length (over_start k at)) → third ≡ min k.tail (term_end k.ident.term_length second)
+pub gives_over : (k : Kept) (at size begin second third budget budget_2 budget_3 : ℕ) (a b c left : List Given) → IsIdent k.ident
+    → IsSearchStart k at begin → k.tail < 2 ^ 64 → GivesFrom k begin budget a → GivesFrom k second budget_2 b → GivesFrom k third budget_3 c
+    → Reaches k.ident at size begin budget → Reaches k.ident at size second budget_2 → Reaches k.ident at size third budget_3
+    → second ≡ min k.tail (term_end k.ident.term_length begin) → third ≡ min k.tail (term_end k.ident.term_length second)
     → left ≡ filter (meets at size) (a ++ b ++ c) → GivesOver k at size left
-gives_over k at size second third budget budget_2 budget_3 a b c left sound start high gives_a gives_b gives_c reaches_a reaches_b reaches_c second_is third_is left_is =
+gives_over k at size begin second third budget budget_2 budget_3 a b c left sound start high gives_a gives_b gives_c reaches_a reaches_b reaches_c second_is third_is left_is =
     record {
       on = λ frames s.
           let i : Ident = k.ident in
           let low : ℕ = low_of k in
-          let before_tail = low_before k start in
-          let begin : ℕ = over_start k at in
-          let parted = part_over k at frames sound s in
+          let above = start.low in
+          let near = start.near in
+          let parted = start.starts frames s in
           let place = parted.place in
           let stands = subst (λ (fs : List Frame). StandsFor k fs) parted.is s in
           let front_run = run_front i i.start parted.before parted.after (subst (λ (fs : List Frame). IsRun i i.start fs) parted.is s.sound) in
@@ -484,7 +517,7 @@ gives_over k at size second third budget budget_2 budget_3 a b c left sound star
           (gives_meeting k third at size budget_3 c sound high reaches_c gives_c) second_is third_is)
           ∙ sym (all_above i begin low at size parted.after (omega arith))
           ∙ ap (λ (p : ℕ). filter test (all_given i p parted.after)) place
-          ∙ sym (ap (λ (xs : List Given). xs ++ filter test (all_given i (i.start + total parted.before) parted.after)) (none_before k at size parted.before front_run (sym place)))
+          ∙ sym (ap (λ (xs : List Given). xs ++ filter test (all_given i (i.start + total parted.before) parted.after)) (none_before k at size begin parted.before front_run near (sym place)))
           ∙ sym (filter-append test (all_given i i.start parted.before) (all_given i (i.start + total parted.before) parted.after))
           ∙ ap (filter test) (sym (given_both i i.start parted.before parted.after) ∙ ap (all_given i i.start) (sym parted.is));
     }

@@ -3,7 +3,7 @@ use Rattle.std.specs.Prelude.{◌≡◌, ℕ, ◌+◌, ◌-◌, ◌%◌, ◌^◌
 use Rattle.term_log.specs.declared.ranges.FramesOver.{FramesOver}
 use Rattle.term_log.specs.declared.ident.Ident.{Ident}
 use Rattle.term_log.specs.Frames.{Frame, span}
-use Rattle.term_log.specs.Kept.{Kept, StandsFor}
+use Rattle.term_log.specs.Kept.{IsStart, Kept, StandsFor}
 use Rattle.term_log.specs.Log.{low_of}
 use Rattle.term_log.specs.Reading.{Given, all_given, frames_left}
 
@@ -24,6 +24,14 @@ pub record GivesOver (k : Kept) (position size : ℕ) (left : List Given) : Type
 -- where frames that are held and meet a range from `position` on may begin: at the start of its term, as far as that is held
 abbrev pub over_start : Kept → ℕ → ℕ
 over_start k position = min k.tail (max (low_of k) (position - position % k.ident.term_length))
+
+-- Frames that meet a range from `position` on may be looked for from there on: a frame begins there, and those before it are not
+-- held, or end where the range begins or before.
+pub record IsSearchStart (k : Kept) (position at : ℕ) : Type 0 where
+  pub low : low_of k ≤ at
+  pub high : at ≤ k.tail
+  pub near : at ≤ max (low_of k) position
+  pub starts : (frames : List Frame) → StandsFor k frames → IsStart k.ident.start frames at
 
 -- a budget of bytes from a position on goes up to the range's end and over one frame more, or up to the greatest position
 abbrev pub Reaches : Ident → ℕ → ℕ → ℕ → ℕ → Type 0

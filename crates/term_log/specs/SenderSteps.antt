@@ -6,7 +6,8 @@ use Rattle.term_log.specs.Frames.{Frame, total}
 use Rattle.term_log.specs.Log.{Log}
 use Rattle.term_log.specs.Reading.{Given, all_given, spans, of_term, within}
 use Rattle.term_log.specs.Sender.{status_of, after_status, after_setup, later_of, budget_of}
-use Rattle.term_log.specs.Whole.{Whole, Stands, IsStart, frames_behind}
+use Rattle.term_log.specs.Kept.{IsStart}
+use Rattle.term_log.specs.Whole.{Whole, Stands, frames_behind}
 
 -- its sender has sent up to there
 unfoldable pub sent_to : ℕ → Whole → Whole

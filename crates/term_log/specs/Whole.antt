@@ -6,7 +6,7 @@ use Rattle.log_pairs.specs.declared.pair.Pair.{Pair}
 use Rattle.term_log.specs.declared.ident.Ident.{Ident}
 use Rattle.term_log.specs.declared.offer.Offer.{Offer}
 use Rattle.term_log.specs.Frames.{Frame, span, total}
-use Rattle.term_log.specs.Kept.{StandsFor}
+use Rattle.term_log.specs.Kept.{IsStart, StandsFor}
 use Rattle.term_log.specs.Log.{Log, limit_among, connected_among, answer_of, appended_at}
 use Rattle.term_log.specs.Polling.{polled_run}
 use Rattle.term_log.specs.Sender.{Sending, sending, is_past}
@@ -81,13 +81,6 @@ unfoldable pub polled : Whole → ℕ → ℕ → Poll
 polled w subscription limit = polled_from w subscription limit (position_of w.pairs subscription)
 
 -- ---- which log stands for it
-
--- a position is where a frame begins, or behind the last one
-pub record IsStart (position : ℕ) (frames : List Frame) (at : ℕ) : Type 0 where
-  pub before : List Frame
-  pub after : List Frame
-  pub is : frames ≡ before ++ after
-  pub place : at ≡ position + total before
 
 abbrev pub AreStarts : ℕ → List Frame → List Pair → Type 0
 AreStarts position frames pairs = AreAt (IsStart position frames) pairs

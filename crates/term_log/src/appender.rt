@@ -2,15 +2,15 @@
 
 ghost use Rattle.frame_codec.specs.Frame.{padded};
 ghost use Rattle.log_arena.specs.Lease.{lease_bytes, lease_home, lease_len, lease_place};
-ghost use Rattle.std.specs.Prelude.{◌≡◌, ℕ, ◌+◌, ◌-◌, ◌*◌, ◌%◌, ◌^◌, ◌<◌, ◌≤◌, ◌==◌, ◌++◌, All, List, length, min, replicate};
+ghost use Rattle.std.specs.Prelude.{◌≡◌, ℕ, ◌+◌, ◌-◌, ◌*◌, ◌%◌, ◌^◌, ◌<◌, ◌≤◌, ◌==◌, ◌++◌, All, Contains, IfSome, List, length, min, replicate};
 ghost use Rattle.term_log.specs.Buffers.{Buffers, settled};
 ghost use Rattle.term_log.specs.Cut.{cut};
 ghost use Rattle.term_log.specs.Frames.{Frame, fragment, pad, total};
 ghost use Rattle.term_log.specs.Ident.{IsIdent, greatest_position, payload_length, place_at};
 ghost use Rattle.term_log.specs.Log.{low_of};
-ghost use Rattle.term_log.specs.Ranges.{GivesOver, Reaches, over_left, over_start};
+ghost use Rattle.term_log.specs.Ranges.{GivesOver, IsSearchStart, Reaches, over_left, over_start};
 ghost use Rattle.term_log.specs.Reading.{AreFrom, EndsBy, GivesAll, GivesFrom, frames_left, sent_bytes, spans};
-ghost use Rattle.term_log.specs.Kept.{Kept, after_frame, after_frames, offset_of, opened, rest_of};
+ghost use Rattle.term_log.specs.Kept.{Kept, after_frame, after_frames, marked, offset_of, opened, rest_of, slot_of};
 
 use crate::buffers::TermBuffers;
 use crate::cutting::{flags_of, last_part, part};
@@ -30,12 +30,15 @@ pub(crate) struct Appender {
     /// The position behind the last frame.
     tail: u64,
     /// How many bytes of the newest term are before the tail, and the id of that term: a frame that is appended divides
-    /// nothing.
+    /// nothing but where it fills its term.
     offset: u64,
     term_id: i32,
     /// How many messages were appended.
     messages: u64,
     buffers: TermBuffers,
+    /// Where frames begin: of each 4,096 positions the first that did, until it is overwritten 64 times as many positions
+    /// later. Frames are looked for from there on.
+    marks: [u64; 64],
 }
 
 impl Model for Appender {
@@ -45,9 +48,43 @@ impl Model for Appender {
 
     ghost coded = { kept_code };
 
-    ghost view = { λ a. record { ident = a.ident; tail = a.tail; messages = a.messages; buffers = a.buffers } };
+    ghost view = { λ a. record { ident = a.ident; tail = a.tail; messages = a.messages; buffers = a.buffers; marks = a.marks } };
 
     ghost invariant = { λ a. IsKept a.ident a.tail a.offset a.term_id a.messages a.buffers };
+}
+
+/// Where the mark of a position stands.
+fn slot_of(position: u64) -> usize
+    ensures value { result ≡ slot_of position }
+    ensures within { result < 64 }
+{
+    (position / 4_096 % 64) as usize
+}
+
+/// A frame begins at a position: the first of its 4,096 positions is marked.
+fn mark(marks: &mut [u64; 64], position: u64)
+    ensures { marks.new ≡ marked position marks.old }
+{
+    let slot = slot_of(position);
+    if marks[slot] / 4_096 != position / 4_096 {
+        marks[slot] = position;
+    }
+}
+
+/// A mark at a position or below it: that of its own 4,096 positions, or of those before them.
+fn mark_below(marks: &[u64; 64], position: u64) -> Option<u64>
+    ensures { IfSome result (λ mark. (mark ≤ position) × Contains marks.now mark) }
+{
+    let own = marks[slot_of(position)];
+    if own <= position && own / 4_096 == position / 4_096 {
+        return Some(own);
+    }
+    let before = marks[slot_of(position.saturating_sub(4_096))];
+    if before <= position {
+        Some(before)
+    } else {
+        None
+    }
 }
 
 impl Appender {
@@ -66,6 +103,7 @@ impl Appender {
             term_id,
             messages: 0,
             buffers: TermBuffers::new(lease, ident.term_length),
+            marks: [ident.start; 64],
         }
     }
 
@@ -112,7 +150,7 @@ impl Appender {
         }
     }
 
-    /// The tail moves on over bytes that were written; a new term begins where the newest is full.
+    /// The tail moves on over the bytes of a frame that were written; a new term begins where the newest is full.
     fn step(&mut self, span: u64, begun: u64)
         requires fits { offset_of self.old + span ≤ self.old.ident.term_length }
         requires ends { self.old.tail + span ≤ greatest_position self.old.ident }
@@ -126,9 +164,11 @@ impl Appender {
                 bytes
                     = settled self.old.buffers.term_length (offset_of self.old + span == self.old.ident.term_length) self.old.buffers.bytes;
               };
+          marks = marked self.old.tail self.old.marks;
         } }
     {
         let full = self.offset + span == u64::from(self.ident.term_length);
+        mark(&mut self.marks, self.tail);
         self.tail += span;
         self.messages += begun;
         self.buffers.settle(full);
@@ -296,6 +336,22 @@ impl Appender {
         low.max(self.any_start(low, position)).min(self.tail)
     }
 
+    /// Where frames are looked for that meet a range: from a mark near its begin on, or else from the start of its term.
+    fn search_start(&self, low: u64, position: u64) -> u64
+        requires exact { low ≡ low_of self.now }
+        requires within { low ≤ self.now.tail }
+        ensures starts { IsSearchStart self.now position result }
+        ensures sound { IsIdent self.now.ident }
+        ensures start { self.now.ident.start ≤ self.now.tail }
+        ensures fits { self.now.tail < 2 ^ 64 }
+    {
+        let start = self.over_start(low, position);
+        match mark_below(&self.marks, position.min(self.tail)) {
+            Some(mark) => start.max(mark),
+            None => start,
+        }
+    }
+
     /// How many bytes of frames are looked at from a position on, for a range: up to its end, and those of a frame more.
     fn over_budget(&self, from: u64, position: u64, size: u64) -> usize
         ensures { Reaches self.now.ident position size from result }
@@ -305,14 +361,14 @@ impl Appender {
         end.saturating_sub(from) as usize
     }
 
-    /// The frames that are held and meet a range. They are looked for from the start of its term on, up to its end.
+    /// The frames that are held and meet a range. They are looked for from shortly before its begin up to its end.
     pub(crate) fn frames_over(&self, low: u64, position: u64, size: u64) -> FramesOver<'_>
         requires exact { low ≡ low_of self.now }
         requires within { low ≤ self.now.tail }
         ensures gives { GivesOver self.now position size (over_left result) }
         ensures within { All (EndsBy self.now.tail) (over_left result) }
     {
-        let first = self.over_start(low, position);
+        let first = self.search_start(low, position);
         let second = self.next_term(first);
         let third = self.next_term(second);
         FramesOver::new(

@@ -104,6 +104,7 @@ impl<'a> Iterator for FramesOver<'a> {
     ghost remaining = { item_count over_left };
 
     #[tactic(auto, unfolding(crate::specs::Ranges::over_left))]
+    #[inline(always)]
     fn next(&mut self) -> Option<LogFrame<'a>> {
         while let Some(frame) = self.step() {
             if meets(self.position, self.size, &frame) {

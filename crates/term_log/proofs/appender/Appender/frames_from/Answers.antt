@@ -27,7 +27,7 @@ part-bytes-requires-clause-base c =
 pub returns-clause-gives : goal.returns-clause-gives
 returns-clause-gives c =
     let s = c.self.inside in
-    let k : Kept = record { ident = s.ident; tail = s.tail; messages = s.messages; buffers = s.buffers } in
+    let k : Kept = record { ident = s.ident; tail = s.tail; messages = s.messages; buffers = s.buffers; marks = s.marks } in
     let position : ℕ = c.args.position in
     let low = rw (← c.self.view_is) at c.requires.low in
     let high = rw (← c.self.view_is) at c.requires.high in

@@ -11,16 +11,14 @@ use Rattle.term_log.proofs.appender.Appender.frames_over.Goals as goal
 pub returns-clause-gives : goal.returns-clause-gives
 returns-clause-gives c =
     let k : Kept = c.args.self.now in
-    let start = c.over_start-first.ensures in
-    let first = start.value in
-    let second = c.next_term-second.ensures.value in
-    gives_over k c.args.position c.args.size c.next_term-second.result c.next_term-third.result
+    let start = c.search_start-first.ensures in
+    gives_over k c.args.position c.args.size c.search_start-first.result c.next_term-second.result c.next_term-third.result
     c.over_budget.result c.over_budget-2.result c.over_budget-3.result
     (frames_left c.frames_from.result) (frames_left c.frames_from-2.result) (frames_left c.frames_from-3.result) (over_left c.new.result)
-    start.sound start.start start.fits
-    (rw first at c.frames_from.ensures.gives) c.frames_from-2.ensures.gives c.frames_from-3.ensures.gives
-    (rw first at c.over_budget.ensures) c.over_budget-2.ensures c.over_budget-3.ensures
-    (rw first at second) c.next_term-third.ensures.value c.new.ensures
+    start.sound start.starts start.fits
+    c.frames_from.ensures.gives c.frames_from-2.ensures.gives c.frames_from-3.ensures.gives
+    c.over_budget.ensures c.over_budget-2.ensures c.over_budget-3.ensures
+    c.next_term-second.ensures.value c.next_term-third.ensures.value c.new.ensures
 
 pub returns-clause-within : goal.returns-clause-within
 returns-clause-within c =
@@ -32,6 +30,6 @@ returns-clause-within c =
     (All-filter (meets c.args.position c.args.size) (EndsBy tail) (first ++ second ++ third)
     (All-append (EndsBy tail) (first ++ second) third
     (All-append (EndsBy tail) first second
-    (end_by c.over_start-first.result tail first c.frames_from.ensures.behind c.frames_from.ensures.within)
+    (end_by c.search_start-first.result tail first c.frames_from.ensures.behind c.frames_from.ensures.within)
     (end_by c.next_term-second.result tail second c.frames_from-2.ensures.behind c.frames_from-2.ensures.within))
     (end_by c.next_term-third.result tail third c.frames_from-3.ensures.behind c.frames_from-3.ensures.within)))
