@@ -11,10 +11,11 @@ use Rattle.driver_core.specs.State.{State}
 use Rattle.driver_steps.specs.declared.answer.Answer.{Answer}
 use Rattle.driver_steps.specs.declared.packets.PacketRequest.{PacketRequest}
 use Rattle.driver_steps.specs.declared.step.Step.TheVariants.{Packet}
-use Rattle.driver_steps.specs.declared.told.Came.TheVariants.{Told as CameTold}
+use Rattle.driver_steps.specs.declared.answer.Answer.TheVariants.{NoMemory}
+use Rattle.driver_steps.specs.declared.told.Came.TheVariants.{SetUp as CameSetUp, Told as CameTold}
 use Rattle.driver_steps.specs.declared.told.Told.{Told}
 use Rattle.driver_steps.specs.Coming.{Comes, ComesAs, content_decided}
-use Rattle.driver_steps.specs.Decided.{DecidesFirst, DecidesUnless, asked_decision, decision_in}
+use Rattle.driver_steps.specs.Decided.{DecidesFirst, DecidesUnless, asked_decision, decided_unless, decision_in}
 use Rattle.driver_steps.specs.Ends.{RunEnd, log_at, on_asked, on_image, on_log, on_packet, on_told}
 use Rattle.driver_steps.specs.Held.{HeldLog, HeldLogs, held_at}
 use Rattle.driver_steps.specs.Memory.{is_listed, packet_takes}
@@ -30,6 +31,7 @@ use Rattle.driver_steps.proofs.SeenLemmas.{there_now}
 use Rattle.frame_codec.specs.declared.fault.BadPacket.{BadPacket}
 use Rattle.frame_codec.specs.declared.header.TermPlace.{TermPlace}
 use Rattle.frame_codec.specs.declared.nak.Nak.{Nak}
+use Rattle.frame_codec.specs.declared.setup.Setup.{Setup}
 use Rattle.frame_codec.specs.declared.status_message.StatusMessage.{StatusMessage}
 use Rattle.frame_codec.specs.declared.datagram.Packet.{Packet as FramePacket}
 use Rattle.frame_codec.specs.Datagram.{Content, content, frames, beat, nak, status, setup, packet_of}
@@ -40,7 +42,7 @@ use Rattle.policy_core.specs.declared.decision.Decision.{Decision}
 
 -- ---- what it does, at an end
 
-image_goes : (e : RunEnd) (now : ℕ) (from : Address) (content : Content) (move : WholeLog → Move) (found : Result ℕ Astray) →
+pub image_goes : (e : RunEnd) (now : ℕ) (from : Address) (content : Content) (move : WholeLog → Move) (found : Result ℕ Astray) →
     ((log : WholeLog) → content_move now from None content log ≡ move log) → content_move now from None content ≡ move →
     on_request e now from content (of_image found) ≡ on_image e move found
 image_goes e now from content move (Ok source) each same = ap (λ (m : WholeLog → Move). on_log e source m unheard) same
@@ -279,6 +281,43 @@ comes_told_seen older old new now local from bytes content told other is serves 
     } in
     subst (λ (read : Result Content BadPacket). ComesSeenAs older old new now local from bytes read (CameTold told)) (sym is)
     (seen_as older old new now local from bytes content told other all decides)
+
+-- ---- frames, of which nothing is decided
+
+undecided : (answer : Answer) → decided_unless answer None ≡ None
+undecided NoMemory = refl
+undecided answer = refl
+
+none_decided : (held : Held) (from : Address) (sent : List Sent) (answer : Answer) →
+    DecidesUnless held (λ e. content_decided e from (Ok (frames sent))) answer None
+none_decided held from sent answer = record { on = λ e stands. sym (undecided answer) }
+
+pub frames_come : (old new : Held) (now : ℕ) (local from : Address) (bytes : List ℕ) (sent : List Sent) (answer : Answer) →
+    packet_of bytes ≡ Ok (frames sent) → ServesAs old new (λ e. on_packet e now local from (Ok (frames sent))) answer →
+    Comes old new now local from bytes (CameTold (record { answer = answer; decision = None }))
+frames_come old new now local from bytes sent answer is serves =
+    comes_told old new now local from bytes (frames sent) (record { answer = answer; decision = None }) tt is serves
+    (none_decided old from sent answer)
+
+told_frames : (older : State) (old new : Held) (now : ℕ) (local from : Address) (bytes : List ℕ) (sent : List Sent) (told : Told) →
+    ComesSeenAs older old new now local from bytes (Ok (frames sent)) (CameTold told) →
+    ComesSeenAs older old new now local from bytes (Ok (frames sent)) (CameTold (record { answer = told.answer; decision = None }))
+told_frames older old new now local from bytes sent told comes = (comes.0, none_decided (under old older) from sent told.answer)
+
+pub frames_seen_come : (older : State) (old new : Held) (now : ℕ) (local from : Address) (bytes : List ℕ) (sent : List Sent) (told : Told) →
+    packet_of bytes ≡ Ok (frames sent) → ComesSeen older old new now local from bytes (CameTold told) →
+    ComesSeen older old new now local from bytes (CameTold (record { answer = told.answer; decision = None }))
+frames_seen_come older old new now local from bytes sent told is comes =
+    subst (λ (read : Result Content BadPacket). ComesSeenAs older old new now local from bytes read (CameTold (record { answer = told.answer; decision = None })))
+    (sym is)
+    (told_frames older old new now local from bytes sent told
+    (subst (λ (read : Result Content BadPacket). ComesSeenAs older old new now local from bytes read (CameTold told)) is comes))
+
+-- they are no SETUP
+pub frames_no_setup : (older : State) (old new : Held) (now : ℕ) (local from : Address) (bytes : List ℕ) (sent : List Sent) (fields : Setup) →
+    packet_of bytes ≡ Ok (frames sent) → ComesSeen older old new now local from bytes (CameSetUp fields) → ⊥
+frames_no_setup older old new now local from bytes sent fields is comes =
+    subst (λ (read : Result Content BadPacket). ComesSeenAs older old new now local from bytes read (CameSetUp fields)) is comes
 
 -- as it was read
 pub read_as : (bytes : List ℕ) (packet : FramePacket) (read : Result FramePacket BadPacket) → Equals content read (packet_of bytes) → read ≡ Ok packet →

@@ -4,13 +4,15 @@ ghost use Rattle.driver_core.specs.LogRequests.{offering_of};
 ghost use Rattle.driver_steps.specs.declared.answer.Answer.TheVariants.{Gone, NoMemory, Offered as OfferedAs};
 ghost use Rattle.driver_steps.specs.declared.answer.Offered.TheVariants.{Closed};
 ghost use Rattle.driver_steps.specs.Decided.{DecidesAs, DecidesUnless, offer_decided, poll_decided};
-ghost use Rattle.driver_steps.specs.Ends.{on_log, on_offered_by};
+ghost use Rattle.driver_steps.specs.Ends.{on_image, on_log, on_offered_by};
 ghost use Rattle.driver_steps.specs.Moves.{poll_move};
-ghost use Rattle.driver_steps.specs.Packets.{IsForRequest, LogsDecide, on_request, request_decided};
+ghost use Rattle.driver_steps.specs.Packets.{IsForRequest, LogsDecide, of_image, on_request, request_decided};
+ghost use Rattle.driver_steps.specs.Receiving.{receive_move};
 ghost use Rattle.driver_steps.specs.Reporting.{image_move};
 ghost use Rattle.driver_steps.specs.Seen.{KeepMatch, LogsServe};
 ghost use Rattle.driver_steps.specs.Sending.{send_move};
-ghost use Rattle.frame_codec.specs.Datagram.{content};
+ghost use Rattle.frame_codec.specs.Datagram.{content, frames as data_frames};
+ghost use Rattle.frame_codec.specs.Frames.{frames_left};
 ghost use Rattle.std.specs.Prelude.{◌≡◌, None};
 
 use crate::answer::{Answer, Offered};
@@ -20,7 +22,7 @@ use crate::open_logs::OpenLogs;
 use crate::packets::PacketRequest;
 use crate::told::Told;
 use driver_core::{Address, Astray, View};
-use frame_codec::Packet;
+use frame_codec::{Frames, Packet};
 use std::alloc::Global;
 
 /// A step was refused memory. It is told by a call of its own, so that what the other steps are told is not copied once more.
@@ -149,5 +151,27 @@ pub(crate) fn packet_by(
             answer: Answer::Dropped(Cause::Astray(why)),
             decision: None,
         },
+    }
+}
+
+/// The frames of a datagram came, for the image that the registry says.
+#[inline(always)]
+pub(crate) fn frames_by(
+    logs: &mut OpenLogs,
+    alloc: Global,
+    now: u64,
+    frames: Frames<'_>,
+    image: Result<u64, Astray>,
+) -> Answer
+    requires { IsForRequest logs.old.logs (of_image image) (data_frames (frames_left frames)) }
+    ensures serves { LogsServe logs.old logs.new (λ e. on_image e (receive_move now (frames_left frames.entry)) image) result }
+    ensures kept { KeepMatch logs.old logs.new }
+{
+    match image {
+        Ok(source) => match logs.receive(alloc, now, source, frames) {
+            Ok(answer) => answer,
+            Err(_) => Answer::NoMemory,
+        },
+        Err(why) => Answer::Dropped(Cause::Astray(why)),
     }
 }

@@ -11,18 +11,18 @@ ghost use Rattle.driver_steps.specs.declared.cause.Cause.TheVariants.{Unread};
 ghost use Rattle.driver_steps.specs.Opening.{CanOpen, Follows, HasRoom, place_of};
 
 use crate::answer::Answer;
-use crate::by_view::{offer_by, packet_by, poll_by, report_by, send_by};
+use crate::by_view::{frames_by, offer_by, packet_by, poll_by, report_by, send_by};
 use crate::caches::{CACHES, caches};
 use crate::cause::Cause;
 use crate::inputs::inputs_of;
 use crate::open_log::OpenLog;
 use crate::open_logs::OpenLogs;
 use crate::opening::{Opening, open_next, prepare};
-use crate::packets::packet_request;
+use crate::packets::{image_of, packet_request};
 use crate::told::{Came, Looked, Told};
 use decision_cache::Cache;
 use driver_core::{Address, Entry, Event, Peer, Registry, Settings, cached_verdicts_stay_right};
-use frame_codec::{BadPacket, Packet, Setup, frames_are_of_one_term, frames_are_told};
+use frame_codec::{BadPacket, Frames, Packet, Setup, frames_are_of_one_term, frames_are_told};
 use policy_core::Policy;
 use rows::Rows;
 use std::alloc::{AllocError, Global};
@@ -103,7 +103,9 @@ impl Driver {
     ghost use Rattle.driver_steps.specs.Packets.{IsOpenContent, IsSoundContent};
     ghost use Rattle.driver_steps.specs.Standing.{StandsForEnd, Serves, ServesAs, Takes, pages_of_logs};
     ghost use Rattle.driver_steps.specs.declared.step.Step.TheVariants.{Offer, Poll, Send, Image, List as Lists, Value};
-    ghost use Rattle.frame_codec.specs.Datagram.{content, packet_of};
+    ghost use Rattle.driver_steps.specs.declared.told.Came.TheVariants.{Told as CameTold};
+    ghost use Rattle.frame_codec.specs.Datagram.{content, frames as data_frames, packet_of};
+    ghost use Rattle.frame_codec.specs.Frames.{frames_left};
     ghost use Rattle.frame_codec.specs.Steps.{Equals};
     ghost use Rattle.log_arena.specs.Pages.{holes_of};
 
@@ -225,6 +227,42 @@ impl Driver {
                 Came::Told(self.packet(alloc, now, local, from, packet))
             }
         }
+    }
+
+    /// The frames of a datagram came to the address `local`, from the address `from`.
+    #[inline(always)]
+    fn receive(
+        &mut self,
+        alloc: Global,
+        now: u64,
+        local: &Address,
+        from: &Address,
+        frames: Frames<'_>,
+    ) -> Answer
+        requires { IsSoundContent (data_frames (frames_left frames)) }
+        ensures { ServesAs self.old self.new (λ e. on_packet e now local.now from.now (Ok (data_frames (frames_left frames.entry)))) result }
+    {
+        let image = image_of(&self.registry, local, from, &frames);
+        frames_by(&mut self.logs, alloc, now, frames, image)
+    }
+
+    /// As [`Driver::datagram`], of the frames that the bytes were read as. No policy is asked, so there is no decision to tell.
+    #[inline(always)]
+    pub fn frames(
+        &mut self,
+        alloc: Global,
+        now: u64,
+        local: &Address,
+        from: &Address,
+        _bytes: &[u8],
+        frames: Frames<'_>,
+    ) -> Answer
+        requires { packet_of _bytes.now ≡ Ok (data_frames (frames_left frames)) }
+        ensures { Comes self.old self.new now local.now from.now _bytes.now (CameTold (record { answer = result; decision = None })) }
+    {
+        frames_are_told();
+        frames_are_of_one_term();
+        self.receive(alloc, now, local, from, frames)
     }
 
     /// A client offers a message. It takes no memory.

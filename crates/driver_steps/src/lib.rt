@@ -49,6 +49,7 @@ pub use offering::offer_step;
 pub use open_log::OpenLog;
 pub use packets::{PacketRequest, packet_request, packet_step};
 pub use polling::poll_step;
+pub use receiving::frames_step;
 pub use reporting::image_step;
 pub use sending::send_step;
 pub use step::Step;

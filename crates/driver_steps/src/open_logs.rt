@@ -13,11 +13,12 @@ ghost use Rattle.driver_steps.specs.Memory.{GivesFirst};
 ghost use Rattle.driver_steps.specs.Moves.{MovesFirst, offer_move, poll_move};
 ghost use Rattle.driver_steps.specs.Packets.{IsForFirst, content_move};
 ghost use Rattle.driver_steps.specs.Plots.{IsLeastVacant, taken_pages};
-ghost use Rattle.driver_steps.specs.Receiving.{unheard};
+ghost use Rattle.driver_steps.specs.Receiving.{receive_move, unheard};
 ghost use Rattle.driver_steps.specs.Recovery.{recovering};
 ghost use Rattle.driver_steps.specs.Reporting.{image_move};
 ghost use Rattle.driver_steps.specs.Sending.{send_move};
-ghost use Rattle.frame_codec.specs.Datagram.{content};
+ghost use Rattle.frame_codec.specs.Datagram.{content, frames as data_frames};
+ghost use Rattle.frame_codec.specs.Frames.{frames_left};
 ghost use Rattle.image_log.specs.Rebuilt.{opened};
 ghost use Rattle.log_arena.specs.Pages.{holes_of};
 ghost use Rattle.std.specs.Prelude.{◌≡◌, ℕ, ◌*◌, ◌%◌, ◌^◌, ◌<◌, ◌≤◌, [], length, map, filter, IfOk, OnOk, OnErr, Some};
@@ -32,11 +33,12 @@ use crate::offering::offer_asked;
 use crate::open_log::OpenLog;
 use crate::packets::{PacketRequest, packet_step};
 use crate::polling::poll_step;
+use crate::receiving::frames_step;
 use crate::reporting::image_step;
 use crate::sending::send_step;
 use crate::told::Told;
 use driver_core::{Address, Astray, LogRequest, Registry, Settings, View};
-use frame_codec::Packet;
+use frame_codec::{Frames, Packet};
 use image_log::ImageRoom;
 use log_arena::Arena;
 use rows::Rows;
@@ -307,6 +309,26 @@ impl OpenLogs {
             });
         };
         packet_step(&mut self.logs[at], alloc, now, from, packet, request)
+    }
+
+    /// The frames of a datagram come to the first log of that source, as [`frames_step`] says.
+    #[inline(always)]
+    pub(crate) fn receive(
+        &mut self,
+        alloc: Global,
+        now: u64,
+        source: u64,
+        frames: Frames<'_>,
+    ) -> Result<Answer, AllocError>
+        requires { IsForFirst self.old.logs source (data_frames (frames_left frames)) }
+        ensures moved { IfOk result (λ answer. MovesFirst source (receive_move now (frames_left frames.entry)) unheard self.old self.new answer) }
+        ensures err { OnErr result (self.new ≡ self.old) }
+        ensures without_memory { OnErr result (GivesFirst source (receive_move now (frames_left frames.entry)) self.old) }
+    {
+        let Some(at) = place_of(self.logs.as_slice(), source) else {
+            return Ok(Answer::Dropped(Cause::Astray(Astray::NoStream)));
+        };
+        frames_step(&mut self.logs[at], alloc, now, source, frames)
     }
 
     /// The sender has a turn with the first log of that source, as [`send_step`] says.

@@ -8,9 +8,10 @@ ghost use Rattle.driver_steps.specs.Decided.{Decides, decision_for};
 ghost use Rattle.driver_steps.specs.Held.{LiesAsBefore};
 ghost use Rattle.driver_steps.specs.Memory.{Gives};
 ghost use Rattle.driver_steps.specs.Moves.{Does};
-ghost use Rattle.driver_steps.specs.Packets.{IsFor, content_move, of_asked, of_stream, of_stream_seen, of_told, packet_move, packet_request, request_seen};
+ghost use Rattle.driver_steps.specs.Packets.{IsFor, content_move, of_asked, of_image, of_stream, of_stream_seen, of_told, packet_move, packet_request, request_seen};
 ghost use Rattle.driver_steps.specs.Receiving.{unheard};
-ghost use Rattle.frame_codec.specs.Datagram.{content};
+ghost use Rattle.frame_codec.specs.Datagram.{content, frames as data_frames};
+ghost use Rattle.frame_codec.specs.Frames.{frames_left};
 ghost use Rattle.std.specs.Prelude.{◌≡◌, IfOk, None, OnErr};
 
 use crate::answer::Answer;
@@ -21,7 +22,7 @@ use crate::receiving::{beat_step, receive_step};
 use crate::resending::nak_step;
 use crate::told::Told;
 use driver_core::{Address, Astray, LogRequest, Registry, View};
-use frame_codec::{Packet, TermPlace};
+use frame_codec::{Frames, Packet, TermPlace};
 use policy_core::Decision;
 use std::alloc::{AllocError, Global};
 
@@ -48,6 +49,26 @@ fn of_stream(
         source,
         decision: None,
     })
+}
+
+/// The image that the frames of a datagram are for which came to the address `local`, from the address `from`.
+#[inline(always)]
+pub(crate) fn image_of(
+    registry: &Registry,
+    local: &Address,
+    from: &Address,
+    frames: &Frames<'_>,
+) -> Result<u64, Astray>
+    ensures { of_image result ≡ packet_request registry.now local.now from.now (data_frames (frames_left frames.now)) }
+{
+    let mut left = *frames;
+    match left.next() {
+        Some(frame) => {
+            let place = frame.header.place;
+            registry.image_for(local, from, place.session_id, place.stream_id)
+        }
+        None => Err(Astray::NoStream),
+    }
 }
 
 /// As [`of_stream`], of an image of the older registry that the newest still has: else its log is closed.

@@ -2,17 +2,19 @@
 
 ghost use Rattle.driver_core.specs.Listing.{value};
 ghost use Rattle.driver_steps.specs.Decided.{DecidesAs, DecidesUnless, LeavesOut, offer_decided, poll_decided, shown_decision};
+ghost use Rattle.driver_steps.specs.declared.told.Came.TheVariants.{Told as CameTold};
 ghost use Rattle.driver_steps.specs.declared.step.Step.TheVariants.{Image, List as Lists, Offer, Poll, Send, Value};
 ghost use Rattle.driver_steps.specs.Reads.{ComesRead, Reads, held_seen, looks_at};
-ghost use Rattle.frame_codec.specs.Datagram.{content, packet_of};
+ghost use Rattle.frame_codec.specs.Datagram.{content, frames as data_frames, packet_of};
+ghost use Rattle.frame_codec.specs.Frames.{frames_left};
 ghost use Rattle.frame_codec.specs.Steps.{Equals};
-ghost use Rattle.std.specs.Prelude.{◌≡◌, option_copied};
+ghost use Rattle.std.specs.Prelude.{◌≡◌, None, Ok, option_copied};
 
 use crate::answer::Answer;
 use crate::driver::Driver;
 use crate::told::{Came, Looked, Told};
 use driver_core::{Address, Registry};
-use frame_codec::{BadPacket, Packet};
+use frame_codec::{BadPacket, Frames, Packet};
 use std::alloc::Global;
 
 impl Driver {
@@ -132,6 +134,27 @@ impl Driver {
         match older {
             None => self.datagram(alloc, now, local, from, bytes, read),
             Some(older) => self.datagram_seen(older, alloc, now, local, from, bytes, read),
+        }
+    }
+
+    /// [`Driver::frames`] or [`Driver::frames_seen`].
+    #[inline(always)]
+    pub fn frames_read(
+        &mut self,
+        older: Option<&Registry>,
+        alloc: Global,
+        now: u64,
+        local: &Address,
+        from: &Address,
+        bytes: &[u8],
+        frames: Frames<'_>,
+    ) -> Answer
+        requires { packet_of bytes.now ≡ Ok (data_frames (frames_left frames)) }
+        ensures { ComesRead (option_copied older.entry) self.old self.new now local.now from.now bytes.now (CameTold (record { answer = result; decision = None })) }
+    {
+        match older {
+            None => self.frames(alloc, now, local, from, bytes, frames),
+            Some(older) => self.frames_seen(older, alloc, now, local, from, bytes, frames),
         }
     }
 }

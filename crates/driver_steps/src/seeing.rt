@@ -4,13 +4,15 @@
 ghost use Rattle.driver_core.specs.Listing.{value};
 ghost use Rattle.driver_steps.specs.Coming.{content_decided};
 ghost use Rattle.driver_steps.specs.Decided.{DecidesAs, DecidesUnless, LeavesOut, offer_decided, poll_decided, shown_decision};
+ghost use Rattle.driver_steps.specs.declared.told.Came.TheVariants.{Told as CameTold};
 ghost use Rattle.driver_steps.specs.declared.step.Step.TheVariants.{Image, List as Lists, Offer, Poll, Send, Value};
 ghost use Rattle.driver_steps.specs.Packets.{IsOpenContent, IsSoundContent};
 ghost use Rattle.driver_steps.specs.Seen.{ComesSeen, Sees, packet_seen, under};
 ghost use Rattle.driver_steps.specs.Standing.{ServesAs};
-ghost use Rattle.frame_codec.specs.Datagram.{content, packet_of};
+ghost use Rattle.frame_codec.specs.Datagram.{content, frames as data_frames, packet_of};
+ghost use Rattle.frame_codec.specs.Frames.{frames_left};
 ghost use Rattle.frame_codec.specs.Steps.{Equals};
-ghost use Rattle.std.specs.Prelude.{◌≡◌, Ok};
+ghost use Rattle.std.specs.Prelude.{◌≡◌, None, Ok};
 
 use crate::answer::Answer;
 use crate::asking::Uncached;
@@ -19,7 +21,7 @@ use crate::driver::{Driver, unread};
 use crate::packets::request_seen;
 use crate::told::{Came, Looked, Told};
 use driver_core::{Address, View};
-use frame_codec::{BadPacket, Packet, frames_are_of_one_term, frames_are_told};
+use frame_codec::{BadPacket, Frames, Packet, frames_are_of_one_term, frames_are_told};
 use std::alloc::Global;
 
 impl Driver {
@@ -156,6 +158,36 @@ impl Driver {
                 frames_are_of_one_term();
                 Came::Told(self.packet_seen(view, alloc, now, local, from, packet))
             }
+        }
+    }
+
+    /// As [`Driver::frames`], by the registry that the view shows. It is made in place: as a call it would tell its answer where
+    /// that of [`Driver::frames`] is told, which then could not stay in registers.
+    #[inline(always)]
+    pub fn frames_seen<V: View>(
+        &mut self,
+        view: &V,
+        alloc: Global,
+        now: u64,
+        local: &Address,
+        from: &Address,
+        bytes: &[u8],
+        frames: Frames<'_>,
+    ) -> Answer
+        requires { packet_of bytes.now ≡ Ok (data_frames (frames_left frames)) }
+        ensures { ComesSeen (V.shows view.now) self.old self.new now local.now from.now bytes.now (CameTold (record { answer = result; decision = None })) }
+    {
+        match self.datagram_seen(
+            view,
+            alloc,
+            now,
+            local,
+            from,
+            bytes,
+            Ok(Packet::Data(frames)),
+        ) {
+            Came::Told(told) => told.answer,
+            Came::SetUp(_) => unreachable!(),
         }
     }
 }

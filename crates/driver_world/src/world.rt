@@ -2,10 +2,11 @@ ghost use Rattle.driver_core.specs.Soundness.{AreSettings};
 ghost use Rattle.audit_ring.specs.Audit.{kept_of};
 ghost use Rattle.driver_world.specs.Past.{IsShown, shown_state};
 ghost use Rattle.driver_world.specs.Views.{reader_of};
-ghost use Rattle.frame_codec.specs.Datagram.{Content, content, packet_of};
+ghost use Rattle.frame_codec.specs.Datagram.{Content, content, frames as data_frames, packet_of};
+ghost use Rattle.frame_codec.specs.Frames.{frames_left};
 ghost use Rattle.frame_codec.specs.Steps.{Equals};
 ghost use Rattle.frame_codec.specs.declared.fault.BadPacket.{BadPacket as Faults};
-ghost use Rattle.std.specs.Prelude.{◌≡◌, [], Some, None, Result, max, length, ◌<◌, option_copied, IfOk, IfErr, OnOk, OnErr};
+ghost use Rattle.std.specs.Prelude.{◌≡◌, [], Some, None, Ok, Result, max, length, ◌<◌, option_copied, IfOk, IfErr, OnOk, OnErr};
 
 use crate::actor::Actor;
 use crate::audits::Audits;
@@ -18,7 +19,7 @@ use byte_strings::Items;
 use channel_uri::Address;
 use driver_core::{Entry, Event, Inputs, Outcome, Peer, Registry, Settings};
 use driver_steps::{Answer, Came, Driver, Step, Told};
-use frame_codec::{BadPacket, Datagram, Packet, Setup};
+use frame_codec::{BadPacket, Datagram, Frames, Packet, Setup};
 use policy_core::Policy;
 use std::alloc::{AllocError, Global};
 use std::marker::Model;
@@ -268,7 +269,8 @@ impl World {
     }
 
     /// The sender or the receiver takes a datagram, of which `read` is what it holds. It is made once for each kind of datagram,
-    /// so that each has the answers of its own kind alone.
+    /// so that each has the answers of its own kind alone. Frames have a call of their own: they are what comes most, and no
+    /// decision of them is handed on.
     #[inline(always)]
     fn take(
         &mut self,
@@ -303,6 +305,33 @@ impl World {
         }
     }
 
+    /// The receiver takes the frames of a datagram. It asks no policy, so nothing is told of it but the answer.
+    #[inline(always)]
+    fn take_frames(
+        &mut self,
+        alloc: Global,
+        view: Option<u64>,
+        now: u64,
+        local: &Address,
+        from: &Address,
+        bytes: &[u8],
+        frames: Frames<'_>,
+    ) -> Answer
+        requires { packet_of bytes.now ≡ Ok (data_frames (frames_left frames)) }
+        ensures { Serves self.old self.new (record { view = view; step = Packets now local.now from.now bytes.now }) result }
+    {
+        let look = match self.look(alloc, Actor::Receiver, view) {
+            Ok(look) => look,
+            Err(answer) => return answer,
+        };
+        let now = look.at(now);
+        let answer = self
+            .driver
+            .frames_read(look.older(), alloc, now, local, from, bytes, frames);
+        self.sit(Actor::Receiver, look, now, &answer);
+        answer
+    }
+
     /// A datagram came to the address `local`, from the address `from`: a SETUP is an event; the frames of data and a
     /// heartbeat go to the image of that address, session and stream, where they are from its publisher; a NAK and a status
     /// message go to the publication of their session and stream, whatever address they came to.
@@ -320,15 +349,7 @@ impl World {
         match Datagram::read(bytes) {
             Ok(Packet::Setup(setup)) => self.set_up(alloc, view, now, local, from, setup),
             Ok(Packet::Data(frames)) => {
-                self.take(
-                    alloc,
-                    view,
-                    now,
-                    local,
-                    from,
-                    bytes,
-                    Ok(Packet::Data(frames)),
-                )
+                self.take_frames(alloc, view, now, local, from, bytes, frames)
             }
             Ok(Packet::Beat(header)) => {
                 self.take(
