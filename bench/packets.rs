@@ -18,6 +18,7 @@ unsafe extern "C" {
         lengths_len: usize,
         time: &mut u64,
     ) -> u64;
+    fn mallopt(what: i32, value: i32) -> i32;
     fn clock_gettime(clock: i32, time: &mut Timespec) -> i32;
     fn malloc(size: usize) -> *mut u8;
     fn realloc(start: *mut u8, size: usize) -> *mut u8;
@@ -751,7 +752,18 @@ fn with_late_ones(datagrams: Vec<Vec<u8>>) -> Vec<Vec<u8>> {
     order
 }
 
+/// `M_TRIM_THRESHOLD` and `M_MMAP_THRESHOLD` of the C library.
+const KEPT: [(i32, i32); 2] = [(-1, i32::MAX), (-3, 32 << 20)];
+
+/// Memory that is given back stays with the program, so that neither driver meets fresh pages while it is timed.
+fn keep_memory() {
+    for (what, bytes) in KEPT {
+        assert_eq!(unsafe { mallopt(what, bytes) }, 1);
+    }
+}
+
 fn main() {
+    keep_memory();
     let setup = setup_bytes();
     for (what, frames, payload) in [("1 frame of 1,376 bytes", 1, 1_376), ("20 frames of 32 bytes", 20, 32)] {
         for late in [false, true] {

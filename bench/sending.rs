@@ -20,6 +20,7 @@ unsafe extern "C" {
         sending: &mut u64,
         resending: &mut u64,
     ) -> u64;
+    fn mallopt(what: i32, value: i32) -> i32;
     fn clock_gettime(clock: i32, time: &mut Timespec) -> i32;
     fn malloc(size: usize) -> *mut u8;
     fn realloc(start: *mut u8, size: usize) -> *mut u8;
@@ -1097,8 +1098,8 @@ fn ports_of(outlets: &[Outlet]) -> u64 {
     allowed.map(|outlet| u64::from(outlet.to.port)).sum()
 }
 
-fn packet_of(now: u64, bytes: &[u8]) -> Step {
-    Step::Packet { now, local: LOCAL, from: RECEIVER, bytes: bytes.to_vec() }
+fn packet_of(bytes: &[u8]) -> Step {
+    Step::Packet { now: 0, local: LOCAL, from: RECEIVER, bytes: bytes.to_vec() }
 }
 
 fn offer_of(message: &[u8]) -> Step {
@@ -1155,10 +1156,12 @@ impl Played {
         Some(())
     }
 
-    fn resend(&mut self, naks: &[Step]) -> Option<()> {
+    fn resend(&mut self, naks: &[Vec<u8>]) -> Option<()> {
         let start = moment();
+        let mut now = 0;
         for nak in naks {
-            let Answer::Resent { to, datagrams } = self.world.step(nak) else {
+            now += APART;
+            let Answer::Resent { to, datagrams } = self.world.packet(now, LOCAL, RECEIVER, nak) else {
                 return None;
             };
             let [bytes] = &datagrams[..] else {
@@ -1171,7 +1174,7 @@ impl Played {
         Some(())
     }
 
-    fn play(&mut self, offer: &Step, statuses: &[Step], naks: &[Step]) -> Option<()> {
+    fn play(&mut self, offer: &Step, statuses: &[Step], naks: &[Vec<u8>]) -> Option<()> {
         let turn = Step::Send { now: 0, source: 1 };
         for status in statuses {
             self.hear(status)?;
@@ -1187,8 +1190,8 @@ type Run = (u64, [u64; 2]);
 
 #[inline(never)]
 fn plain_send(message: &[u8], statuses: &[u8], naks: &[u8], whole: bool) -> Run {
-    let statuses: Vec<Step> = statuses.chunks(36).map(|bytes| packet_of(0, bytes)).collect();
-    let naks: Vec<Step> = (1..).zip(naks.chunks(28)).map(|(i, bytes)| packet_of(i * APART, bytes)).collect();
+    let statuses: Vec<Step> = statuses.chunks(36).map(packet_of).collect();
+    let naks: Vec<Vec<u8>> = naks.chunks(28).map(<[u8]>::to_vec).collect();
     let mut played = Played::new(whole);
     if played.play(&offer_of(message), &statuses, &naks).is_none() {
         return (0, [0; 2]);
@@ -1244,7 +1247,7 @@ fn receiver(message: &[u8]) -> Option<(Vec<u8>, Vec<u8>)> {
     for _ in 0..STATUSES {
         let (term, offset, _) = sent.last().copied().unwrap_or((0, 0, 0));
         let status = status_bytes(term, offset);
-        played.hear(&packet_of(0, &status))?;
+        played.hear(&packet_of(&status))?;
         statuses.extend(status);
         played.fill(&offer)?;
         for _ in 0..BATCH {
@@ -1259,7 +1262,18 @@ fn receiver(message: &[u8]) -> Option<(Vec<u8>, Vec<u8>)> {
     Some((statuses, naks.collect()))
 }
 
+/// `M_TRIM_THRESHOLD` and `M_MMAP_THRESHOLD` of the C library.
+const KEPT: [(i32, i32); 2] = [(-1, i32::MAX), (-3, 32 << 20)];
+
+/// Memory that is given back stays with the program, so that neither driver meets fresh pages while it is timed.
+fn keep_memory() {
+    for (what, bytes) in KEPT {
+        assert_eq!(unsafe { mallopt(what, bytes) }, 1);
+    }
+}
+
 fn main() {
+    keep_memory();
     for (what, size) in [("1 frame of 1,376 bytes", 1_376), ("22 frames of 8 bytes", 8)] {
         let message = vec![0x61; size];
         let (statuses, naks) = receiver(&message).expect("each turn has a datagram");
