@@ -1,16 +1,13 @@
 -- What a turn of the sender comes to, by what is due.
-use Rattle.std.proofs.Common.{◌≡◌, ℕ, Bool, true, false, cond, List, Option, Some, None, refl, ap, subst, ◌∙◌}
+use Rattle.std.proofs.Common.{◌≡◌, ℕ, Bool, true, false, cond, List, Some, None, refl, sym, ap}
 use Rattle.std.specs.Option.{option_map}
-use Rattle.any_log.specs.Sending.{CutsCopy, Dues, after_turn, due_in, turn_of}
-use Rattle.any_log.specs.declared.any_log.AnyLog.TheVariants.{Term}
+use Rattle.any_log.specs.Sending.{after_turn, due_in, passed_in, turn_of}
 use Rattle.any_log.specs.Whole.{AnyWhole, whole, rebuilt}
 use Rattle.publication_sender.specs.declared.cutting.DatagramKind.{DatagramKind}
 use Rattle.publication_sender.specs.declared.cutting.Pace.{Pace}
-use Rattle.publication_sender.specs.declared.cutting.DatagramKind.TheVariants as kinds
-use Rattle.publication_sender.specs.Cutting.{CopiesFrames, IsDue, after_due, bytes_as, cut_of, datagram_of, due_of}
+use Rattle.publication_sender.specs.Cutting.{after_due, bytes_as, cut_of, datagram_of, due_of, passed}
 use Rattle.term_log.specs.Ident.{is_udp}
-use Rattle.term_log.specs.Log.{Log}
-use Rattle.term_log.specs.Whole.{Stands, Whole}
+use Rattle.term_log.specs.Whole.{Whole}
 
 -- ---- the log is not sent
 
@@ -60,26 +57,17 @@ pub some_turn : (pace : Pace) (now : ℕ) (lingers : Bool) (w : AnyWhole) (kind 
 some_turn pace now lingers (whole w) kind is = (bytes_as lingers w kind, some_by (is_udp w.ident.kind) pace now lingers w kind is)
 some_turn pace now lingers (rebuilt r) kind is = absurd (cc is)
 
--- ---- what is due of a publication's log is due of any whole log that it stands for
+-- ---- what is cut moves the log on
 
-due_by : (b : Bool) (due : Option DatagramKind) (kind : DatagramKind) → Some (Some kind) ≡ cond b (Some due) None → Some kind ≡ due
-due_by true due kind is = cc is
-due_by false due kind is = absurd (cc is)
+passed_by : (b : Bool) (pace : Pace) (now : ℕ) (w : Whole) (kind : DatagramKind) → cond b (Some (due_of pace now w)) None ≡ Some (Some kind)
+    → whole (passed now kind w) ≡ cond b (whole (cut_of pace now w)) (whole w)
+unfolding cut_of
+passed_by true pace now w kind is =
+    let due : due_of pace now w ≡ Some kind = cc is in
+    ap whole (ap (after_due now w) (sym due))
+passed_by false pace now w kind is = absurd (cc is)
 
-pub due_held : (pace : Pace) (now : ℕ) (log : Log) (kind : DatagramKind) → Dues (Term log) pace now (Some (Some kind)) → IsDue pace now log (Some kind)
-due_held pace now log kind dues = record { on = λ w s. due_by (is_udp w.ident.kind) (due_of pace now w) kind (dues.on (whole w) s) }
-
--- ---- frames are copied where they are due
-
-pub copied_frames : (pace : Pace) (now : ℕ) (lingers : Bool) (old new : Log) (copy : List ℕ) → IsDue pace now old (Some kinds.Frames)
-    → CopiesFrames now old new copy → CutsCopy pace now lingers old new (Some copy)
-unfolding datagram_of cut_of
-copied_frames pace now lingers old new copy is copies =
-    record {
-      on = λ w s.
-          let due : Some kinds.Frames ≡ due_of pace now w = is.on w s in
-          let copied = copies.on w s in (
-            ap Some copied.0 ∙ ap (option_map (bytes_as lingers w)) due,
-            subst (λ (x : Whole). Stands new x) (ap (after_due now w) due) copied.1,
-          );
-    }
+pub passed_due : (pace : Pace) (now : ℕ) (w : AnyWhole) (kind : DatagramKind) → due_in pace now w ≡ Some (Some kind)
+    → passed_in now kind w ≡ after_turn pace now w
+passed_due pace now (whole w) kind is = passed_by (is_udp w.ident.kind) pace now w kind is
+passed_due pace now (rebuilt r) kind is = absurd (cc is)

@@ -1,106 +1,54 @@
 //! A turn of the sender with a log.
 
 ghost use Rattle.any_log.specs.Held.{Lies};
-ghost use Rattle.any_log.specs.Sending.{CutsCopy, Dues, Turns, after_turn};
+ghost use Rattle.any_log.specs.Sending.{CanPass, IsCutOf, IsNextOf, SomeDueOf, passed_in};
 ghost use Rattle.any_log.specs.Whole.{Carries};
-ghost use Rattle.publication_sender.specs.Cutting.{IsDue};
-ghost use Rattle.std.specs.Prelude.{◌≡◌, IfOk, OnErr, OnOk, Some};
-ghost use Rattle.term_log.specs.declared.ident.LogKind.TheVariants as kinds;
+ghost use Rattle.std.specs.Prelude.{◌≡◌, IfOk, OnErr};
 
 use crate::any_log::AnyLog;
-use byte_strings::Bytes;
-use publication_sender::{DatagramKind, Pace, copy_frames, cut, due};
+use publication_sender::{Cut, Next, Pace, next_datagram, pass};
 use std::alloc::{AllocError, Global};
-use term_log::{LogKind, TermLog};
+use term_log::LogKind;
 
 impl AnyLog {
-    /// What is due of the log at a moment, in nanoseconds, if anything is. The inner `None` says that nothing is due, the
-    /// outer one that the log is not sent: it is that of a remote stream, or in shared memory. It takes no memory.
-    pub fn due(&self, now: u64, pace: &Pace) -> Option<Option<DatagramKind>>
-        ensures { Dues self.now pace.now now result }
-    {
-        let AnyLog::Term(log) = self else {
-            return None;
-        };
-        match log.ident().kind {
-            LogKind::Udp => Some(due(log, now, pace)),
-            LogKind::Ipc => None,
-        }
-    }
-
-    /// The sender has a turn with the log at a moment, in nanoseconds, in which a datagram of that kind is due, as
-    /// [`AnyLog::due`] says: the answer is the datagram, and the log moves on by it, whoever gets it. Heartbeats of a
-    /// publication that lingers say so. The outer `None` says that the log is not sent.
+    /// The next datagram of the log at a moment, in nanoseconds, if one is due. The inner `None` says that nothing is due, the
+    /// outer one that the log is not sent: it is that of a remote stream, or in shared memory. Heartbeats of a publication
+    /// that lingers say so. Nothing is changed: [`AnyLog::pass`] moves the log on.
     ///
     /// # Errors
-    /// Nothing is changed where there is no memory for the datagram.
-    #[tactic(auto, using(crate::proofs::SendingLemmas::due_held))]
-    pub fn turn(
-        &mut self,
+    /// There is no memory for the datagram. Where nothing is due it takes none.
+    #[inline(always)]
+    pub fn next_datagram(
+        &self,
         alloc: Global,
         now: u64,
         pace: &Pace,
         lingers: bool,
-        kind: DatagramKind,
-    ) -> Result<Option<Option<Bytes>>, AllocError>
-        requires { Dues self.old pace.now now (Some (Some kind)) }
-        ensures turn { IfOk result (λ turn. Turns self.old pace.now now lingers turn) }
-        ensures whole { OnOk result (Carries self.old self.new (after_turn pace.now now)) }
-        ensures lies { Lies self.old self.new }
-        ensures err { OnErr result (self.new ≡ self.old) }
+    ) -> Result<Option<Option<Next>>, AllocError>
+        ensures next { IfOk result (λ next. IsNextOf self.now pace.now now lingers next) }
+        ensures passes { IfOk result (λ next. CanPass self.now next) }
+        ensures without_memory { OnErr result (SomeDueOf self.now pace.now now) }
     {
         let AnyLog::Term(log) = self else {
             return Ok(None);
         };
         match log.ident().kind {
-            LogKind::Udp => Ok(Some(copy_of_due(log, alloc, now, pace, lingers, kind)?)),
+            LogKind::Udp => Ok(Some(next_datagram(log, alloc, now, pace, lingers)?)),
             LogKind::Ipc => Ok(None),
         }
     }
-}
 
-/// Cuts the datagram that is due of the log of a publication over datagrams, in room for the greatest one.
-fn copy_of_any(
-    log: &mut TermLog,
-    alloc: Global,
-    now: u64,
-    pace: &Pace,
-    lingers: bool,
-) -> Result<Option<Bytes>, AllocError>
-    requires { log.old.kept.ident.kind ≡ kinds.Udp }
-    ensures cut { IfOk result (λ datagram. CutsCopy pace.now now lingers log.old log.new datagram) }
-    ensures kept { log.new.kept ≡ log.old.kept }
-    ensures err { OnErr result (log.new ≡ log.old) }
-{
-    let mut room = Vec::from_elem(alloc, 0u8, log.ident().mtu as usize)?;
-    match cut(log, now, pace, lingers, room.as_mut_slice()) {
-        Some(size) => {
-            room.truncate(size);
-            Ok(Some(Bytes::from(room)))
+    /// The log moves on by a datagram that was cut at a moment, in nanoseconds, as [`AnyLog::next_datagram`] told it, whoever
+    /// gets it.
+    #[inline(always)]
+    pub fn pass(&mut self, now: u64, cut: &Cut)
+        requires { IsCutOf self.old cut.now }
+        ensures whole { Carries self.old self.new (passed_in now cut.now.kind) }
+        ensures lies { Lies self.old self.new }
+    {
+        match self {
+            AnyLog::Term(log) => pass(log, now, cut),
+            AnyLog::Image(_) => {}
         }
-        None => Ok(None),
-    }
-}
-
-/// Cuts the datagram of that kind that is due of the log of a publication over datagrams. Frames are copied at once, and into
-/// no more room than they need; what is due is not asked for again.
-#[tactic(auto, using(crate::proofs::SendingLemmas::copied_frames))]
-fn copy_of_due(
-    log: &mut TermLog,
-    alloc: Global,
-    now: u64,
-    pace: &Pace,
-    lingers: bool,
-    kind: DatagramKind,
-) -> Result<Option<Bytes>, AllocError>
-    requires udp { log.old.kept.ident.kind ≡ kinds.Udp }
-    requires due { IsDue pace.now now log.old (Some kind) }
-    ensures cut { IfOk result (λ datagram. CutsCopy pace.now now lingers log.old log.new datagram) }
-    ensures kept { log.new.kept ≡ log.old.kept }
-    ensures err { OnErr result (log.new ≡ log.old) }
-{
-    match kind {
-        DatagramKind::Frames => Ok(Some(Bytes::from(copy_frames(log, alloc, now)?))),
-        _ => copy_of_any(log, alloc, now, pace, lingers),
     }
 }

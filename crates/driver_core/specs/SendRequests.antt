@@ -19,11 +19,19 @@ use Rattle.stream_registry.specs.Places.{is_manual, is_udp}
 abbrev pub is_sent : Source → Bool
 is_sent log = is_published log && is_udp log.channel.media
 
+abbrev pub sent_among : Option Source → Option Source
+sent_among None = None
+sent_among (Some log) = if is_sent log then Some log else None
+
+-- the publication over datagrams of that number, where there is one
+unfoldable pub sent_at : State → ℕ → Option Source
+sent_at s source = sent_among (source_at s.streams.sources source)
+
 abbrev pub lingers_by : Option Source → Option Bool
 lingers_by None = None
 lingers_by (Some log) = if is_sent log then Some (is_some (lingering_since log)) else None
 
--- whether the publication over datagrams of that number lingers, where there is one
+-- whether it lingers
 unfoldable pub sending_of : State → ℕ → Option Bool
 sending_of s source = lingers_by (source_at s.streams.sources source)
 

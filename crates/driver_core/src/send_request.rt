@@ -1,9 +1,8 @@
 ghost use Rattle.channel_uri.specs.Channel.{endpoint_shape};
-ghost use Rattle.destinations.specs.Destinations.{of};
 ghost use Rattle.driver_core.specs.PublicationRequests.{log_decision};
-ghost use Rattle.driver_core.specs.SendRequests.{outlet_of, outlets_of, sending_of};
+ghost use Rattle.driver_core.specs.SendRequests.{outlet_of, outlets_by, sent_at};
 ghost use Rattle.policy_core.specs.declared.act.Act.TheVariants.{Send};
-ghost use Rattle.std.specs.Prelude.{◌≡◌, IfOk, map};
+ghost use Rattle.std.specs.Prelude.{◌≡◌, ◌++◌, Some, OnOk, option_copied};
 
 use crate::directing::is_manual;
 use crate::registry::Registry;
@@ -11,7 +10,7 @@ use byte_strings::Items;
 use channel_uri::{Address, Channel, Media};
 use destinations::Destination;
 use policy_core::{Act, Decision};
-use std::alloc::{AllocError, Global};
+use std::alloc::AllocError;
 use stream_registry::Source;
 
 /// Where a datagram of a publication goes, and whether it may.
@@ -23,15 +22,14 @@ pub struct Outlet {
 }
 
 impl Registry {
-    /// Whether the publication over datagrams of this number lingers. `None` where there is no such publication. It takes no
-    /// memory.
-    #[tactic(auto, unfolding(crate::specs::SendRequests::sending_of))]
-    pub fn sending(&self, source: u64) -> Option<bool>
-        ensures { result ≡ sending_of self.now source }
+    /// The publication over datagrams of this number. It takes no memory.
+    #[tactic(auto, unfolding(crate::specs::SendRequests::sent_at))]
+    pub fn sending(&self, source: u64) -> Option<&Source>
+        ensures { option_copied result ≡ sent_at self.now source }
     {
         let log = self.source(source)?;
         if log.is_published() && log.channel.media() == Media::Udp {
-            Some(log.lingering_since().is_some())
+            Some(log)
         } else {
             None
         }
@@ -61,12 +59,13 @@ impl Registry {
     }
 
     /// Where a datagram of the log goes, and whether it may: of an address that was named by hand its channel is asked, else
-    /// the log's own.
+    /// the log's own. A decision by hand has a place of its own: told where the other is, that would have to be in memory too.
     fn outlet(&self, log: &Source, destination: &Destination) -> Outlet
         ensures { result ≡ outlet_of self.now log.now destination.now }
     {
         let decision = if is_manual(&log.channel) {
-            self.decision_by_hand(log, destination)
+            let decision = self.decision_by_hand(log, destination);
+            decision
         } else {
             self.send_decision(log, destination, &log.channel)
         };
@@ -76,31 +75,20 @@ impl Registry {
         }
     }
 
-    /// That for each destination of the log.
-    fn outlets_to(&self, alloc: Global, log: &Source) -> Result<Items<Outlet>, AllocError>
-        ensures { IfOk result (λ outlets. outlets ≡ map (outlet_of self.now log.now) (of self.now.destinations.rows log.now.number)) }
+    /// Where the datagrams of this publication go, in the order in which its destinations were named, and whether they may:
+    /// these stand behind what was in the list.
+    ///
+    /// # Errors
+    /// Where there is no memory for the list.
+    #[inline(always)]
+    pub fn outlets(&self, log: &Source, outlets: &mut Items<Outlet>) -> Result<(), AllocError>
+        ensures { OnOk result (outlets.new ≡ outlets.old ++ outlets_by self.now (Some log.now)) }
     {
-        let mut outlets = Items::new(alloc);
         for destination in self.destinations.rows() {
             if destination.source == log.number {
                 outlets.push(self.outlet(log, destination))?;
             }
         }
-        Ok(outlets)
-    }
-
-    /// Where the datagrams of the publication of this number go, in the order in which its destinations were named, and
-    /// whether they may.
-    ///
-    /// # Errors
-    /// Where there is no memory for the list.
-    #[tactic(auto, unfolding(crate::specs::SendRequests::outlets_of))]
-    pub fn outlets(&self, alloc: Global, source: u64) -> Result<Items<Outlet>, AllocError>
-        ensures { IfOk result (λ outlets. outlets ≡ outlets_of self.now source) }
-    {
-        match self.source(source) {
-            Some(log) => self.outlets_to(alloc, log),
-            None => Ok(Items::new(alloc)),
-        }
+        Ok(())
     }
 }

@@ -1,49 +1,96 @@
 -- A turn of the sender with the log that is held, whichever whole log it stands for.
-use Rattle.std.proofs.Common.{◌≡◌, ℕ, Bool, true, List, Option, Some, None, refl, sym, ap, ◌∙◌}
-use Rattle.any_log.specs.Sending.{Dues, Turns, after_turn, due_in, turn_of}
-use Rattle.any_log.specs.Whole.{Carries}
-use Rattle.any_log.proofs.SendingLemmas.{idle_stays, idle_turn, some_turn, unsent_stays, unsent_turn}
+use Rattle.std.proofs.Common.{◌≡◌, ℕ, Bool, true, false, cond, List, Option, Some, None, refl, sym, ap, subst, ◌∙◌}
+use Rattle.std.specs.Option.{is_some, option_map}
+use Rattle.any_log.specs.declared.any_log.AnyLog.{AnyLog}
+use Rattle.any_log.specs.Sending.{IsNextOf, SomeDueOf, after_turn, due_in, is_some_due, passed_in, turn_of}
+use Rattle.any_log.specs.Whole.{AnyWhole, Carries, StandsFor}
+use Rattle.any_log.proofs.SendingLemmas.{idle_stays, idle_turn, passed_due, some_turn, unsent_stays, unsent_turn}
 use Rattle.driver_core.specs.declared.send_request.Outlet.{Outlet}
-use Rattle.driver_core.specs.SendRequests.{outlets_of, sending_of}
+use Rattle.driver_core.specs.Renewal.{source_at}
+use Rattle.driver_core.specs.SendRequests.{is_sent, lingers_by, outlets_by, outlets_of, sending_of, sent_among, sent_at}
 use Rattle.driver_core.specs.State.{State}
-use Rattle.driver_steps.specs.declared.answer.Answer.TheVariants.{Gone, Idle}
+use Rattle.driver_steps.specs.declared.answer.Answer.TheVariants.{Gone, Idle, Sent}
 use Rattle.driver_steps.specs.Held.{HeldLog}
 use Rattle.driver_steps.specs.Memory.{Gives, is_listed}
 use Rattle.driver_steps.specs.Moves.{Does, StandsForLog, WholeLog, answered}
 use Rattle.driver_steps.specs.Sending.{answer_sent, pace_of, send_by, send_move}
 use Rattle.driver_steps.proofs.RunLemmas.{IsTold, send_told}
 use Rattle.publication_sender.specs.declared.cutting.DatagramKind.{DatagramKind}
+use Rattle.publication_sender.specs.declared.cutting.Next.{Next}
+use Rattle.publication_sender.specs.declared.cutting.Pace.{Pace}
+use Rattle.stream_registry.specs.declared.row.Source.{Source}
+use Rattle.stream_registry.specs.Origins.{lingering_since}
 
 pub move_told : (s : State) (now : ℕ) (log : WholeLog) → IsTold (send_move s now log).answer
 unfolding send_move
 move_told s now log = send_told s now log (sending_of s log.source)
 
+-- ---- the publication over datagrams of that number
+
+none_if : (b : Bool) (source : Source) → cond b (Some source) None ≡ None → cond b (Some (is_some (lingering_since source))) None ≡ None
+none_if true source is = absurd (cc is)
+none_if false source is = refl
+
+none_by : (found : Option Source) → sent_among found ≡ None → lingers_by found ≡ None
+none_by None is = refl
+none_by (Some source) is = none_if (is_sent source) source is
+
+-- there is none
+pub sending_none : (s : State) (number : ℕ) → sent_at s number ≡ None → sending_of s number ≡ None
+unfolding sent_at sending_of
+sending_none s number is = none_by (source_at s.streams.sources number) is
+
+some_if : (b : Bool) (found source : Source) → cond b (Some found) None ≡ Some source
+    → (cond b (Some (is_some (lingering_since found))) None ≡ Some (is_some (lingering_since source))) × (Some found ≡ Some source)
+some_if true found source is = (ap (λ (o : Option Source). option_map (λ (l : Source). is_some (lingering_since l)) o) is, is)
+some_if false found source is = absurd (cc is)
+
+some_by : (found : Option Source) (source : Source) → sent_among found ≡ Some source
+    → (lingers_by found ≡ Some (is_some (lingering_since source))) × (found ≡ Some source)
+some_by None source is = absurd (cc is)
+some_by (Some found) source is = some_if (is_sent found) found source is
+
+-- it says whether it lingers, and where its datagrams go
+pub sending_some : (s : State) (number : ℕ) (source : Source) → sent_at s number ≡ Some source
+    → (sending_of s number ≡ Some (is_some (lingering_since source))) × (outlets_by s (Some source) ≡ outlets_of s number)
+unfolding sent_at sending_of outlets_of
+sending_some s number source is =
+    let found = some_by (source_at s.streams.sources number) source is in
+    (found.0, ap (outlets_by s) (sym found.1))
+
+-- ---- its turn
+
+-- by the settings and the row, what the log told
+pub next_told : (log : AnyLog) (was pace : Pace) (now : ℕ) (told lingers : Bool) (next : Option (Option Next)) → was ≡ pace → told ≡ lingers →
+    IsNextOf log was now told next → IsNextOf log pace now lingers next
+next_told log was pace now told lingers next paced lingered is = rw (← paced, ← lingered) is
+
 -- the move of a publication that the registry has
-let_by : (s : State) (now : ℕ) (held : HeldLog) (log : WholeLog) (lingers : Bool) → sending_of s held.source ≡ Some lingers →
-    StandsForLog held log → send_move s now log ≡ send_by s now log (Some lingers)
+let_by : (s : State) (now : ℕ) (held : HeldLog) (log : WholeLog) (source : Source) → sent_at s held.source ≡ Some source →
+    StandsForLog held log → send_move s now log ≡ send_by s now log (Some (is_some (lingering_since source)))
 unfolding send_move
-let_by s now held log lingers is stands =
-    ap (send_by s now log) (ap (sending_of s) (sym stands.source_is) ∙ is)
+let_by s now held log source is stands =
+    ap (send_by s now log) (ap (sending_of s) (sym stands.source_is) ∙ (sending_some s held.source source is).0)
 
 -- there is no publication over datagrams of that number
-pub send_gone : (s : State) (now : ℕ) (held : HeldLog) → sending_of s held.source ≡ None → Does (send_move s now) held held Gone
+pub send_gone : (s : State) (now : ℕ) (held : HeldLog) → sent_at s held.source ≡ None → Does (send_move s now) held held Gone
 unfolding send_move
 send_gone s now held is = record {
   on = λ log stands.
-      let none : sending_of s log.source ≡ None = ap (sending_of s) (sym stands.source_is) ∙ is in
+      let none : sending_of s log.source ≡ None = ap (sending_of s) (sym stands.source_is) ∙ sending_none s held.source is in
       let left : send_move s now log ≡ answered log Gone = ap (send_by s now log) none in
       rw left (refl, stands);
 }
 
 -- the log is not sent
-pub send_unsent : (s : State) (now : ℕ) (held : HeldLog) (lingers : Bool) → sending_of s held.source ≡ Some lingers →
-    Dues held.log (pace_of s.settings) now None → Does (send_move s now) held held Gone
-send_unsent s now held lingers is dues = record {
+pub send_unsent : (s : State) (now : ℕ) (held : HeldLog) (source : Source) → sent_at s held.source ≡ Some source →
+    IsNextOf held.log (pace_of s.settings) now (is_some (lingering_since source)) None → Does (send_move s now) held held Gone
+send_unsent s now held source is next = record {
   on = λ log stands.
-      let due : due_in (pace_of s.settings) now log.whole ≡ None = sym (dues.on log.whole stands.whole) in
-      let turn = unsent_turn (pace_of s.settings) now lingers log.whole due in
+      let due : due_in (pace_of s.settings) now log.whole ≡ None = sym (next.on log.whole stands.whole).0 in
+      let turn = unsent_turn (pace_of s.settings) now (is_some (lingering_since source)) log.whole due in
       let same = unsent_stays (pace_of s.settings) now log.whole due in
-      rw (let_by s now held log lingers is stands, turn) (
+      rw (let_by s now held log source is stands, turn) (
         refl,
         record {
           source_is = stands.source_is;
@@ -54,14 +101,14 @@ send_unsent s now held lingers is dues = record {
 }
 
 -- nothing is due
-pub send_idle : (s : State) (now : ℕ) (held : HeldLog) (lingers : Bool) → sending_of s held.source ≡ Some lingers →
-    Dues held.log (pace_of s.settings) now (Some None) → Does (send_move s now) held held Idle
-send_idle s now held lingers is dues = record {
+pub send_idle : (s : State) (now : ℕ) (held : HeldLog) (source : Source) → sent_at s held.source ≡ Some source →
+    IsNextOf held.log (pace_of s.settings) now (is_some (lingering_since source)) (Some None) → Does (send_move s now) held held Idle
+send_idle s now held source is next = record {
   on = λ log stands.
-      let due : due_in (pace_of s.settings) now log.whole ≡ Some None = sym (dues.on log.whole stands.whole) in
-      let turn = idle_turn (pace_of s.settings) now lingers log.whole due in
+      let due : due_in (pace_of s.settings) now log.whole ≡ Some None = sym (next.on log.whole stands.whole).0 in
+      let turn = idle_turn (pace_of s.settings) now (is_some (lingering_since source)) log.whole due in
       let same = idle_stays (pace_of s.settings) now log.whole due in
-      rw (let_by s now held log lingers is stands, turn) (
+      rw (let_by s now held log source is stands, turn) (
         refl,
         record {
           source_is = stands.source_is;
@@ -72,18 +119,23 @@ send_idle s now held lingers is dues = record {
 }
 
 -- the log has its turn
-pub send_done : (s : State) (now : ℕ) (held after : HeldLog) (lingers : Bool) (outlets : List Outlet) (turn : Option (Option (List ℕ))) →
-    sending_of s held.source ≡ Some lingers → outlets ≡ outlets_of s held.source →
-    Turns held.log (pace_of s.settings) now lingers turn → Carries held.log after.log (after_turn (pace_of s.settings) now) →
-    after.source ≡ held.source → after.recovery ≡ held.recovery → Does (send_move s now) held after (answer_sent outlets turn)
-send_done s now held after lingers outlets turn is goes turns carries stays kept = record {
+pub send_done : (s : State) (now : ℕ) (held after : HeldLog) (source : Source) (outlets : List Outlet) (next : Next) →
+    sent_at s held.source ≡ Some source → outlets ≡ outlets_by s (Some source) →
+    IsNextOf held.log (pace_of s.settings) now (is_some (lingering_since source)) (Some (Some next)) →
+    Carries held.log after.log (passed_in now next.cut.kind) → after.source ≡ held.source → after.recovery ≡ held.recovery →
+    Does (send_move s now) held after (Sent next.bytes.items outlets)
+send_done s now held after source outlets next is goes due carries stays kept = record {
   on = λ log stands.
-      rw (let_by s now held log lingers is stands) (
-        ap (λ (o : List Outlet). answer_sent o turn) (goes ∙ ap (outlets_of s) stands.source_is)
-            ∙ ap (answer_sent (outlets_of s log.source)) (turns.on log.whole stands.whole),
+      let pace = pace_of s.settings in
+      let cut = due.on log.whole stands.whole in
+      let moved : passed_in now next.cut.kind log.whole ≡ after_turn pace now log.whole = passed_due pace now log.whole next.cut.kind (sym cut.0) in
+      rw (let_by s now held log source is stands) (
+        ap (λ (o : List Outlet). Sent next.bytes.items o)
+            (goes ∙ (sending_some s held.source source is).1 ∙ ap (outlets_of s) stands.source_is)
+            ∙ ap (answer_sent (outlets_of s log.source)) cut.1,
         record {
           source_is = stays ∙ stands.source_is;
-          whole = carries.on log.whole stands.whole;
+          whole = subst (λ (w : AnyWhole). StandsFor after.log w) moved (carries.on log.whole stands.whole);
           recovery_is = kept ∙ stands.recovery_is;
         },
       );
@@ -93,13 +145,24 @@ sent_listed : (outlets : List Outlet) (turn : Option (Option (List ℕ))) (bytes
     is_listed (answer_sent outlets turn) ≡ true
 sent_listed outlets turn bytes is = rw is refl
 
+kind_due : (due : Option (Option DatagramKind)) → is_some_due due ≡ true → (kind : DatagramKind) × (due ≡ Some (Some kind))
+kind_due (Some (Some kind)) is = (kind, refl)
+kind_due (Some None) is = absurd (cc is)
+kind_due None is = absurd (cc is)
+
 -- a datagram is due, for which memory may be wanting
-pub send_gives : (s : State) (now : ℕ) (held : HeldLog) (lingers : Bool) (kind : DatagramKind) → sending_of s held.source ≡ Some lingers →
-    Dues held.log (pace_of s.settings) now (Some (Some kind)) → Gives (send_move s now) held
-send_gives s now held lingers kind is dues = record {
+pub send_gives : (s : State) (now : ℕ) (held : HeldLog) (source : Source) → sent_at s held.source ≡ Some source →
+    SomeDueOf held.log (pace_of s.settings) now → Gives (send_move s now) held
+send_gives s now held source is some = record {
   on = λ log stands.
-      let due : due_in (pace_of s.settings) now log.whole ≡ Some (Some kind) = sym (dues.on log.whole stands.whole) in
-      let turn = some_turn (pace_of s.settings) now lingers log.whole kind due in
-      rw (let_by s now held log lingers is stands)
-      (sent_listed (outlets_of s log.source) (turn_of (pace_of s.settings) now lingers log.whole) turn.0 turn.1);
+      let kind = kind_due (due_in (pace_of s.settings) now log.whole) (some.on log.whole stands.whole) in
+      let turn = some_turn (pace_of s.settings) now (is_some (lingering_since source)) log.whole kind.0 kind.1 in
+      rw (let_by s now held log source is stands)
+      (sent_listed (outlets_of s log.source) (turn_of (pace_of s.settings) now (is_some (lingering_since source)) log.whole) turn.0 turn.1);
 }
+
+-- as where it was told
+pub next_due : (s : State) (now : ℕ) (held : HeldLog) (source : Source) (next : Next) →
+    IsNextOf held.log (pace_of s.settings) now (is_some (lingering_since source)) (Some (Some next)) →
+    SomeDueOf held.log (pace_of s.settings) now
+next_due s now held source next due = record { on = λ w stands. ap is_some_due (sym (due.on w stands).0) }

@@ -93,6 +93,7 @@ pub(crate) fn poll_by<V: View, A: Asks>(
 }
 
 /// The sender has a turn with a publication.
+#[inline(always)]
 pub(crate) fn send_by<V: View>(
     view: &V,
     logs: &mut OpenLogs,

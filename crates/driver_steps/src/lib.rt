@@ -1,8 +1,8 @@
 //! A driver that is run step by step, with the logs of its publications and images.
 //!
 //! Each call of [`Driver`] is one step, and tells what the policy decided for it. Contracts see the logs as whole lists of
-//! frames. An [`OpenLog`] is a value of its own; `offer_step`, `poll_step`, `packet_step`, `send_step` and `image_step` are steps
-//! on one, by any view of a registry, and those that a driver takes.
+//! frames. An [`OpenLog`] is a value of its own; `offer_step`, `poll_step`, `packet_step`, `frames_step`, `send_step` and
+//! `image_step` are steps on one, by any view of a registry, and those that a driver takes.
 //!
 //! An event is told how far each log reaches and, where it is a tick, which images are silent. Then the logs follow: the one
 //! opens that the event tells, of a publication or of the image that a SETUP makes, those close that it tells, and exactly

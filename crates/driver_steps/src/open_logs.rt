@@ -35,7 +35,7 @@ use crate::packets::{PacketRequest, packet_step};
 use crate::polling::poll_step;
 use crate::receiving::frames_step;
 use crate::reporting::image_step;
-use crate::sending::send_step;
+use crate::sending::send_own;
 use crate::told::Told;
 use driver_core::{Address, Astray, LogRequest, Registry, Settings, View};
 use frame_codec::{Frames, Packet};
@@ -332,6 +332,7 @@ impl OpenLogs {
     }
 
     /// The sender has a turn with the first log of that source, as [`send_step`] says.
+    #[inline(always)]
     pub(crate) fn send<V: View>(
         &mut self,
         view: &V,
@@ -346,7 +347,7 @@ impl OpenLogs {
         let Some(at) = place_of(self.logs.as_slice(), source) else {
             return Ok(Answer::Gone);
         };
-        send_step(view, &mut self.logs[at], alloc, now, source)
+        send_own(view, &mut self.logs[at], alloc, now)
     }
 
     /// The receiver has a turn with the first log of that source, as [`image_step`] says.

@@ -76,7 +76,8 @@ impl Driver {
         )
     }
 
-    /// As [`Driver::send`], by the registry that the view shows.
+    /// As [`Driver::send`], by the registry that the view shows. It is made in place, as [`Driver::frames_seen`] is.
+    #[inline(always)]
     pub fn send_seen<V: View>(&mut self, view: &V, alloc: Global, now: u64, source: u64) -> Answer
         ensures { Sees (V.shows view.now) self.old self.new (Send now source) result }
     {

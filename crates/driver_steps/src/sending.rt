@@ -4,13 +4,13 @@ ghost use Rattle.driver_steps.specs.Held.{LiesAsBefore};
 ghost use Rattle.driver_steps.specs.Memory.{Gives};
 ghost use Rattle.driver_steps.specs.declared.answer.Answer.TheVariants.{Gone};
 ghost use Rattle.driver_steps.specs.Moves.{Does, for_source};
-ghost use Rattle.driver_steps.specs.Sending.{answer_sent, pace_of, send_move};
+ghost use Rattle.driver_steps.specs.Sending.{pace_of, send_move};
 ghost use Rattle.std.specs.Prelude.{◌≡◌, IfOk, OnErr};
 
 use crate::answer::Answer;
 use crate::open_log::OpenLog;
 use byte_strings::{Bytes, Items};
-use driver_core::{Outlet, Settings, View};
+use driver_core::{Settings, View};
 use publication_sender::Pace;
 use std::alloc::{AllocError, Global};
 
@@ -25,20 +25,11 @@ fn pace_of(settings: Settings) -> Pace
     }
 }
 
-/// The one datagram, and where it goes or may not go.
-fn answer_sent(outlets: Items<Outlet>, turn: Option<Option<Bytes>>) -> Answer
-    ensures { result ≡ answer_sent outlets turn }
-{
-    match turn {
-        None => Answer::Gone,
-        Some(None) => Answer::Idle,
-        Some(Some(bytes)) => Answer::Sent { bytes, outlets },
-    }
-}
-
-/// As [`send_step`], of the log of that source.
+/// As [`send_step`], of the log of that source. It is made in place, and wants of memory are matched by hand: `?` has its answer
+/// in memory, where it is read again at once.
+#[inline(always)]
 #[tactic(auto, unfolding(crate::specs::Sending::send_move))]
-fn send_own<V: View>(
+pub(crate) fn send_own<V: View>(
     view: &V,
     log: &mut OpenLog,
     alloc: Global,
@@ -50,18 +41,28 @@ fn send_own<V: View>(
     ensures without_memory { OnErr result (Gives (send_move (V.shows view.now) now) log.old) }
 {
     let registry = view.registry();
-    let Some(lingers) = registry.sending(log.source) else {
+    let Some(source) = registry.sending(log.source) else {
         return Ok(Answer::Gone);
     };
     let pace = pace_of(registry.settings());
-    match log.log.due(now, &pace) {
-        None => Ok(Answer::Gone),
-        Some(None) => Ok(Answer::Idle),
-        Some(Some(kind)) => {
-            let outlets = registry.outlets(alloc, log.source)?;
-            let turn = log.log.turn(alloc, now, &pace, lingers, kind)?;
-            Ok(answer_sent(outlets, turn))
+    let lingers = source.lingering_since().is_some();
+    match log.log.next_datagram(alloc, now, &pace, lingers) {
+        Ok(None) => Ok(Answer::Gone),
+        Ok(Some(None)) => Ok(Answer::Idle),
+        Ok(Some(Some(next))) => {
+            let mut outlets = Items::new(alloc);
+            match registry.outlets(source, &mut outlets) {
+                Ok(()) => {
+                    log.log.pass(now, &next.cut);
+                    Ok(Answer::Sent {
+                        bytes: Bytes::from(next.bytes),
+                        outlets,
+                    })
+                }
+                Err(fault) => Err(fault),
+            }
         }
+        Err(fault) => Err(fault),
     }
 }
 

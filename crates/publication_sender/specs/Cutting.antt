@@ -1,22 +1,25 @@
 -- Which datagram of a publication's log is cut next, and what becomes of the log by it (Aeron Transport Protocol
 -- Specification, SETUP frames, data frames and heartbeats). The order is this project's own.
-use Rattle.std.specs.Prelude.{◌≡◌, ℕ, pos, ◌%◌, Bool, nat_lt, List, ◌++◌, drop, length, Option, Some, None, if◌then◌else◌}
-use Rattle.std.specs.Option.{option_map}
+use Rattle.std.specs.Prelude.{◌≡◌, ℕ, pos, ◌+◌, ◌%◌, ◌^◌, ◌<◌, ◌≤◌, Bool, true, nat_lt, List, ◌++◌, drop, length, Option, Some, None, if◌then◌else◌}
+use Rattle.std.specs.Option.{is_some, option_map}
 use Rattle.frame_codec.specs.declared.flags.Flags.{Flags}
 use Rattle.frame_codec.specs.declared.setup.Setup.{Setup}
 use Rattle.frame_codec.specs.Frame.{beat_bytes}
 use Rattle.frame_codec.specs.Position.{term_id_of}
 use Rattle.frame_codec.specs.Setup.{setup_bytes}
 use Rattle.frame_codec.specs.Writing.{no_flags}
+use Rattle.publication_sender.specs.declared.cutting.Cut.{Cut}
 use Rattle.publication_sender.specs.declared.cutting.DatagramKind.{DatagramKind}
 use Rattle.publication_sender.specs.declared.cutting.DatagramKind.TheVariants as kinds
+use Rattle.publication_sender.specs.declared.cutting.Next.{Next}
 use Rattle.publication_sender.specs.declared.cutting.Pace.{Pace}
 use Rattle.term_log.specs.declared.ident.Ident.{Ident}
+use Rattle.term_log.specs.Frames.{total}
 use Rattle.term_log.specs.Ident.{place_at}
 use Rattle.term_log.specs.Log.{Log}
 use Rattle.term_log.specs.Reading.{all_given, sent_bytes}
 use Rattle.term_log.specs.Sender.{is_past, is_setup_due}
-use Rattle.term_log.specs.SenderSteps.{datagram_cut, next_frames, sent_on, setup_cut}
+use Rattle.term_log.specs.SenderSteps.{IsStartIn, datagram_cut, next_frames, sent_on, setup_cut}
 use Rattle.term_log.specs.Whole.{Stands, Whole, is_connected}
 
 -- ---- what is due
@@ -84,10 +87,16 @@ after_due now w (Some kinds.Heartbeat) = datagram_cut now w
 unfoldable pub cut_of : Pace → ℕ → Whole → Whole
 cut_of pace now w = after_due now w (due_of pace now w)
 
--- ---- of a log that is held, whichever whole log it stands for
+-- by what is cut
+abbrev pub passed : ℕ → DatagramKind → Whole → Whole
+passed now kind w = after_due now w (Some kind)
 
-pub record HasFrames (l : Log) (some : Bool) : Type 0 where
-  pub on : (w : Whole) → Stands l w → some ≡ has_frames w
+-- how many positions its frames take
+abbrev pub span_of : Whole → DatagramKind → ℕ
+span_of w kinds.Frames = total (next_frames w)
+span_of w kind = 0
+
+-- ---- of a log that is held, whichever whole log it stands for
 
 pub record IsDue (pace : Pace) (now : ℕ) (l : Log) (due : Option DatagramKind) : Type 0 where
   pub on : (w : Whole) → Stands l w → due ≡ due_of pace now w
@@ -97,18 +106,32 @@ pub record Lays (bytes old new : List ℕ) (size : ℕ) : Type 0 where
   pub size_is : size ≡ length bytes
   pub bytes_are : new ≡ bytes ++ drop (length bytes) old
 
-pub record CutsFrames (now : ℕ) (old new : Log) (out_old out_new : List ℕ) (size : ℕ) : Type 0 where
-  pub on : (w : Whole) → Stands old w → Lays (frames_bytes w) out_old out_new size × Stands new (datagram_cut now (sent_on w))
-
--- the copy has the frames that may be sent, and the log moves on by them
-pub record CopiesFrames (now : ℕ) (old new : Log) (copy : List ℕ) : Type 0 where
-  pub on : (w : Whole) → Stands old w → (copy ≡ frames_bytes w) × Stands new (datagram_cut now (sent_on w))
-
 -- a datagram stands at the front, or nothing is changed
 abbrev pub LaysDue : Option (List ℕ) → List ℕ → List ℕ → Option ℕ → Type 0
 LaysDue None old new size = (size ≡ None) × (new ≡ old)
 LaysDue (Some bytes) old new size = (size ≡ Some (length bytes)) × (new ≡ bytes ++ drop (length bytes) old)
 
-pub record Cuts (pace : Pace) (now : ℕ) (lingers : Bool) (old new : Log) (out_old out_new : List ℕ) (size : Option ℕ) : Type 0 where
-  pub on : (w : Whole) → Stands old w
-      → LaysDue (datagram_of pace now lingers w) out_old out_new size × Stands new (cut_of pace now w)
+-- a datagram is due
+pub record SomeDue (pace : Pace) (now : ℕ) (l : Log) : Type 0 where
+  pub on : (w : Whole) → Stands l w → is_some (due_of pace now w) ≡ true
+
+abbrev pub kind_next : Option Next → Option DatagramKind
+kind_next next = option_map (λ (n : Next). n.cut.kind) next
+
+abbrev pub bytes_next : Option Next → Option (List ℕ)
+bytes_next next = option_map (λ (n : Next). n.bytes.items) next
+
+-- the datagram that is due, if one is
+pub record IsNext (pace : Pace) (now : ℕ) (lingers : Bool) (l : Log) (next : Option Next) : Type 0 where
+  pub on : (w : Whole) → Stands l w → (kind_next next ≡ due_of pace now w) × (bytes_next next ≡ datagram_of pace now lingers w)
+
+-- the log can move on by it: its frames are those that may be sent, and where they end a frame begins, or the last one ends
+pub record IsCut (l : Log) (cut : Cut) : Type 0 where
+  pub within : l.sender.position + cut.span ≤ l.kept.tail
+  pub fits : l.sender.position + cut.span < 2 ^ 64
+  pub start : IsStartIn l (l.sender.position + cut.span)
+  pub on : (w : Whole) → Stands l w → cut.span ≡ span_of w cut.kind
+
+abbrev pub CanPass : Log → Option Next → Type 0
+CanPass l None = Unit {0}
+CanPass l (Some next) = IsCut l next.cut

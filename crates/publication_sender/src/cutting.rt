@@ -1,12 +1,9 @@
 //! The next datagram of a publication's log.
 
-ghost use Rattle.frame_codec.specs.Frame.{beat_bytes};
 ghost use Rattle.frame_codec.specs.Setup.{setup_bytes};
-ghost use Rattle.publication_sender.specs.Cutting.{CopiesFrames, CutsFrames, Cuts, HasFrames, IsDue, Lays, beat_flags, beat_of, setup_at};
-ghost use Rattle.std.specs.Prelude.{◌≡◌, ◌<◌, ◌≤◌, IfOk, OnErr, length};
+ghost use Rattle.publication_sender.specs.Cutting.{CanPass, IsCut, IsNext, SomeDue, beat_flags, beat_of, passed, setup_at};
+ghost use Rattle.std.specs.Prelude.{◌≡◌, IfOk, OnErr};
 ghost use Rattle.term_log.specs.Ident.{IsIdent, place_at};
-ghost use Rattle.term_log.specs.Sender.{after_setup, later_of};
-ghost use Rattle.term_log.specs.SenderSteps.{datagram_cut, setup_cut};
 ghost use Rattle.term_log.specs.Whole.{Carries};
 
 use frame_codec::{Flags, Header, Setup, TermPlace, term_of, write_beat, write_setup};
@@ -35,37 +32,26 @@ pub struct Pace {
     pub heartbeat_interval: u64,
 }
 
+/// By what a log moves on once a datagram of it was cut.
+#[derive(Clone, Copy, Debug, PartialEq, Eq)]
+pub struct Cut {
+    /// What was cut.
+    pub kind: DatagramKind,
+    /// How many positions its frames take: 0 where it has none.
+    pub span: u64,
+}
+
+/// The next datagram of a log.
+#[derive(Debug, Drop)]
+pub struct Next {
+    /// Its bytes, in no more room than they need.
+    pub bytes: Vec<u8>,
+    /// By what the log moves on, once it is cut.
+    pub cut: Cut,
+}
+
 /// A heartbeat of a publication that lingers says that the stream has ended.
 const LAST_BEATS: Flags = Flags { bits: 0xE0 };
-
-/// Whether there are frames that may be sent.
-fn has_frames(log: &TermLog) -> bool
-    requires { log.now.kept.ident.kind ≡ LogKind.Udp }
-    ensures { HasFrames log.now result }
-{
-    let mut frames = log.frames_from(log.sender_position(), log.send_budget() as usize);
-    frames.next().is_some()
-}
-
-/// What is due of a log at the moment `now`, in nanoseconds: the first of a SETUP, where one was asked for, or where nobody
-/// is connected and the last one is past its interval; frames from the sender's position on that the MTU and its limit
-/// admit; a heartbeat, where the last datagram is past its interval. What never was is past.
-#[tactic(auto, unfolding(crate::specs::Cutting::due_of))]
-pub fn due(log: &TermLog, now: u64, pace: &Pace) -> Option<DatagramKind>
-    requires { log.now.kept.ident.kind ≡ LogKind.Udp }
-    ensures { IsDue pace.now now log.now result }
-{
-    if log.setup_due(now, pace.connection_timeout, pace.setup_interval) {
-        return Some(DatagramKind::Setup);
-    }
-    if has_frames(log) {
-        return Some(DatagramKind::Frames);
-    }
-    if log.heartbeat_due(now, pace.heartbeat_interval) {
-        return Some(DatagramKind::Heartbeat);
-    }
-    None
-}
 
 /// The SETUP of a sender that stands at a position.
 fn setup_at(ident: &Ident, position: u64) -> Setup
@@ -111,98 +97,99 @@ fn beat_flags(lingers: bool) -> Flags
     }
 }
 
-/// Cuts a SETUP.
-fn cut_setup(log: &mut TermLog, setup: &Setup, now: u64, out: &mut [u8]) -> usize
-    requires { 40 ≤ length out.old }
-    ensures lays { Lays (setup_bytes setup.now) out.old out.new result }
-    ensures exact { log.new ≡ record log.old { sender = after_setup now log.old.sender } }
-    ensures whole { Carries log.old log.new (setup_cut now) }
+/// The SETUP of the log.
+#[inline(never)]
+fn setup_copy(log: &TermLog, alloc: Global) -> Result<Vec<u8>, AllocError>
+    ensures { IfOk result (λ copy. copy.items ≡ setup_bytes (setup_at log.now.kept.ident log.now.sender.position)) }
 {
-    write_setup(out, setup);
-    log.setup_sent(now);
-    Setup::SIZE
-}
-
-/// Cuts a heartbeat.
-fn cut_beat(log: &mut TermLog, flags: Flags, place: &TermPlace, now: u64, out: &mut [u8]) -> usize
-    requires { 32 ≤ length out.old }
-    ensures lays { Lays (beat_bytes flags place.now) out.old out.new result }
-    ensures exact { log.new ≡ record log.old {
-      sender = record log.old.sender { datagram = later_of log.old.sender.datagram now };
-    } }
-    ensures whole { Carries log.old log.new (datagram_cut now) }
-{
-    write_beat(out, flags, place);
-    log.datagram_sent(now);
-    Header::SIZE
-}
-
-/// Cuts the frames that may be sent.
-fn cut_frames(log: &mut TermLog, now: u64, out: &mut [u8]) -> usize
-    requires kind { log.old.kept.ident.kind ≡ LogKind.Udp }
-    requires room { log.old.kept.ident.mtu ≤ length out.old }
-    ensures cuts { CutsFrames now log.old log.new out.old out.new result }
-    ensures kept { log.new.kept ≡ log.old.kept }
-    ensures pairs { log.new.pairs ≡ log.old.pairs }
-    ensures forward { log.old.sender.position ≤ log.new.sender.position }
-    ensures within { log.new.sender.position ≤ log.new.kept.tail }
-{
-    let position = log.sender_position();
-    let frames = log.frames_from(position, log.send_budget() as usize);
-    let (bytes, span) = frames.bytes_and_span();
-    let size = bytes.len();
-    out[..size].copy_from_slice(bytes);
-    log.sent(position + span);
-    log.datagram_sent(now);
-    size
-}
-
-/// Cuts the frames that may be sent at the moment `now`, in nanoseconds, as [`cut`] does where they are due, into a copy of
-/// their own: they are told as sent, whoever gets them.
-///
-/// # Errors
-/// Nothing is changed where there is no memory for the copy.
-pub fn copy_frames(log: &mut TermLog, alloc: Global, now: u64) -> Result<Vec<u8>, AllocError>
-    requires { log.old.kept.ident.kind ≡ LogKind.Udp }
-    ensures cuts { IfOk result (λ copy. CopiesFrames now log.old log.new copy.items) }
-    ensures kept { log.new.kept ≡ log.old.kept }
-    ensures err { OnErr result (log.new ≡ log.old) }
-{
-    let position = log.sender_position();
-    let frames = log.frames_from(position, log.send_budget() as usize);
-    let (bytes, span) = frames.bytes_and_span();
-    let copy = Vec::from_slice(alloc, bytes)?;
-    log.sent(position + span);
-    log.datagram_sent(now);
+    let setup = setup_at(&log.ident(), log.sender_position());
+    let mut copy = Vec::from_elem(alloc, 0u8, Setup::SIZE)?;
+    write_setup(copy.as_mut_slice(), &setup);
     Ok(copy)
 }
 
-/// Cuts the datagram that is due of a log at the moment `now`, in nanoseconds: it is written at the front of `out`, and the
-/// answer is how many bytes it has; none where nothing is due. The log moves on by what was cut, whoever gets it: the
-/// sender stands behind the frames, the moments of SETUP and datagram are noted, and a SETUP answers all who asked for one.
-/// Heartbeats of a publication that lingers say so.
-#[tactic(auto, unfolding(crate::specs::Cutting::datagram_of, crate::specs::Cutting::cut_of))]
-pub fn cut(log: &mut TermLog, now: u64, pace: &Pace, lingers: bool, out: &mut [u8]) -> Option<usize>
-    requires kind { log.old.kept.ident.kind ≡ LogKind.Udp }
-    requires room { log.old.kept.ident.mtu ≤ length out.old }
-    ensures cuts { Cuts pace.now now lingers log.old log.new out.old out.new result }
-    ensures kept { log.new.kept ≡ log.old.kept }
-    ensures pairs { log.new.pairs ≡ log.old.pairs }
-    ensures forward { log.old.sender.position ≤ log.new.sender.position }
-    ensures within { log.new.sender.position ≤ log.new.kept.tail }
+/// A heartbeat of the log.
+#[inline(never)]
+fn beat_copy(log: &TermLog, alloc: Global, lingers: bool) -> Result<Vec<u8>, AllocError>
+    ensures { IfOk result (λ copy. copy.items ≡ beat_of lingers log.now.kept.ident log.now.sender.position) }
 {
-    let ident = log.ident();
+    let place = place_at(&log.ident(), log.sender_position());
+    let mut copy = Vec::from_elem(alloc, 0u8, Header::SIZE)?;
+    write_beat(copy.as_mut_slice(), beat_flags(lingers), &place);
+    Ok(copy)
+}
+
+/// The next datagram of a log at the moment `now`, in nanoseconds, if one is due: the first of a SETUP, where one was asked
+/// for, or where nobody is connected and the last one is past its interval; frames from the sender's position on that the
+/// MTU and its limit admit; a heartbeat, where the last datagram is past its interval. What never was is past. Heartbeats of
+/// a publication that lingers say so. Nothing is changed: [`pass`] moves the log on.
+///
+/// # Errors
+/// There is no memory for the bytes. Where nothing is due it takes none.
+#[inline(always)]
+pub fn next_datagram(
+    log: &TermLog,
+    alloc: Global,
+    now: u64,
+    pace: &Pace,
+    lingers: bool,
+) -> Result<Option<Next>, AllocError>
+    requires { log.now.kept.ident.kind ≡ LogKind.Udp }
+    ensures next { IfOk result (λ next. IsNext pace.now now lingers log.now next) }
+    ensures passes { IfOk result (λ next. CanPass log.now next) }
+    ensures without_memory { OnErr result (SomeDue pace.now now log.now) }
+{
     let position = log.sender_position();
-    match due(log, now, pace) {
-        Some(DatagramKind::Setup) => {
-            let setup = setup_at(&ident, position);
-            Some(cut_setup(log, &setup, now, out))
+    if log.setup_due(now, pace.connection_timeout, pace.setup_interval) {
+        let bytes = setup_copy(log, alloc)?;
+        return Ok(Some(Next {
+            bytes,
+            cut: Cut {
+                kind: DatagramKind::Setup,
+                span: 0,
+            },
+        }));
+    }
+    let frames = log.frames_from(position, log.send_budget() as usize);
+    let (bytes, span) = frames.bytes_and_span();
+    if !bytes.is_empty() {
+        let bytes = Vec::from_slice(alloc, bytes)?;
+        return Ok(Some(Next {
+            bytes,
+            cut: Cut {
+                kind: DatagramKind::Frames,
+                span,
+            },
+        }));
+    }
+    if log.heartbeat_due(now, pace.heartbeat_interval) {
+        let bytes = beat_copy(log, alloc, lingers)?;
+        return Ok(Some(Next {
+            bytes,
+            cut: Cut {
+                kind: DatagramKind::Heartbeat,
+                span: 0,
+            },
+        }));
+    }
+    Ok(None)
+}
+
+/// The log moves on by a datagram that was cut at the moment `now`, in nanoseconds, as [`next_datagram`] told it, whoever gets
+/// it: the sender stands behind its frames, the moments of SETUP and datagram are noted, and a SETUP answers all who asked
+/// for one.
+#[inline(always)]
+pub fn pass(log: &mut TermLog, now: u64, cut: &Cut)
+    requires { IsCut log.old cut.now }
+    ensures whole { Carries log.old log.new (passed now cut.now.kind) }
+    ensures kept { log.new.kept ≡ log.old.kept }
+{
+    match cut.kind {
+        DatagramKind::Setup => log.setup_sent(now),
+        DatagramKind::Frames => {
+            log.sent(log.sender_position() + cut.span);
+            log.datagram_sent(now);
         }
-        Some(DatagramKind::Frames) => Some(cut_frames(log, now, out)),
-        Some(DatagramKind::Heartbeat) => {
-            let place = place_at(&ident, position);
-            Some(cut_beat(log, beat_flags(lingers), &place, now, out))
-        }
-        None => None,
+        DatagramKind::Heartbeat => log.datagram_sent(now),
     }
 }

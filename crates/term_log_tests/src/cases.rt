@@ -92,14 +92,14 @@ fn goes(alloc: Global, log: &mut TermLog, case: Case) -> bool
     }
 }
 
-fn sent_goes(log: &mut TermLog, case: SentCase) -> bool {
+fn sent_goes(log: &mut TermLog, alloc: Global, case: SentCase) -> bool {
     match case {
-        SentCase::Setups => sends_setups(log),
-        SentCase::Heartbeats => sends_beats(log),
-        SentCase::StatusOpensTheLog => sends_by_status(log),
-        SentCase::OneFrameIsSentAgain => one_frame_is_sent_again(log),
-        SentCase::FramesFillDatagrams => frames_fill_datagrams(log),
-        SentCase::FewRangesLinger => few_ranges_linger(log),
+        SentCase::Setups => sends_setups(log, alloc),
+        SentCase::Heartbeats => sends_beats(log, alloc),
+        SentCase::StatusOpensTheLog => sends_by_status(log, alloc),
+        SentCase::OneFrameIsSentAgain => one_frame_is_sent_again(log, alloc),
+        SentCase::FramesFillDatagrams => frames_fill_datagrams(log, alloc),
+        SentCase::FewRangesLinger => few_ranges_linger(log, alloc),
     }
 }
 
@@ -145,7 +145,7 @@ fn are_shown(alloc: Global, cases: &[Case]) -> bool {
 
 fn sent_is_shown(alloc: Global, case: SentCase) -> bool {
     match opened(alloc, STREAM) {
-        Ok(mut log) => sent_goes(&mut log, case),
+        Ok(mut log) => sent_goes(&mut log, alloc, case),
         Err(_) => false,
     }
 }
@@ -171,7 +171,7 @@ fn logs_are_sent_as_they_should(rt: HostRuntime) {
 
 fn late_terms_stay_apart(alloc: Global) -> Result<bool, NoRoom> {
     let mut log = opened(alloc, LATE_STREAM)?;
-    Ok(terms_stay_apart(&mut log))
+    Ok(terms_stay_apart(&mut log, alloc))
 }
 
 /// Whether a log ends with the bytes that a list has: of one message, and of all those of many terms.

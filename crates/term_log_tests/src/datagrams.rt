@@ -1,7 +1,8 @@
 //! Tests of `publication_sender`: of the datagrams that are due.
 
 use frame_codec::{Flags, StatusMessage};
-use publication_sender::{Pace, StatusAnswer, cut, receive_status};
+use publication_sender::{Pace, StatusAnswer, next_datagram, pass, receive_status};
+use std::alloc::Global;
 use term_log::{Ident, LogKind, Offer, TermLog};
 
 pub(crate) const PACE: Pace = Pace {
@@ -52,19 +53,26 @@ pub(crate) const FRAME: [u8; 64] = [
     0, 0, 0,
 ];
 
-// Whether the datagram that is cut at a moment is this one; of no bytes where none is due.
-fn cuts(log: &mut TermLog, now: u64, lingers: bool, datagram: &[u8]) -> bool {
-    let mut out = [0xAA; 1408];
-    let ident = log.ident();
-    if ident.mtu as usize > out.len() {
-        return false;
-    }
-    match ident.kind {
-        LogKind::Ipc => false,
-        LogKind::Udp => match cut(log, now, &PACE, lingers, &mut out) {
-            Some(size) => size == datagram.len() && out.as_slice().starts_with(datagram),
-            None => datagram.is_empty(),
+// The bytes of the datagram that is cut at a moment: none where nothing is due, `None` where that can't be told.
+pub(crate) fn cut(log: &mut TermLog, alloc: Global, now: u64, lingers: bool) -> Option<Vec<u8>> {
+    match log.ident().kind {
+        LogKind::Ipc => None,
+        LogKind::Udp => match next_datagram(log, alloc, now, &PACE, lingers) {
+            Ok(Some(next)) => {
+                pass(log, now, &next.cut);
+                Some(next.bytes)
+            }
+            Ok(None) => Some(Vec::new(alloc)),
+            Err(_) => None,
         },
+    }
+}
+
+// Whether the datagram that is cut at a moment is this one; of no bytes where none is due.
+fn cuts(log: &mut TermLog, alloc: Global, now: u64, lingers: bool, datagram: &[u8]) -> bool {
+    match cut(log, alloc, now, lingers) {
+        Some(bytes) => bytes.as_slice() == datagram,
+        None => false,
     }
 }
 
@@ -83,27 +91,27 @@ pub(crate) fn status(log: &mut TermLog, flags: Flags, offset: u32, window: u32) 
 }
 
 // While nobody answers, SETUPs alone are sent, each past the interval since the one before.
-pub(crate) fn sends_setups(log: &mut TermLog) -> bool {
-    cuts(log, 0, false, &SETUP)
-        && cuts(log, 100_000_000, false, &[])
-        && cuts(log, 100_000_001, false, &SETUP)
+pub(crate) fn sends_setups(log: &mut TermLog, alloc: Global) -> bool {
+    cuts(log, alloc, 0, false, &SETUP)
+        && cuts(log, alloc, 100_000_000, false, &[])
+        && cuts(log, alloc, 100_000_001, false, &SETUP)
 }
 
 // Heartbeats are sent past their interval since the datagram before, where nothing may be sent.
-pub(crate) fn sends_beats(log: &mut TermLog) -> bool {
+pub(crate) fn sends_beats(log: &mut TermLog, alloc: Global) -> bool {
     let heard = status(log, Flags::NONE, 0, 0) == StatusAnswer::Limit(0);
-    let beats = cuts(log, 0, false, &BEAT) && cuts(log, 100_000_000, false, &[]);
-    heard && beats && cuts(log, 100_000_001, true, &LAST_BEAT)
+    let beats = cuts(log, alloc, 0, false, &BEAT) && cuts(log, alloc, 100_000_000, false, &[]);
+    heard && beats && cuts(log, alloc, 100_000_001, true, &LAST_BEAT)
 }
 
 // A status message lets the log be sent; beyond what was sent it is dropped, and a wish for a SETUP is one alone.
-pub(crate) fn sends_by_status(log: &mut TermLog) -> bool {
+pub(crate) fn sends_by_status(log: &mut TermLog, alloc: Global) -> bool {
     let heard = status(log, Flags::NONE, 0, 32_768) == StatusAnswer::Limit(32_768);
     let offered = log.offer(b"x") == Offer::At(64);
     let beyond = status(log, Flags::NONE, 64, 32_768) == StatusAnswer::OutOfWindow;
-    let sent = cuts(log, 0, false, &FRAME) && log.sender_position() == 64;
+    let sent = cuts(log, alloc, 0, false, &FRAME) && log.sender_position() == 64;
     let less = status(log, Flags::NONE, 0, 0) == StatusAnswer::Limit(32_768);
     let asked = status(log, Flags::SEND_SETUP, 96, 0) == StatusAnswer::Elicited;
-    let setup = cuts(log, 0, false, &LATER_SETUP) && cuts(log, 0, false, &[]);
+    let setup = cuts(log, alloc, 0, false, &LATER_SETUP) && cuts(log, alloc, 0, false, &[]);
     heard && offered && beyond && sent && less && asked && setup
 }

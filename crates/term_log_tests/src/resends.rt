@@ -1,11 +1,12 @@
 //! Tests of what NAKs are answered by.
 
-use crate::datagrams::{FRAME, PACE, STREAM, status};
+use crate::datagrams::{FRAME, STREAM, cut, status};
 use frame_codec::{Flags, Nak};
 use policy_core::{Act, Decision, Verdict};
-use publication_sender::{Datagrams, NakAnswer, StatusAnswer, answer_nak, cut, note_nak};
+use publication_sender::{Datagrams, NakAnswer, StatusAnswer, answer_nak, note_nak};
 use retransmit_gate::Gate;
-use term_log::{Ident, LogKind, Offer, TermLog};
+use std::alloc::Global;
+use term_log::{Ident, Offer, TermLog};
 
 const ONE_SECOND: u64 = 1_000_000_000;
 
@@ -117,15 +118,10 @@ fn resends(answer: NakAnswer<'_>, first: &[u8], second: &[u8]) -> bool {
 }
 
 // Whether a datagram of so many bytes is sent.
-fn sends(log: &mut TermLog, size: usize) -> bool {
-    let mut out = [0xAA; 1408];
-    let ident = log.ident();
-    if ident.mtu as usize > out.len() {
-        return false;
-    }
-    match ident.kind {
-        LogKind::Ipc => false,
-        LogKind::Udp => cut(log, 0, &PACE, false, &mut out) == Some(size),
+fn sends(log: &mut TermLog, alloc: Global, size: usize) -> bool {
+    match cut(log, alloc, 0, false) {
+        Some(bytes) => bytes.len() == size,
+        None => false,
     }
 }
 
@@ -134,10 +130,10 @@ fn hears(log: &mut TermLog, offset: u32, limit: u64) -> bool {
 }
 
 // Two frames of 1,408 bytes are sent.
-fn sends_two(log: &mut TermLog) -> bool {
+fn sends_two(log: &mut TermLog, alloc: Global) -> bool {
     let first = log.offer(&[b'a'; 1376]) == Offer::At(1408);
     let second = log.offer(&[b'b'; 1376]) == Offer::At(2816);
-    hears(log, 0, 32_768) && first && second && sends(log, 1408) && sends(log, 1408)
+    hears(log, 0, 32_768) && first && second && sends(log, alloc, 1408) && sends(log, alloc, 1408)
 }
 
 // A frame is sent again to who may ask, and not again while it lingers.
@@ -171,21 +167,26 @@ fn refuses_naks(log: &TermLog, gate: &mut Gate) -> bool {
     empty && beyond
 }
 
-pub(crate) fn one_frame_is_sent_again(log: &mut TermLog) -> bool {
+pub(crate) fn one_frame_is_sent_again(log: &mut TermLog, alloc: Global) -> bool {
     let mut gate = Gate::new(LINGER);
-    sends_two(log) && answers_naks(log, &mut gate) && refuses_naks(log, &mut gate)
+    sends_two(log, alloc) && answers_naks(log, &mut gate) && refuses_naks(log, &mut gate)
 }
 
 // Three frames of 640 bytes are sent.
-fn sends_three(log: &mut TermLog) -> bool {
+fn sends_three(log: &mut TermLog, alloc: Global) -> bool {
     let first = log.offer(&[b'a'; 608]) == Offer::At(640);
     let second = log.offer(&[b'b'; 608]) == Offer::At(1280);
     let third = log.offer(&[b'c'; 608]) == Offer::At(1920);
-    hears(log, 0, 32_768) && first && second && third && sends(log, 1280) && sends(log, 640)
+    hears(log, 0, 32_768)
+        && first
+        && second
+        && third
+        && sends(log, alloc, 1280)
+        && sends(log, alloc, 640)
 }
 
 // The range meets the first frame and the last one in a part alone.
-pub(crate) fn frames_fill_datagrams(log: &mut TermLog) -> bool {
+pub(crate) fn frames_fill_datagrams(log: &mut TermLog, alloc: Global) -> bool {
     let mut gate = Gate::new(LINGER);
     let mut two = [b'a'; 1280];
     two[640..].copy_from_slice(&[b'b'; 640]);
@@ -193,7 +194,7 @@ pub(crate) fn frames_fill_datagrams(log: &mut TermLog) -> bool {
     two[640..672].copy_from_slice(&HEADERS[1]);
     let mut third = [b'c'; 640];
     third[..32].copy_from_slice(&HEADERS[2]);
-    let sent = sends_three(log);
+    let sent = sends_three(log, alloc);
     sent && resends(
         ask(log, &mut gate, ONE_SECOND, (608, 704), true),
         &two,
@@ -202,16 +203,21 @@ pub(crate) fn frames_fill_datagrams(log: &mut TermLog) -> bool {
 }
 
 // A frame and a pad end the term, and a frame of the next one is sent.
-fn crosses_the_term(log: &mut TermLog) -> bool {
+fn crosses_the_term(log: &mut TermLog, alloc: Global) -> bool {
     let first = log.offer(b"x") == Offer::At(65_472);
     let padded = log.offer(&[b'z'; 33]) == Offer::AdminAction;
     let next = log.offer(&[b'z'; 33]) == Offer::At(65_632);
-    hears(log, 65_408, 98_176) && first && padded && next && sends(log, 96) && sends(log, 96)
+    hears(log, 65_408, 98_176)
+        && first
+        && padded
+        && next
+        && sends(log, alloc, 96)
+        && sends(log, alloc, 96)
 }
 
-pub(crate) fn terms_stay_apart(log: &mut TermLog) -> bool {
+pub(crate) fn terms_stay_apart(log: &mut TermLog, alloc: Global) -> bool {
     let mut gate = Gate::new(LINGER);
-    let sent = crosses_the_term(log);
+    let sent = crosses_the_term(log, alloc);
     let below = matches!(
         ask(log, &mut gate, ONE_SECOND, (65_376, 64), true),
         NakAnswer::OutOfWindow
@@ -221,11 +227,11 @@ pub(crate) fn terms_stay_apart(log: &mut TermLog) -> bool {
 }
 
 // Seventeen frames are sent.
-fn sends_many(log: &mut TermLog) -> bool {
+fn sends_many(log: &mut TermLog, alloc: Global) -> bool {
     for _ in 0..17 {
         let _ = log.offer(b"x");
     }
-    hears(log, 0, 32_768) && sends(log, 1088)
+    hears(log, 0, 32_768) && sends(log, alloc, 1088)
 }
 
 // Of seventeen frames, asked for one by one, the last one is refused.
@@ -243,7 +249,7 @@ fn is_busy_at_last(log: &TermLog, gate: &mut Gate) -> bool {
     first && matches!(last, NakAnswer::Busy)
 }
 
-pub(crate) fn few_ranges_linger(log: &mut TermLog) -> bool {
+pub(crate) fn few_ranges_linger(log: &mut TermLog, alloc: Global) -> bool {
     let mut gate = Gate::new(LINGER);
-    sends_many(log) && is_busy_at_last(log, &mut gate)
+    sends_many(log, alloc) && is_busy_at_last(log, &mut gate)
 }

@@ -1,52 +1,73 @@
-use Rattle.std.proofs.Common.{rules, ◌≡◌, Some, None, ap, subst, ◌∙◌}
-use Rattle.any_log.specs.Sending.{Dues}
-use Rattle.driver_core.specs.SendRequests.{sending_of}
+use Rattle.std.proofs.Common.{rules, ◌≡◌, Some, None, ap, refl, subst, ◌∙◌}
+use Rattle.std.specs.Option.{is_some}
+use Rattle.any_log.specs.Sending.{IsNextOf, SomeDueOf}
+use Rattle.driver_core.specs.SendRequests.{outlets_by, sent_at}
 use Rattle.driver_steps.specs.Held.{HeldLog}
-use Rattle.driver_steps.specs.Memory.{Gives}
-use Rattle.driver_steps.specs.Sending.{pace_of, send_move}
-use Rattle.driver_steps.proofs.HeldLemmas.{err_given}
-use Rattle.driver_steps.proofs.SendLemmas.{send_gives, send_idle}
+use Rattle.driver_steps.specs.Sending.{pace_of}
+use Rattle.driver_steps.proofs.SendLemmas.{next_due, next_told, send_done, send_gives, send_gone, send_idle}
 use Rattle.driver_steps.proofs.sending.send_own.Goals as goal
 use Rattle.publication_sender.specs.declared.cutting.Pace.{Pace}
+use Rattle.stream_registry.specs.declared.row.Source.{Source}
+use Rattle.stream_registry.specs.Origins.{lingering_since}
 
-pub returns-in_err-outlets-in-Some-Some-clause-without_memory :
-    goal.returns-in_err-outlets-in-Some-Some-clause-without_memory
-returns-in_err-outlets-in-Some-Some-clause-without_memory g c =
+pub returns-in_default-clause-does : goal.returns-in_default-clause-does
+returns-in_default-clause-does g c =
     let s = g.V.View.shows c.args.view.now in
     let held : HeldLog = record { source = c.log.inside.source; log = c.log.inside.log; recovery = c.log.inside.recovery } in
-    let lets : sending_of s held.source ≡ Some c.in-Some.lingers = search rules in
-    let settings : c.settings.result ≡ s.settings = search rules in
-    let pace : c.pace_of-pace.result ≡ pace_of s.settings = c.pace_of-pace.ensures ∙ ap pace_of settings in
-    let due : Dues held.log c.pace_of-pace.result c.args.now (Some (Some c.in-Some-Some.kind)) = search rules in
-    rw (← c.log.view_is)
-    (err_given (Gives (send_move s c.args.now) held)
-    (send_gives s c.args.now held c.in-Some.lingers c.in-Some-Some.kind lets
-    (subst (λ (p : Pace). Dues held.log p c.args.now (Some (Some c.in-Some-Some.kind))) pace due))
-    c.from_residual.result)
+    let none : sent_at s held.source ≡ None = search rules in
+    rw (← c.log.view_is) (send_gone s c.args.now held none)
 
-pub returns-in_err-turn-in-Some-Some-clause-without_memory :
-    goal.returns-in_err-turn-in-Some-Some-clause-without_memory
-returns-in_err-turn-in-Some-Some-clause-without_memory g c =
+pub returns-in-Ok-Some-None-clause-does : goal.returns-in-Ok-Some-None-clause-does
+returns-in-Ok-Some-None-clause-does g c =
     let s = g.V.View.shows c.args.view.now in
     let held : HeldLog = record { source = c.log.inside.source; log = c.log.inside.log; recovery = c.log.inside.recovery } in
-    let lets : sending_of s held.source ≡ Some c.in-Some.lingers = search rules in
+    let source : Source = c.in-Some.source.now in
+    let is : sent_at s held.source ≡ Some source = search rules in
     let settings : c.settings.result ≡ s.settings = search rules in
     let pace : c.pace_of-pace.result ≡ pace_of s.settings = c.pace_of-pace.ensures ∙ ap pace_of settings in
-    let due : Dues held.log c.pace_of-pace.result c.args.now (Some (Some c.in-Some-Some.kind)) = search rules in
-    rw (← c.log.view_is)
-    (err_given (Gives (send_move s c.args.now) held)
-    (send_gives s c.args.now held c.in-Some.lingers c.in-Some-Some.kind lets
-    (subst (λ (p : Pace). Dues held.log p c.args.now (Some (Some c.in-Some-Some.kind))) pace due))
-    c.from_residual-in_err-turn-in-Some-Some.result)
+    let lingers : c.is_some-lingers.result ≡ is_some (lingering_since source) = search rules in
+    let next : IsNextOf held.log c.pace_of-pace.result c.args.now c.is_some-lingers.result (Some None) = search rules in
+    rw (← c.log.view_is) (send_idle s c.args.now held source is (next_told held.log _ _ c.args.now _ _ _ pace lingers next))
 
-pub returns-in-Some-None-clause-does : goal.returns-in-Some-None-clause-does
-returns-in-Some-None-clause-does g c =
+pub returns-in-Ok-clause-does : goal.returns-in-Ok-clause-does
+returns-in-Ok-clause-does g c =
     let s = g.V.View.shows c.args.view.now in
     let held : HeldLog = record { source = c.log.inside.source; log = c.log.inside.log; recovery = c.log.inside.recovery } in
-    let lets : sending_of s held.source ≡ Some c.in-Some.lingers = search rules in
+    let source : Source = c.in-Some.source.now in
+    let is : sent_at s held.source ≡ Some source = search rules in
     let settings : c.settings.result ≡ s.settings = search rules in
     let pace : c.pace_of-pace.result ≡ pace_of s.settings = c.pace_of-pace.ensures ∙ ap pace_of settings in
-    let due : Dues held.log c.pace_of-pace.result c.args.now (Some None) = search rules in
+    let lingers : c.is_some-lingers.result ≡ is_some (lingering_since source) = search rules in
+    let after : HeldLog = record held { log = c.pass.new.self } in
+    let next : IsNextOf held.log c.pace_of-pace.result c.args.now c.is_some-lingers.result (Some (Some c.in-Ok-Some-Some.next)) = search rules in
+    let goes : c.outlets.new.outlets ≡ outlets_by s (Some source) = search rules in
+    rw (← c.log.view_is, c.from.ensures)
+    (send_done s c.args.now held after source c.outlets.new.outlets c.in-Ok-Some-Some.next is goes
+    (next_told held.log _ _ c.args.now _ _ _ pace lingers next) c.pass.ensures.whole refl refl)
+
+pub returns-in-Err-outlets-clause-without_memory :
+    goal.returns-in-Err-outlets-clause-without_memory
+returns-in-Err-outlets-clause-without_memory g c =
+    let s = g.V.View.shows c.args.view.now in
+    let held : HeldLog = record { source = c.log.inside.source; log = c.log.inside.log; recovery = c.log.inside.recovery } in
+    let source : Source = c.in-Some.source.now in
+    let is : sent_at s held.source ≡ Some source = search rules in
+    let settings : c.settings.result ≡ s.settings = search rules in
+    let pace : c.pace_of-pace.result ≡ pace_of s.settings = c.pace_of-pace.ensures ∙ ap pace_of settings in
+    let lingers : c.is_some-lingers.result ≡ is_some (lingering_since source) = search rules in
+    let next : IsNextOf held.log c.pace_of-pace.result c.args.now c.is_some-lingers.result (Some (Some c.in-Ok-Some-Some.next)) = search rules in
     rw (← c.log.view_is)
-    (send_idle s c.args.now held c.in-Some.lingers lets
-    (subst (λ (p : Pace). Dues held.log p c.args.now (Some None)) pace due))
+    (send_gives s c.args.now held source is
+    (next_due s c.args.now held source c.in-Ok-Some-Some.next (next_told held.log _ _ c.args.now _ _ _ pace lingers next)))
+
+pub returns-in-Err-clause-without_memory : goal.returns-in-Err-clause-without_memory
+returns-in-Err-clause-without_memory g c =
+    let s = g.V.View.shows c.args.view.now in
+    let held : HeldLog = record { source = c.log.inside.source; log = c.log.inside.log; recovery = c.log.inside.recovery } in
+    let source : Source = c.in-Some.source.now in
+    let is : sent_at s held.source ≡ Some source = search rules in
+    let settings : c.settings.result ≡ s.settings = search rules in
+    let pace : c.pace_of-pace.result ≡ pace_of s.settings = c.pace_of-pace.ensures ∙ ap pace_of settings in
+    let some : SomeDueOf held.log c.pace_of-pace.result c.args.now = search rules in
+    rw (← c.log.view_is)
+    (send_gives s c.args.now held source is (subst (λ (p : Pace). SomeDueOf held.log p c.args.now) pace some))

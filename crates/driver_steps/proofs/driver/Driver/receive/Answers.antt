@@ -1,4 +1,4 @@
-use Rattle.std.proofs.Common.{◌≡◌, Result, Ok, refl, sym, ap, ◌∙◌}
+use Rattle.std.proofs.Common.{Result, refl, sym, ap, ◌∙◌}
 use Rattle.driver_core.specs.declared.image_request.Astray.{Astray}
 use Rattle.driver_steps.specs.declared.packets.PacketRequest.{PacketRequest}
 use Rattle.driver_steps.specs.Packets.{on_request}

@@ -5,10 +5,9 @@ use Rattle.std.proofs.lemmas.List.{get_or_default, set-get_or}
 use Rattle.driver_steps.specs.declared.answer.Answer.TheVariants.{Gone}
 use Rattle.driver_steps.specs.Held.{HeldLog, HeldLogs, LiesAsBefore, place_at}
 use Rattle.driver_steps.specs.Memory.{Gives, GivesFirst}
-use Rattle.driver_steps.specs.Moves.{Does, MovesFirst, for_source}
+use Rattle.driver_steps.specs.Moves.{Does, MovesFirst}
 use Rattle.driver_steps.specs.Sending.{send_move}
-use Rattle.driver_steps.proofs.HeldLemmas.{err_each, found_at, moves_none, ok_each}
-use Rattle.driver_steps.proofs.GateLemmas.{gives_for, moves_for}
+use Rattle.driver_steps.proofs.HeldLemmas.{err_each, found_at, gives_at, moves_at, moves_none, ok_each}
 use Rattle.driver_steps.proofs.HousedLemmas.{housed_set}
 use Rattle.driver_steps.proofs.open_logs.OpenLogs.send.Goals as goal
 
@@ -27,37 +26,37 @@ invariant_of-self g c =
     let place : place_at logs c.args.source ≡ Some c.in-Some.at =
     ap (λ l. place_at l c.args.source) (sym c.as_slice.ensures.value) ∙ sym c.place_of.ensures ∙ c.in-Some.is in
     let within : c.in-Some.at < length logs = (found_at logs c.args.source c.in-Some.at place).0 in
-    housed_set c.self.inside.arena logs c.in-Some.at c.send_step.new.log (λ d.
+    housed_set c.self.inside.arena logs c.in-Some.at c.send_own.new.log (λ d.
     let was = get_or_default logs c.in-Some.at d c.index_mut.result.now within ∙ sym c.index_mut.ensures.value in
-    subst (λ (h : HeldLog). LiesAsBefore h c.send_step.new.log) (sym was) c.send_step.ensures.lies) c.self.invariant
+    subst (λ (h : HeldLog). LiesAsBefore h c.send_own.new.log) (sym was) c.send_own.ensures.lies) c.self.invariant
 
 pub returns-clause-moved : goal.returns-clause-moved
 returns-clause-moved g c =
     let old : HeldLogs = record { pages = c.self.inside.arena.home.pages; logs = c.self.inside.logs.items; room = vec_capacity c.self.inside.logs } in
     let held : HeldLog = c.index_mut.result.now in
-    let log : HeldLog = c.send_step.new.log in
+    let log : HeldLog = c.send_own.new.log in
     let move = send_move (g.V.View.shows c.args.view.now) c.args.now in
     let place : place_at old.logs c.args.source ≡ Some c.in-Some.at =
     ap (λ l. place_at l c.args.source) (sym c.as_slice.ensures.value) ∙ sym c.place_of.ensures ∙ c.in-Some.is in
     let new : HeldLogs = record { pages = old.pages; logs = slice_set old.logs c.in-Some.at log; room = old.room } in
-    ok_each (λ answer. Does (for_source c.args.source move Gone) held log answer) (λ answer. MovesFirst c.args.source move Gone c.args.self.now new answer)
+    ok_each (λ answer. Does move held log answer) (λ answer. MovesFirst c.args.source move Gone c.args.self.now new answer)
     (λ answer does.
     subst (λ (h : HeldLogs). MovesFirst c.args.source move Gone h new answer) c.self.view_is
-    (moves_for c.args.source move Gone answer old c.in-Some.at held log place c.index_mut.ensures.value does c.send_step.ensures.lies))
-    c.send_step.result c.send_step.ensures.does
+    (moves_at c.args.source move Gone answer old c.in-Some.at held log place c.index_mut.ensures.value does c.send_own.ensures.lies))
+    c.send_own.result c.send_own.ensures.does
 
 pub returns-clause-err : goal.returns-clause-err
 returns-clause-err g c =
     let logs : List HeldLog = c.self.inside.logs.items in
     let held : HeldLog = c.index_mut.result.now in
-    let log : HeldLog = c.send_step.new.log in
+    let log : HeldLog = c.send_own.new.log in
     let new : HeldLogs = record { pages = c.self.inside.arena.home.pages; logs = slice_set logs c.in-Some.at log; room = vec_capacity c.self.inside.logs } in
     err_each (log ≡ held) (new ≡ c.args.self.now)
     (λ same.
     ap (λ l. let h : HeldLogs = record { pages = c.self.inside.arena.home.pages; logs = l; room = vec_capacity c.self.inside.logs } in h)
     (ap (λ h. slice_set logs c.in-Some.at h) (same ∙ c.index_mut.ensures.value) ∙ set-get_or logs c.in-Some.at held)
     ∙ c.self.view_is)
-    c.send_step.result c.send_step.ensures.err
+    c.send_own.result c.send_own.ensures.err
 
 pub returns-clause-without_memory : goal.returns-clause-without_memory
 returns-clause-without_memory g c =
@@ -66,8 +65,8 @@ returns-clause-without_memory g c =
     let move = send_move (g.V.View.shows c.args.view.now) c.args.now in
     let place : place_at old.logs c.args.source ≡ Some c.in-Some.at =
     ap (λ l. place_at l c.args.source) (sym c.as_slice.ensures.value) ∙ sym c.place_of.ensures ∙ c.in-Some.is in
-    err_each (Gives (for_source c.args.source move Gone) held) (GivesFirst c.args.source move c.args.self.now)
+    err_each (Gives move held) (GivesFirst c.args.source move c.args.self.now)
     (λ gives.
     subst (λ (h : HeldLogs). GivesFirst c.args.source move h) c.self.view_is
-    (gives_for c.args.source move Gone old c.in-Some.at held place c.index_mut.ensures.value gives))
-    c.send_step.result c.send_step.ensures.without_memory
+    (gives_at c.args.source move old c.in-Some.at held place c.index_mut.ensures.value gives))
+    c.send_own.result c.send_own.ensures.without_memory
