@@ -25,8 +25,9 @@ use driver_core::{Address, Astray, View};
 use frame_codec::{Frames, Packet};
 use std::alloc::Global;
 
-/// A step was refused memory. It is told by a call of its own, so that what the other steps are told is not copied once more.
-#[inline(never)]
+/// A step was refused memory. It is made in place: a call would tell it where other steps are told theirs, which then could not
+/// stay in registers.
+#[inline(always)]
 fn refused() -> Told
     ensures { result ≡ record { answer = NoMemory; decision = None } }
 {
