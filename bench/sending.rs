@@ -2,10 +2,12 @@
 //!
 //! The plain driver here is the same program, as one would write it in Rust: the same lists are looked through, by the
 //! same tests in their order, what is due is asked in its order, each destination's decision is by the rule of the policy,
-//! and a datagram is a copy of its own. It walks the frames of a datagram once, and on a NAK those alone from the start of
-//! the range's term to its end.
+//! what was decided is kept in the sender's audit of the last 4,096, and a datagram is a copy of its own. It walks the frames
+//! of a datagram once, and on a NAK those alone from the start of the range's term to its end.
 
-use std::collections::BTreeMap;
+mod lists;
+
+use std::collections::{BTreeMap, VecDeque};
 use std::hint::black_box;
 
 unsafe extern "C" {
@@ -20,11 +22,7 @@ unsafe extern "C" {
         sending: &mut u64,
         resending: &mut u64,
     ) -> u64;
-    fn mallopt(what: i32, value: i32) -> i32;
     fn clock_gettime(clock: i32, time: &mut Timespec) -> i32;
-    fn malloc(size: usize) -> *mut u8;
-    fn realloc(start: *mut u8, size: usize) -> *mut u8;
-    fn free(start: *mut u8);
 }
 
 #[repr(C)]
@@ -59,20 +57,23 @@ fn tried(start: *mut u8) -> Tried {
     }
 }
 
-/// The heap of the library, which leaves it to the program that it is linked with.
+#[global_allocator]
+static MEMORY: lists::Lists = lists::Lists;
+
+/// The heap of the library is that of the program.
 #[unsafe(no_mangle)]
-extern "C" fn rattle_alloc(size: usize, align: usize) -> Tried {
-    tried(unsafe { malloc(if size == 0 { align } else { size }) })
+extern "C" fn rattle_alloc(size: usize, _align: usize) -> Tried {
+    tried(lists::take(size))
 }
 
 #[unsafe(no_mangle)]
-extern "C" fn rattle_realloc(start: *mut u8, _kept: usize, size: usize, align: usize) -> Tried {
-    tried(unsafe { realloc(start, if size == 0 { align } else { size }) })
+extern "C" fn rattle_realloc(start: *mut u8, _kept: usize, size: usize, _align: usize) -> Tried {
+    tried(lists::take_again(start, size))
 }
 
 #[unsafe(no_mangle)]
 extern "C" fn rattle_dealloc(start: *mut u8) {
-    unsafe { free(start) }
+    lists::give(start)
 }
 
 /// How many turns the sender has behind each status message.
@@ -924,7 +925,6 @@ fn put_header(out: &mut [u8], length: u32, flags: u8, kind: u16, offset: u32, se
 // ---- the steps
 
 enum Step {
-    Packet { now: u64, local: Address, from: Address, bytes: Vec<u8> },
     Offer { now: u64, client: u64, registration: u64, message: Vec<u8> },
     Send { now: u64, source: u64 },
 }
@@ -969,15 +969,49 @@ struct OpenLog {
     gate: Gate,
 }
 
+/// How many decisions an audit keeps.
+const AUDITED: usize = 4_096;
+
+/// What was decided for the sender, and the greatest moment of its steps.
+struct Seat {
+    moment: u64,
+    audit: VecDeque<Decision>,
+    /// How many decisions went.
+    before: u64,
+}
+
+impl Seat {
+    fn new() -> Seat {
+        Seat { moment: 0, audit: VecDeque::with_capacity(AUDITED), before: 0 }
+    }
+
+    /// The moment of a step: none is earlier than the one before.
+    fn at(&mut self, now: u64) -> u64 {
+        self.moment = self.moment.max(now);
+        self.moment
+    }
+
+    /// What was decided for a step is told.
+    fn tell(&mut self, decision: Decision) {
+        if self.audit.len() == AUDITED {
+            self.audit.pop_front();
+            self.before += 1;
+        }
+        self.audit.push_back(decision);
+    }
+}
+
 struct World {
     registry: Registry,
     logs: Vec<OpenLog>,
+    sender: Seat,
 }
 
 impl World {
     fn new() -> World {
         let gate = Gate { latest: 0, resent: Vec::with_capacity(RANGES) };
-        World { registry: Registry::new(), logs: vec![OpenLog { source: 1, log: Log::new(), gate }] }
+        let logs = vec![OpenLog { source: 1, log: Log::new(), gate }];
+        World { registry: Registry::new(), logs, sender: Seat::new() }
     }
 
     fn log(&mut self, source: u64) -> Option<&mut OpenLog> {
@@ -989,9 +1023,11 @@ impl World {
         let Some(request) = self.registry.resending(from, session, stream) else {
             return Answer::Dropped(Cause::NoStream);
         };
-        let Some(open) = self.log(request.source) else {
+        let World { logs, sender, .. } = self;
+        let Some(open) = logs.iter_mut().find(|open| open.source == request.source) else {
             return Answer::Dropped(Cause::NoStream);
         };
+        sender.tell(request.decision);
         if !request.decision.verdict.allow {
             return Answer::Dropped(Cause::Denied(request.decision.verdict));
         }
@@ -1004,6 +1040,7 @@ impl World {
     }
 
     fn packet(&mut self, now: u64, _local: Address, from: Address, bytes: &[u8]) -> Answer {
+        let now = self.sender.at(now);
         match packet(bytes) {
             Err(fault) => Answer::Dropped(Cause::Unread(fault)),
             Ok(Packet::Nak { session, stream, term, offset, length }) => {
@@ -1053,7 +1090,8 @@ impl World {
     }
 
     fn send(&mut self, now: u64, source: u64) -> Answer {
-        let World { registry, logs } = self;
+        let now = self.sender.at(now);
+        let World { registry, logs, sender } = self;
         let Some(open) = logs.iter_mut().find(|open| open.source == source) else {
             return Answer::Gone;
         };
@@ -1065,14 +1103,19 @@ impl World {
         }
         match open.log.turn(now, registry.pace, publication.lingers.is_some()) {
             None => Answer::Idle,
-            Some(bytes) => Answer::Sent { bytes, outlets: registry.outlets(publication) },
+            Some(bytes) => {
+                let outlets = registry.outlets(publication);
+                for outlet in &outlets {
+                    sender.tell(outlet.decision);
+                }
+                Answer::Sent { bytes, outlets }
+            }
         }
     }
 
     #[inline(never)]
     fn step(&mut self, step: &Step) -> Answer {
         match step {
-            Step::Packet { now, local, from, bytes } => self.packet(*now, *local, *from, bytes),
             Step::Offer { now, client, registration, message } => self.offer(*now, *client, *registration, message),
             Step::Send { now, source } => self.send(*now, *source),
         }
@@ -1098,10 +1141,6 @@ fn ports_of(outlets: &[Outlet]) -> u64 {
     allowed.map(|outlet| u64::from(outlet.to.port)).sum()
 }
 
-fn packet_of(bytes: &[u8]) -> Step {
-    Step::Packet { now: 0, local: LOCAL, from: RECEIVER, bytes: bytes.to_vec() }
-}
-
 fn offer_of(message: &[u8]) -> Step {
     Step::Offer { now: 0, client: 1, registration: 1, message: message.to_vec() }
 }
@@ -1124,8 +1163,8 @@ impl Played {
         self.sum = self.sum.wrapping_mul(31).wrapping_add(number);
     }
 
-    fn hear(&mut self, status: &Step) -> Option<()> {
-        let Answer::Limited(position) = self.world.step(status) else {
+    fn hear(&mut self, status: &[u8]) -> Option<()> {
+        let Answer::Limited(position) = self.world.packet(0, LOCAL, RECEIVER, status) else {
             return None;
         };
         self.add(position);
@@ -1156,10 +1195,10 @@ impl Played {
         Some(())
     }
 
-    fn resend(&mut self, naks: &[Vec<u8>]) -> Option<()> {
+    fn resend(&mut self, naks: &[u8]) -> Option<()> {
         let start = moment();
         let mut now = 0;
-        for nak in naks {
+        for nak in naks.chunks(28) {
             now += APART;
             let Answer::Resent { to, datagrams } = self.world.packet(now, LOCAL, RECEIVER, nak) else {
                 return None;
@@ -1174,9 +1213,9 @@ impl Played {
         Some(())
     }
 
-    fn play(&mut self, offer: &Step, statuses: &[Step], naks: &[Vec<u8>]) -> Option<()> {
+    fn play(&mut self, offer: &Step, statuses: &[u8], naks: &[u8]) -> Option<()> {
         let turn = Step::Send { now: 0, source: 1 };
-        for status in statuses {
+        for status in statuses.chunks(36) {
             self.hear(status)?;
             self.fill(offer)?;
             self.send(&turn)?;
@@ -1190,13 +1229,11 @@ type Run = (u64, [u64; 2]);
 
 #[inline(never)]
 fn plain_send(message: &[u8], statuses: &[u8], naks: &[u8], whole: bool) -> Run {
-    let statuses: Vec<Step> = statuses.chunks(36).map(packet_of).collect();
-    let naks: Vec<Vec<u8>> = naks.chunks(28).map(<[u8]>::to_vec).collect();
     let mut played = Played::new(whole);
-    if played.play(&offer_of(message), &statuses, &naks).is_none() {
+    if played.play(&offer_of(message), statuses, naks).is_none() {
         return (0, [0; 2]);
     }
-    black_box(played.world.logs[0].log.messages);
+    black_box((played.world.logs[0].log.messages, played.world.sender.before, played.world.sender.audit.len()));
     (played.sum, [played.sending, played.resending])
 }
 
@@ -1247,7 +1284,7 @@ fn receiver(message: &[u8]) -> Option<(Vec<u8>, Vec<u8>)> {
     for _ in 0..STATUSES {
         let (term, offset, _) = sent.last().copied().unwrap_or((0, 0, 0));
         let status = status_bytes(term, offset);
-        played.hear(&packet_of(&status))?;
+        played.hear(&status)?;
         statuses.extend(status);
         played.fill(&offer)?;
         for _ in 0..BATCH {
@@ -1262,18 +1299,7 @@ fn receiver(message: &[u8]) -> Option<(Vec<u8>, Vec<u8>)> {
     Some((statuses, naks.collect()))
 }
 
-/// `M_TRIM_THRESHOLD` and `M_MMAP_THRESHOLD` of the C library.
-const KEPT: [(i32, i32); 2] = [(-1, i32::MAX), (-3, 32 << 20)];
-
-/// Memory that is given back stays with the program, so that neither driver meets fresh pages while it is timed.
-fn keep_memory() {
-    for (what, bytes) in KEPT {
-        assert_eq!(unsafe { mallopt(what, bytes) }, 1);
-    }
-}
-
 fn main() {
-    keep_memory();
     for (what, size) in [("1 frame of 1,376 bytes", 1_376), ("22 frames of 8 bytes", 8)] {
         let message = vec![0x61; size];
         let (statuses, naks) = receiver(&message).expect("each turn has a datagram");
