@@ -40,6 +40,14 @@ impl<const N: usize> ShortText<N> {
         self.string.as_str()
     }
 
+    /// Takes the bytes of another text in place of its own.
+    pub fn set_from(&mut self, other: &ShortText<N>)
+        ensures { self.new ≡ other.now }
+    {
+        self.string.clear();
+        self.string.push_str(other.string.as_str());
+    }
+
     /// Another text with the same bytes.
     pub fn copy(&self) -> ShortText<N>
         ensures { result ≡ self.now }

@@ -65,9 +65,21 @@ impl Channel {
     /// # Errors
     /// [`UriError::TooLong`] is looked at first, then the syntax from the left, and then the values that are kept, in the
     /// byte order of their keys: the first fault is given.
-    #[tactic(auto, unfolding(crate::specs::Channel::denotes))]
     pub fn parse(text: &str) -> Result<Channel, UriError>
         ensures { Equals (λ channel. channel) result (denotes text.now) }
+    {
+        let mut channel = Channel::ipc();
+        channel.read(text)?;
+        Ok(channel)
+    }
+
+    /// Becomes the channel of a text, which is read as [`Channel::parse`] reads it. It takes no memory.
+    ///
+    /// # Errors
+    /// Those of [`Channel::parse`]; which channel it is then, is not said.
+    #[tactic(auto, unfolding(crate::specs::Channel::denotes))]
+    pub fn read(&mut self, text: &str) -> Result<(), UriError>
+        ensures { Equals (λ _. self.new) result (denotes text.now) }
     {
         if text.len() > 1024 {
             return Err(UriError::TooLong);
@@ -75,16 +87,13 @@ impl Channel {
         let (spy, unspied) = syntax::unspied(text);
         let rest = syntax::behind_scheme(unspied)?;
         let (word, pairs) = syntax::halves(rest);
-        let media = media_of(spy, word)?;
-        let keys = syntax::keys_of(pairs)?;
-        match values::first_fault(&keys) {
+        self.media = media_of(spy, word)?;
+        self.spy = spy;
+        self.address = None;
+        self.keys.read(pairs)?;
+        match values::first_fault(&self.keys) {
             Some(fault) => Err(fault),
-            None => Ok(Channel {
-                spy,
-                media,
-                keys,
-                address: None,
-            }),
+            None => Ok(()),
         }
     }
 

@@ -1,7 +1,11 @@
+ghost use Rattle.channel_uri.specs.Fault.{Equals};
 ghost use Rattle.channel_uri.specs.Keys.{value_at};
+ghost use Rattle.channel_uri.specs.Syntax.{keys_of};
 ghost use Rattle.std.specs.Option.{option_copied};
-ghost use Rattle.std.specs.Prelude.{◌≡◌, ◌+◌, ◌<◌, ◌≤◌, [], ◌∷◌, length, slice_index_or};
+ghost use Rattle.std.specs.Prelude.{◌≡◌, ◌+◌, ◌<◌, ◌≤◌, [], ◌∷◌, IfSome, length, slice_index_or};
 
+use crate::error::UriError;
+use crate::syntax;
 use crate::table::Table;
 use std::marker::Model;
 
@@ -45,6 +49,15 @@ impl Keys {
         let mut table = Table::new();
         table.put(key, "", value);
         Keys { table }
+    }
+
+    /// Takes the keys of the text behind the `?` in place of its own; none where there is no `?`. It takes no memory.
+    pub(crate) fn read(&mut self, text: Option<&str>) -> Result<(), UriError>
+        requires { IfSome text (λ some. length some.now ≤ 1024) }
+        ensures { Equals (λ _. self.new) result (keys_of (option_copied text.entry)) }
+    {
+        self.table.clear();
+        syntax::put_keys(&mut self.table, text)
     }
 
     /// The value of `key`.

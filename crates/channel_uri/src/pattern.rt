@@ -122,7 +122,13 @@ impl Pattern {
     pub fn set_from(&mut self, other: &Pattern)
         ensures { self.new ≡ other.now }
     {
-        *self = other.copy();
+        match (self, other) {
+            (Pattern::Of(media, keys), Pattern::Of(of, those)) => {
+                *media = *of;
+                keys.set_from(those);
+            }
+            (pattern, _) => *pattern = other.copy(),
+        }
     }
 
     /// Another pattern, equal to this one. It takes no memory.

@@ -1,6 +1,7 @@
 ghost use Rattle.channel_uri.specs.Fault.{Equals};
 ghost use Rattle.channel_uri.specs.Pieces.{PutsPiece, first_piece};
 ghost use Rattle.channel_uri.specs.Syntax.{cut, before_end, address_read, value_read, unspied, behind_scheme, halves, pair_of, keys_of};
+ghost use Rattle.channel_uri.specs.Table.{nothing_stored};
 ghost use Rattle.std.specs.Option.{option_map};
 ghost use Rattle.std.specs.Prelude.{◌≡◌, ◌+◌, ◌<◌, ◌≤◌, ◌++◌, IfSome, IfOk, length, option_copied};
 
@@ -117,18 +118,28 @@ fn put_piece(table: &mut Table, piece: &str) -> Result<(), UriError>
     Ok(())
 }
 
-/// The keys of the text behind the `?`; none where there is no `?`.
+/// Puts the keys of the text behind the `?` into a table that has none yet; there are none where there is no `?`.
 #[tactic(auto, unfolding(crate::specs::Syntax::keys_of))]
+pub(crate) fn put_keys(table: &mut Table, text: Option<&str>) -> Result<(), UriError>
+    requires fits { IfSome text (λ some. length some.now ≤ 1024) }
+    requires none { table.old ≡ nothing_stored }
+    ensures { Equals (λ _. table.new.pairs) result (keys_of (option_copied text.entry)) }
+{
+    let mut rest = text;
+    while let Some(text) = rest {
+        let (piece, behind) = first_piece(text);
+        put_piece(table, piece)?;
+        rest = behind;
+    }
+    Ok(())
+}
+
+/// The keys of the text behind the `?`; none where there is no `?`.
 pub(crate) fn keys_of(text: Option<&str>) -> Result<Keys, UriError>
     requires { IfSome text (λ some. length some.now ≤ 1024) }
     ensures { Equals (λ keys. keys) result (keys_of (option_copied text.entry)) }
 {
     let mut table = Table::new();
-    let mut rest = text;
-    while let Some(text) = rest {
-        let (piece, behind) = first_piece(text);
-        put_piece(&mut table, piece)?;
-        rest = behind;
-    }
+    put_keys(&mut table, text)?;
     Ok(Keys::of(table))
 }

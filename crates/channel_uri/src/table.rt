@@ -93,6 +93,14 @@ impl Table {
         }
     }
 
+    /// Takes all keys away.
+    pub(crate) fn clear(&mut self)
+        ensures { self.new ≡ nothing_stored }
+    {
+        self.text.clear();
+        self.spans.clear();
+    }
+
     pub(crate) fn len(&self) -> usize
         ensures { result ≡ length self.now.pairs }
     {

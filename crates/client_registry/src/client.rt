@@ -17,4 +17,8 @@ impl Twin for Client {
     fn twin(&self) -> Client {
         *self
     }
+
+    fn set_from(&mut self, other: &Client) {
+        *self = other.twin();
+    }
 }

@@ -5,6 +5,7 @@ pub mod Finding
 pub mod CodeLemmas
 pub mod AddPublicationLemmas
 pub mod AddSubscriptionLemmas
+mod AliveLemmas
 pub mod RemovalLemmas
 pub mod AddCounterLemmas
 pub mod SetCounterLemmas

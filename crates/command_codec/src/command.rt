@@ -62,7 +62,7 @@ enum Kind {
 }
 
 impl Kind {
-    ghost use Rattle.command_codec.specs.Command.{fields_of, has_bytes, kind_of};
+    ghost use Rattle.command_codec.specs.Command.{fields_of, has_bytes, is_alive_in, kind_of};
 
     #[tactic(auto, unfolding(crate::specs::Command::kind_of, crate::specs::Command::kind_number))]
     fn from_number(number: u32) -> Result<Kind, CommandFault>
@@ -83,6 +83,17 @@ impl Kind {
             0x0E => Ok(Kind::TerminateDriver),
             0x1001 => Ok(Kind::SetCounter),
             _ => Err(CommandFault::Unknown),
+        }
+    }
+
+    /// Whether these fields, behind a command's head, say that a client is there still.
+    #[tactic(auto, unfolding(crate::specs::Command::fields_of), using(crate::proofs::AliveLemmas::others_are_not))]
+    fn is_alive(self, bytes: &[u8]) -> bool
+        ensures { result ≡ is_alive_in (fields_of self bytes.now) }
+    {
+        match self {
+            Kind::ClientKeepalive => bytes.is_empty(),
+            _ => false,
         }
     }
 
@@ -187,7 +198,19 @@ impl Body {
 }
 
 impl Command {
-    ghost use Rattle.command_codec.specs.Command.{command_bytes, command_of, correlation_of, has_bytes};
+    ghost use Rattle.command_codec.specs.Command.{command_bytes, command_of, correlation_of, has_bytes, head_of, is_keepalive};
+    ghost use Rattle.command_codec.specs.Gives.{Equals};
+
+    /// The kind of the command that the bytes are, the client that it names, and the bytes behind its head.
+    fn head_of(bytes: &[u8]) -> Result<(Kind, u64, &[u8]), CommandFault>
+        ensures { Equals (λ head. (head.0, head.1, head.2.now)) result (head_of bytes.now) }
+    {
+        let (number, rest) = fields::u32_at(bytes)?;
+        let kind = Kind::from_number(number)?;
+        let (client, rest) = fields::u64_at(rest)?;
+        let (_, rest) = fields::u64_at(rest)?;
+        Ok((kind, client, rest))
+    }
 
     /// The command that the bytes are. Its type is looked at first, so a type that is not known is `Unknown` whatever
     /// follows it. Memory is taken for a text or a byte string, and only once all of the bytes are found sound.
@@ -234,6 +257,17 @@ impl Command {
             0
         } else {
             fields::u64_in(&bytes[12..])
+        }
+    }
+
+    /// Whether the bytes are the command CLIENT_KEEPALIVE of that client. They are looked at where they lie.
+    #[tactic(auto, unfolding(crate::specs::Command::command_of))]
+    pub fn is_keepalive(bytes: &[u8], client: u64) -> bool
+        ensures { result ≡ is_keepalive client (command_of bytes.now) }
+    {
+        match Command::head_of(bytes) {
+            Ok((kind, named, rest)) => named == client && kind.is_alive(rest),
+            Err(_) => false,
         }
     }
 

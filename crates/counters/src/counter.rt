@@ -39,4 +39,8 @@ impl Twin for Counter {
     fn twin(&self) -> Counter {
         self.copy()
     }
+
+    fn set_from(&mut self, other: &Counter) {
+        *self = other.twin();
+    }
 }

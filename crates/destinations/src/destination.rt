@@ -19,4 +19,8 @@ impl Twin for Destination {
     fn twin(&self) -> Destination {
         *self
     }
+
+    fn set_from(&mut self, other: &Destination) {
+        *self = other.twin();
+    }
 }

@@ -74,4 +74,13 @@ impl Twin for Rule {
             allow: self.allow,
         }
     }
+    fn set_from(&mut self, other: &Rule) {
+        self.name.set_from(&other.name);
+        self.principals = other.principals;
+        self.acts = other.acts;
+        self.channel.set_from(&other.channel);
+        self.low = other.low;
+        self.high = other.high;
+        self.allow = other.allow;
+    }
 }

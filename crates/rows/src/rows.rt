@@ -1,4 +1,4 @@
-ghost use Rattle.std.specs.Prelude.{◌≡◌, ◌≤◌, ◌<◌, ◌++◌, ◌∷◌, [], length, filter, map, IfOk, slice_set};
+ghost use Rattle.std.specs.Prelude.{◌≡◌, ◌≤◌, ◌<◌, ◌++◌, ◌∷◌, [], length, filter, map, IfOk, slice_set, take};
 ghost use Rattle.std.specs.Vec.{vec_capacity};
 
 use crate::change::Change;
@@ -39,6 +39,16 @@ fn change_all<T, S: Change<T>>(items: &mut [T], change: &S)
 {
     for item in items.iter_mut() {
         change.change(item);
+    }
+}
+
+/// Makes each item equal to the one that stands at its place.
+fn set_all<T: Twin>(items: &mut [T], others: &[T])
+    requires { length items.old ≤ length others.now }
+    ensures { items.new ≡ take (length items.old) others.now }
+{
+    for at in 0..items.len() {
+        items[at].set_from(&others[at]);
     }
 }
 
@@ -122,9 +132,12 @@ impl<T: Twin, const N: usize> Rows<T, N> {
     pub fn set_from(&mut self, other: &Rows<T, N>)
         ensures { self.new ≡ other.now }
     {
-        self.clear();
-        for row in other.as_slice() {
-            self.push(row.twin());
+        let others = other.as_slice();
+        self.items.truncate(others.len());
+        let kept = self.items.len();
+        set_all(self.items.as_mut_slice(), others);
+        for at in kept..others.len() {
+            self.push(others[at].twin());
         }
     }
 

@@ -80,6 +80,17 @@ impl Twin for Source {
             origin: self.origin,
         }
     }
+
+    fn set_from(&mut self, other: &Source) {
+        self.number = other.number;
+        self.channel.set_from(&other.channel);
+        self.stream = other.stream;
+        self.session = other.session;
+        self.place = other.place;
+        self.slot = other.slot;
+        self.measures = other.measures;
+        self.origin = other.origin;
+    }
 }
 
 impl Twin for Registration {
@@ -91,6 +102,13 @@ impl Twin for Registration {
             source: self.source,
         }
     }
+
+    fn set_from(&mut self, other: &Registration) {
+        self.number = other.number;
+        self.client = other.client;
+        self.channel.set_from(&other.channel);
+        self.source = other.source;
+    }
 }
 
 impl Twin for Subscription {
@@ -101,5 +119,12 @@ impl Twin for Subscription {
             channel: self.channel.copy(),
             stream: self.stream,
         }
+    }
+
+    fn set_from(&mut self, other: &Subscription) {
+        self.number = other.number;
+        self.client = other.client;
+        self.channel.set_from(&other.channel);
+        self.stream = other.stream;
     }
 }

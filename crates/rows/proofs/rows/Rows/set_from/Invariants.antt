@@ -1,6 +1,6 @@
 use Rattle.std.proofs.Common.{◌≡◌, take}
 use Rattle.rows.proofs.rows.Rows.set_from.Given as goal
 
--- the rows so far
-abbrev pub invariant-loop-row : goal.invariant-loop-row
-invariant-loop-row g l = l.self ≡ take l.row-index l.other
+-- the rows before this one are those of the other
+abbrev pub invariant-loop-at : goal.invariant-loop-at
+invariant-loop-at g l = l.self ≡ take l.at l.others

@@ -1,12 +1,12 @@
 use Rattle.std.proofs.Common.{◌≡◌, Err, rules, ap, option_copied}
 use Rattle.channel_uri.specs.Syntax.{keys_of}
 use Rattle.channel_uri.proofs.PieceLemmas.{reading_starts, pieces_fit, first_of, reading_first, reading_on, text_fits, span_fits, stops, fewer}
-use Rattle.channel_uri.proofs.syntax.keys_of.Goals as goal
+use Rattle.channel_uri.proofs.syntax.put_keys.Goals as goal
 
 pub loop-rest-init : goal.loop-rest-init
 loop-rest-init c =
-    reading_starts (option_copied c.args.text) c.new-table.result (ap (λ table. table.pairs) c.new-table.ensures) (ap (λ table. table.used) c.new-table.ensures)
-    (pieces_fit (λ some. some.now) c.args.text c.requires)
+    reading_starts (option_copied c.args.text) c.args.table.now (ap (λ table. table.pairs) c.requires.none) (ap (λ table. table.used) c.requires.none)
+    (pieces_fit (λ some. some.now) c.args.text c.requires.fits)
 
 pub put_piece-requires-clause-text_fits : goal.put_piece-requires-clause-text_fits
 put_piece-requires-clause-text_fits c =

@@ -2,7 +2,7 @@ use Rattle.std.proofs.Common.{option_copied}
 use Rattle.channel_uri.specs.Pieces.{pieces_in}
 use Rattle.channel_uri.proofs.Cuts.{pieces_size}
 use Rattle.channel_uri.proofs.PieceLemmas.{IsReading}
-use Rattle.channel_uri.proofs.syntax.keys_of.Given as goal
+use Rattle.channel_uri.proofs.syntax.put_keys.Given as goal
 
 -- with the pieces that are left, the keys so far make the keys of all pieces, and there is room for them
 abbrev pub invariant-loop-rest : goal.invariant-loop-rest
