@@ -3,7 +3,7 @@
 ghost use Rattle.std.specs.Prelude.{◌==◌, not, if◌then◌else◌};
 
 use crate::answers::is_so;
-use rows::{Change, Rows, Test, Twin};
+use rows::{Change, Form, Rows, Test, Twin};
 use std::alloc::{AllocError, Global};
 
 /// A row with a value.
@@ -16,6 +16,33 @@ struct Row {
 impl Twin for Row {
     fn twin(&self) -> Row {
         *self
+    }
+
+    fn set_from(&mut self, other: &Row) {
+        *self = *other;
+    }
+}
+
+/// What a new row is made of.
+#[derive(Clone, Copy)]
+struct New {
+    number: u64,
+    value: u64,
+}
+
+impl Form<Row> for New {
+    ghost formed = { λ new. record { number = new.number; value = new.value } };
+
+    fn make(&self) -> Row {
+        Row {
+            number: self.number,
+            value: self.value,
+        }
+    }
+
+    fn write(&self, row: &mut Row) {
+        row.number = self.number;
+        row.value = self.value;
     }
 }
 
@@ -54,6 +81,7 @@ impl Test<Row> for Others {
 #[derive(Clone, Copy)]
 enum Step {
     Push(Row),
+    PushBy(New),
     Change(Given),
     Retain(Others),
     Clear,
@@ -67,6 +95,11 @@ fn take(rows: &mut Three, step: Step) {
         Step::Push(row) => {
             if rows.len() < 3 {
                 rows.push(row);
+            }
+        }
+        Step::PushBy(new) => {
+            if rows.len() < 3 {
+                rows.push_by(&new);
             }
         }
         Step::Change(given) => rows.change(&given),
@@ -90,8 +123,14 @@ const CHANGED: Row = Row {
     value: 21,
 };
 
+/// It makes the first row.
+const NEW: New = New {
+    number: 1,
+    value: 10,
+};
+
 /// A step, and the rows after it.
-const STEPS: [(Step, &[Row]); 8] = [
+const STEPS: [(Step, &[Row]); 13] = [
     (Step::Push(FIRST), &[FIRST]),
     (Step::Push(SECOND), &[FIRST, SECOND]),
     (Step::Push(FIRST), &[FIRST, SECOND, FIRST]),
@@ -104,8 +143,13 @@ const STEPS: [(Step, &[Row]); 8] = [
     ),
     (Step::Retain(Others { number: 3 }), &[FIRST, CHANGED, FIRST]),
     (Step::Retain(Others { number: 1 }), &[CHANGED]),
+    (Step::Push(SECOND), &[CHANGED, SECOND]),
+    (Step::PushBy(NEW), &[CHANGED, SECOND, FIRST]),
+    (Step::Retain(Others { number: 2 }), &[FIRST]),
     (Step::Clear, &[]),
     (Step::Push(SECOND), &[SECOND]),
+    (Step::PushBy(NEW), &[SECOND, FIRST]),
+    (Step::Retain(Others { number: 1 }), &[SECOND]),
 ];
 
 /// Whether the steps, one after the other, leave these rows.

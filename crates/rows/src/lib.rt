@@ -5,11 +5,14 @@
 #![tactic(auto)]
 
 mod change;
+mod form;
 mod rows;
+mod slots;
 mod test;
 mod twin;
 
 pub use change::Change;
+pub use form::Form;
 pub use rows::Rows;
 pub use test::Test;
 pub use twin::Twin;

@@ -1,55 +1,32 @@
-ghost use Rattle.std.specs.Prelude.{◌≡◌, ◌≤◌, ◌<◌, ◌++◌, ◌∷◌, [], length, filter, map, IfOk, slice_set, take};
-ghost use Rattle.std.specs.Vec.{vec_capacity};
+ghost use Rattle.std.specs.Prelude.{◌≡◌, ◌≤◌, ◌<◌, ◌++◌, ◌∷◌, [], length, filter, map, IfOk, slice_set};
 
 use crate::change::Change;
+use crate::form::Form;
+use crate::slots::{add_all, change_first, keep, set_first};
 use crate::test::Test;
 use crate::twin::Twin;
 use std::alloc::{AllocError, Global};
 use std::marker::Model;
 
-/// At most N rows, in room that is there from the beginning.
+/// At most N rows, in room that is there from the beginning. A row that is taken away stays behind the others, unseen, until
+/// one is written over it.
 #[derive(Debug, Drop)]
 pub struct Rows<T, const N: usize> {
-    items: Vec<T>,
+    /// The rows, and behind them those that were taken away.
+    slots: Vec<T>,
+    /// How many rows there are.
+    used: usize,
 }
 
 impl<T, const N: usize> Model for Rows<T, N> {
-    ghost use Rattle.std.specs.Prelude.{◌≤◌, List, length};
+    ghost use Rattle.std.specs.Prelude.{◌≤◌, List, length, take};
     ghost use Rattle.std.specs.Vec.{vec_capacity};
 
     ghost Value = { List T };
 
-    ghost view = { λ rows. rows.items.items };
+    ghost view = { λ rows. take rows.used rows.slots.items };
 
-    ghost invariant = { λ rows. (length rows.items.items ≤ N) × (N ≤ vec_capacity rows.items) };
-}
-
-/// Takes away the items that fail the test, in their room.
-fn keep<T: Drop, S: Test<T>>(items: &mut Vec<T>, test: &S)
-    ensures kept { items.new.items ≡ filter (S.keeps test.now) items.old.items }
-    ensures room { vec_capacity items.new ≡ vec_capacity items.old }
-    ensures few { length items.new.items ≤ length items.old.items }
-{
-    items.retain(|item| test.keeps(item));
-}
-
-/// Changes each item.
-fn change_all<T, S: Change<T>>(items: &mut [T], change: &S)
-    ensures { items.new ≡ map (S.changed change.now) items.old }
-{
-    for item in items.iter_mut() {
-        change.change(item);
-    }
-}
-
-/// Makes each item equal to the one that stands at its place.
-fn set_all<T: Twin>(items: &mut [T], others: &[T])
-    requires { length items.old ≤ length others.now }
-    ensures { items.new ≡ take (length items.old) others.now }
-{
-    for at in 0..items.len() {
-        items[at].set_from(&others[at]);
-    }
+    ghost invariant = { λ rows. (rows.used ≤ length rows.slots.items) × (length rows.slots.items ≤ N) × (N ≤ vec_capacity rows.slots) };
 }
 
 impl<T: Drop, const N: usize> Rows<T, N> {
@@ -58,7 +35,8 @@ impl<T: Drop, const N: usize> Rows<T, N> {
         ensures { IfOk result (λ rows. rows ≡ []) }
     {
         Ok(Rows {
-            items: Vec::with_capacity(alloc, N)?,
+            slots: Vec::with_capacity(alloc, N)?,
+            used: 0,
         })
     }
 
@@ -67,30 +45,31 @@ impl<T: Drop, const N: usize> Rows<T, N> {
         requires { length items.items ≤ N }
         ensures { IfOk result (λ rows. rows ≡ items.items) }
     {
-        let mut items = items;
-        items.reserve(N - items.len())?;
-        Ok(Rows { items })
+        let mut slots = items;
+        let used = slots.len();
+        slots.reserve(N - used)?;
+        Ok(Rows { slots, used })
     }
 
     pub fn as_slice(&self) -> &[T]
         ensures value { result.now ≡ self.now }
         ensures few { length result.now ≤ N }
     {
-        self.items.as_slice()
+        &self.slots[..self.used]
     }
 
     pub fn len(&self) -> usize
         ensures value { result ≡ length self.now }
         ensures few { result ≤ N }
     {
-        self.items.len()
+        self.used
     }
 
     /// Takes away all rows.
     pub fn clear(&mut self)
         ensures { self.new ≡ [] }
     {
-        self.items.clear();
+        self.used = 0;
     }
 
     /// Puts a row behind the others.
@@ -98,10 +77,31 @@ impl<T: Drop, const N: usize> Rows<T, N> {
         requires { length self.old < N }
         ensures { self.new ≡ self.old ++ row ∷ [] }
     {
-        match self.items.push(row) {
-            Ok(()) => {}
-            Err(_) => unreachable!(),
+        if self.used < self.slots.len() {
+            self.slots[self.used] = row;
+        } else {
+            match self.slots.push(row) {
+                Ok(()) => {}
+                Err(_) => unreachable!(),
+            }
         }
+        self.used += 1;
+    }
+
+    /// Makes a row behind the others.
+    pub fn push_by<F: Form<T>>(&mut self, form: &F)
+        requires { length self.old < N }
+        ensures { self.new ≡ self.old ++ F.formed form.now ∷ [] }
+    {
+        if self.used < self.slots.len() {
+            form.write(&mut self.slots[self.used]);
+        } else {
+            match self.slots.push(form.make()) {
+                Ok(()) => {}
+                Err(_) => unreachable!(),
+            }
+        }
+        self.used += 1;
     }
 
     /// Puts a row in the place of the one that stands there.
@@ -109,36 +109,34 @@ impl<T: Drop, const N: usize> Rows<T, N> {
         requires { at < length self.old }
         ensures { self.new ≡ slice_set self.old at row }
     {
-        self.items[at] = row;
-    }
-
-    /// Takes away the rows that fail the test.
-    pub fn retain<S: Test<T>>(&mut self, test: &S)
-        ensures { self.new ≡ filter (S.keeps test.now) self.old }
-    {
-        keep(&mut self.items, test);
+        self.slots[at] = row;
     }
 
     /// Changes each row.
     pub fn change<S: Change<T>>(&mut self, change: &S)
         ensures { self.new ≡ map (S.changed change.now) self.old }
     {
-        change_all(self.items.as_mut_slice(), change);
+        change_first(self.slots.as_mut_slice(), self.used, change);
     }
 }
 
 impl<T: Twin, const N: usize> Rows<T, N> {
+    /// Takes away the rows that fail the test.
+    pub fn retain<S: Test<T>>(&mut self, test: &S)
+        ensures { self.new ≡ filter (S.keeps test.now) self.old }
+    {
+        self.used = keep(self.slots.as_mut_slice(), self.used, test);
+    }
+
     /// Makes these rows equal to the others.
     pub fn set_from(&mut self, other: &Rows<T, N>)
         ensures { self.new ≡ other.now }
     {
         let others = other.as_slice();
-        self.items.truncate(others.len());
-        let kept = self.items.len();
-        set_all(self.items.as_mut_slice(), others);
-        for at in kept..others.len() {
-            self.push(others[at].twin());
-        }
+        let over = others.len().min(self.slots.len());
+        set_first(self.slots.as_mut_slice(), over, others);
+        add_all(&mut self.slots, &others[over..]);
+        self.used = others.len();
     }
 
     /// Other rows, equal to these.

@@ -9,3 +9,13 @@ pub trait Twin: Drop {
     fn set_from(&mut self, other: &Self)
         ensures { self.new ≡ other.now };
 }
+
+impl Twin for u64 {
+    fn twin(&self) -> u64 {
+        *self
+    }
+
+    fn set_from(&mut self, other: &u64) {
+        *self = *other;
+    }
+}
