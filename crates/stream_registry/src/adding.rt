@@ -9,6 +9,7 @@ use crate::slots::free_slot;
 use crate::streams::Streams;
 use crate::wanted::{Adding, Wanted};
 use channel_uri::Channel;
+use rows::Form;
 
 /// How many publications there are at most.
 const LOGS: usize = 256;
@@ -18,6 +19,64 @@ const REGISTRATIONS: usize = 1024;
 
 /// How many subscriptions there are at most.
 const SUBSCRIPTIONS: usize = 512;
+
+/// A registration that is to be noted.
+#[derive(Clone, Copy)]
+struct NewRegistration<'a> {
+    number: u64,
+    client: u64,
+    channel: &'a Channel,
+    source: u64,
+}
+
+impl Form<Registration> for NewRegistration<'_> {
+    ghost formed = { λ form. record { number = form.number; client = form.client; channel = form.channel.now; source = form.source } };
+
+    fn make(&self) -> Registration {
+        Registration {
+            number: self.number,
+            client: self.client,
+            channel: self.channel.copy(),
+            source: self.source,
+        }
+    }
+
+    fn write(&self, row: &mut Registration) {
+        row.number = self.number;
+        row.client = self.client;
+        row.channel.set_from(self.channel);
+        row.source = self.source;
+    }
+}
+
+/// A subscription that is to be noted.
+#[derive(Clone, Copy)]
+struct NewSubscription<'a> {
+    number: u64,
+    client: u64,
+    channel: &'a Channel,
+    stream: i32,
+}
+
+impl Form<Subscription> for NewSubscription<'_> {
+    ghost formed = { λ form. record { number = form.number; client = form.client; channel = form.channel.now; stream = form.stream } };
+
+    fn make(&self) -> Subscription {
+        Subscription {
+            number: self.number,
+            client: self.client,
+            channel: self.channel.copy(),
+            stream: self.stream,
+        }
+    }
+
+    fn write(&self, row: &mut Subscription) {
+        row.number = self.number;
+        row.client = self.client;
+        row.channel.set_from(self.channel);
+        row.stream = self.stream;
+    }
+}
 
 impl Streams {
     fn has_room_for_log(&self) -> bool
@@ -140,10 +199,10 @@ impl Streams {
         requires { has_room_for_registration self.old ≡ true }
         ensures { self.new ≡ registered self.old number client wanted.now source }
     {
-        self.registrations.push(Registration {
+        self.registrations.push_by(&NewRegistration {
             number,
             client,
-            channel: wanted.channel.copy(),
+            channel: &wanted.channel,
             source,
         });
     }
@@ -178,10 +237,10 @@ impl Streams {
         requires { has_room_for_subscription self.old ≡ true }
         ensures { self.new ≡ subscribed self.old number client channel.now stream }
     {
-        self.subscriptions.push(Subscription {
+        self.subscriptions.push_by(&NewSubscription {
             number,
             client,
-            channel: channel.copy(),
+            channel,
             stream,
         });
     }
