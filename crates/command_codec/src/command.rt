@@ -65,6 +65,7 @@ impl Kind {
     ghost use Rattle.command_codec.specs.Command.{fields_of, has_bytes, is_alive_in, kind_of};
 
     #[tactic(auto, unfolding(crate::specs::Command::kind_of, crate::specs::Command::kind_number))]
+    #[inline(always)]
     fn from_number(number: u32) -> Result<Kind, CommandFault>
         ensures { result ≡ kind_of number }
     {
@@ -88,6 +89,7 @@ impl Kind {
 
     /// Whether these fields, behind a command's head, say that a client is there still.
     #[tactic(auto, unfolding(crate::specs::Command::fields_of), using(crate::proofs::AliveLemmas::others_are_not))]
+    #[inline(always)]
     fn is_alive(self, bytes: &[u8]) -> bool
         ensures { result ≡ is_alive_in (fields_of self bytes.now) }
     {
@@ -202,6 +204,7 @@ impl Command {
     ghost use Rattle.command_codec.specs.Gives.{Equals};
 
     /// The kind of the command that the bytes are, the client that it names, and the bytes behind its head.
+    #[inline(always)]
     fn head_of(bytes: &[u8]) -> Result<(Kind, u64, &[u8]), CommandFault>
         ensures { Equals (λ head. (head.0, head.1, head.2.now)) result (head_of bytes.now) }
     {
@@ -262,6 +265,7 @@ impl Command {
 
     /// Whether the bytes are the command CLIENT_KEEPALIVE of that client. They are looked at where they lie.
     #[tactic(auto, unfolding(crate::specs::Command::command_of))]
+    #[inline(always)]
     pub fn is_keepalive(bytes: &[u8], client: u64) -> bool
         ensures { result ≡ is_keepalive client (command_of bytes.now) }
     {

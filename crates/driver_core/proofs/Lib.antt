@@ -1,3 +1,4 @@
+pub mod AliveLemmas
 pub mod AskedLemmas
 pub mod AskingLemmas
 pub mod AttachLemmas

@@ -10,6 +10,7 @@ pub mod Directing
 pub mod Draft
 pub mod Identity
 pub mod ImageRequests
+pub mod InPlace
 pub mod Kept
 pub mod Leaving
 pub mod LeftOut

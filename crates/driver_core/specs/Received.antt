@@ -24,9 +24,10 @@ channel_in (Ok command) = channel_named command.body
 channel_in (Err fault) = Err NoScheme
 
 -- the channel of a command that keeps it apart; a command that names none keeps none
-abbrev pub channel_kept : {Z : Type 0} → Option (Box (Result Shape UriError) Z) → Result Shape UriError
+abbrev pub channel_kept : {Z : Type 0} → Option (Result (Box Shape Z) UriError) → Result Shape UriError
 channel_kept None = Err NoScheme
-channel_kept (Some channel) = channel.value
+channel_kept (Some (Ok channel)) = Ok channel.value
+channel_kept (Some (Err fault)) = Err fault
 
 -- the channel behind the reference
 abbrev pub channel_lent : Result (Bor Shape) UriError → Result Shape UriError

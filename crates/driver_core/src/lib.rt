@@ -24,6 +24,7 @@ mod entry;
 mod event;
 mod finding;
 mod image_request;
+mod in_place;
 mod leaving;
 mod left_out;
 mod listing;

@@ -15,7 +15,7 @@ pub struct Received {
     bytes: Bytes,
     command: Result<Command, CommandFault>,
     /// A channel is large, so it lies apart: an event is handed on by value.
-    channel: Option<Box<Result<Channel, UriError>>>,
+    channel: Option<Result<Box<Channel>, UriError>>,
 }
 
 impl Model for Received {
@@ -32,18 +32,18 @@ impl Model for Received {
 }
 
 /// The channel that a text denotes.
-fn parsed(alloc: Global, text: &str) -> Result<Option<Box<Result<Channel, UriError>>>, AllocError>
+fn parsed(alloc: Global, text: &str) -> Result<Option<Result<Box<Channel>, UriError>>, AllocError>
     ensures { IfOk result (λ channel. channel_kept channel ≡ denotes text.now) }
 {
-    let channel = match Channel::parse(text) {
-        Ok(channel) => Ok(channel),
-        Err(fault) => Err(fault),
-    };
-    Ok(Some(Box::new(alloc, channel)?))
+    let mut channel = Box::new(alloc, Channel::ipc())?;
+    match channel.read(text) {
+        Ok(()) => Ok(Some(Ok(channel))),
+        Err(fault) => Ok(Some(Err(fault))),
+    }
 }
 
 /// The channel that a command names by what it asks for.
-fn named(alloc: Global, body: &Body) -> Result<Option<Box<Result<Channel, UriError>>>, AllocError>
+fn named(alloc: Global, body: &Body) -> Result<Option<Result<Box<Channel>, UriError>>, AllocError>
     ensures { IfOk result (λ channel. channel_kept channel ≡ channel_named body.now) }
 {
     match body {
@@ -61,7 +61,7 @@ fn named(alloc: Global, body: &Body) -> Result<Option<Box<Result<Channel, UriErr
 fn channel_of(
     alloc: Global,
     command: &Result<Command, CommandFault>,
-) -> Result<Option<Box<Result<Channel, UriError>>>, AllocError>
+) -> Result<Option<Result<Box<Channel>, UriError>>, AllocError>
     ensures { IfOk result (λ channel. channel_kept channel ≡ channel_in command.now) }
 {
     match command {
@@ -85,19 +85,20 @@ fn command_copied(
 
 /// Another channel, the same as this one.
 fn channel_copied(
-    channel: &Option<Box<Result<Channel, UriError>>>,
+    channel: &Option<Result<Box<Channel>, UriError>>,
     alloc: Global,
-) -> Result<Option<Box<Result<Channel, UriError>>>, AllocError>
+) -> Result<Option<Result<Box<Channel>, UriError>>, AllocError>
     ensures { IfOk result (λ copy. channel_kept copy ≡ channel_kept channel.now) }
 {
-    let Some(channel) = channel else {
-        return Ok(None);
-    };
-    let copy = match &**channel {
-        Ok(channel) => Ok(channel.copy()),
-        Err(fault) => Err(*fault),
-    };
-    Ok(Some(Box::new(alloc, copy)?))
+    match channel {
+        Some(Ok(channel)) => {
+            let mut copy = Box::new(alloc, Channel::ipc())?;
+            copy.set_from(channel);
+            Ok(Some(Ok(copy)))
+        }
+        Some(Err(fault)) => Ok(Some(Err(*fault))),
+        None => Ok(None),
+    }
 }
 
 impl Received {
@@ -128,12 +129,10 @@ impl Received {
     pub fn channel(&self) -> Result<&Channel, UriError>
         ensures { channel_lent result ≡ channel_in (command_of self.now) }
     {
-        let Some(channel) = &self.channel else {
-            return Err(UriError::NoScheme);
-        };
-        match &**channel {
-            Ok(channel) => Ok(channel),
-            Err(fault) => Err(*fault),
+        match &self.channel {
+            Some(Ok(channel)) => Ok(&**channel),
+            Some(Err(fault)) => Err(*fault),
+            None => Err(UriError::NoScheme),
         }
     }
 

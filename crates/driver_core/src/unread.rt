@@ -34,18 +34,28 @@ impl Registry {
     }
 
     /// The images go that no subscription reads.
-    #[tactic(auto, unfolding(crate::specs::Unread::without_unread))]
     pub(crate) fn drop_unread(&mut self)
         ensures { self.new ≡ without_unread self.old }
     {
         if self.all_read {
             return;
         }
+        self.drop_all_unread();
+    }
+
+    /// The images go that no subscription reads, which are looked for. It is a call of its own, since there is room in it for the
+    /// numbers of as many as there may be.
+    #[tactic(auto, unfolding(crate::specs::Unread::without_unread))]
+    #[inline(never)]
+    fn drop_all_unread(&mut self)
+        ensures { self.new ≡ without_unread self.old }
+    {
         let numbers = self.readers.unread(&self.streams);
         if numbers.is_empty() {
             self.all_read = true;
             return;
         }
+        self.all_read = false;
         self.readers
             .remove_images(&self.streams, numbers.as_slice());
         self.streams.remove_images(numbers.as_slice());

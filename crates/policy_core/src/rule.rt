@@ -74,6 +74,7 @@ impl Twin for Rule {
             allow: self.allow,
         }
     }
+
     fn set_from(&mut self, other: &Rule) {
         self.name.set_from(&other.name);
         self.principals = other.principals;

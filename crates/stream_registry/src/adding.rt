@@ -3,11 +3,12 @@ ghost use Rattle.std.specs.Prelude.{◌≡◌, Ok, true};
 
 use crate::fault::StreamFault;
 use crate::joining::{contradicts, joined_at};
-use crate::row::{Origin, Registration, Source, Subscription};
+use crate::row::{Origin, Registration, Source};
 use crate::sessions::{after, free_session, is_stated_again};
 use crate::slots::free_slot;
 use crate::streams::Streams;
 use crate::wanted::{Adding, Wanted};
+use crate::wish::Wish;
 use channel_uri::Channel;
 use rows::Form;
 
@@ -46,35 +47,6 @@ impl Form<Registration> for NewRegistration<'_> {
         row.client = self.client;
         row.channel.set_from(self.channel);
         row.source = self.source;
-    }
-}
-
-/// A subscription that is to be noted.
-#[derive(Clone, Copy)]
-struct NewSubscription<'a> {
-    number: u64,
-    client: u64,
-    channel: &'a Channel,
-    stream: i32,
-}
-
-impl Form<Subscription> for NewSubscription<'_> {
-    ghost formed = { λ form. record { number = form.number; client = form.client; channel = form.channel.now; stream = form.stream } };
-
-    fn make(&self) -> Subscription {
-        Subscription {
-            number: self.number,
-            client: self.client,
-            channel: self.channel.copy(),
-            stream: self.stream,
-        }
-    }
-
-    fn write(&self, row: &mut Subscription) {
-        row.number = self.number;
-        row.client = self.client;
-        row.channel.set_from(self.channel);
-        row.stream = self.stream;
     }
 }
 
@@ -237,7 +209,7 @@ impl Streams {
         requires { has_room_for_subscription self.old ≡ true }
         ensures { self.new ≡ subscribed self.old number client channel.now stream }
     {
-        self.subscriptions.push_by(&NewSubscription {
+        self.subscriptions.push_by(&Wish {
             number,
             client,
             channel,

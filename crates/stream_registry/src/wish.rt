@@ -3,6 +3,7 @@ ghost use Rattle.std.specs.Prelude.{◌≡◌};
 
 use crate::row::Subscription;
 use channel_uri::Channel;
+use rows::Form;
 
 /// A subscription that is asked about, whether it is there or not.
 #[derive(Clone, Copy)]
@@ -27,5 +28,25 @@ impl Subscription {
             channel: &self.channel,
             stream: self.stream,
         }
+    }
+}
+
+impl Form<Subscription> for Wish<'_> {
+    ghost formed = { λ wish. row_of wish };
+
+    fn make(&self) -> Subscription {
+        Subscription {
+            number: self.number,
+            client: self.client,
+            channel: self.channel.copy(),
+            stream: self.stream,
+        }
+    }
+
+    fn write(&self, row: &mut Subscription) {
+        row.number = self.number;
+        row.client = self.client;
+        row.channel.set_from(self.channel);
+        row.stream = self.stream;
     }
 }
