@@ -1,150 +1,110 @@
 //! Images: the logs of remote publishers.
 
-use crate::play::{Play, image_wanted, made};
-use stream_registry::LogPlace;
+use crate::play::{self, Answer, HERE, Play, Step};
 
-const HERE: &str = "aeron:udp?endpoint=127.0.0.1:40123";
-
-fn two_come(play: &mut Play) -> bool {
-    play.images(1, HERE, 10, 7) && play.images(2, HERE, 11, 8)
-}
-
-fn three_subscribe(play: &mut Play) -> bool {
-    play.subscribes(3, 1, "aeron:udp?endpoint=localhost:40123")
-        && play.subscribes(4, 1, "aeron:udp?endpoint=127.0.0.1:40123|session-id=7")
-        && play.subscribes(5, 1, "aeron:udp?endpoint=127.0.0.1:40123|session-id=8")
-}
-
-fn four_others_subscribe(play: &mut Play) -> bool {
-    play.subscribes(6, 1, "aeron-spy:aeron:udp?endpoint=127.0.0.1:40123")
-        && play.subscribes(7, 1, "aeron:udp?endpoint=127.0.0.1:40124")
-        && play.subscribes(8, 1, "aeron:ipc")
-        && play.subscribes(9, 1, "aeron:udp?control-mode=manual")
-}
-
-fn first_image_is_read(play: &Play) -> bool {
-    play.reads(1, 3)
-        && play.reads(1, 4)
-        && !play.reads(1, 5)
-        && !play.reads(1, 6)
-        && !play.reads(1, 7)
-        && !play.reads(1, 8)
-        && !play.reads(1, 9)
-        && !play.reads(2, 3)
-}
-
-fn sessions_stay_ours(play: &mut Play) -> bool {
-    play.images(1, HERE, 10, 1)
-        && play.publishes(2, 1, "aeron:ipc", made(1))
-        && play.publishes(3, 1, "aeron:udp?endpoint=127.0.0.1:40123", made(2))
-        && play.publishes(
+static STEPS: [(Step, bool); 67] = [
+    // They are read at their endpoint.
+    (Step::Begin, true),
+    (Step::Images(1, HERE, 10, 7), true),
+    (Step::Images(2, HERE, 11, 8), true),
+    (
+        Step::Subscribes(3, 1, "aeron:udp?endpoint=localhost:40123"),
+        true,
+    ),
+    (
+        Step::Subscribes(4, 1, "aeron:udp?endpoint=127.0.0.1:40123|session-id=7"),
+        true,
+    ),
+    (
+        Step::Subscribes(5, 1, "aeron:udp?endpoint=127.0.0.1:40123|session-id=8"),
+        true,
+    ),
+    (
+        Step::Subscribes(6, 1, "aeron-spy:aeron:udp?endpoint=127.0.0.1:40123"),
+        true,
+    ),
+    (
+        Step::Subscribes(7, 1, "aeron:udp?endpoint=127.0.0.1:40124"),
+        true,
+    ),
+    (Step::Subscribes(8, 1, "aeron:ipc"), true),
+    (
+        Step::Subscribes(9, 1, "aeron:udp?control-mode=manual"),
+        true,
+    ),
+    (Step::Reads(1, 3), true),
+    (Step::Reads(1, 4), true),
+    (Step::Reads(1, 5), false),
+    (Step::Reads(1, 6), false),
+    (Step::Reads(1, 7), false),
+    (Step::Reads(1, 8), false),
+    (Step::Reads(1, 9), false),
+    (Step::Reads(2, 3), false),
+    // They take no session of ours.
+    (Step::Begin, true),
+    (Step::Images(1, HERE, 10, 1), true),
+    (Step::Publishes(2, 1, "aeron:ipc", Answer::Made(1)), true),
+    (Step::Publishes(3, 1, HERE, Answer::Made(2)), true),
+    (
+        Step::Publishes(
             4,
             1,
             "aeron:udp?endpoint=127.0.0.1:40124|session-id=7",
-            made(7),
-        )
-}
+            Answer::Made(7),
+        ),
+        true,
+    ),
+    // Slots are of one kind each.
+    (Step::Begin, true),
+    (Step::Images(1, HERE, 10, 7), true),
+    (Step::Publishes(2, 1, "aeron:ipc", Answer::Made(1)), true),
+    (Step::Images(3, HERE, 11, 8), true),
+    (Step::Publishes(4, 1, HERE, Answer::Made(2)), true),
+    (Step::HasSlot(1, 0), true),
+    (Step::HasSlot(2, 0), true),
+    (Step::HasSlot(3, 1), true),
+    (Step::HasSlot(4, 1), true),
+    (Step::ImagesGo(1, 2), true),
+    (Step::Has(3, 2, 0), true),
+    (Step::Images(5, HERE, 12, 9), true),
+    (Step::HasSlot(5, 0), true),
+    (Step::HasSlot(3, 1), true),
+    // They are found until they go.
+    (Step::Begin, true),
+    (Step::Images(1, HERE, 10, 7), true),
+    (Step::Images(2, HERE, 11, 8), true),
+    (Step::IsFound(10, 7), true),
+    (Step::IsFound(11, 8), true),
+    (Step::IsFound(10, 8), false),
+    (Step::IsFound(11, 7), false),
+    (Step::ImagesGo(1, 1), true),
+    (Step::IsFound(10, 7), false),
+    (Step::IsFound(11, 8), true),
+    // They have pages of their own.
+    (Step::Begin, true),
+    (Step::ImageGoesTo(48, Some(0)), true),
+    (Step::Makes(1, 96, "aeron:ipc", 0), true),
+    (Step::ImageGoesTo(96, Some(48)), true),
+    (Step::ImageGoesTo(95, None), true),
+    // They do not linger.
+    (Step::Begin, true),
+    (Step::Images(1, HERE, 10, 7), true),
+    (Step::Images(2, HERE, 11, 8), true),
+    (Step::Leaves(1, 0), true),
+    (Step::Lingers(1, None), true),
+    (Step::Closes(u64::MAX, None), true),
+    (Step::Has(2, 0, 0), true),
+    // They close when they are silent, and no publication does.
+    (Step::Begin, true),
+    (Step::Images(1, HERE, 10, 7), true),
+    (Step::Images(2, HERE, 11, 8), true),
+    (Step::Publishes(3, 1, "aeron:ipc", Answer::Made(1)), true),
+    (Step::ClosesSilent((1, 3), (1, 1)), true),
+    (Step::IsFound(10, 7), false),
+    (Step::IsFound(11, 8), true),
+    (Step::Lingers(3, None), true),
+];
 
-fn two_of_each_come(play: &mut Play) -> bool {
-    play.images(1, HERE, 10, 7)
-        && play.publishes(2, 1, "aeron:ipc", made(1))
-        && play.images(3, HERE, 11, 8)
-        && play.publishes(4, 1, HERE, made(2))
-}
-
-fn slots_are_of_one_kind_each(play: &mut Play) -> bool {
-    let first = two_of_each_come(play) && play.has_slot(1, 0) && play.has_slot(2, 0);
-    let second = play.has_slot(3, 1) && play.has_slot(4, 1);
-    play.streams.remove_images(&[1, 2]);
-    let next = play.has(3, 2, 0) && play.images(5, HERE, 12, 9);
-    first && second && next && play.has_slot(5, 0) && play.has_slot(3, 1)
-}
-
-/// Whether the image of this session is found on the stream.
-fn is_found(play: &Play, stream: i32, session: i32) -> bool {
-    match image_wanted(HERE, stream, session) {
-        Ok(wanted) => match (
-            play.streams.image_at(&wanted.channel, session, stream),
-            wanted.channel.endpoint(),
-        ) {
-            (Some(image), Some(local)) => match play.streams.image_to(&local, session, stream) {
-                Some(same) => same.number == image.number,
-                None => false,
-            },
-            _ => false,
-        },
-        Err(_) => false,
-    }
-}
-
-fn are_found_until_they_go(play: &mut Play) -> bool {
-    let found = two_come(play) && is_found(play, 10, 7) && is_found(play, 11, 8);
-    let others = is_found(play, 10, 8) || is_found(play, 11, 7);
-    play.streams.remove_images(&[1]);
-    found && !others && !is_found(play, 10, 7) && is_found(play, 11, 8)
-}
-
-/// Where an image would go in an arena of so many pages.
-fn goes_to(play: &Play, arena_pages: u32, place: Option<u64>) -> bool {
-    match image_wanted(HERE, 10, 7) {
-        Ok(wanted) => play.streams.image_place_for(arena_pages, &wanted) == place,
-        Err(_) => false,
-    }
-}
-
-fn have_pages_of_their_own(play: &mut Play) -> bool {
-    goes_to(play, 48, Some(0))
-        && play.makes(1, 96, "aeron:ipc", 0)
-        && goes_to(play, 96, Some(48))
-        && goes_to(play, 95, None)
-}
-
-fn do_not_linger(play: &mut Play) -> bool {
-    let came = two_come(play);
-    play.streams.client_left(1, 0);
-    came && play.lingers(1, None) && play.closes(u64::MAX, &[]) && play.has(2, 0, 0)
-}
-
-fn close_when_silent(play: &mut Play) -> bool {
-    let first = LogPlace {
-        source: 1,
-        place: 1,
-    };
-    two_come(play)
-        && play.publishes(3, 1, "aeron:ipc", made(1))
-        && play.closes_silent(0, &[1, 3], &[first])
-        && !is_found(play, 10, 7)
-        && is_found(play, 11, 8)
-        && play.lingers(3, None)
-}
-
-/// What images do.
-/// What a play shows.
-#[derive(Clone, Copy)]
-pub(crate) enum Case {
-    AreReadAtTheirEndpoint,
-    TakeNoSessionOfOurs,
-    HaveSlotsOfOneKind,
-    AreFoundUntilTheyGo,
-    HavePagesOfTheirOwn,
-    DoNotLinger,
-    CloseWhenSilent,
-}
-
-/// Whether a play in which nothing happened yet goes as the case says.
-pub(crate) fn goes(play: &mut Play, case: Case) -> bool {
-    match case {
-        Case::AreReadAtTheirEndpoint => {
-            two_come(play)
-                && three_subscribe(play)
-                && four_others_subscribe(play)
-                && first_image_is_read(play)
-        },
-        Case::TakeNoSessionOfOurs => sessions_stay_ours(play),
-        Case::HaveSlotsOfOneKind => slots_are_of_one_kind_each(play),
-        Case::AreFoundUntilTheyGo => are_found_until_they_go(play),
-        Case::HavePagesOfTheirOwn => have_pages_of_their_own(play),
-        Case::DoNotLinger => do_not_linger(play),
-        Case::CloseWhenSilent => close_when_silent(play),
-    }
+pub(crate) fn are_taken(play: &mut Play) -> bool {
+    play::are_taken(play, &STEPS)
 }

@@ -18,6 +18,8 @@ mod play;
 #[cfg(test)]
 mod publishing;
 #[cfg(test)]
+mod readers;
+#[cfg(test)]
 mod sessions;
 #[cfg(test)]
 mod tests;

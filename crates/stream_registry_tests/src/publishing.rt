@@ -1,54 +1,82 @@
 //! Who joins whose log.
 
-use crate::play::{Play, joined, made};
+use crate::play::{self, Answer, Play, Step};
 use stream_registry::StreamFault;
 
-fn equal_channels_share(play: &mut Play) -> bool {
-    let first = "aeron:udp?endpoint=127.0.0.1:40123|mtu=1408";
-    let second = "aeron:udp?mtu=1408|endpoint=localhost:40123";
-    let third = "aeron:udp?endpoint=127.0.0.1:40123|term-length=128k";
-    play.publishes(1, 1, first, made(1))
-        && play.publishes(2, 2, second, joined(1, 1))
-        && play.publishes(3, 3, third, Err(StreamFault::Conflict))
-        && play.has(1, 2, 0)
-        && play.streams.registrations_of(1) == 2
-        && play.streams.registrations_of(2) == 0
-}
+const CONFLICT: Answer = Answer::Refused(StreamFault::Conflict);
 
-fn missing_keys_are_defaults(play: &mut Play) -> bool {
-    let said = "aeron:ipc?mtu=1408|term-length=64k|linger=5s";
-    let conflict = Err(StreamFault::Conflict);
-    play.publishes(1, 1, "aeron:ipc", made(1))
-        && play.publishes(2, 1, said, joined(1, 1))
-        && play.publishes(3, 1, "aeron:ipc?mtu=1440", conflict)
-        && play.publishes(3, 1, "aeron:ipc?linger=4s", conflict)
-}
+const MANUAL: &str = "aeron:udp?control-mode=manual";
 
-fn own_logs_are_not_joined(play: &mut Play) -> bool {
-    let manual = "aeron:udp?control-mode=manual";
-    play.publishes(1, 1, manual, made(1))
-        && play.publishes(2, 1, manual, made(2))
-        && play.publishes_on(3, "aeron:ipc", 10, true, made(3))
-        && play.publishes(4, 1, "aeron:ipc", made(4))
-        && play.publishes_on(5, "aeron:ipc", 10, true, made(5))
-        && play.publishes(6, 1, "aeron:ipc?control-mode=manual", joined(4, 4))
-        && play.publishes_on(7, "aeron:ipc", 11, false, made(6))
-}
+static STEPS: [(Step, bool); 20] = [
+    // Equal channels share a log.
+    (Step::Begin, true),
+    (
+        Step::Publishes(
+            1,
+            1,
+            "aeron:udp?endpoint=127.0.0.1:40123|mtu=1408",
+            Answer::Made(1),
+        ),
+        true,
+    ),
+    (
+        Step::Publishes(
+            2,
+            2,
+            "aeron:udp?mtu=1408|endpoint=localhost:40123",
+            Answer::Joined(1, 1),
+        ),
+        true,
+    ),
+    (
+        Step::Publishes(
+            3,
+            3,
+            "aeron:udp?endpoint=127.0.0.1:40123|term-length=128k",
+            CONFLICT,
+        ),
+        true,
+    ),
+    (Step::Has(1, 2, 0), true),
+    (Step::Registered(1, 2), true),
+    (Step::Registered(2, 0), true),
+    // A missing key is as the defaults.
+    (Step::Begin, true),
+    (Step::Publishes(1, 1, "aeron:ipc", Answer::Made(1)), true),
+    (
+        Step::Publishes(
+            2,
+            1,
+            "aeron:ipc?mtu=1408|term-length=64k|linger=5s",
+            Answer::Joined(1, 1),
+        ),
+        true,
+    ),
+    (Step::Publishes(3, 1, "aeron:ipc?mtu=1440", CONFLICT), true),
+    (Step::Publishes(3, 1, "aeron:ipc?linger=4s", CONFLICT), true),
+    // Some logs are never joined.
+    (Step::Begin, true),
+    (Step::Publishes(1, 1, MANUAL, Answer::Made(1)), true),
+    (Step::Publishes(2, 1, MANUAL, Answer::Made(2)), true),
+    (
+        Step::PublishesOn(3, "aeron:ipc", 10, true, Answer::Made(3)),
+        true,
+    ),
+    (Step::Publishes(4, 1, "aeron:ipc", Answer::Made(4)), true),
+    (
+        Step::PublishesOn(5, "aeron:ipc", 10, true, Answer::Made(5)),
+        true,
+    ),
+    (
+        Step::Publishes(6, 1, "aeron:ipc?control-mode=manual", Answer::Joined(4, 4)),
+        true,
+    ),
+    (
+        Step::PublishesOn(7, "aeron:ipc", 11, false, Answer::Made(6)),
+        true,
+    ),
+];
 
-/// What publications share.
-/// What a play shows.
-#[derive(Clone, Copy)]
-pub(crate) enum Case {
-    OneLogForEqualChannels,
-    AMissingKeyIsAsTheDefaults,
-    SomeLogsAreNeverJoined,
-}
-
-/// Whether a play in which nothing happened yet goes as the case says.
-pub(crate) fn goes(play: &mut Play, case: Case) -> bool {
-    match case {
-        Case::OneLogForEqualChannels => equal_channels_share(play),
-        Case::AMissingKeyIsAsTheDefaults => missing_keys_are_defaults(play),
-        Case::SomeLogsAreNeverJoined => own_logs_are_not_joined(play),
-    }
+pub(crate) fn are_taken(play: &mut Play) -> bool {
+    play::are_taken(play, &STEPS)
 }
