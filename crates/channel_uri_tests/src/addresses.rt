@@ -1,30 +1,19 @@
-use crate::faults::is_so;
-use channel_uri::{Address, Channel, UriError, address_of};
-use std::alloc::{AllocError, Global};
+use channel_uri::{Address, Channel, address_of};
+use std::alloc::Global;
 
-/// Why a channel was not made or not written.
-#[derive(Clone, Copy, Debug)]
-struct Refused;
+/// An address, a text, and whether a channel names the address by that text.
+type Row = ([u8; 4], u16, &'static str, bool);
 
-impl From<AllocError> for Refused {
-    fn from(_: AllocError) -> Refused {
-        Refused
-    }
-}
-
-impl From<UriError> for Refused {
-    fn from(_: UriError) -> Refused {
-        Refused
-    }
-}
-
-/// Addresses that a channel may name, each with its text.
-const ADDRESSES: [([u8; 4], u16, &str); 5] = [
-    ([127, 0, 0, 1], 40123, "127.0.0.1:40123"),
-    ([0, 0, 0, 0], 1, "0.0.0.0:1"),
-    ([223, 255, 255, 255], 9, "223.255.255.255:9"),
-    ([255, 255, 255, 255], 65535, "255.255.255.255:65535"),
-    ([10, 20, 109, 100], 8010, "10.20.109.100:8010"),
+static ADDRESSES: [Row; 8] = [
+    ([127, 0, 0, 1], 40123, "127.0.0.1:40123", true),
+    ([0, 0, 0, 0], 1, "0.0.0.0:1", true),
+    ([223, 255, 255, 255], 9, "223.255.255.255:9", true),
+    ([255, 255, 255, 255], 65535, "255.255.255.255:65535", true),
+    ([10, 20, 109, 100], 8010, "10.20.109.100:8010", true),
+    ([1, 2, 3, 4], 5, "1.2.3.4:05", false),
+    ([1, 2, 3, 4], 5, "4.3.2.1:5", false),
+    // A group of hosts has a text, which no channel may name.
+    ([224, 0, 0, 1], 5, "224.0.0.1:5", false),
 ];
 
 /// Whether the address is written so.
@@ -35,10 +24,73 @@ fn is_written(alloc: Global, address: &Address, text: &str) -> bool {
     }
 }
 
-fn are_read_back(alloc: Global, rows: &[([u8; 4], u16, &str)]) -> bool {
-    for &(octets, port, text) in rows {
+fn are_read_back(alloc: Global, rows: &[Row]) -> bool {
+    for &(octets, port, text, wanted) in rows {
         let address = Address { octets, port };
-        if !is_written(alloc, &address, text) || address_of(text) != Some(address) {
+        let same = is_written(alloc, &address, text) && address_of(text) == Some(address);
+        if same != wanted {
+            return false;
+        }
+    }
+    true
+}
+
+const AT: &str = "aeron:udp?endpoint=127.0.0.1:40123";
+
+/// Texts, and whether each denotes the channel above.
+static TEXTS: [(&str, bool); 3] = [
+    (AT, true),
+    ("aeron:udp?endpoint=localhost:40123", true),
+    ("aeron:udp?endpoint=127.0.0.1:40123|mtu=1408", false),
+];
+
+/// Whether the channel is the one above, at the address.
+fn is_of(alloc: Global, channel: &Channel, address: &Address) -> bool {
+    match channel.canonical(alloc) {
+        Ok(text) => {
+            text.as_str() == AT && channel.endpoint() == Some(*address) && channel.is_at(address)
+        }
+        Err(_) => false,
+    }
+}
+
+fn denotes(alloc: Global, text: &str, address: &Address) -> bool {
+    match Channel::parse(text) {
+        Ok(channel) => is_of(alloc, &channel, address),
+        Err(_) => false,
+    }
+}
+
+/// Whether the channel of the address is the one above, and each text denotes it or does not.
+fn denote(alloc: Global, rows: &[(&str, bool)]) -> bool {
+    let address = Address {
+        octets: [127, 0, 0, 1],
+        port: 40123,
+    };
+    let mut same = is_of(alloc, &Channel::at_endpoint(&address), &address);
+    for &(text, wanted) in rows {
+        same &= denotes(alloc, text, &address) == wanted;
+    }
+    same
+}
+
+/// Addresses, and whether each is `1.2.3.4:5`.
+static OTHERS: [([u8; 4], u16, bool); 3] = [
+    ([1, 2, 3, 4], 5, true),
+    ([1, 2, 3, 5], 5, false),
+    ([1, 2, 3, 4], 6, false),
+];
+
+/// Whether the channel of that address is at the other one, and the two are one address, where the row says so alone.
+fn are_told_apart(rows: &[([u8; 4], u16, bool)]) -> bool {
+    let first = Address {
+        octets: [1, 2, 3, 4],
+        port: 5,
+    };
+    for &(octets, port, wanted) in rows {
+        let other = Address { octets, port };
+        let is_at = Channel::at_endpoint(&first).is_at(&other);
+        if is_at != wanted || first.is(&other) != wanted {
             return false;
         }
     }
@@ -46,54 +98,7 @@ fn are_read_back(alloc: Global, rows: &[([u8; 4], u16, &str)]) -> bool {
 }
 
 #[test]
-fn addresses_are_written_and_read_back(rt: HostRuntime) {
-    assert!(rt; are_read_back(rt.alloc(), &ADDRESSES));
-    assert!(rt; !are_read_back(rt.alloc(), &[([1, 2, 3, 4], 5, "1.2.3.4:05")]));
-    assert!(rt; !are_read_back(rt.alloc(), &[([1, 2, 3, 4], 5, "4.3.2.1:5")]));
-    // A group of hosts has a text, which no channel may name.
-    assert!(rt; !are_read_back(rt.alloc(), &[([224, 0, 0, 1], 5, "224.0.0.1:5")]));
-}
-
-/// Whether the channel of an address is the one of this text.
-fn is_channel_of(alloc: Global, octets: [u8; 4], port: u16, text: &str) -> Result<bool, Refused> {
-    let address = Address { octets, port };
-    let channel = Channel::at_endpoint(&address);
-    let read = Channel::parse(text)?;
-    let written = channel.canonical(alloc)?;
-    Ok(
-        written.as_str() == read.canonical(alloc)?.as_str()
-            && channel.endpoint() == Some(address)
-            && read.endpoint() == Some(address)
-            && channel.is_at(&address)
-            && read.is_at(&address),
-    )
-}
-
-/// Whether the channel of the address is at the other one, and the two are one address.
-fn is_at(address: &Address, other: &Address) -> (bool, bool) {
-    (
-        Channel::at_endpoint(address).is_at(other),
-        address.is(other),
-    )
-}
-
-#[test]
-fn channels_are_at_one_address(rt: HostRuntime) {
-    let [first, second, third] = [([1, 2, 3, 4], 5), ([1, 2, 3, 5], 5), ([1, 2, 3, 4], 6)].map(|(
-        octets,
-        port,
-    )| Address { octets, port });
-    assert!(rt; is_at(&first, &first) == (true, true));
-    assert!(rt; is_at(&first, &second) == (false, false));
-    assert!(rt; is_at(&first, &third) == (false, false));
-}
-
-#[test]
-fn the_channel_of_an_address(rt: HostRuntime) {
-    let text = "aeron:udp?endpoint=127.0.0.1:40123";
-    assert!(rt; is_so(is_channel_of(rt.alloc(), [127, 0, 0, 1], 40123, text)));
-    let text = "aeron:udp?endpoint=localhost:40123";
-    assert!(rt; is_so(is_channel_of(rt.alloc(), [127, 0, 0, 1], 40123, text)));
-    let text = "aeron:udp?endpoint=127.0.0.1:40123|mtu=1408";
-    assert!(rt; !is_so(is_channel_of(rt.alloc(), [127, 0, 0, 1], 40123, text)));
+fn addresses_have_texts_and_channels(rt: HostRuntime) {
+    let written = are_read_back(rt.alloc(), &ADDRESSES);
+    assert!(rt; written & denote(rt.alloc(), &TEXTS) & are_told_apart(&OTHERS));
 }

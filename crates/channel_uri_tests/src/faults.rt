@@ -1,5 +1,5 @@
 use channel_uri::{Channel, Key, Pattern, UriError};
-use std::alloc::{AllocError, Global};
+use std::alloc::Global;
 use std::fmt;
 
 /// Why the text is no channel; none where it is one.
@@ -18,14 +18,6 @@ pub(crate) fn pattern_fault(text: &str) -> Option<UriError> {
     }
 }
 
-/// Whether it came about; where there is a fault nothing does.
-pub(crate) fn is_so<E: Drop>(answered: Result<bool, E>) -> bool {
-    match answered {
-        Ok(so) => so,
-        Err(_) => false,
-    }
-}
-
 /// Whether each text has the fault behind it.
 fn are_faulty(rows: &[(&str, UriError)]) -> bool {
     for &(text, fault) in rows {
@@ -36,7 +28,7 @@ fn are_faulty(rows: &[(&str, UriError)]) -> bool {
     true
 }
 
-const FAULTS: [(&str, UriError); 7] = [
+static FAULTS: [(&str, UriError); 7] = [
     ("aeron:udp?", UriError::EmptyKey),
     ("aeron:udp?=x", UriError::EmptyKey),
     ("aeron:udp?endpoint", UriError::KeyWithoutValue),
@@ -49,31 +41,8 @@ const FAULTS: [(&str, UriError); 7] = [
     ("aeron:udp?tags=1", UriError::NotServed(Key::Tags)),
 ];
 
-/// Whether the channel of the text has this value of a key, and this term length.
-fn states(
-    text: &str,
-    key: &str,
-    value: Option<&str>,
-    length: Option<u32>,
-) -> Result<bool, UriError> {
-    let channel = Channel::parse(text)?;
-    Ok(channel.get(key) == value && channel.term_length() == length)
-}
-
-const SIZED: &str = "aeron:ipc?term-length=64K";
-
-#[test]
-fn channel_faults(rt: HostRuntime) {
-    assert!(rt; are_faulty(&FAULTS));
-    assert!(rt; !are_faulty(&[("aeron:udp?=x", UriError::KeyWithoutValue)]));
-    assert!(rt; is_so(states("aeron:udp?a=1|a=2", "a", Some("2"), None)));
-    assert!(rt; !is_so(states("aeron:udp?a=1|a=2", "a", Some("1"), None)));
-    assert!(rt; is_so(states(SIZED, "a", None, Some(65536))));
-    assert!(rt; !is_so(states(SIZED, "a", None, Some(65535))));
-}
-
 /// The syntax is read from the left; of the values that are kept, the bad one whose key is first in byte order is named.
-const FIRST_FAULTS: [(&str, UriError); 28] = [
+static FIRST_FAULTS: [(&str, UriError); 28] = [
     ("aeron:udp?a=1|", UriError::EmptyKey),
     ("aeron:udp?a=1|b|=", UriError::KeyWithoutValue),
     ("aeron:udp?a=1|=|b", UriError::EmptyKey),
@@ -140,78 +109,97 @@ const FIRST_FAULTS: [(&str, UriError); 28] = [
     ),
 ];
 
-#[test]
-fn the_first_fault_is_named(rt: HostRuntime) {
-    assert!(rt; are_faulty(&FIRST_FAULTS));
-}
-
-/// The head, and letters behind it up to so many bytes.
-fn filled(alloc: Global, head: &str, len: usize) -> Result<String, AllocError> {
-    let mut text = String::from_str(alloc, head)?;
-    for _ in head.len()..len {
-        text.push_str("x")?;
+/// Whether letters behind the text find memory, up to so many bytes in all.
+fn fills(text: &mut String, len: usize) -> bool {
+    let mut filled = true;
+    for _ in text.len()..len {
+        filled &= text.push_str("x").is_ok();
     }
-    Ok(text)
+    filled
 }
 
-/// The head of a text, the length to which it is filled, and what is wrong with the text as a channel and as a pattern.
-type Length = (&'static str, usize, Option<UriError>, Option<UriError>);
+/// The head of a text, the length to which it is filled, what is wrong with the text as a
+/// channel and as a pattern, and whether that is so.
+type Length = (
+    &'static str,
+    usize,
+    Option<UriError>,
+    Option<UriError>,
+    bool,
+);
 
-const LENGTHS: [Length; 8] = [
-    ("aeron:udp?a=", 1024, None, None),
+static LENGTHS: [Length; 10] = [
+    ("aeron:udp?a=", 1024, None, None, true),
     (
         "aeron:udp?a=",
         1025,
         Some(UriError::TooLong),
         Some(UriError::TooLong),
+        true,
     ),
     (
         "aeron:udp?=a",
         1024,
         Some(UriError::EmptyKey),
         Some(UriError::EmptyKey),
+        true,
     ),
     (
         "aeron:udp?=a",
         1025,
         Some(UriError::TooLong),
         Some(UriError::TooLong),
+        true,
     ),
     (
         "aeron:udp?mtu=x",
         1024,
         Some(UriError::BadValue(Key::Mtu)),
         None,
+        true,
     ),
     (
         "aeron:udp?mtu=x",
         1025,
         Some(UriError::TooLong),
         Some(UriError::TooLong),
+        true,
     ),
     (
         "udp",
         1024,
         Some(UriError::NoScheme),
         Some(UriError::NoScheme),
+        true,
     ),
     (
         "udp",
         1025,
         Some(UriError::TooLong),
         Some(UriError::TooLong),
+        true,
     ),
+    ("aeron:udp?a=", 1024, None, Some(UriError::TooLong), false),
+    ("aeron:udp?a=", 1024, Some(UriError::TooLong), None, false),
 ];
 
-fn is_found(alloc: Global, row: Length) -> Result<bool, AllocError> {
-    let (head, len, channel, pattern) = row;
-    let text = filled(alloc, head, len)?;
-    Ok(channel_fault(text.as_str()) == channel && pattern_fault(text.as_str()) == pattern)
+fn has_faults(text: &mut String, row: Length) -> bool {
+    let filled = fills(text, row.1);
+    let found = channel_fault(text.as_str()) == row.2 && pattern_fault(text.as_str()) == row.3;
+    filled && found == row.4
 }
 
+fn is_found(alloc: Global, row: Length) -> bool {
+    match String::from_str(alloc, row.0) {
+        Ok(mut text) => has_faults(&mut text, row),
+        Err(_) => false,
+    }
+}
+
+/// The length is looked at first.
 fn are_found(alloc: Global, rows: &[Length]) -> bool {
     for &row in rows {
-        if !is_so(is_found(alloc, row)) {
+        if !is_found(alloc, row) {
             return false;
         }
     }
@@ -219,20 +207,10 @@ fn are_found(alloc: Global, rows: &[Length]) -> bool {
 }
 
 #[test]
-fn the_length_is_looked_at_first(rt: HostRuntime) {
-    assert!(rt; are_found(rt.alloc(), &LENGTHS));
-    assert!(rt;
-        !are_found(
-            rt.alloc(),
-            &[("aeron:udp?a=", 1024, None, Some(UriError::TooLong))]
-        )
-    );
-    assert!(rt;
-        !are_found(
-            rt.alloc(),
-            &[("aeron:udp?a=", 1024, Some(UriError::TooLong), None)]
-        )
-    );
+fn channel_faults(rt: HostRuntime) {
+    let faulty = are_faulty(&FAULTS) & are_faulty(&FIRST_FAULTS);
+    let other = are_faulty(&[("aeron:udp?=x", UriError::KeyWithoutValue)]);
+    assert!(rt; faulty & !other & are_found(rt.alloc(), &LENGTHS));
 }
 
 /// Whether the value is written as this text.
@@ -243,54 +221,53 @@ fn is_shown<T: fmt::Display>(alloc: Global, value: &T, text: &str) -> bool {
     }
 }
 
-const FAULT_TEXTS: [(UriError, &str); 7] = [
-    (UriError::TooLong, "longer than 1,024 bytes"),
-    (UriError::NoScheme, "no scheme aeron:"),
-    (UriError::BadMedia, "bad media"),
-    (UriError::EmptyKey, "empty key"),
-    (UriError::KeyWithoutValue, "key without value"),
+/// A fault, a text, and whether the fault has it.
+static FAULT_TEXTS: [(UriError, &str, bool); 8] = [
+    (UriError::TooLong, "longer than 1,024 bytes", true),
+    (UriError::NoScheme, "no scheme aeron:", true),
+    (UriError::BadMedia, "bad media", true),
+    (UriError::BadMedia, "bad medium", false),
+    (UriError::EmptyKey, "empty key", true),
+    (UriError::KeyWithoutValue, "key without value", true),
     (
         UriError::BadValue(Key::TermLength),
         "bad value of term-length",
+        true,
     ),
     (
         UriError::NotServed(Key::ControlMode),
         "not served: control-mode",
+        true,
     ),
 ];
 
-/// Whether each fault has the text behind it.
-fn are_shown(alloc: Global, rows: &[(UriError, &str)]) -> bool {
-    for &(fault, text) in rows {
-        if !is_shown(alloc, &fault, text) {
+fn are_shown(alloc: Global, rows: &[(UriError, &str, bool)]) -> bool {
+    for &(fault, text, wanted) in rows {
+        if is_shown(alloc, &fault, text) != wanted {
             return false;
         }
     }
     true
 }
 
-#[test]
-fn faults_have_texts(rt: HostRuntime) {
-    assert!(rt; are_shown(rt.alloc(), &FAULT_TEXTS));
-    assert!(rt; !are_shown(rt.alloc(), &[(UriError::BadMedia, "bad medium")]));
-}
-
-const KEY_TEXTS: [(Key, &str); 9] = [
-    (Key::Endpoint, "endpoint"),
-    (Key::Control, "control"),
-    (Key::Mtu, "mtu"),
-    (Key::TermLength, "term-length"),
-    (Key::SessionId, "session-id"),
-    (Key::Linger, "linger"),
-    (Key::ControlMode, "control-mode"),
-    (Key::Interface, "interface"),
-    (Key::Tags, "tags"),
+/// A key, a text, and whether the key has it, and no other key does.
+static KEY_TEXTS: [(Key, &str, bool); 10] = [
+    (Key::Endpoint, "endpoint", true),
+    (Key::Control, "control", true),
+    (Key::Mtu, "mtu", true),
+    (Key::TermLength, "term-length", true),
+    (Key::SessionId, "session-id", true),
+    (Key::Linger, "linger", true),
+    (Key::ControlMode, "control-mode", true),
+    (Key::Interface, "interface", true),
+    (Key::Tags, "tags", true),
+    (Key::Tags, "tag", false),
 ];
 
-/// Whether each key has the text behind it, which is that of no other.
-fn are_called(alloc: Global, rows: &[(Key, &str)]) -> bool {
-    for &(key, text) in rows {
-        if !is_shown(alloc, &key, text) || Key::from_text(text) != Some(key) {
+fn are_called(alloc: Global, rows: &[(Key, &str, bool)]) -> bool {
+    for &(key, text, wanted) in rows {
+        let called = is_shown(alloc, &key, text) && Key::from_text(text) == Some(key);
+        if called != wanted {
             return false;
         }
     }
@@ -298,8 +275,7 @@ fn are_called(alloc: Global, rows: &[(Key, &str)]) -> bool {
 }
 
 #[test]
-fn keys_have_texts(rt: HostRuntime) {
-    assert!(rt; are_called(rt.alloc(), &KEY_TEXTS));
-    assert!(rt; !are_called(rt.alloc(), &[(Key::Tags, "tag")]));
-    assert!(rt; Key::from_text("ttl").is_none());
+fn faults_and_keys_have_texts(rt: HostRuntime) {
+    let shown = are_shown(rt.alloc(), &FAULT_TEXTS) & are_called(rt.alloc(), &KEY_TEXTS);
+    assert!(rt; shown & Key::from_text("ttl").is_none());
 }

@@ -1,6 +1,6 @@
-use crate::faults::{channel_fault, is_so};
-use channel_uri::{Channel, Key, UriError};
-use std::alloc::{AllocError, Global};
+use crate::faults::channel_fault;
+use channel_uri::{Key, UriError};
+use std::alloc::Global;
 
 const ADDRESSES: [&str; 7] = [
     "0.0.0.0:1",
@@ -189,126 +189,67 @@ const MODES_OF_OTHERS: [&str; 2] = ["dynamic", "response"];
 
 const ANY: [&str; 3] = ["", "1", "127.0.0.1"];
 
-/// A key, and values of it that it takes, that are bad, and that are not served.
+/// A key, values of it that it takes, that are bad, and that are not served, and whether that is so.
 type Row = (
     Key,
     &'static [&'static str],
     &'static [&'static str],
     &'static [&'static str],
+    bool,
 );
 
-const VALUES: [Row; 10] = [
-    (Key::Endpoint, &ADDRESSES, &BAD_ADDRESSES, &[]),
-    (Key::Endpoint, &[], &NO_ADDRESSES, &[]),
-    (Key::Control, &ADDRESSES, &BAD_ADDRESSES, &[]),
-    (Key::Mtu, &MTUS, &NO_MTUS, &[]),
-    (Key::TermLength, &TERM_LENGTHS, &NO_TERM_LENGTHS, &[]),
-    (Key::SessionId, &SESSION_IDS, &NO_SESSION_IDS, &[]),
-    (Key::Linger, &[], &NO_LINGERS, &[]),
-    (Key::ControlMode, &["manual"], &NO_MODES, &MODES_OF_OTHERS),
-    (Key::Interface, &[], &[], &ANY),
-    (Key::Tags, &[], &[], &ANY),
+static VALUES: [Row; 13] = [
+    (Key::Endpoint, &ADDRESSES, &BAD_ADDRESSES, &[], true),
+    (Key::Endpoint, &[], &NO_ADDRESSES, &[], true),
+    (Key::Control, &ADDRESSES, &BAD_ADDRESSES, &[], true),
+    (Key::Mtu, &MTUS, &NO_MTUS, &[], true),
+    (Key::TermLength, &TERM_LENGTHS, &NO_TERM_LENGTHS, &[], true),
+    (Key::SessionId, &SESSION_IDS, &NO_SESSION_IDS, &[], true),
+    (Key::Linger, &[], &NO_LINGERS, &[], true),
+    (
+        Key::ControlMode,
+        &["manual"],
+        &NO_MODES,
+        &MODES_OF_OTHERS,
+        true,
+    ),
+    (Key::Interface, &[], &[], &ANY, true),
+    (Key::Tags, &[], &[], &ANY, true),
+    (Key::Mtu, &["64", "65"], &[], &[], false),
+    (Key::Mtu, &[], &["65", "64"], &[], false),
+    (Key::Mtu, &[], &[], &["65"], false),
 ];
 
-/// What is wrong with this value of the key, if anything is.
-fn fault_of(alloc: Global, key: Key, value: &str) -> Result<Option<UriError>, AllocError> {
-    let text = format!(in alloc; "aeron:udp?{key}={value}")?;
-    Ok(channel_fault(text.as_str()))
+/// Whether the channel with this value of the key has this fault, or none.
+fn is_found(alloc: Global, key: Key, value: &str, fault: Option<UriError>) -> bool {
+    match format!(in alloc; "aeron:udp?{key}={value}") {
+        Ok(text) => channel_fault(text.as_str()) == fault,
+        Err(_) => false,
+    }
 }
 
-/// Whether each of these values of the key has this fault, or none.
-fn are_found(
-    alloc: Global,
-    key: Key,
-    values: &[&str],
-    fault: Option<UriError>,
-) -> Result<bool, AllocError> {
+fn are_found(alloc: Global, key: Key, values: &[&str], fault: Option<UriError>) -> bool {
     for &value in values {
-        if fault_of(alloc, key, value)? != fault {
-            return Ok(false);
+        if !is_found(alloc, key, value, fault) {
+            return false;
         }
     }
-    Ok(true)
+    true
 }
 
-fn follow_rules(alloc: Global, rows: &[Row]) -> Result<bool, AllocError> {
-    for &(key, taken, bad, others) in rows {
-        if !are_found(alloc, key, taken, None)?
-            || !are_found(alloc, key, bad, Some(UriError::BadValue(key)))?
-            || !are_found(alloc, key, others, Some(UriError::NotServed(key)))?
-        {
-            return Ok(false);
+fn follow_rules(alloc: Global, rows: &[Row]) -> bool {
+    for &(key, taken, bad, others, wanted) in rows {
+        let found = are_found(alloc, key, taken, None)
+            && are_found(alloc, key, bad, Some(UriError::BadValue(key)))
+            && are_found(alloc, key, others, Some(UriError::NotServed(key)));
+        if found != wanted {
+            return false;
         }
     }
-    Ok(true)
+    true
 }
 
 #[test]
 fn values_follow_the_rules_of_their_keys(rt: HostRuntime) {
-    assert!(rt; is_so(follow_rules(rt.alloc(), &VALUES)));
-    assert!(rt; !is_so(follow_rules(rt.alloc(), &[(Key::Mtu, &["64", "65"], &[], &[])])));
-    assert!(rt; !is_so(follow_rules(rt.alloc(), &[(Key::Mtu, &[], &["65", "64"], &[])])));
-    assert!(rt;
-        !is_so(follow_rules(
-            rt.alloc(),
-            &[(Key::Tags, &[], &[], &["1"]), (Key::Mtu, &[], &[], &["65"])]
-        ))
-    );
-}
-
-const SESSIONS: [(&str, i32); 4] = [
-    ("aeron:ipc?session-id=-2147483648", -2147483648),
-    ("aeron:ipc?session-id=2147483647", 2147483647),
-    ("aeron:ipc?session-id=-0", 0),
-    ("aeron:ipc?session-id=-007", -7),
-];
-
-/// Whether the channel of the text has this session and this linger.
-fn has(text: &str, session: Option<i32>, linger: Option<u64>) -> Result<bool, UriError> {
-    let channel = Channel::parse(text)?;
-    Ok(channel.session_id() == session && channel.linger() == linger)
-}
-
-fn have_sessions(rows: &[(&str, i32)]) -> bool {
-    for &(text, id) in rows {
-        if !is_so(has(text, Some(id), None)) {
-            return false;
-        }
-    }
-    true
-}
-
-fn have_lingers(rows: &[(&str, u64)]) -> bool {
-    for &(text, nanoseconds) in rows {
-        if !is_so(has(text, None, Some(nanoseconds))) {
-            return false;
-        }
-    }
-    true
-}
-
-const LINGERS: [(&str, u64); 12] = [
-    ("aeron:ipc?linger=0", 0),
-    ("aeron:ipc?linger=7", 7),
-    ("aeron:ipc?linger=7ns", 7),
-    ("aeron:ipc?linger=7us", 7_000),
-    ("aeron:ipc?linger=7ms", 7_000_000),
-    ("aeron:ipc?linger=7s", 7_000_000_000),
-    ("aeron:ipc?linger=0000000000000000000000007s", 7_000_000_000),
-    ("aeron:ipc?linger=9223372036854775807", 9223372036854775807),
-    (
-        "aeron:ipc?linger=9223372036854775807ns",
-        9223372036854775807,
-    ),
-    ("aeron:ipc?linger=9223372036854775us", 9223372036854775000),
-    ("aeron:ipc?linger=9223372036854ms", 9223372036854000000),
-    ("aeron:ipc?linger=9223372036s", 9223372036000000000),
-];
-
-#[test]
-fn numbers_are_read(rt: HostRuntime) {
-    assert!(rt; have_sessions(&SESSIONS));
-    assert!(rt; !have_sessions(&[("aeron:ipc?session-id=-007", 7)]));
-    assert!(rt; have_lingers(&LINGERS));
-    assert!(rt; !have_lingers(&[("aeron:ipc?linger=7us", 7_001)]));
+    assert!(rt; follow_rules(rt.alloc(), &VALUES));
 }
