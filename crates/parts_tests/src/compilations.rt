@@ -1,33 +1,10 @@
 //! Tests of `compiled_policy`.
 
-use crate::policies::rule;
+use crate::policies::{Row, policy_with, puts};
 use channel_uri::Channel;
 use compiled_policy::Compiled;
-use policy_core::{Act, Acts, Policy, Principals, Request, Rule};
+use policy_core::{Act, Policy, Principals, Request};
 use std::alloc::Global;
-
-/// A rule: on whom, on which act or on each, on which channels, from and to which stream, and its word.
-type Row = (Principals, Option<Act>, &'static str, i32, i32, bool);
-
-fn rule_of(row: Row) -> Option<Rule> {
-    let mut made = rule(row.0, row.2, row.3, row.4, row.5).ok()?;
-    if let Some(act) = row.1 {
-        made.acts = Acts::none().with(act);
-    }
-    Some(made)
-}
-
-/// The policy of these rules, which denies by default.
-fn policy_of(alloc: Global, rows: &[Row]) -> Option<Policy> {
-    let mut rules = Vec::new(alloc);
-    for &row in rows {
-        rules.push(rule_of(row)?).ok()?;
-    }
-    if rules.len() > 1024 {
-        return None;
-    }
-    Policy::new(rules, false).ok()
-}
 
 const ALL: Principals = Principals::Any;
 
@@ -37,7 +14,7 @@ const ONE: Principals = Principals::One(1);
 const FAR: Principals = Principals::One(1025);
 
 /// Rules of every kind of group, whose order tells.
-const RULES: [Row; 9] = [
+static RULES: [Row; 9] = [
     (ONE, Some(Act::Publish), "aeron:ipc", 10, 10, false),
     (FAR, None, "*", 10, 10, true),
     (ALL, None, "aeron:udp?endpoint=127.0.0.1:4*", 10, 10, false),
@@ -50,7 +27,7 @@ const RULES: [Row; 9] = [
 ];
 
 /// The same rules, but for the word of one of them.
-const OTHER_RULES: [Row; 9] = [
+static OTHER_RULES: [Row; 9] = [
     (ONE, Some(Act::Publish), "aeron:ipc", 10, 10, false),
     (FAR, None, "*", 10, 10, true),
     (ALL, None, "aeron:udp?endpoint=127.0.0.1:4*", 10, 10, false),
@@ -62,10 +39,45 @@ const OTHER_RULES: [Row; 9] = [
     (ALL, None, "*", 1034, 1034, true),
 ];
 
+/// A list of rules.
+#[derive(Clone, Copy)]
+enum List {
+    Rules,
+    OtherRules,
+    Nothing,
+}
+
+fn rows_of(list: List) -> &'static [Row] {
+    match list {
+        List::Rules => &RULES,
+        List::OtherRules => &OTHER_RULES,
+        List::Nothing => &[],
+    }
+}
+
+fn policy_of(alloc: Global, list: List) -> Option<Policy> {
+    let mut rules = Vec::new(alloc);
+    let mut all = true;
+    for &row in rows_of(list) {
+        all &= puts(&mut rules, row);
+    }
+    policy_with(rules, all, false)
+}
+
+/// A policy of 1,024 rules, each of which allows its own stream, from 0.
+fn full(alloc: Global) -> Option<Policy> {
+    let mut rules = Vec::new(alloc);
+    let mut all = true;
+    for stream in 0..1024 {
+        all &= puts(&mut rules, (ALL, None, "*", stream, stream, true));
+    }
+    policy_with(rules, all, false)
+}
+
 /// Who asks, for which act, on which channel and stream, and the number of the rule that decides.
 type Asked = (u32, Act, &'static str, i32, Option<u32>);
 
-const REQUESTS: [Asked; 14] = [
+static REQUESTS: [Asked; 14] = [
     (1, Act::Publish, "aeron:ipc", 10, Some(1)),
     (1, Act::Subscribe, "aeron:ipc", 10, Some(4)),
     (1025, Act::Publish, "aeron:ipc", 10, Some(2)),
@@ -134,30 +146,68 @@ fn all_agree(compiled: &Compiled, policy: &Policy, epoch: u64) -> Option<bool> {
     Some(true)
 }
 
-/// Whether the rules of the first list, compiled under the number 3, decide as those of the second do under this number.
-fn decides_as(alloc: Global, rows: &[Row], other: &[Row], epoch: u64) -> Option<bool> {
-    let compiled = Compiled::build(alloc, policy_of(alloc, rows)?, 3).ok()?;
-    all_agree(&compiled, &policy_of(alloc, other)?, epoch)
+/// What is compiled of the policy under this number.
+fn built(alloc: Global, policy: Option<Policy>, epoch: u64) -> Option<Compiled> {
+    Compiled::build(alloc, policy?, epoch).ok()
+}
+
+/// Whether it was another policy before; the list that is compiled, under the number 3; the one that it is held against,
+/// and under which number; and whether the two agree.
+type Compared = (bool, List, List, u64, bool);
+
+static COMPARED: [Compared; 6] = [
+    (false, List::Rules, List::Rules, 3, true),
+    (false, List::Rules, List::Rules, 4, false),
+    (false, List::Rules, List::OtherRules, 3, false),
+    (false, List::Rules, List::Nothing, 3, false),
+    (true, List::Rules, List::Rules, 3, true),
+    (true, List::OtherRules, List::Rules, 3, false),
+];
+
+/// Whether the policy is there, and agrees as the row says.
+fn agrees_so(alloc: Global, compiled: &Compiled, row: Compared) -> bool {
+    match policy_of(alloc, row.2) {
+        Some(policy) => all_agree(compiled, &policy, row.3) == Some(row.4),
+        None => false,
+    }
+}
+
+/// Whether what has become the compiled rules, and was a policy of 1,024 rules before, agrees as the row says.
+fn is_turned(alloc: Global, compiled: &Compiled, row: Compared) -> bool {
+    match built(alloc, full(alloc), 1) {
+        Some(mut turned) => {
+            turned.set_from(compiled);
+            agrees_so(alloc, &turned, row)
+        }
+        None => false,
+    }
+}
+
+fn is_compared(alloc: Global, row: Compared) -> bool {
+    match built(alloc, policy_of(alloc, row.1), 3) {
+        Some(compiled) => {
+            if row.0 {
+                is_turned(alloc, &compiled, row)
+            } else {
+                agrees_so(alloc, &compiled, row)
+            }
+        }
+        None => false,
+    }
+}
+
+fn are_compared(alloc: Global, rows: &[Compared]) -> bool {
+    for &row in rows {
+        if !is_compared(alloc, row) {
+            return false;
+        }
+    }
+    true
 }
 
 #[test]
 fn compiled_rules_agree(rt: HostRuntime) {
-    assert!(rt; decides_as(rt.alloc(), &RULES, &RULES, 3) == Some(true));
-    assert!(rt; decides_as(rt.alloc(), &RULES, &RULES, 4) == Some(false));
-    assert!(rt; decides_as(rt.alloc(), &RULES, &OTHER_RULES, 3) == Some(false));
-    assert!(rt; decides_as(rt.alloc(), &RULES, &[], 3) == Some(false));
-}
-
-/// A policy of 1,024 rules, each of which allows its own stream, from 0.
-fn full(alloc: Global) -> Option<Policy> {
-    let mut rules = Vec::new(alloc);
-    for stream in 0..1024 {
-        rules.push(rule(ALL, "*", stream, stream, true).ok()?).ok()?;
-    }
-    if rules.len() > 1024 {
-        return None;
-    }
-    Policy::new(rules, false).ok()
+    assert!(rt; are_compared(rt.alloc(), &COMPARED));
 }
 
 /// Whether the stream is decided by this rule.
@@ -172,35 +222,60 @@ fn is_by(compiled: &Compiled, stream: i32, by: Option<u32>) -> bool {
     compiled.verdict(&request).rule == by
 }
 
-/// Whether what has become a policy of 1,024 rules decides this stream by this rule, and its copy too.
-fn full_decides(alloc: Global, stream: i32, by: Option<u32>) -> Option<bool> {
-    let mut compiled = Compiled::room(alloc).ok()?;
-    if compiled.epoch() != 0 || !is_by(&compiled, stream, None) {
-        return Some(false);
+/// A stream, a rule, and whether the policy of 1,024 rules decides the stream by the rule.
+static STREAMS: [(i32, Option<u32>, bool); 4] = [
+    (0, Some(1), true),
+    (1023, Some(1024), true),
+    (1024, None, true),
+    (1022, Some(1024), false),
+];
+
+/// Whether it is empty and decides no stream.
+fn is_room(compiled: &Compiled) -> bool {
+    let mut none = compiled.epoch() == 0;
+    for &(stream, _, _) in &STREAMS {
+        none &= is_by(compiled, stream, None);
     }
-    compiled.compile(&full(alloc)?, 5);
-    let copy = compiled.copy(alloc).ok()?;
-    Some(
-        is_by(&compiled, stream, by)
-            && is_by(&copy, stream, by)
-            && copy.policy().rules().len() == 1024
-            && copy.epoch() == 5,
-    )
+    none
 }
 
-/// Whether what has become the compiled rules of the first list decides as those of the second, whatever it was before.
-fn becomes(alloc: Global, rows: &[Row], other: &[Row]) -> Option<bool> {
-    let mut compiled = Compiled::build(alloc, full(alloc)?, 1).ok()?;
-    compiled.set_from(&Compiled::build(alloc, policy_of(alloc, rows)?, 3).ok()?);
-    all_agree(&compiled, &policy_of(alloc, other)?, 3)
+fn is_full(compiled: &Compiled) -> bool {
+    let mut same = compiled.policy().rules().len() == 1024 && compiled.epoch() == 5;
+    for &(stream, by, wanted) in &STREAMS {
+        same &= is_by(compiled, stream, by) == wanted;
+    }
+    same
+}
+
+fn copy_is_full(alloc: Global, compiled: &Compiled) -> bool {
+    match compiled.copy(alloc) {
+        Ok(copy) => is_full(&copy),
+        Err(_) => false,
+    }
+}
+
+/// Whether what has become the policy decides its streams, and its copy too.
+fn fills(alloc: Global, compiled: &mut Compiled, policy: &Policy) -> bool {
+    let empty = is_room(compiled);
+    compiled.compile(policy, 5);
+    empty && is_full(compiled) && copy_is_full(alloc, compiled)
+}
+
+fn room_fills(alloc: Global, policy: &Policy) -> bool {
+    match Compiled::room(alloc) {
+        Ok(mut compiled) => fills(alloc, &mut compiled, policy),
+        Err(_) => false,
+    }
+}
+
+fn full_decides(alloc: Global) -> bool {
+    match full(alloc) {
+        Some(policy) => room_fills(alloc, &policy),
+        None => false,
+    }
 }
 
 #[test]
 fn ample_memory(rt: HostRuntime) {
-    assert!(rt; full_decides(rt.alloc(), 0, Some(1)) == Some(true));
-    assert!(rt; full_decides(rt.alloc(), 1023, Some(1024)) == Some(true));
-    assert!(rt; full_decides(rt.alloc(), 1024, None) == Some(true));
-    assert!(rt; full_decides(rt.alloc(), 1022, Some(1024)) == Some(false));
-    assert!(rt; becomes(rt.alloc(), &RULES, &RULES) == Some(true));
-    assert!(rt; becomes(rt.alloc(), &OTHER_RULES, &RULES) == Some(false));
+    assert!(rt; full_decides(rt.alloc()));
 }

@@ -1,14 +1,16 @@
 //! Tests of `policy_core`.
 
-use crate::answers::is_so;
 use byte_strings::ShortText;
 use channel_uri::{Channel, Pattern, UriError};
 use policy_core::{Act, Acts, Policy, Principals, Request, Rule, Verdict};
 use rows::Twin;
 use std::alloc::Global;
 
+/// A rule: on whom, on which act or on each, on which channels, from and to which stream, and its word.
+pub(crate) type Row = (Principals, Option<Act>, &'static str, i32, i32, bool);
+
 /// A rule on these streams of a channel, about every act.
-pub(crate) fn rule(
+fn rule(
     principals: Principals,
     channel: &str,
     low: i32,
@@ -26,6 +28,30 @@ pub(crate) fn rule(
     })
 }
 
+fn rule_of(row: Row) -> Option<Rule> {
+    let mut made = rule(row.0, row.2, row.3, row.4, row.5).ok()?;
+    if let Some(act) = row.1 {
+        made.acts = Acts::none().with(act);
+    }
+    Some(made)
+}
+
+/// Whether the rule finds memory. It is the last one then.
+pub(crate) fn puts(rules: &mut Vec<Rule>, row: Row) -> bool {
+    match rule_of(row) {
+        Some(rule) => rules.push(rule).is_ok(),
+        None => false,
+    }
+}
+
+/// The policy of these rules, which allows by default or denies, if all of them were put.
+pub(crate) fn policy_with(rules: Vec<Rule>, all: bool, allow: bool) -> Option<Policy> {
+    if !all || rules.len() > 1024 {
+        return None;
+    }
+    Policy::new(rules, allow).ok()
+}
+
 /// What policy 3 says of the act of a principal on a stream of the channel.
 fn answer(policy: &Policy, principal: u32, act: Act, channel: &Channel, stream: i32) -> Verdict {
     let request = Request {
@@ -39,8 +65,12 @@ fn answer(policy: &Policy, principal: u32, act: Act, channel: &Channel, stream: 
 
 /// Denies principal 2 the streams 3 and 4 of shared memory.
 fn of_ipc(alloc: Global) -> Option<Policy> {
-    let denied = rule(Principals::One(2), "aeron:ipc", 3, 4, false).ok()?;
-    Policy::new(vec![in alloc; denied].ok()?, true).ok()
+    let mut rules = Vec::new(alloc);
+    let put = puts(
+        &mut rules,
+        (Principals::One(2), None, "aeron:ipc", 3, 4, false),
+    );
+    policy_with(rules, put, true)
 }
 
 /// Whether the rule matches what the principal asks for on a stream of shared memory.
@@ -55,20 +85,25 @@ fn matches(rule: &Rule, principal: u32, stream: i32) -> bool {
     rule.matches(&request)
 }
 
-/// Whether a twin of that rule has this name and these streams, and matches these requests alone.
-fn rule_is_twinned(name: &str, low: i32, high: i32) -> Result<bool, UriError> {
-    let rule = rule(Principals::One(2), "aeron:ipc", 3, 4, false)?;
-    let twin = rule.twin();
-    Ok(
-        twin.name.as_str() == name
-            && twin.low == low
-            && twin.high == high
-            && !twin.allow
-            && twin.acts.hold(Act::Image)
-            && matches(&twin, 2, high)
-            && !matches(&twin, 3, high)
-            && !matches(&twin, 2, 5),
-    )
+/// Whether the twin has this name and these streams, and matches these requests alone.
+fn is_twin(twin: &Rule, name: &str, low: i32, high: i32) -> bool {
+    let fields = twin.name.as_str() == name && twin.low == low && twin.high == high && !twin.allow;
+    fields
+        && twin.acts.hold(Act::Image)
+        && matches(twin, 2, high)
+        && !matches(twin, 3, high)
+        && !matches(twin, 2, 5)
+}
+
+/// Whether a twin of that rule is this one, and not one of another name.
+fn rule_is_twinned() -> bool {
+    match rule(Principals::One(2), "aeron:ipc", 3, 4, false) {
+        Ok(rule) => {
+            let twin = rule.twin();
+            is_twin(&twin, "a rule", 3, 4) && !is_twin(&twin, "a role", 3, 4)
+        }
+        Err(_) => false,
+    }
 }
 
 /// Whether the policy allows by default and has so many rules, of which this one decides what the principal asks for.
@@ -79,29 +114,53 @@ fn decides(policy: &Policy, count: usize, principal: u32, by: Option<u32>) -> bo
         && answer(policy, principal, Act::Image, &channel, 3).rule == by
 }
 
-/// Whether a copy of that policy decides so, and another that became equal to it.
-fn policy_is_copied(alloc: Global, count: usize, principal: u32, by: Option<u32>) -> Option<bool> {
-    let policy = of_ipc(alloc)?;
-    let copy = policy.copy(alloc).ok()?;
-    let mut other = Policy::room(alloc).ok()?;
-    other.set_from(&policy);
-    Some(decides(&copy, count, principal, by) && decides(&other, count, principal, by))
+/// Of how many rules a copy is, who asks, which rule decides, and whether that is so.
+type Copied = (usize, u32, Option<u32>, bool);
+
+static COPIES: [Copied; 4] = [
+    (1, 2, Some(1), true),
+    (1, 3, None, true),
+    (1, 3, Some(1), false),
+    (2, 2, Some(1), false),
+];
+
+fn decide(policy: &Policy, rows: &[Copied]) -> bool {
+    for &(count, principal, by, wanted) in rows {
+        if decides(policy, count, principal, by) != wanted {
+            return false;
+        }
+    }
+    true
 }
 
-/// Whether a policy with nothing but room has so many rules and denies.
-fn room_denies(alloc: Global, count: usize) -> Option<bool> {
-    let room = Policy::room(alloc).ok()?;
-    Some(room.rules().len() == count && !room.default_allows())
+/// Whether a copy of the policy decides so.
+fn copy_decides(alloc: Global, policy: &Policy) -> bool {
+    match policy.copy(alloc) {
+        Ok(copy) => decide(&copy, &COPIES),
+        Err(_) => false,
+    }
+}
+
+/// Whether a policy with nothing but room has no rule and denies, and decides so once it became equal to the other.
+fn room_becomes(alloc: Global, policy: &Policy) -> bool {
+    match Policy::room(alloc) {
+        Ok(mut room) => {
+            let denies = room.rules().is_empty() && !room.default_allows();
+            room.set_from(policy);
+            denies && decide(&room, &COPIES)
+        }
+        Err(_) => false,
+    }
+}
+
+fn policy_is_copied(alloc: Global) -> bool {
+    match of_ipc(alloc) {
+        Some(policy) => copy_decides(alloc, &policy) && room_becomes(alloc, &policy),
+        None => false,
+    }
 }
 
 #[test]
 fn ample_memory(rt: HostRuntime) {
-    assert!(rt; is_so(rule_is_twinned("a rule", 3, 4)));
-    assert!(rt; !is_so(rule_is_twinned("a role", 3, 4)));
-    assert!(rt; policy_is_copied(rt.alloc(), 1, 2, Some(1)) == Some(true));
-    assert!(rt; policy_is_copied(rt.alloc(), 1, 3, None) == Some(true));
-    assert!(rt; policy_is_copied(rt.alloc(), 1, 3, Some(1)) == Some(false));
-    assert!(rt; policy_is_copied(rt.alloc(), 2, 2, Some(1)) == Some(false));
-    assert!(rt; room_denies(rt.alloc(), 0) == Some(true));
-    assert!(rt; room_denies(rt.alloc(), 1) == Some(false));
+    assert!(rt; rule_is_twinned() & policy_is_copied(rt.alloc()));
 }

@@ -3,30 +3,49 @@
 use byte_strings::Text;
 use policy_core::Policy;
 use policy_text::{Field, Names, PolicyFault, read};
-use std::alloc::{AllocError, Global};
+use std::alloc::Global;
 
-/// `nobody`, `alice` (7) and `bob` (8), and alice once more.
-fn known_again(alloc: Global) -> Result<Names, AllocError> {
-    let mut names = Names::new(alloc);
-    names.add(Text::new(alloc, "alice")?, 7)?;
-    names.add(Text::new(alloc, "bob")?, 8)?;
-    names.add(Text::new(alloc, "alice")?, 9)?;
-    Ok(names)
-}
-
-/// Whether that name has this number.
-fn is_numbered(alloc: Global, name: &str, number: Option<u32>) -> bool {
-    match known_again(alloc) {
-        Ok(names) => names.number_of(name) == number,
+/// Whether the name finds memory. It is known then.
+fn adds(alloc: Global, names: &mut Names, name: &str, number: u32) -> bool {
+    match Text::new(alloc, name) {
+        Ok(text) => names.add(text, number).is_ok(),
         Err(_) => false,
     }
 }
 
-/// Whether the text has this fault.
-fn is_refused(alloc: Global, text: &str, fault: PolicyFault) -> bool {
-    match known_again(alloc) {
-        Ok(names) => read(alloc, text, &names).err() == Some(fault),
-        Err(_) => false,
+/// `alice` (7) and `bob` (8), and alice once more.
+static KNOWN: [(&str, u32); 3] = [("alice", 7), ("bob", 8), ("alice", 9)];
+
+fn adds_all(alloc: Global, names: &mut Names) -> bool {
+    let mut added = true;
+    for &(name, number) in &KNOWN {
+        added &= adds(alloc, names, name, number);
+    }
+    added
+}
+
+/// A name, a number, and whether the name has this number.
+static NUMBERS: [(&str, Option<u32>, bool); 5] = [
+    ("nobody", Some(0), true),
+    ("alice", Some(7), true),
+    ("bob", Some(8), true),
+    ("carol", None, true),
+    ("alice", Some(9), false),
+];
+
+fn are_numbered(names: &Names) -> bool {
+    let mut same = true;
+    for &(name, number, wanted) in &NUMBERS {
+        same &= (names.number_of(name) == number) == wanted;
+    }
+    same
+}
+
+/// Whether a text without a line has this fault.
+fn is_refused(alloc: Global, names: &Names, fault: PolicyFault) -> bool {
+    match read(alloc, " # nothing", names) {
+        Ok(_) => false,
+        Err(found) => found == fault,
     }
 }
 
@@ -63,24 +82,21 @@ fn bob_allows_streams(alloc: Global, names: &Names, low: i32, high: i32) -> bool
     }
 }
 
-/// Whether the rule on bob is read where the names are known.
-fn is_read(alloc: Global, low: i32, high: i32) -> bool {
-    match known_again(alloc) {
-        Ok(names) => bob_allows_streams(alloc, &names, low, high),
-        Err(_) => false,
-    }
+fn texts_are_read(alloc: Global, names: &Names) -> bool {
+    let version = is_refused(alloc, names, PolicyFault::BadVersion);
+    let syntax = is_refused(alloc, names, PolicyFault::NotToml);
+    let streams = bob_allows_streams(alloc, names, 100, 199);
+    let others = bob_allows_streams(alloc, names, 100, 198);
+    version && !syntax && streams && !others
+}
+
+/// Whether names are known, and texts are read where they are.
+fn are_known(alloc: Global) -> bool {
+    let mut names = Names::new(alloc);
+    adds_all(alloc, &mut names) && are_numbered(&names) && texts_are_read(alloc, &names)
 }
 
 #[test]
 fn ample_memory(rt: HostRuntime) {
-    assert!(rt; is_numbered(rt.alloc(), "nobody", Some(0)));
-    assert!(rt; is_numbered(rt.alloc(), "alice", Some(7)));
-    assert!(rt; is_numbered(rt.alloc(), "bob", Some(8)));
-    assert!(rt; is_numbered(rt.alloc(), "carol", None));
-    assert!(rt; !is_numbered(rt.alloc(), "alice", Some(9)));
-    assert!(rt; Field::Stream.name() == "stream");
-    assert!(rt; is_refused(rt.alloc(), " # nothing", PolicyFault::BadVersion));
-    assert!(rt; !is_refused(rt.alloc(), " # nothing", PolicyFault::NotToml));
-    assert!(rt; is_read(rt.alloc(), 100, 199));
-    assert!(rt; !is_read(rt.alloc(), 100, 198));
+    assert!(rt; are_known(rt.alloc()) & (Field::Stream.name() == "stream"));
 }

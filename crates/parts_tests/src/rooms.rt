@@ -2,9 +2,8 @@
 
 ghost use Rattle.std.specs.Prelude.{◌==◌, not, if◌then◌else◌};
 
-use crate::answers::is_so;
 use rows::{Change, Form, Rows, Test, Twin};
-use std::alloc::{AllocError, Global};
+use std::alloc::Global;
 
 /// A row with a value.
 #[derive(Clone, Copy, Debug, PartialEq, Eq)]
@@ -129,65 +128,110 @@ const NEW: New = New {
     value: 10,
 };
 
-/// A step, and the rows after it.
-const STEPS: [(Step, &[Row]); 13] = [
-    (Step::Push(FIRST), &[FIRST]),
-    (Step::Push(SECOND), &[FIRST, SECOND]),
-    (Step::Push(FIRST), &[FIRST, SECOND, FIRST]),
+/// A step, rows, and whether they are those after it.
+static STEPS: [(Step, &[Row], bool); 17] = [
+    (Step::Push(FIRST), &[FIRST], true),
+    (Step::Push(SECOND), &[FIRST, SECOND], true),
+    (Step::Push(FIRST), &[FIRST, SECOND, FIRST], true),
     (
         Step::Change(Given {
             number: 2,
             value: 21,
         }),
         &[FIRST, CHANGED, FIRST],
+        true,
     ),
-    (Step::Retain(Others { number: 3 }), &[FIRST, CHANGED, FIRST]),
-    (Step::Retain(Others { number: 1 }), &[CHANGED]),
-    (Step::Push(SECOND), &[CHANGED, SECOND]),
-    (Step::PushBy(NEW), &[CHANGED, SECOND, FIRST]),
-    (Step::Retain(Others { number: 2 }), &[FIRST]),
-    (Step::Clear, &[]),
-    (Step::Push(SECOND), &[SECOND]),
-    (Step::PushBy(NEW), &[SECOND, FIRST]),
-    (Step::Retain(Others { number: 1 }), &[SECOND]),
+    (
+        Step::Retain(Others { number: 3 }),
+        &[FIRST, CHANGED, FIRST],
+        true,
+    ),
+    (Step::Retain(Others { number: 1 }), &[CHANGED], true),
+    (Step::Push(SECOND), &[CHANGED, SECOND], true),
+    (Step::PushBy(NEW), &[CHANGED, SECOND, FIRST], true),
+    (Step::Retain(Others { number: 2 }), &[FIRST], true),
+    (Step::Clear, &[], true),
+    (Step::Push(SECOND), &[SECOND], true),
+    (Step::PushBy(NEW), &[SECOND, FIRST], true),
+    (Step::Retain(Others { number: 1 }), &[SECOND], true),
+    (Step::PushBy(NEW), &[SECOND, CHANGED], false),
+    (Step::Clear, &[SECOND], false),
+    (Step::Push(FIRST), &[SECOND], false),
+    (Step::Retain(Others { number: 3 }), &[], false),
 ];
 
 /// Whether the steps, one after the other, leave these rows.
-fn are_left(alloc: Global, steps: &[(Step, &[Row])]) -> Result<bool, AllocError> {
-    let mut rows = Three::new(alloc)?;
-    for &(step, left) in steps {
-        take(&mut rows, step);
-        if rows.as_slice() != left {
-            return Ok(false);
+fn leave(rows: &mut Three, steps: &[(Step, &[Row], bool)]) -> bool {
+    let mut same = true;
+    for &(step, left, wanted) in steps {
+        take(rows, step);
+        same &= (rows.as_slice() == left) == wanted;
+    }
+    same
+}
+
+/// Rows of these values, of which there are at most three.
+fn three(alloc: Global, rows: &[Row]) -> Option<Three> {
+    if rows.len() > 3 {
+        return None;
+    }
+    Three::of(Vec::from_slice(alloc, rows).ok()?).ok()
+}
+
+fn steps_leave(alloc: Global) -> bool {
+    match three(alloc, &[]) {
+        Some(mut rows) => leave(&mut rows, &STEPS),
+        None => false,
+    }
+}
+
+/// Whether a copy of the rows is the wanted one.
+fn copy_is(alloc: Global, rows: &Three, wanted: &[Row]) -> bool {
+    match rows.copy(alloc) {
+        Ok(copy) => copy.as_slice() == wanted,
+        Err(_) => false,
+    }
+}
+
+/// Whether others that became equal to the rows are the wanted ones.
+fn other_is(alloc: Global, rows: &Three, wanted: &[Row]) -> bool {
+    match three(alloc, &[CHANGED, CHANGED]) {
+        Some(mut other) => {
+            other.set_from(rows);
+            other.as_slice() == wanted
+        }
+        None => false,
+    }
+}
+
+/// Rows, others, and whether copies of the first are equal to them.
+static COPIES: [(&[Row], &[Row], bool); 5] = [
+    (&[], &[], true),
+    (&[FIRST], &[FIRST], true),
+    (&[FIRST, SECOND, FIRST], &[FIRST, SECOND, FIRST], true),
+    (&[FIRST, SECOND], &[FIRST, CHANGED], false),
+    (&[FIRST, SECOND], &[FIRST], false),
+];
+
+fn is_copied(alloc: Global, rows: &[Row], wanted: &[Row], so: bool) -> bool {
+    match three(alloc, rows) {
+        Some(rows) => {
+            copy_is(alloc, &rows, wanted) == so && other_is(alloc, &rows, wanted) == so
+        }
+        None => false,
+    }
+}
+
+fn are_copied(alloc: Global, cases: &[(&[Row], &[Row], bool)]) -> bool {
+    for &(rows, wanted, so) in cases {
+        if !is_copied(alloc, rows, wanted, so) {
+            return false;
         }
     }
-    Ok(true)
+    true
 }
 
 #[test]
 fn rows_change_in_their_room(rt: HostRuntime) {
-    assert!(rt; is_so(are_left(rt.alloc(), &STEPS)));
-    assert!(rt; !is_so(are_left(rt.alloc(), &[(Step::Push(FIRST), &[SECOND])])));
-    assert!(rt; !is_so(are_left(rt.alloc(), &[(Step::Push(FIRST), &[])])));
-}
-
-/// Whether a copy of the rows, and others that became equal to them, are the wanted ones.
-fn are_copied(alloc: Global, rows: &[Row], wanted: &[Row]) -> Result<bool, AllocError> {
-    if rows.len() > 3 {
-        return Ok(false);
-    }
-    let rows = Three::of(Vec::from_slice(alloc, rows)?)?;
-    let copy = rows.copy(alloc)?;
-    let mut other = Three::of(vec![in alloc; CHANGED, CHANGED]?)?;
-    other.set_from(&rows);
-    Ok(copy.as_slice() == wanted && other.as_slice() == wanted)
-}
-
-#[test]
-fn copies_of_rows_are_equal(rt: HostRuntime) {
-    assert!(rt; is_so(are_copied(rt.alloc(), &[], &[])));
-    assert!(rt; is_so(are_copied(rt.alloc(), &[FIRST], &[FIRST])));
-    assert!(rt; is_so(are_copied(rt.alloc(), &[FIRST, SECOND, FIRST], &[FIRST, SECOND, FIRST])));
-    assert!(rt; !is_so(are_copied(rt.alloc(), &[FIRST, SECOND], &[FIRST, CHANGED])));
-    assert!(rt; !is_so(are_copied(rt.alloc(), &[FIRST, SECOND], &[FIRST])));
+    assert!(rt; steps_leave(rt.alloc()) & are_copied(rt.alloc(), &COPIES));
 }

@@ -1,6 +1,5 @@
 //! Tests of `byte_strings`.
 
-use crate::answers::is_so;
 use byte_strings::{Bytes, Items, ShortBytes, ShortText, Text};
 use std::alloc::{AllocError, Global};
 
@@ -25,16 +24,6 @@ fn is_printed(alloc: Global, bytes: &str, wanted: &str) -> Result<bool, AllocErr
     Ok(printed.as_str() == wanted)
 }
 
-#[test]
-fn a_text_shows_its_bytes(rt: HostRuntime) {
-    assert!(rt; is_so(is_copied(rt.alloc(), "aeron:ipc", "aeron:ipc")));
-    assert!(rt; !is_so(is_copied(rt.alloc(), "aeron:ipc", "aeron:ipd")));
-    assert!(rt; is_so(are_equal(rt.alloc(), "aeron:udp", "aeron:udp")));
-    assert!(rt; !is_so(are_equal(rt.alloc(), "aeron:ipc", "aeron:udp")));
-    assert!(rt; is_so(is_printed(rt.alloc(), "aeron:udp", "<aeron:udp>")));
-    assert!(rt; !is_so(is_printed(rt.alloc(), "aeron:udp", "<aeron:udq>")));
-}
-
 /// Whether the bytes and their copy are equal, and the copy shows the wanted ones.
 fn are_copied(alloc: Global, bytes: &[u8], wanted: &[u8]) -> Result<bool, AllocError> {
     let bytes = Bytes::from(Vec::from_slice(alloc, bytes)?);
@@ -48,60 +37,28 @@ fn are_same(alloc: Global, left: &[u8], right: &[u8]) -> Result<bool, AllocError
     Ok(bytes.is_empty() || bytes == Bytes::new(alloc, right)?)
 }
 
-#[test]
-fn bytes_show_themselves(rt: HostRuntime) {
-    assert!(rt; is_so(are_copied(rt.alloc(), &[1, 2, 3], &[1, 2, 3])));
-    assert!(rt; !is_so(are_copied(rt.alloc(), &[1, 2, 3], &[1, 2, 4])));
-    assert!(rt; is_so(are_same(rt.alloc(), &[], &[1])));
-    assert!(rt; is_so(are_same(rt.alloc(), &[1, 2, 3], &[1, 2, 3])));
-    assert!(rt; !is_so(are_same(rt.alloc(), &[1, 2, 3], &[1, 2, 4])));
+/// Whether two items find memory. They are there then.
+fn take_two(items: &mut Items<u64>, first: u64, second: u64) -> bool {
+    items.push(first).is_ok() && items.push(second).is_ok()
 }
 
 /// Whether 7 and 9 in a row are equal to 7 and another.
 fn ends_in(alloc: Global, last: u64) -> Result<bool, AllocError> {
     let mut items = Items::new(alloc);
-    let empty = items.is_empty();
-    items.push(7)?;
-    items.push(9)?;
-    let other = Items::from(vec![in alloc; 7, last]?);
-    Ok(empty && items.len() == 2 && items == other && items.as_slice() == [7, last].as_slice())
+    let pushed = items.is_empty() && take_two(&mut items, 7, 9) && items.len() == 2;
+    let other = Items::from(Vec::from_slice(alloc, &[7, last])?);
+    Ok(pushed && items == other && items.as_slice() == [7, last].as_slice())
 }
 
-#[test]
-fn items_stand_in_their_order(rt: HostRuntime) {
-    assert!(rt; is_so(ends_in(rt.alloc(), 9)));
-    assert!(rt; !is_so(ends_in(rt.alloc(), 8)));
-}
-
-/// Two texts of at most four bytes, and whether they are equal.
-const SHORT_TEXTS: [(&str, &str, bool); 6] = [
-    ("", "", true),
-    ("", "a", false),
-    ("ab", "ab", true),
-    ("ab", "ac", false),
-    ("abc", "abcd", false),
-    ("abcd", "abcd", true),
-];
-
-/// Whether each text and its copy are equal, and show its bytes, and it is equal to the other where the row says so.
-fn are_told_apart(rows: &[(&str, &str, bool)]) -> bool {
-    for &(left, right, equal) in rows {
-        if left.len() > 4 || right.len() > 4 {
-            return false;
-        }
-        let text: ShortText<4> = ShortText::new(left);
-        let copy = text.copy();
-        if copy != text || copy.as_str() != left || (copy == ShortText::new(right)) != equal {
-            return false;
-        }
+/// Whether a text of at most four bytes and its copy are equal, and show its bytes, and it is equal to the other where
+/// `equal` says so.
+fn short_text_tells(left: &str, right: &str, equal: bool) -> bool {
+    if left.len() > 4 || right.len() > 4 {
+        return false;
     }
-    true
-}
-
-#[test]
-fn short_texts_show_their_bytes(rt: HostRuntime) {
-    assert!(rt; are_told_apart(&SHORT_TEXTS));
-    assert!(rt; !are_told_apart(&[("abcd", "abce", true)]));
+    let text: ShortText<4> = ShortText::new(left);
+    let copy = text.copy();
+    copy == text && copy.as_str() == left && (copy == ShortText::new(right)) == equal
 }
 
 /// Whether a short text is printed so.
@@ -114,31 +71,122 @@ fn is_printed_short(alloc: Global, bytes: &str, wanted: &str) -> Result<bool, Al
     Ok(printed.as_str() == wanted)
 }
 
-#[test]
-fn short_texts_are_printed(rt: HostRuntime) {
-    assert!(rt; is_so(is_printed_short(rt.alloc(), "abcd", "<abcd>")));
-    assert!(rt; !is_so(is_printed_short(rt.alloc(), "abcd", "<abce>")));
+/// Whether at most four bytes and their copy are equal, and show them, and are equal to the others where `equal` says so.
+fn short_bytes_tell(left: &[u8], right: &[u8], equal: bool) -> bool {
+    if left.len() > 4 || right.len() > 4 {
+        return false;
+    }
+    let bytes: ShortBytes<4> = ShortBytes::new(left);
+    let copy = bytes.copy();
+    copy == bytes && copy.as_slice() == left && (copy == ShortBytes::new(right)) == equal
 }
 
-/// Two byte strings of at most four bytes, and whether they are equal.
-const SHORT_BYTES: [(&[u8], &[u8], bool); 6] = [
-    (&[], &[], true),
-    (&[], &[0], false),
-    (&[0, 255], &[0, 255], true),
-    (&[0, 255], &[0, 254], false),
-    (&[1, 2, 3], &[1, 2, 3, 4], false),
-    (&[1, 2, 3, 4], &[1, 2, 3, 4], true),
+/// At most four bytes: these, up to so many of them.
+type Few = ([u8; 4], usize);
+
+fn front(few: &Few) -> &[u8] {
+    &few.0[..few.1.min(4)]
+}
+
+/// What strings show.
+#[derive(Clone, Copy)]
+enum Case {
+    TextIsCopied(&'static str, &'static str),
+    TextsAreEqual(&'static str, &'static str),
+    TextIsPrinted(&'static str, &'static str),
+    BytesAreCopied(Few, Few),
+    BytesAreSame(Few, Few),
+    ItemsEndIn(u64),
+    /// Two short texts, and whether they are equal.
+    ShortTexts(&'static str, &'static str, bool),
+    ShortTextIsPrinted(&'static str, &'static str),
+    ShortBytes(Few, Few, bool),
+}
+
+/// Whether it is so.
+fn goes(alloc: Global, case: Case) -> Result<bool, AllocError> {
+    match case {
+        Case::TextIsCopied(bytes, wanted) => is_copied(alloc, bytes, wanted),
+        Case::TextsAreEqual(left, right) => are_equal(alloc, left, right),
+        Case::TextIsPrinted(bytes, wanted) => is_printed(alloc, bytes, wanted),
+        Case::BytesAreCopied(bytes, wanted) => are_copied(alloc, front(&bytes), front(&wanted)),
+        Case::BytesAreSame(left, right) => are_same(alloc, front(&left), front(&right)),
+        Case::ItemsEndIn(last) => ends_in(alloc, last),
+        Case::ShortTexts(left, right, equal) => Ok(short_text_tells(left, right, equal)),
+        Case::ShortTextIsPrinted(bytes, wanted) => is_printed_short(alloc, bytes, wanted),
+        Case::ShortBytes(left, right, equal) => {
+            Ok(short_bytes_tell(front(&left), front(&right), equal))
+        }
+    }
+}
+
+/// What strings show, and whether they do.
+static CASES: [(Case, bool); 13] = [
+    (Case::TextIsCopied("aeron:ipc", "aeron:ipc"), true),
+    (Case::TextIsCopied("aeron:ipc", "aeron:ipd"), false),
+    (Case::TextsAreEqual("aeron:udp", "aeron:udp"), true),
+    (Case::TextsAreEqual("aeron:ipc", "aeron:udp"), false),
+    (Case::TextIsPrinted("aeron:udp", "<aeron:udp>"), true),
+    (Case::TextIsPrinted("aeron:udp", "<aeron:udq>"), false),
+    (
+        Case::BytesAreCopied(([1, 2, 3, 0], 3), ([1, 2, 3, 0], 3)),
+        true,
+    ),
+    (
+        Case::BytesAreCopied(([1, 2, 3, 0], 3), ([1, 2, 4, 0], 3)),
+        false,
+    ),
+    (Case::BytesAreSame(([0; 4], 0), ([1, 0, 0, 0], 1)), true),
+    (
+        Case::BytesAreSame(([1, 2, 3, 0], 3), ([1, 2, 3, 0], 3)),
+        true,
+    ),
+    (
+        Case::BytesAreSame(([1, 2, 3, 0], 3), ([1, 2, 4, 0], 3)),
+        false,
+    ),
+    (Case::ItemsEndIn(9), true),
+    (Case::ItemsEndIn(8), false),
 ];
 
-/// Whether the bytes and their copy are equal, and show them, and are equal to the others where the row says so.
-fn bytes_are_told_apart(rows: &[(&[u8], &[u8], bool)]) -> bool {
-    for &(left, right, equal) in rows {
-        if left.len() > 4 || right.len() > 4 {
-            return false;
-        }
-        let bytes: ShortBytes<4> = ShortBytes::new(left);
-        let copy = bytes.copy();
-        if copy != bytes || copy.as_slice() != left || (copy == ShortBytes::new(right)) != equal {
+static SHORT_CASES: [(Case, bool); 16] = [
+    (Case::ShortTexts("", "", true), true),
+    (Case::ShortTexts("", "a", false), true),
+    (Case::ShortTexts("ab", "ab", true), true),
+    (Case::ShortTexts("ab", "ac", false), true),
+    (Case::ShortTexts("abc", "abcd", false), true),
+    (Case::ShortTexts("abcd", "abcd", true), true),
+    (Case::ShortTexts("abcd", "abce", true), false),
+    (Case::ShortTextIsPrinted("abcd", "<abcd>"), true),
+    (Case::ShortTextIsPrinted("abcd", "<abce>"), false),
+    (Case::ShortBytes(([0; 4], 0), ([0; 4], 0), true), true),
+    (Case::ShortBytes(([0; 4], 0), ([0; 4], 1), false), true),
+    (
+        Case::ShortBytes(([0, 255, 0, 0], 2), ([0, 255, 0, 0], 2), true),
+        true,
+    ),
+    (
+        Case::ShortBytes(([0, 255, 0, 0], 2), ([0, 254, 0, 0], 2), false),
+        true,
+    ),
+    (
+        Case::ShortBytes(([1, 2, 3, 4], 3), ([1, 2, 3, 4], 4), false),
+        true,
+    ),
+    (
+        Case::ShortBytes(([1, 2, 3, 4], 4), ([1, 2, 3, 4], 4), true),
+        true,
+    ),
+    (
+        Case::ShortBytes(([1, 2, 3, 4], 4), ([1, 2, 3, 5], 4), true),
+        false,
+    ),
+];
+
+/// Whether each is as it says; without memory nothing is so.
+fn are_shown(alloc: Global, cases: &[(Case, bool)]) -> bool {
+    for &(case, shown) in cases {
+        if (goes(alloc, case) == Ok(true)) != shown {
             return false;
         }
     }
@@ -146,7 +194,6 @@ fn bytes_are_told_apart(rows: &[(&[u8], &[u8], bool)]) -> bool {
 }
 
 #[test]
-fn short_bytes_show_themselves(rt: HostRuntime) {
-    assert!(rt; bytes_are_told_apart(&SHORT_BYTES));
-    assert!(rt; !bytes_are_told_apart(&[(&[1, 2, 3, 4], &[1, 2, 3, 5], true)]));
+fn strings_show_themselves(rt: HostRuntime) {
+    assert!(rt; are_shown(rt.alloc(), &CASES) & are_shown(rt.alloc(), &SHORT_CASES));
 }
