@@ -1,23 +1,13 @@
 use command_queue::{EVENTS, Refused, Sender, Taker, a_lone_sender_fills_the_queue, make};
-use std::alloc::{AllocError, Global};
+use std::alloc::Global;
 use std::sync::Wait;
-use std::test::Fail;
-use std::thread;
+use std::thread::{self, JoinHandle, Threads};
 
 /// An event: who sent it, and as which of its events, counted from 0.
 #[derive(Clone, Copy, Debug, PartialEq, Eq, Drop)]
 struct Sent {
     by: u32,
     number: u32,
-}
-
-/// A queue with one sender.
-fn lone(alloc: Global) -> Result<Option<(Sender<Sent>, Taker<Sent>)>, AllocError> {
-    let (mut senders, taker) = make(alloc, 1)?;
-    match senders.pop() {
-        Some(sender) => Ok(Some((sender, taker))),
-        None => Ok(None),
-    }
 }
 
 /// Whether 1,024 pushes into an untaken queue succeed, and the next one hands its event back.
@@ -42,52 +32,62 @@ fn empties(rt: &impl Wait, taker: &mut Taker<Sent>, by: u32, count: u32) -> bool
     taken && taker.pop(rt).is_none()
 }
 
-#[test]
-fn full_queue(rt: HostRuntime) -> Result<(), Fail> {
-    a_lone_sender_fills_the_queue::<Sent>();
-    let Some((mut sender, mut taker)) = lone(rt.alloc())? else {
-        return Err(Fail::new("no sender"));
+/// Whether a full queue takes no event, and one that is taken makes room for one.
+fn is_full(rt: &impl Wait, sender: &mut Sender<Sent>, taker: &mut Taker<Sent>) -> bool {
+    let filled = taker.pop(rt).is_none() && fills(rt, sender);
+    let first = taker.pop(rt) == Some(Sent { by: 0, number: 0 });
+    let one = Sent {
+        by: 0,
+        number: 1024,
     };
-    assert!(rt; taker.pop(&rt).is_none());
-    assert!(rt; fills(&rt, &mut sender));
-    // One that is taken makes room for one.
-    assert_eq!(rt; taker.pop(&rt), Some(Sent { by: 0, number: 0 }));
-    assert!(rt;
-        sender
-            .push(
-                &rt,
-                Sent {
-                    by: 0,
-                    number: 1024
-                }
-            )
-            .is_ok()
-    );
-    assert!(rt;
-        sender
-            .push(
-                &rt,
-                Sent {
-                    by: 0,
-                    number: 1025
-                }
-            )
-            .is_err()
-    );
-    assert_eq!(rt; taker.pop(&rt), Some(Sent { by: 0, number: 1 }));
-    Ok(())
+    let other = Sent {
+        by: 0,
+        number: 1025,
+    };
+    let pushed = sender.push(rt, one).is_ok() && sender.push(rt, other).is_err();
+    filled && first && pushed && taker.pop(rt) == Some(Sent { by: 0, number: 1 })
+}
+
+/// Whether a queue is filled and emptied more than once.
+fn goes_round(rt: &impl Wait, sender: &mut Sender<Sent>, taker: &mut Taker<Sent>) -> bool {
+    let mut same = true;
+    for _ in 0..3 {
+        same &= fills(rt, sender) && empties(rt, taker, 0, EVENTS as u32);
+    }
+    same
+}
+
+/// Whether a queue with a lone sender is full, or goes round.
+fn goes(
+    rt: &impl Wait,
+    senders: &mut Vec<Sender<Sent>>,
+    taker: &mut Taker<Sent>,
+    round: bool,
+) -> bool {
+    match senders.pop() {
+        Some(mut sender) => {
+            if round {
+                goes_round(rt, &mut sender, taker)
+            } else {
+                is_full(rt, &mut sender, taker)
+            }
+        }
+        None => false,
+    }
+}
+
+/// Whether a new queue goes so; false without memory.
+fn is_shown(rt: &impl Wait, alloc: Global, round: bool) -> bool {
+    match make(alloc, 1) {
+        Ok((mut senders, mut taker)) => goes(rt, &mut senders, &mut taker, round),
+        Err(_) => false,
+    }
 }
 
 #[test]
-fn the_ring_goes_round(rt: HostRuntime) -> Result<(), Fail> {
-    let Some((mut sender, mut taker)) = lone(rt.alloc())? else {
-        return Err(Fail::new("no sender"));
-    };
-    for _ in 0..3 {
-        assert!(rt; fills(&rt, &mut sender));
-        assert!(rt; empties(&rt, &mut taker, 0, EVENTS as u32));
-    }
-    Ok(())
+fn full_queue(rt: HostRuntime) {
+    a_lone_sender_fills_the_queue::<Sent>();
+    assert!(rt; is_shown(&rt, rt.alloc(), false) & is_shown(&rt, rt.alloc(), true));
 }
 
 /// Sends the event, again for as long as the queue is full.
@@ -146,17 +146,45 @@ fn two(senders: &mut Vec<Sender<Sent>>) -> Option<(Sender<Sent>, Sender<Sent>)> 
 /// How many events each of the four senders sends.
 const COUNT: u32 = 100_000;
 
+/// A thread in which the last two of these senders send. None where there is no such thread.
+fn start<R: Threads + Wait + Copy + Send + 'static>(
+    rt: &R,
+    senders: &mut Vec<Sender<Sent>>,
+    by: u32,
+) -> Option<JoinHandle<()>> {
+    let handle = *rt;
+    let pair = two(senders)?;
+    match thread::spawn(rt, move || send_both(&handle, pair, by, COUNT)) {
+        Ok(thread) => Some(thread),
+        Err(_) => None,
+    }
+}
+
+/// Whether what four senders send in two threads comes in order.
+fn four_send<R: Threads + Wait + Copy + Send + 'static>(
+    rt: &R,
+    senders: &mut Vec<Sender<Sent>>,
+    taker: &mut Taker<Sent>,
+) -> bool {
+    match (start(rt, senders, 2), start(rt, senders, 0)) {
+        (Some(one), Some(other)) => {
+            let in_order = take_all(rt, taker, COUNT);
+            one.join(rt);
+            other.join(rt);
+            in_order
+        }
+        _ => false,
+    }
+}
+
+fn is_in_order<R: Threads + Wait + Copy + Send + 'static>(rt: &R, alloc: Global) -> bool {
+    match make(alloc, 4) {
+        Ok((mut senders, mut taker)) => four_send(rt, &mut senders, &mut taker),
+        Err(_) => false,
+    }
+}
+
 #[test]
-fn four_senders_in_two_threads(rt: HostRuntime) -> Result<(), Fail> {
-    let (mut senders, mut taker) = make(rt.alloc(), 4)?;
-    let (Some(last), Some(first)) = (two(&mut senders), two(&mut senders)) else {
-        return Err(Fail::new("no senders"));
-    };
-    let one = thread::spawn(&rt, move || send_both(&rt, first, 0, COUNT))?;
-    let other = thread::spawn(&rt, move || send_both(&rt, last, 2, COUNT))?;
-    let in_order = take_all(&rt, &mut taker, COUNT);
-    one.join(&rt);
-    other.join(&rt);
-    assert!(rt; in_order);
-    Ok(())
+fn four_senders_in_two_threads(rt: HostRuntime) {
+    assert!(rt; is_in_order(&rt, rt.alloc()));
 }
