@@ -1,29 +1,37 @@
 // Messages of many lengths, offered to a log and to a plain list.
 use crate::plain::Plain;
-use std::alloc::{AllocError, Global};
+use std::alloc::Global;
 use term_log::{Offer, TermLog};
 
 /// Lengths of messages: empty, at the edges of a filling and of a frame, and the greatest.
-const LENGTHS: [usize; 12] = [0, 1, 31, 32, 33, 1375, 1376, 1377, 2752, 5000, 8191, 8192];
+static LENGTHS: [usize; 12] = [0, 1, 31, 32, 33, 1375, 1376, 1377, 2752, 5000, 8191, 8192];
 
 /// Offers `rounds` messages, each until it is taken, while the sender follows. Whether each answer was that of the plain
-/// list.
-pub fn fill(
-    alloc: Global,
-    log: &mut TermLog,
-    plain: &mut Plain,
-    rounds: u32,
-) -> Result<bool, AllocError> {
+/// list, for which there was memory.
+pub fn fill(alloc: Global, log: &mut TermLog, plain: &mut Plain, rounds: u32) -> bool {
     let mut same = true;
     let mut word: u64 = 1;
     for _ in 0..rounds {
         word = next(word);
         let length = LENGTHS[(word >> 40) as usize % LENGTHS.len()];
-        let message = Vec::from_elem(alloc, (word >> 56) as u8 | 1, length)?;
-        same &= offer(log, plain, message.as_slice())?;
+        same &= offer_filled(alloc, log, plain, (word >> 56) as u8 | 1, length);
         follow(log);
     }
-    Ok(same)
+    same
+}
+
+// Offers a message of so many bytes, all of which are `fill`.
+fn offer_filled(
+    alloc: Global,
+    log: &mut TermLog,
+    plain: &mut Plain,
+    fill: u8,
+    length: usize,
+) -> bool {
+    match Vec::from_elem(alloc, fill, length) {
+        Ok(message) => offer(log, plain, message.as_slice()),
+        Err(_) => false,
+    }
 }
 
 // The next word of a linear congruence (Knuth's MMIX).
@@ -52,19 +60,17 @@ fn size_of(length: u64) -> u64 {
 }
 
 // Offers a message, and again behind a pad. Whether the answers were those of the plain list.
-fn offer(log: &mut TermLog, plain: &mut Plain, message: &[u8]) -> Result<bool, AllocError> {
+fn offer(log: &mut TermLog, plain: &mut Plain, message: &[u8]) -> bool {
     let size = size_of(message.len() as u64);
     let offset = plain.tail() % 65_536;
     if size > 65_536u64.wrapping_sub(offset) {
-        plain.put_pad()?;
-        if log.offer(message) != Offer::AdminAction {
-            return Ok(false);
+        if !plain.put_pad() || log.offer(message) != Offer::AdminAction {
+            return false;
         }
         follow(log);
     }
-    plain.put_message(message)?;
-    let answer = log.offer(message);
-    Ok(answer == Offer::At(plain.tail()))
+    let put = plain.put_message(message);
+    put && log.offer(message) == Offer::At(plain.tail())
 }
 
 /// Whether these bytes of a log's lease are the last three terms of all, each in its buffer, and zeros behind the tail.

@@ -4,7 +4,7 @@ ghost use Rattle.term_log.specs.Ident.{IsIdent};
 use crate::filling::{fill, is_held};
 use crate::plain::Plain;
 use crate::reading::{begin_at, gives_all};
-use std::alloc::{AllocError, Global};
+use std::alloc::Global;
 use term_log::{Ident, LogKind, Offer, TermLog};
 
 // What a log is made for that reads its frames in this host, from a position on.
@@ -31,7 +31,7 @@ fn keeps_list(log: TermLog, plain: &Plain) -> bool {
 }
 
 /// The header of the first frame with `abc`, as the transport's specification lays it out.
-const HEADER: [u8; 32] = [
+static HEADER: [u8; 32] = [
     35, 0, 0, 0, 0, 0xC0, 1, 0, 0, 0, 0, 0, 7, 0, 0, 0, 233, 3, 0, 0, 5, 0, 0, 0, 0, 0, 0, 0, 0, 0,
     0, 0,
 ];
@@ -43,43 +43,59 @@ fn begins_with_abc(bytes: &[u8]) -> bool {
         && rest.iter().skip(3).all(|byte| *byte == 0)
 }
 
-// Whether the bytes of a log with one message are those of this list, and not of that one.
-fn lease_begins_with_abc(mut log: TermLog, plain: &Plain, other: &Plain) -> bool {
-    let offered = log.offer(b"abc") == Offer::At(64);
-    let lease = log.close();
-    let bytes = lease.bytes();
-    offered && begins_with_abc(bytes) && is_held(bytes, plain) && !is_held(bytes, other)
+fn list_of(alloc: Global, message: &[u8]) -> Option<Plain> {
+    let mut plain = Plain::new(alloc);
+    if plain.put_message(message) {
+        Some(plain)
+    } else {
+        None
+    }
 }
 
-fn list_of(alloc: Global, message: &[u8]) -> Result<Plain, AllocError> {
-    let mut plain = Plain::new(alloc);
-    plain.put_message(message)?;
-    Ok(plain)
+// Whether a list with this message has its bytes laid out as by the transport's specification.
+fn list_begins_with_abc(alloc: Global, message: &[u8]) -> bool {
+    match list_of(alloc, message) {
+        Some(plain) => plain.tail() == 64 && begins_with_abc(plain.bytes.as_slice()),
+        None => false,
+    }
+}
+
+// Whether the bytes of a lease are those of a list with this message.
+fn is_list_of(alloc: Global, bytes: &[u8], message: &[u8]) -> bool {
+    match list_of(alloc, message) {
+        Some(plain) => is_held(bytes, &plain),
+        None => false,
+    }
+}
+
+fn lease_begins_with_abc(alloc: Global, bytes: &[u8]) -> bool {
+    begins_with_abc(bytes) && is_list_of(alloc, bytes, b"abc") && !is_list_of(alloc, bytes, b"abd")
 }
 
 // Whether the first bytes of lists, and of a log without frames, are laid out as by the transport's specification.
-pub(crate) fn begin_with_abc(alloc: Global, log: TermLog) -> Result<bool, AllocError> {
-    let plain = list_of(alloc, b"abc")?;
-    let other = list_of(alloc, b"abd")?;
-    let same = plain.tail() == 64 && begins_with_abc(plain.bytes.as_slice());
-    let told = !begins_with_abc(other.bytes.as_slice()) && !begins_with_abc(&HEADER);
-    Ok(same && told && lease_begins_with_abc(log, &plain, &other))
+pub(crate) fn begin_with_abc(alloc: Global, mut log: TermLog) -> bool {
+    let told = !list_begins_with_abc(alloc, b"abd") & !begins_with_abc(&HEADER);
+    let offered = log.offer(b"abc") == Offer::At(64);
+    let lease = log.close();
+    let held = lease_begins_with_abc(alloc, lease.bytes());
+    list_begins_with_abc(alloc, b"abc") & told & offered & held
 }
 
 // Whether a log gives the frames of a list with this message.
-fn gives_message(alloc: Global, log: &TermLog, message: &[u8]) -> Result<bool, AllocError> {
-    let plain = list_of(alloc, message)?;
-    Ok(gives_all(log, &plain, 1408))
+fn gives_message(alloc: Global, log: &TermLog, message: &[u8]) -> bool {
+    match list_of(alloc, message) {
+        Some(plain) => gives_all(log, &plain, 1408),
+        None => false,
+    }
 }
 
 // A log of one message, and lists with it, with another byte, with a byte less, and with a frame more.
-pub(crate) fn tells_lists(alloc: Global, log: &mut TermLog) -> Result<bool, AllocError> {
-    let offered = log.offer(b"abc") == Offer::At(64);
-    let same = gives_message(alloc, log, b"abc")?;
-    let byte = gives_message(alloc, log, b"abd")?;
-    let less = gives_message(alloc, log, b"ab")?;
-    let more = gives_message(alloc, log, [7; 1377].as_slice())?;
-    Ok(offered && same && !byte && !less && !more)
+pub(crate) fn tells_lists(alloc: Global, log: &mut TermLog) -> bool {
+    log.offer(b"abc") == Offer::At(64)
+        && gives_message(alloc, log, b"abc")
+        && !gives_message(alloc, log, b"abd")
+        && !gives_message(alloc, log, b"ab")
+        && !gives_message(alloc, log, [7; 1377].as_slice())
 }
 
 pub(crate) fn pads_the_rest(log: &mut TermLog) -> bool
@@ -134,44 +150,41 @@ fn fills_and_gives(
     log: &mut TermLog,
     plain: &mut Plain,
     rounds: u32,
-    budgets: &[u64],
-) -> Result<bool, AllocError> {
-    let mut same = fill(alloc, log, plain, rounds)?;
-    for budget in budgets {
+    budgets: [u64; 3],
+) -> bool {
+    let mut same = fill(alloc, log, plain, rounds);
+    for budget in &budgets {
         same &= gives_all(log, plain, *budget);
     }
-    Ok(same)
+    same
 }
 
-// Three terms many times over.
-fn lists_are_kept(alloc: Global, log: &mut TermLog, plain: &mut Plain) -> Result<bool, AllocError> {
-    let first = fills_and_gives(alloc, log, plain, 30, &[1408])?;
-    let second = fills_and_gives(alloc, log, plain, 170, &[0, 63, 1408])?;
-    let third = fills_and_gives(alloc, log, plain, 200, &[1407, 5000, 65_536])?;
-    Ok(first && second && third)
+// Three terms many times over: each answer, and the frames from each frame on, are those of plain lists.
+fn lists_are_kept(alloc: Global, log: &mut TermLog, plain: &mut Plain) -> bool {
+    let kept = fills_and_gives(alloc, log, plain, 30, [1408; 3])
+        && fills_and_gives(alloc, log, plain, 170, [0, 63, 1408])
+        && fills_and_gives(alloc, log, plain, 200, [1407, 5000, 65_536]);
+    kept && plain.tail() > 655_360 && log.tail() == plain.tail() && log.messages() == 400
 }
 
-// Three terms many times over: each answer, the frames from each frame on, and at the end each byte are those of plain
-// lists.
-pub(crate) fn terms_are_used_again(alloc: Global, mut log: TermLog) -> Result<bool, AllocError> {
+// At the end each byte is, too.
+pub(crate) fn terms_are_used_again(alloc: Global, mut log: TermLog) -> bool {
     let mut plain = Plain::new(alloc);
-    let kept = lists_are_kept(alloc, &mut log, &mut plain)?;
-    let all = plain.tail() > 655_360 && log.tail() == plain.tail() && log.messages() == 400;
-    Ok(kept && all && keeps_list(log, &plain))
+    let kept = lists_are_kept(alloc, &mut log, &mut plain);
+    kept & keeps_list(log, &plain)
 }
 
 // A list with a frame more than the log: the first answer is told apart, and so are those up to the end of the term. Behind
 // its pad log and list are level, so that the last of 26 answers and those that follow are the same.
-fn tells_answers(alloc: Global, log: &mut TermLog, plain: &mut Plain) -> Result<bool, AllocError> {
-    plain.put_message(b"")?;
-    let first = fill(alloc, log, plain, 1)?;
-    let term = fill(alloc, log, plain, 26)?;
+fn tells_answers(alloc: Global, log: &mut TermLog, plain: &mut Plain) -> bool {
+    let put = plain.put_message(b"");
+    let first = fill(alloc, log, plain, 1);
+    let term = fill(alloc, log, plain, 26);
     let level = log.tail() == plain.tail();
-    let behind = fill(alloc, log, plain, 26)?;
-    Ok(!first && !term && level && behind)
+    put && !first && !term && level && fill(alloc, log, plain, 26)
 }
 
-pub(crate) fn other_answers_are_told(alloc: Global, log: &mut TermLog) -> Result<bool, AllocError> {
+pub(crate) fn other_answers_are_told(alloc: Global, log: &mut TermLog) -> bool {
     let mut plain = Plain::new(alloc);
     tells_answers(alloc, log, &mut plain)
 }
@@ -196,7 +209,7 @@ fn count_from(log: &TermLog, position: u64, budget: usize) -> usize {
 }
 
 /// From a position on, within a budget, so many frames.
-const BUDGETS: [(u64, usize, usize); 7] = [
+static BUDGETS: [(u64, usize, usize); 7] = [
     (65_504, 31, 0),
     (65_504, 100_000, 1),
     (65_536, 63, 0),
@@ -209,14 +222,14 @@ const BUDGETS: [(u64, usize, usize); 7] = [
 // A budget ends between frames; of a pad it counts 32 bytes, and nothing is given behind one.
 pub(crate) fn counts_each(log: &TermLog) -> bool {
     let mut same = true;
-    for (position, budget, count) in BUDGETS {
+    for &(position, budget, count) in &BUDGETS {
         same &= count_from(log, position, budget) == count;
     }
     same
 }
 
 /// Which frames meet a range of so many positions, from a position on.
-const RANGES: [(u64, u64, &[u64]); 8] = [
+static RANGES: [(u64, u64, &[u64]); 8] = [
     (0, u64::MAX, &[65_504, 65_536, 65_600]),
     (65_535, 1, &[65_504]),
     (65_535, 2, &[65_504, 65_536]),
@@ -236,7 +249,7 @@ fn meets_each(log: &TermLog, rows: &[(u64, u64, &[u64])]) -> bool {
 }
 
 /// With a frame changed, one too few, one too many, and in another order.
-const OTHER_RANGES: [(u64, u64, &[u64]); 4] = [
+static OTHER_RANGES: [(u64, u64, &[u64]); 4] = [
     (65_599, 2, &[65_536, 65_632]),
     (65_599, 2, &[65_536]),
     (65_599, 2, &[65_536, 65_600, 65_600]),
