@@ -11,7 +11,7 @@ use std::alloc::{AllocError, Global};
 use stream_registry::Pair;
 
 /// The pairs of the second client's subscription, where two logs are there.
-const BOTH_OF_SECOND: [Pair; 2] = [
+static BOTH_OF_SECOND: [Pair; 2] = [
     Pair {
         source: 3,
         subscription: 2,
@@ -62,7 +62,7 @@ fn goes(alloc: Global, play: &mut Play, case: Case) -> bool {
 }
 
 /// Whether `image` is denied to the second client, and what goes then.
-const CASES: [(bool, Case); 14] = [
+static CASES: [(bool, Case); 14] = [
     (false, Case::LogsHaveReaders),
     (true, Case::DeniedSubscriptionsReadNothing),
     (false, Case::NumbersGo),
