@@ -1,7 +1,7 @@
 // Subscriptions that read a log while frames come.
 ghost use Rattle.std.specs.Prelude.{◌≡◌, ◌+◌, ◌<◌, length};
 
-use crate::shuffling::{hand_in, hand_in_cell};
+use crate::shuffling::hand_in;
 use crate::table::{Cell, TERM, Table};
 use frame_codec::Flags;
 use image_log::{ImageFrame, ImageLog, Insert};
@@ -39,15 +39,6 @@ pub fn fill(log: &mut ImageLog, subscription: u64, end: u64, count: u32) -> bool
         }
     }
     taken && log.contiguous() == end
-}
-
-/// Hands in frames, and says whether each was taken.
-pub fn take_all(log: &mut ImageLog, frames: &[(u64, Cell)]) -> bool {
-    let mut taken = true;
-    for (position, cell) in frames {
-        taken &= hand_in_cell(log, *position, *cell, false) == Some(Insert::Taken);
-    }
-    taken
 }
 
 /// Whether so many frames are read from a position on, the last of which ends at `end`.

@@ -1,8 +1,5 @@
 //! Tests of `image_receiver`.
 
-ghost use Rattle.std.specs.Prelude.{◌≡◌, []};
-
-use crate::reading::join;
 use crate::shuffling::hand_in;
 use frame_codec::TermPlace;
 use image_log::{ImageLog, Insert};
@@ -10,7 +7,7 @@ use image_receiver::{Due, Receiver, Status, receive_beat};
 use retransmit_gate::Nak;
 
 // Moments, and whether a NAK and a status message are due then.
-const TICKS: [(u64, bool, bool); 5] = [
+static TICKS: [(u64, bool, bool); 5] = [
     (0, false, true),
     (1_000_000, false, false),
     (1_000_001, true, false),
@@ -36,17 +33,14 @@ fn due(nak: bool, status: bool) -> Due {
 
 fn ticks(receiver: &mut Receiver, log: &mut ImageLog) -> bool {
     let mut same = true;
-    for (now, nak, status) in TICKS {
+    for &(now, nak, status) in &TICKS {
         same &= receiver.tick(now, log) == due(nak, status);
     }
     same
 }
 
-/// Whether NAKs and status messages are due in their time, of a gap in front of one frame.
-pub(crate) fn is_answered_in_time(log: &mut ImageLog) -> bool
-    requires { log.old.rebuilt.pairs ≡ [] }
-{
-    join(log, 1);
+/// Whether NAKs and status messages are due in their time, of a gap in front of one frame. A subscription reads the log.
+pub(crate) fn is_answered_in_time(log: &mut ImageLog) -> bool {
     let late = hand_in(log, 64, 1) == Some(Insert::Taken);
     let mut receiver = Receiver::new(200_000_000, 1_000_000, 60_000_000);
     late && ticks(&mut receiver, log)

@@ -2,7 +2,7 @@
 // plain table of the positions of their stream.
 ghost use Rattle.std.specs.Prelude.{◌≡◌, ◌%◌, ◌<◌, ◌≤◌, [], IfOk};
 
-use crate::reading::{join, read_portion};
+use crate::reading::read_portion;
 use crate::table::{Cell, Table};
 use frame_codec::{Flags, TermPlace, term_of, write_data, write_pad};
 use image_log::{Ident, ImageLog, ImageRoom, Insert};
@@ -135,15 +135,11 @@ fn lay_out(out: &mut [u8; 64], place: &TermPlace, cell: Cell) -> usize
 }
 
 /// Hands in `steps` frames, and says whether each answer, and what the log tells behind it, were those of the table,
-/// and each answer was given a good many times. A subscription reads the log all the while.
-pub fn agree(alloc: Global, ident: Ident, steps: u32) -> Result<bool, NoRoom>
-    requires { ident.term_length ≡ 65536 }
-{
-    let mut log = open(alloc, ident, 0)?;
-    join(&mut log, 1);
+/// and each answer was given a good many times; nothing without memory. Subscription 1 reads the log all the while.
+pub fn agree(alloc: Global, log: &mut ImageLog, steps: u32) -> Option<bool> {
     match Table::new(alloc, 16_384) {
-        Ok(mut table) => Ok(go_on(&mut log, &mut table, steps) && table.has_seen_all()),
-        Err(_) => Err(NoRoom),
+        Ok(mut table) => Some(go_on(log, &mut table, steps) && table.has_seen_all()),
+        Err(_) => None,
     }
 }
 
