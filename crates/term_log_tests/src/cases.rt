@@ -4,8 +4,7 @@ ghost use Rattle.std.specs.Prelude.{◌≡◌, [], IfOk};
 use crate::opening::opened;
 use crate::resends::are_sent;
 use crate::sending::{
-    connects_by_pairs, connects_by_status, drops_out_of_window, keeps_the_greatest_limit,
-    opens_by_status, setups_and_heartbeats, stops_behind_its_limit,
+    CONNECTS, LIMITS, OPENS, SETUPS_AND_HEARTBEATS, are_taken, connects_by_pairs,
 };
 use crate::tests::{
     begin_with_abc, counts_each, ends_at_the_greatest, follows_the_slowest, ident, meets_ranges,
@@ -54,10 +53,6 @@ fn frames_are_met(log: &mut TermLog) -> bool {
     log.tail() == 65_760 && counts_each(log) && meets_ranges(log)
 }
 
-fn is_limited_by_status(log: &mut TermLog) -> bool {
-    drops_out_of_window(log) && stops_behind_its_limit(log) && keeps_the_greatest_limit(log)
-}
-
 /// Whether a log in which nothing happened yet goes as the case says.
 fn goes(alloc: Global, log: &mut TermLog, case: Case) -> bool
     requires { log.old.pairs ≡ [] }
@@ -69,11 +64,11 @@ fn goes(alloc: Global, log: &mut TermLog, case: Case) -> bool
         Case::SlowestPairLimits => waits_for_the_slowest(log) && follows_the_slowest(log),
         Case::OtherAnswersAreTold => other_answers_are_told(alloc, log),
         Case::FramesOfAPaddedLog => frames_are_met(log),
-        Case::StatusOpensTheLog => opens_by_status(log),
-        Case::StatusMessagesLimit => is_limited_by_status(log),
-        Case::StatusConnects => connects_by_status(log),
+        Case::StatusOpensTheLog => are_taken(log, &OPENS),
+        Case::StatusMessagesLimit => are_taken(log, &LIMITS),
+        Case::StatusConnects => are_taken(log, &CONNECTS),
         Case::PairsConnect => connects_by_pairs(log),
-        Case::SetupsAndHeartbeats => setups_and_heartbeats(log),
+        Case::SetupsAndHeartbeats => are_taken(log, &SETUPS_AND_HEARTBEATS),
     }
 }
 

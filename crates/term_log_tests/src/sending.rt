@@ -1,3 +1,5 @@
+//! When a log is connected and may be sent, and when SETUPs and heartbeats are due.
+
 ghost use Rattle.std.specs.Prelude.{◌≡◌, []};
 
 use crate::filling::follow;
@@ -10,68 +12,163 @@ const TIMEOUT: u64 = 5_000_000_000;
 /// How far SETUPs, and heartbeats, are apart, in nanoseconds.
 const INTERVAL: u64 = 100_000_000;
 
-// Whether a log is connected up to a moment, and no longer.
-fn connected_until(log: &TermLog, moment: u64) -> bool {
-    log.connected(moment, TIMEOUT) && !log.connected(moment.wrapping_add(1), TIMEOUT)
+/// What is done with a log, and what it shows. Moments come first.
+#[derive(Clone, Copy)]
+pub(crate) enum Step {
+    /// A status message of this position and window is answered so.
+    Status(u64, u64, u32, Status),
+    /// A message of bytes 1, so many of them, is answered so.
+    Offers(usize, Offer),
+    /// A datagram of so many bytes is sent.
+    Sends(usize),
+    /// All there is is sent.
+    Follows,
+    Elicits,
+    SetupSent(u64),
+    DatagramSent(u64),
+    Connected(u64, u64),
+    MaySend(u32),
+    StandsAt(u64),
+    EndsAt(u64),
+    SetupIsDue(u64),
+    HeartbeatIsDue(u64),
 }
 
-// Whether a SETUP is due past a moment, and not at it.
-fn setup_due_past(log: &TermLog, moment: u64) -> bool {
-    !log.setup_due(moment, TIMEOUT, INTERVAL)
-        && log.setup_due(moment.wrapping_add(1), TIMEOUT, INTERVAL)
+fn offers(log: &mut TermLog, size: usize, answer: Offer) -> bool {
+    let message = [1; 65];
+    log.offer(&message[..size.min(65)]) == answer
 }
 
-// Whether a heartbeat is due past a moment, and not at it.
-fn heartbeat_due_past(log: &TermLog, moment: u64) -> bool {
-    !log.heartbeat_due(moment, INTERVAL) && log.heartbeat_due(moment.wrapping_add(1), INTERVAL)
+fn goes(log: &mut TermLog, step: Step) -> bool {
+    match step {
+        Step::Status(now, position, window, answer) => log.status(now, position, window) == answer,
+        Step::Offers(size, answer) => offers(log, size, answer),
+        Step::Sends(size) => send(log) == size,
+        Step::Follows => {
+            follow(log);
+            true
+        }
+        Step::Elicits => {
+            log.elicit();
+            true
+        }
+        Step::SetupSent(now) => {
+            log.setup_sent(now);
+            true
+        }
+        Step::DatagramSent(now) => {
+            log.datagram_sent(now);
+            true
+        }
+        Step::Connected(now, timeout) => log.connected(now, timeout),
+        Step::MaySend(budget) => log.send_budget() == budget,
+        Step::StandsAt(position) => log.sender_position() == position,
+        Step::EndsAt(position) => log.tail() == position,
+        Step::SetupIsDue(now) => log.setup_due(now, TIMEOUT, INTERVAL),
+        Step::HeartbeatIsDue(now) => log.heartbeat_due(now, INTERVAL),
+    }
+}
+
+/// Whether each step is so, or not, as it says.
+pub(crate) fn are_taken(log: &mut TermLog, steps: &[(Step, bool)]) -> bool {
+    for &(step, wanted) in steps {
+        if goes(log, step) != wanted {
+            return false;
+        }
+    }
+    true
 }
 
 // The first status message connects a log over UDP, and lets its sender send.
-pub(crate) fn opens_by_status(log: &mut TermLog) -> bool {
-    let closed = !log.connected(0, TIMEOUT) && log.send_budget() == 0;
-    let taken = log.status(0, 0, 32_768) == Status::Accepted(32_768);
-    let open = log.connected(0, TIMEOUT) && log.send_budget() == 1408;
-    let offered = log.offer(b"x") == Offer::At(64) && log.sender_position() == 0;
-    let sent = send(log) == 64 && log.sender_position() == 64;
-    closed && taken && open && offered && sent && log.tail() == 64
-}
+pub(crate) static OPENS: [(Step, bool); 10] = [
+    (Step::Connected(0, TIMEOUT), false),
+    (Step::MaySend(0), true),
+    (Step::Status(0, 0, 32_768, Status::Accepted(32_768)), true),
+    (Step::Connected(0, TIMEOUT), true),
+    (Step::MaySend(1408), true),
+    (Step::Offers(1, Offer::At(64)), true),
+    (Step::StandsAt(0), true),
+    (Step::Sends(64), true),
+    (Step::StandsAt(64), true),
+    (Step::EndsAt(64), true),
+];
 
-// Of a log that begins at 65440: a status message beyond what was sent changes nothing, no limit and no moment.
-pub(crate) fn drops_out_of_window(log: &mut TermLog) -> bool {
-    let above = log.status(0, 65_441, 32_768) == Status::OutOfWindow;
-    let far = log.status(0, u64::MAX, u32::MAX) == Status::OutOfWindow;
-    let closed = !log.connected(0, TIMEOUT) && log.send_budget() == 0;
-    let open = log.status(0, 65_440, 32) == Status::Accepted(65_472);
-    let later = log.status(7, 65_472, 64) == Status::OutOfWindow;
-    let stays = connected_until(log, TIMEOUT) && log.send_budget() == 32;
-    above && far && closed && open && later && stays
-}
-
-// The sender comes to stand behind its limit of 65472, by a pad, and then sends nothing.
-pub(crate) fn stops_behind_its_limit(log: &mut TermLog) -> bool {
-    let padded = log.offer(&[1; 65]) == Offer::AdminAction;
-    follow(log);
-    padded && log.sender_position() == 65_536 && log.send_budget() == 0
-}
-
-// The limit is the greatest that any status message allowed, of whose window half a term counts at most.
-pub(crate) fn keeps_the_greatest_limit(log: &mut TermLog) -> bool {
-    let half = log.status(0, 65_440, 32_769) == Status::Accepted(98_208);
-    let most = log.status(0, 65_536, u32::MAX) == Status::Accepted(98_304);
-    let less = log.status(0, 65_536, 0) == Status::Accepted(98_304);
-    half && most && less && log.send_budget() == 1408
-}
+// Of a log that begins at 65440.
+pub(crate) static LIMITS: [(Step, bool); 17] = [
+    // A status message beyond what was sent changes nothing, no limit and no moment.
+    (Step::Status(0, 65_441, 32_768, Status::OutOfWindow), true),
+    (
+        Step::Status(0, u64::MAX, u32::MAX, Status::OutOfWindow),
+        true,
+    ),
+    (Step::Connected(0, TIMEOUT), false),
+    (Step::MaySend(0), true),
+    (Step::Status(0, 65_440, 32, Status::Accepted(65_472)), true),
+    (Step::Status(7, 65_472, 64, Status::OutOfWindow), true),
+    (Step::Connected(TIMEOUT, TIMEOUT), true),
+    (Step::Connected(TIMEOUT + 1, TIMEOUT), false),
+    (Step::MaySend(32), true),
+    // The sender comes to stand behind its limit of 65472, by a pad, and then sends nothing.
+    (Step::Offers(65, Offer::AdminAction), true),
+    (Step::Follows, true),
+    (Step::StandsAt(65_536), true),
+    (Step::MaySend(0), true),
+    // The limit is the greatest that any status message allowed, of whose window half a term counts at most.
+    (
+        Step::Status(0, 65_440, 32_769, Status::Accepted(98_208)),
+        true,
+    ),
+    (
+        Step::Status(0, 65_536, u32::MAX, Status::Accepted(98_304)),
+        true,
+    ),
+    (Step::Status(0, 65_536, 0, Status::Accepted(98_304)), true),
+    (Step::MaySend(1408), true),
+];
 
 // A log over UDP is connected up to the timeout behind the latest status message, and by no wish for a SETUP.
-pub(crate) fn connects_by_status(log: &mut TermLog) -> bool {
-    log.elicit();
-    let alone = !log.connected(0, u64::MAX);
-    let first = log.status(20, 0, 0) == Status::Accepted(0) && connected_until(log, TIMEOUT + 20);
-    let before = log.connected(0, 0);
-    let back = log.status(10, 0, 0) == Status::Accepted(0) && connected_until(log, TIMEOUT + 20);
-    let last = log.status(u64::MAX, 0, 0) == Status::Accepted(0) && log.connected(u64::MAX, 0);
-    alone && first && before && back && last
-}
+pub(crate) static CONNECTS: [(Step, bool); 11] = [
+    (Step::Elicits, true),
+    (Step::Connected(0, u64::MAX), false),
+    (Step::Status(20, 0, 0, Status::Accepted(0)), true),
+    (Step::Connected(TIMEOUT + 20, TIMEOUT), true),
+    (Step::Connected(TIMEOUT + 21, TIMEOUT), false),
+    (Step::Connected(0, 0), true),
+    (Step::Status(10, 0, 0, Status::Accepted(0)), true),
+    (Step::Connected(TIMEOUT + 20, TIMEOUT), true),
+    (Step::Connected(TIMEOUT + 21, TIMEOUT), false),
+    (Step::Status(u64::MAX, 0, 0, Status::Accepted(0)), true),
+    (Step::Connected(u64::MAX, 0), true),
+];
+
+pub(crate) static SETUPS_AND_HEARTBEATS: [(Step, bool); 23] = [
+    (Step::SetupIsDue(0), true),
+    // A heartbeat is due past its interval since the last datagram of any kind; moments never go back.
+    (Step::HeartbeatIsDue(0), true),
+    (Step::SetupSent(0), true),
+    (Step::HeartbeatIsDue(INTERVAL), false),
+    (Step::HeartbeatIsDue(INTERVAL + 1), true),
+    (Step::DatagramSent(50), true),
+    (Step::HeartbeatIsDue(INTERVAL + 50), false),
+    (Step::HeartbeatIsDue(INTERVAL + 51), true),
+    (Step::DatagramSent(10), true),
+    (Step::HeartbeatIsDue(INTERVAL + 50), false),
+    (Step::HeartbeatIsDue(INTERVAL + 51), true),
+    // A SETUP, of which the last was at 0, is due past its interval where nobody is connected, and where one was asked for.
+    // One answers all who asked.
+    (Step::SetupIsDue(INTERVAL), false),
+    (Step::SetupIsDue(INTERVAL + 1), true),
+    (Step::Status(0, 0, 0, Status::Accepted(0)), true),
+    (Step::SetupIsDue(TIMEOUT), false),
+    (Step::SetupIsDue(TIMEOUT + 1), true),
+    (Step::Elicits, true),
+    (Step::Elicits, true),
+    (Step::DatagramSent(0), true),
+    (Step::SetupIsDue(0), true),
+    (Step::SetupSent(TIMEOUT), true),
+    (Step::SetupIsDue(TIMEOUT + INTERVAL), false),
+    (Step::SetupIsDue(TIMEOUT + INTERVAL + 1), true),
+];
 
 // A log over IPC is connected while it has a pair, whatever status messages say.
 pub(crate) fn connects_by_pairs(log: &mut TermLog) -> bool
@@ -81,32 +178,4 @@ pub(crate) fn connects_by_pairs(log: &mut TermLog) -> bool
     let joined = log.join_pair(1) == 0 && log.connected(u64::MAX, 0);
     log.leave_pair(1);
     status && joined && !log.connected(0, TIMEOUT)
-}
-
-// A heartbeat is due past its interval since the last datagram of any kind; moments never go back.
-fn beats_behind_all_datagrams(log: &mut TermLog) -> bool {
-    let first = log.heartbeat_due(0, INTERVAL);
-    log.setup_sent(0);
-    let setup = heartbeat_due_past(log, INTERVAL);
-    log.datagram_sent(50);
-    let data = heartbeat_due_past(log, INTERVAL + 50);
-    log.datagram_sent(10);
-    first && setup && data && heartbeat_due_past(log, INTERVAL + 50)
-}
-
-// A SETUP, of which the last was at 0, is due past its interval where nobody is connected, and where one was asked for.
-// One answers all who asked.
-fn asks_by_setups(log: &mut TermLog) -> bool {
-    let unheard = setup_due_past(log, INTERVAL);
-    let heard = log.status(0, 0, 0) == Status::Accepted(0) && setup_due_past(log, TIMEOUT);
-    log.elicit();
-    log.elicit();
-    log.datagram_sent(0);
-    let asked = log.setup_due(0, TIMEOUT, INTERVAL);
-    log.setup_sent(TIMEOUT);
-    unheard && heard && asked && setup_due_past(log, TIMEOUT + INTERVAL)
-}
-
-pub(crate) fn setups_and_heartbeats(log: &mut TermLog) -> bool {
-    log.setup_due(0, TIMEOUT, INTERVAL) && beats_behind_all_datagrams(log) && asks_by_setups(log)
 }
