@@ -23,7 +23,7 @@ pub(crate) fn churn(
         if step(arena, &mut leases, &mut table, word)? {
             taken = taken.wrapping_add(1);
         }
-        same &= agrees(alloc, arena, &table)?;
+        same &= agrees(alloc, arena, &table);
     }
     Ok(if same { Some(taken) } else { None })
 }
@@ -70,23 +70,59 @@ fn mark(table: &mut Vec<bool>, at: usize, count: usize, leased: bool) {
     }
 }
 
-/// Whether the arena's holes, used and free bytes are those of the table.
-pub(crate) fn agrees(alloc: Global, arena: &Arena, table: &[bool]) -> Result<bool, AllocError> {
+// One page more that has no lease. Whether there was memory.
+fn put_page(holes: &mut Vec<(usize, usize)>, at: usize, goes_on: bool) -> bool {
+    match holes.last_mut() {
+        Some(hole) if goes_on => {
+            hole.1 = hole.1.wrapping_add(PAGE);
+            true
+        }
+        _ => holes.push((at, PAGE)).is_ok(),
+    }
+}
+
+/// Whether the arena's holes, used and free bytes are those of the table; false without memory.
+pub(crate) fn agrees(alloc: Global, arena: &Arena, table: &[bool]) -> bool {
     let mut holes: Vec<(usize, usize)> = Vec::new(alloc);
     let mut free: usize = 0;
     let mut all: usize = 0;
     let mut last = true;
+    let mut put = true;
     for leased in table {
         if !*leased {
             free = free.wrapping_add(PAGE);
-            match holes.last_mut() {
-                Some(hole) if !last => hole.1 = hole.1.wrapping_add(PAGE),
-                _ => holes.push((all, PAGE))?,
-            }
+            put &= put_page(&mut holes, all, !last);
         }
         last = *leased;
         all = all.wrapping_add(PAGE);
     }
-    let used = all.wrapping_sub(free);
-    Ok(arena.holes() == holes.as_slice() && arena.free() == free && arena.used() == used)
+    let same = (arena.holes() == holes.as_slice()) & (arena.free() == free);
+    put & same & (arena.used() == all.wrapping_sub(free))
+}
+
+/// A step that is chosen, the place of the lease that was taken last of those that are left, and the holes then.
+pub(crate) type Chosen = (u64, Option<usize>, &'static [(usize, usize)]);
+
+fn last_is_at(leases: &[Lease], place: Option<usize>) -> bool {
+    match leases.last() {
+        Some(lease) => place == Some(lease.place()),
+        None => place.is_none(),
+    }
+}
+
+/// Whether an arena without a lease, of ten pages, goes as the rows say, and each time as a plain page table.
+pub(crate) fn follow(
+    alloc: Global,
+    arena: &mut Arena,
+    rows: &[Chosen],
+) -> Result<bool, AllocError> {
+    let mut leases = Vec::new(alloc);
+    let mut table = Vec::from_elem(alloc, false, 10)?;
+    let mut same = true;
+    for &(choice, place, holes) in rows {
+        same &= step(arena, &mut leases, &mut table, choice << 33).is_ok();
+        same &= (arena.holes() == holes) & last_is_at(leases.as_slice(), place);
+        same &= agrees(alloc, arena, table.as_slice());
+    }
+    Ok(same)
 }

@@ -1,4 +1,7 @@
-use crate::churning::{agrees, churn};
+ghost use Rattle.log_arena.specs.Lease.{lease_home};
+ghost use Rattle.std.specs.Prelude.{◌≡◌};
+
+use crate::churning::{Chosen, agrees, churn, follow};
 use crate::journal::Journal;
 use crate::owners::hand_over;
 use log_arena::laws::{
@@ -17,39 +20,39 @@ fn is_filled(bytes: &[u8], value: u8) -> bool {
 // Whether a log of three terms takes the whole arena, with zeros. It is filled, and given back.
 fn is_taken_and_given(arena: &mut Arena) -> Result<bool, NoRoom> {
     let mut lease = arena.lease(3 * TERM)?;
-    let placed = lease.place() == 0 && lease.len() == 196_608;
+    let placed = (lease.place() == 0) & (lease.len() == 196_608);
     let zeros = is_filled(lease.bytes(), 0);
-    let full = arena.holes().is_empty() && arena.used() == 196_608 && arena.free() == 0;
+    let full = arena.holes().is_empty() & (arena.used() == 196_608) & (arena.free() == 0);
     let refused = arena.lease(PAGE).is_err();
     lease.bytes_mut().fill(0xa5);
     let filled = is_filled(lease.bytes(), 0xa5);
     arena.give(lease);
     let hole = arena.holes() == [(0, 196_608)].as_slice();
-    Ok(placed && zeros && full && refused && filled && hole)
+    Ok(placed & zeros & full & refused & filled & hole)
 }
 
-fn fits_and_merges(arena: &mut Arena) -> Result<bool, NoRoom> {
-    let a = arena.lease(3 * PAGE)?;
-    let b = arena.lease(PAGE)?;
-    let c = arena.lease(2 * PAGE)?;
-    let d = arena.lease(PAGE)?;
-    let places = [a.place(), b.place(), c.place(), d.place()];
-    arena.give(a);
-    arena.give(c);
-    let three = arena.holes()
-        == [(0, 3 * PAGE), (4 * PAGE, 2 * PAGE), (7 * PAGE, 3 * PAGE)].as_slice();
-    // Two pages fit exactly into the second hole, and go into the first.
-    let e = arena.lease(2 * PAGE)?;
-    let first = e.place() == 0;
-    arena.give(b);
-    let two = arena.holes() == [(2 * PAGE, 4 * PAGE), (7 * PAGE, 3 * PAGE)].as_slice();
-    arena.give(d);
-    let one = arena.holes() == [(2 * PAGE, 8 * PAGE)].as_slice() && arena.used() == 2 * PAGE;
-    arena.give(e);
-    let whole = arena.holes() == [(0, 10 * PAGE)].as_slice();
-    let placed = places.as_slice() == [0, 3 * PAGE, 4 * PAGE, 6 * PAGE].as_slice();
-    Ok(placed && three && first && two && one && whole)
-}
+// Three pages, one, two and one are leased; the first and the third lease are given back. Two pages fit exactly into the
+// second hole, and go into the first. Then the others are given back, the one taken first first.
+static FITS: [Chosen; 10] = [
+    (10, Some(0), &[(3 * PAGE, 7 * PAGE)]),
+    (0, Some(3 * PAGE), &[(4 * PAGE, 6 * PAGE)]),
+    (5, Some(4 * PAGE), &[(6 * PAGE, 4 * PAGE)]),
+    (0, Some(6 * PAGE), &[(7 * PAGE, 3 * PAGE)]),
+    (3, Some(6 * PAGE), &[(0, 3 * PAGE), (7 * PAGE, 3 * PAGE)]),
+    (
+        28,
+        Some(6 * PAGE),
+        &[(0, 3 * PAGE), (4 * PAGE, 2 * PAGE), (7 * PAGE, 3 * PAGE)],
+    ),
+    (
+        5,
+        Some(0),
+        &[(2 * PAGE, PAGE), (4 * PAGE, 2 * PAGE), (7 * PAGE, 3 * PAGE)],
+    ),
+    (3, Some(0), &[(2 * PAGE, 4 * PAGE), (7 * PAGE, 3 * PAGE)]),
+    (3, Some(0), &[(2 * PAGE, 8 * PAGE)]),
+    (3, None, &[(0, 10 * PAGE)]),
+];
 
 // How many leases are taken, and the holes that are left, were worked out beside the arena, by the same steps on a page
 // table alone; a step fewer and a step more leave other holes.
@@ -86,40 +89,45 @@ static TABLES: [(&[bool], bool); 6] = [
     (&[true, true, false, false, true], false),
 ];
 
-fn tells_tables(alloc: Global, arena: &Arena) -> Result<bool, AllocError> {
+fn tells_tables(alloc: Global, arena: &Arena) -> bool {
     let mut told = true;
     for &(table, same) in &TABLES {
-        told &= agrees(alloc, arena, table)? == same;
+        told &= agrees(alloc, arena, table) == same;
     }
-    Ok(told)
+    told
+}
+
+fn is_written(journal: &mut Journal) -> bool
+    ensures { lease_home journal.new.lease ≡ lease_home journal.old.lease }
+{
+    journal.append(b"one ")
+        && journal.append(b"two")
+        && journal.text() == b"one two".as_slice()
+        && !journal.append([0u8; 4090].as_slice())
+        && journal.text() == b"one two".as_slice()
 }
 
 fn journal_writes(arena: &mut Arena) -> Result<bool, NoRoom> {
     let first = arena.lease(PAGE)?;
-    let lease = arena.lease(PAGE)?;
-    let mut journal = Journal::new(lease);
-    let one = journal.append(b"one ");
-    let two = journal.append(b"two");
-    let text = journal.text() == b"one two".as_slice();
-    let full = !journal.append([0u8; 4090].as_slice());
-    let same = journal.text() == b"one two".as_slice();
+    let mut journal = Journal::new(arena.lease(PAGE)?);
+    let written = is_written(&mut journal);
     let first = held_pages_have_a_lease(arena, first);
-    let placed = first.place() == 0 && arena.holes() == [(2 * PAGE, 2 * PAGE)].as_slice();
+    let holes = arena.holes() == [(2 * PAGE, 2 * PAGE)].as_slice();
+    let placed = (first.place() == 0) & holes;
     journal.close(arena);
-    let given = arena.holes() == [(PAGE, 3 * PAGE)].as_slice();
-    Ok(one && two && text && full && same && placed && given)
+    Ok(written & placed & (arena.holes() == [(PAGE, 3 * PAGE)].as_slice()))
 }
 
 fn change_hands(arena: &mut Arena) -> Result<bool, NoRoom> {
     let a = arena.lease(PAGE)?;
     let b = arena.lease(PAGE)?;
     let (a, b) = share_no_page(a, b);
-    let placed = a.place() == 0 && b.place() == PAGE;
+    let placed = (a.place() == 0) & (b.place() == PAGE);
     let mut b = hand_over(arena, a, b);
     b.bytes_mut().fill(9);
     let c = arena.lease(PAGE)?;
     let d = others_leave_a_lease(arena, &mut b, c, 2 * PAGE);
-    Ok(placed && d.is_err() && is_filled(b.bytes(), 9))
+    Ok(placed & d.is_err() & is_filled(b.bytes(), 9))
 }
 
 fn lease_is_dropped(arena: &mut Arena) -> bool {
@@ -153,12 +161,12 @@ fn goes(alloc: Global, arena: &mut Arena, case: Case) -> bool {
         Case::PlaceIsReused => {
             is_taken_and_given(arena) == Ok(true) && is_taken_and_given(arena) == Ok(true)
         }
-        Case::FirstFitAndMerge => fits_and_merges(arena) == Ok(true),
+        Case::FirstFitAndMerge => follow(alloc, arena, &FITS) == Ok(true),
         Case::PlainPageTable => are_left(alloc, arena) == Ok(true),
         Case::SinglePage => single_page_is_left(alloc, arena) == Ok(true),
         Case::PageLess => is_told_by(alloc, arena, 63) == Ok(false),
         Case::PageMore => is_told_by(alloc, arena, 65) == Ok(false),
-        Case::DroppedLease => lease_is_dropped(arena) && tells_tables(alloc, arena) == Ok(true),
+        Case::DroppedLease => lease_is_dropped(arena) && tells_tables(alloc, arena),
         Case::Journal => journal_writes(arena) == Ok(true),
         Case::LeasesChangeHands => change_hands(arena) == Ok(true),
     }
