@@ -70,20 +70,6 @@ fn front(bytes: &[u8], size: usize) -> &[u8] {
     front
 }
 
-/// The SETUP, and a byte behind it that is not written.
-fn written_setup(setup: &Setup) -> [u8; 41] {
-    let mut out = [0xff; 41];
-    write_setup(&mut out, setup);
-    out
-}
-
-/// A data frame of `abc`, and a byte behind it that is not written.
-fn written_data() -> [u8; 65] {
-    let mut out = [0xff; 65];
-    write_data(&mut out, Flags::UNFRAGMENTED, &at(0), b"abc");
-    out
-}
-
 /// What a datagram holds.
 #[derive(Clone, Copy, Debug, PartialEq, Eq)]
 enum Held {
@@ -117,13 +103,6 @@ fn read_with(datagram: &[u8], place: usize, value: u8) -> Answer {
         bytes[place] = value;
     }
     read_as(&bytes[..size])
-}
-
-fn frames(bytes: &[u8]) -> Option<Frames<'_>> {
-    match Datagram::read(bytes) {
-        Ok(Packet::Data(frames)) => Some(frames),
-        _ => None,
-    }
 }
 
 /// Initial term, term and offset, and the position, in terms of 64 KiB.
@@ -197,37 +176,126 @@ const SETUP_FIELDS: Setup = Setup {
     ttl: 0,
 };
 
-fn is_setup(bytes: &[u8], wanted: Setup) -> bool {
-    match Datagram::read(bytes) {
-        Ok(Packet::Setup(read)) => read == wanted,
-        _ => false,
-    }
+const START: TermPlace = TermPlace {
+    session_id: 9,
+    stream_id: 10,
+    term_id: 5,
+    term_offset: 0,
+};
+
+const LATER: TermPlace = TermPlace {
+    session_id: 9,
+    stream_id: 10,
+    term_id: 5,
+    term_offset: 64,
+};
+
+const STILL_LATER: TermPlace = TermPlace {
+    session_id: 9,
+    stream_id: 10,
+    term_id: 5,
+    term_offset: 96,
+};
+
+/// Of the first data frame.
+const DATA_HEADER: Header = Header {
+    kind: Kind::Data,
+    length: 35,
+    flags: Flags::UNFRAGMENTED,
+    place: START,
+    reserved_value: 0,
+};
+
+const PAD_HEADER: Header = Header {
+    kind: Kind::Pad,
+    length: 96,
+    flags: Flags::UNFRAGMENTED,
+    place: LATER,
+    reserved_value: 0,
+};
+
+/// What is read of a datagram.
+#[derive(Clone, Copy)]
+enum Wanted {
+    Setup(Setup),
+    Status(StatusMessage),
+    Nak(Nak),
+    /// A heartbeat of this length, at this place.
+    Beat(u32, TermPlace),
+    /// One data frame or pad, of this header, bytes and payload.
+    Frame(Header, &'static [u8], &'static [u8]),
 }
 
-/// Whether the datagram is one data frame or pad, of this header, bytes and payload.
-fn is_frame(datagram: &[u8], header: &Header, bytes: &[u8], payload: &[u8]) -> bool {
-    match frames(datagram) {
-        Some(mut found) => match found.next() {
-            Some(frame) => {
-                frame.header == *header
-                    && frame.bytes == bytes
-                    && frame.payload() == payload
-                    && found.next().is_none()
-            }
-            None => false,
-        },
+/// Whether the first frame is this one, and no other follows.
+fn is_frame(mut frames: Frames<'_>, header: &Header, bytes: &[u8], payload: &[u8]) -> bool {
+    match frames.next() {
+        Some(frame) => {
+            let same = frame.header == *header && frame.bytes == bytes;
+            same && frame.payload() == payload && frames.next().is_none()
+        }
         None => false,
     }
 }
 
-fn header_of(kind: Kind, length: u32, place: TermPlace) -> Header {
-    Header {
-        kind,
-        length,
-        flags: Flags::UNFRAGMENTED,
-        place,
-        reserved_value: 0,
+fn is_read(datagram: &[u8], wanted: Wanted) -> bool {
+    match (Datagram::read(datagram), wanted) {
+        (Ok(Packet::Setup(read)), Wanted::Setup(setup)) => read == setup,
+        (Ok(Packet::Sm(read)), Wanted::Status(status)) => read == status,
+        (Ok(Packet::Nak(read)), Wanted::Nak(nak)) => read == nak,
+        (Ok(Packet::Beat(read)), Wanted::Beat(length, place)) => {
+            read.length == length && read.place == place
+        }
+        (Ok(Packet::Data(frames)), Wanted::Frame(header, bytes, payload)) => {
+            is_frame(frames, &header, bytes, payload)
+        }
+        _ => false,
     }
+}
+
+/// Whether each datagram is read so, or not, as its row says.
+fn are_read(rows: &[(&[u8], Wanted, bool)]) -> bool {
+    for &(datagram, wanted, so) in rows {
+        if is_read(datagram, wanted) != so {
+            return false;
+        }
+    }
+    true
+}
+
+/// What is written.
+#[derive(Clone, Copy)]
+enum Written {
+    Setup,
+    Data,
+    Status,
+    Nak,
+    Pad,
+    Beat,
+}
+
+/// Whether these bytes are written, and none behind them.
+fn is_written(written: Written, bytes: &[u8]) -> bool {
+    let blank = [0xff; 65];
+    let mut out = blank;
+    match written {
+        Written::Setup => write_setup(&mut out, &SETUP_FIELDS),
+        Written::Data => write_data(&mut out, Flags::UNFRAGMENTED, &START, b"abc"),
+        Written::Status => write_sm(&mut out, &STATUS_FIELDS),
+        Written::Nak => write_nak(&mut out, &NAK_FIELDS),
+        Written::Pad => write_pad(&mut out, Flags::UNFRAGMENTED, &LATER, 96),
+        Written::Beat => write_beat(&mut out, Flags::UNFRAGMENTED, &LATER),
+    }
+    let size = bytes.len().min(65);
+    &out[..size] == bytes && &out[size..] == &blank[size..]
+}
+
+fn are_written(rows: &[(Written, &[u8])]) -> bool {
+    for &(written, bytes) in rows {
+        if !is_written(written, bytes) {
+            return false;
+        }
+    }
+    true
 }
 
 /// How many bytes there are at most in a term: 16 MiB.
@@ -305,45 +373,6 @@ fn images_join_by_sound_setups(rt: HostRuntime) {
     assert!(rt; join_at(&JOININGS) & !others);
 }
 
-fn is_setup_written() -> bool {
-    let out = written_setup(&SETUP_FIELDS);
-    front(&out, 40) == SETUP.as_slice() && out[40] == 0xff
-}
-
-fn is_data_written() -> bool {
-    let out = written_data();
-    let filling = out[35..64].iter().all(|byte| *byte == 0);
-    front(&out, 35) == DATA.as_slice() && filling && out[64] == 0xff
-}
-
-fn is_of_one_frame(flags: Flags) -> bool {
-    flags.begins_message() && flags.ends_message() && !flags.ends_stream()
-}
-
-fn is_data() -> bool {
-    let header = header_of(Kind::Data, 35, at(0));
-    is_frame(&DATA, &header, &DATA, b"abc") && is_of_one_frame(header.flags) && is_data_written()
-}
-
-#[test]
-fn setup_and_data(rt: HostRuntime) {
-    assert!(rt; is_setup(&SETUP, SETUP_FIELDS) & is_setup_written() & is_data());
-}
-
-fn is_status(bytes: &[u8], wanted: StatusMessage) -> bool {
-    match Datagram::read(bytes) {
-        Ok(Packet::Sm(read)) => read == wanted,
-        _ => false,
-    }
-}
-
-fn is_nak(bytes: &[u8], wanted: Nak) -> bool {
-    match Datagram::read(bytes) {
-        Ok(Packet::Nak(read)) => read == wanted,
-        _ => false,
-    }
-}
-
 const STATUS_FIELDS: StatusMessage = StatusMessage {
     flags: Flags::NONE,
     session_id: 9,
@@ -363,52 +392,65 @@ const NAK_FIELDS: Nak = Nak {
     length: 64,
 };
 
-fn is_status_written() -> bool {
-    let mut out = [0xff; 36];
-    write_sm(&mut out, &STATUS_FIELDS);
-    out.as_slice() == STATUS.as_slice()
+/// The first data frame, with its filling.
+const FILLED: [u8; 64] = [
+    0x23, 0, 0, 0, 0, 0xc0, 1, 0, // length, version, flags, type
+    0, 0, 0, 0, // term offset
+    9, 0, 0, 0, 10, 0, 0, 0, 5, 0, 0, 0, // session, stream, term
+    0, 0, 0, 0, 0, 0, 0, 0, // reserved value
+    0x61, 0x62, 0x63, 0, 0, 0, 0, 0, 0, 0, 0, 0, 0, 0, 0, 0, 0, 0, 0, 0, 0, 0, 0, 0, 0, 0, 0, 0, 0,
+    0, 0, 0,
+];
+
+static SETUP_AND_DATA: [(&[u8], Wanted, bool); 2] = [
+    (&SETUP, Wanted::Setup(SETUP_FIELDS), true),
+    (&DATA, Wanted::Frame(DATA_HEADER, &DATA, b"abc"), true),
+];
+
+static SETUP_AND_DATA_BYTES: [(Written, &[u8]); 2] = [
+    (Written::Setup, &SETUP),
+    (Written::Data, &FILLED),
+];
+
+fn is_of_one_frame(flags: Flags) -> bool {
+    flags.begins_message() && flags.ends_message() && !flags.ends_stream()
 }
 
-fn is_nak_written() -> bool {
-    let mut out = [0xff; 28];
-    write_nak(&mut out, &NAK_FIELDS);
-    out.as_slice() == NAK.as_slice()
+#[test]
+fn setup_and_data(rt: HostRuntime) {
+    let whole = is_of_one_frame(DATA_HEADER.flags);
+    assert!(rt; whole & are_read(&SETUP_AND_DATA) & are_written(&SETUP_AND_DATA_BYTES));
 }
+
+static NAK_AND_STATUS: [(&[u8], Wanted, bool); 2] = [
+    (&STATUS, Wanted::Status(STATUS_FIELDS), true),
+    (&NAK, Wanted::Nak(NAK_FIELDS), true),
+];
+
+static NAK_AND_STATUS_BYTES: [(Written, &[u8]); 2] = [
+    (Written::Status, &STATUS),
+    (Written::Nak, &NAK),
+];
 
 #[test]
 fn nak_and_status_timing(rt: HostRuntime) {
-    let status = is_status(&STATUS, STATUS_FIELDS) & is_status_written();
-    assert!(rt; status & is_nak(&NAK, NAK_FIELDS) & is_nak_written());
+    assert!(rt; are_read(&NAK_AND_STATUS) & are_written(&NAK_AND_STATUS_BYTES));
 }
 
-fn is_pad_written() -> bool {
-    let mut out = [0xff; 32];
-    write_pad(&mut out, Flags::UNFRAGMENTED, &at(64), 96);
-    out.as_slice() == PAD.as_slice()
-}
+static PADS_AND_BEATS: [(&[u8], Wanted, bool); 2] = [
+    (&PAD, Wanted::Frame(PAD_HEADER, &PAD, b""), true),
+    (&BEAT, Wanted::Beat(0, LATER), true),
+];
 
-fn is_beat(bytes: &[u8], length: u32, place: TermPlace) -> bool {
-    match Datagram::read(bytes) {
-        Ok(Packet::Beat(read)) => read.length == length && read.place == place,
-        _ => false,
-    }
-}
-
-fn is_beat_written() -> bool {
-    let mut out = [0xff; 32];
-    write_beat(&mut out, Flags::UNFRAGMENTED, &at(64));
-    out.as_slice() == BEAT.as_slice()
-}
+static PAD_AND_BEAT_BYTES: [(Written, &[u8]); 2] = [(Written::Pad, &PAD), (Written::Beat, &BEAT)];
 
 #[test]
 fn pads_and_heartbeats(rt: HostRuntime) {
-    let header = header_of(Kind::Pad, 96, at(64));
-    let pad = is_frame(&PAD, &header, &PAD, b"") & is_pad_written();
-    assert!(rt; pad & is_beat(&BEAT, 0, at(64)) & is_beat_written());
+    assert!(rt; are_read(&PADS_AND_BEATS) & are_written(&PAD_AND_BEAT_BYTES));
 }
 
 /// A status message with fields of all sizes, with bytes that differ, and bits without a name.
-static FULL_STATUS: [u8; 36] = [
+const FULL_STATUS: [u8; 36] = [
     0x24, 0, 0, 0, 0, 0x93, 3, 0, // length, version, flags, type
     1, 2, 3, 4, 5, 6, 7, 0x88, 0xff, 0xff, 0xff, 0xff, // session, stream, term
     0x21, 2, 3, 4, 0x44, 0x33, 0x22, 0x11, // consumption term offset, window
@@ -425,72 +467,109 @@ const FULL_STATUS_FIELDS: StatusMessage = StatusMessage {
     receiver_id: 0x8102_0304_0506_0708,
 };
 
-fn is_reserved_value_read() -> bool {
-    let mut data = DATA;
-    data[24] = 0x11;
-    data[31] = 0x88;
-    let mut header = header_of(Kind::Data, 35, at(0));
-    header.reserved_value = 0x8800_0000_0000_0011;
-    is_frame(&data, &header, &data, b"abc")
-}
+/// The first data frame with a reserved value.
+const RESERVED: [u8; 35] = [
+    0x23, 0, 0, 0, 0, 0xc0, 1, 0, // length, version, flags, type
+    0, 0, 0, 0, // term offset
+    9, 0, 0, 0, 10, 0, 0, 0, 5, 0, 0, 0, // session, stream, term
+    0x11, 0, 0, 0, 0, 0, 0, 0x88, // reserved value
+    0x61, 0x62, 0x63,
+];
 
-#[test]
-fn every_byte_of_a_field_counts(rt: HostRuntime) {
-    let status = is_status(&FULL_STATUS, FULL_STATUS_FIELDS);
-    let asks = FULL_STATUS_FIELDS.flags.asks_for_setup();
-    assert!(rt; status & asks & is_reserved_value_read());
-}
+const RESERVED_HEADER: Header = Header {
+    kind: Kind::Data,
+    length: 35,
+    flags: Flags::UNFRAGMENTED,
+    place: START,
+    reserved_value: 0x8800_0000_0000_0011,
+};
 
-/// Each of these is beside something that differs in one place.
-fn has_other_fields() -> bool {
-    let setup = is_setup(&DATA, SETUP_FIELDS);
-    let status = is_status(&STATUS, FULL_STATUS_FIELDS);
-    let length = Nak {
-        length: 65,
-        ..NAK_FIELDS
-    };
-    setup | status | is_nak(&NAK, length) | is_beat(&BEAT, 0, at(96))
-}
+const LONGER_NAK: Nak = Nak {
+    flags: Flags::NONE,
+    session_id: 9,
+    stream_id: 10,
+    term_id: 5,
+    term_offset: 0,
+    length: 65,
+};
 
-fn is_another_frame() -> bool {
-    let data = header_of(Kind::Data, 35, at(0));
-    let kind = is_frame(&DATA, &header_of(Kind::Pad, 96, at(64)), &DATA, b"abc");
-    let payload = is_frame(&DATA, &data, &DATA, b"abd");
-    kind | payload | is_frame(&run(), &data, &DATA, b"abc")
-}
+/// Every byte of a field counts. The last rows are each beside something that differs in one place.
+static FIELDS: [(&[u8], Wanted, bool); 8] = [
+    (&FULL_STATUS, Wanted::Status(FULL_STATUS_FIELDS), true),
+    (
+        &RESERVED,
+        Wanted::Frame(RESERVED_HEADER, &RESERVED, b"abc"),
+        true,
+    ),
+    (&DATA, Wanted::Setup(SETUP_FIELDS), false),
+    (&STATUS, Wanted::Status(FULL_STATUS_FIELDS), false),
+    (&NAK, Wanted::Nak(LONGER_NAK), false),
+    (&BEAT, Wanted::Beat(0, STILL_LATER), false),
+    (&DATA, Wanted::Frame(PAD_HEADER, &DATA, b"abc"), false),
+    (&DATA, Wanted::Frame(DATA_HEADER, &DATA, b"abd"), false),
+];
 
 /// Each of these tables has one row that differs.
 fn has_other_answers() -> bool {
     let places = are_positions(&[PLACES[0], (5, 5, 0, 32)]);
     let bytes = are_changed(&[DROPPED[1], (&DATA, 4, 0, Err(BadPacket::BadVersion))]);
-    places | bytes | are_prefixes(&[(&DATA, 34, 36, Err(BadPacket::BadLength)), FRONTS[12]])
+    places | bytes | has_prefixes(&DATA, &[(34, 36, Err(BadPacket::BadLength))])
 }
 
-/// Whether each datagram's first bytes, from so many up to fewer than so many, become that.
-fn are_prefixes(rows: &[(&[u8], usize, usize, Answer)]) -> bool {
+/// So many bytes from the start, up to fewer than so many, and what becomes of them.
+type Prefix = (usize, usize, Answer);
+
+/// Whether the datagram's first bytes become that.
+fn has_prefixes(datagram: &[u8], rows: &[Prefix]) -> bool {
     let mut same = true;
-    for (datagram, from, to, wanted) in rows {
-        for size in *from..*to {
-            same &= read_as(front(datagram, size)) == *wanted;
+    for &(from, to, wanted) in rows {
+        for size in from..to {
+            same &= read_as(front(datagram, size)) == wanted;
         }
     }
     same
 }
 
-static FRONTS: [(&[u8], usize, usize, Answer); 13] = [
-    (&SETUP, 0, 40, Err(BadPacket::TooShort)),
-    (&SETUP, 40, 41, Ok(Held::Setup)),
-    (&STATUS, 0, 36, Err(BadPacket::TooShort)),
-    (&STATUS, 36, 37, Ok(Held::Status)),
-    (&NAK, 0, 28, Err(BadPacket::TooShort)),
-    (&NAK, 28, 29, Ok(Held::Nak)),
-    (&PAD, 0, 32, Err(BadPacket::TooShort)),
-    (&PAD, 32, 33, Ok(Held::Data)),
-    (&BEAT, 0, 32, Err(BadPacket::TooShort)),
-    (&BEAT, 32, 33, Ok(Held::Beat)),
-    (&DATA, 0, 32, Err(BadPacket::TooShort)),
-    (&DATA, 32, 35, Err(BadPacket::BadLength)),
-    (&DATA, 35, 36, Ok(Held::Data)),
+fn have_prefixes(tables: &[(&[u8], &[Prefix])]) -> bool {
+    let mut same = true;
+    for &(datagram, rows) in tables {
+        same &= has_prefixes(datagram, rows);
+    }
+    same
+}
+
+static FRONTS: [(&[u8], &[Prefix]); 6] = [
+    (
+        &SETUP,
+        &[(0, 40, Err(BadPacket::TooShort)), (40, 41, Ok(Held::Setup))],
+    ),
+    (
+        &STATUS,
+        &[
+            (0, 36, Err(BadPacket::TooShort)),
+            (36, 37, Ok(Held::Status)),
+        ],
+    ),
+    (
+        &NAK,
+        &[(0, 28, Err(BadPacket::TooShort)), (28, 29, Ok(Held::Nak))],
+    ),
+    (
+        &PAD,
+        &[(0, 32, Err(BadPacket::TooShort)), (32, 33, Ok(Held::Data))],
+    ),
+    (
+        &BEAT,
+        &[(0, 32, Err(BadPacket::TooShort)), (32, 33, Ok(Held::Beat))],
+    ),
+    (
+        &DATA,
+        &[
+            (0, 32, Err(BadPacket::TooShort)),
+            (32, 35, Err(BadPacket::BadLength)),
+            (35, 36, Ok(Held::Data)),
+        ],
+    ),
 ];
 
 /// What becomes of a SETUP or a data frame at offset 0, by the rules, when one byte is set to 0, 1, 0x80 or 0xff.
@@ -553,7 +632,7 @@ type Row = (u32, u32, Kind, usize);
 
 /// Whether a datagram's frames are these.
 fn has_frames(bytes: &[u8], rows: &[Row]) -> bool {
-    let Some(found) = frames(bytes) else {
+    let Ok(Packet::Data(found)) = Datagram::read(bytes) else {
         return false;
     };
     let mut count = 0usize;
@@ -578,40 +657,39 @@ static RUN_ROWS: [Row; 3] = [
 ];
 
 /// The filling of the last frame may be missing. A rest behind it is a frame, or too short.
-fn is_run(bytes: &[u8]) -> bool {
-    let rows: [(&[u8], usize, usize, Answer); 6] = [
-        (bytes, 35, 36, Ok(Held::Data)),
-        (bytes, 50, 51, Ok(Held::Data)),
-        (bytes, 64, 65, Ok(Held::Data)),
-        (bytes, 65, 66, Err(BadPacket::TooShort)),
-        (bytes, 95, 96, Err(BadPacket::TooShort)),
-        (bytes, 96, 97, Ok(Held::Data)),
-    ];
-    has_frames(bytes, &RUN_ROWS) && are_prefixes(&rows)
-}
+static RUN_FRONTS: [Prefix; 6] = [
+    (35, 36, Ok(Held::Data)),
+    (50, 51, Ok(Held::Data)),
+    (64, 65, Ok(Held::Data)),
+    (65, 66, Err(BadPacket::TooShort)),
+    (95, 96, Err(BadPacket::TooShort)),
+    (96, 97, Ok(Held::Data)),
+];
 
-fn is_pad_and_data(bytes: &[u8]) -> bool {
-    let rows: [(&[u8], usize, usize, Answer); 4] = [
-        (bytes, 32, 33, Ok(Held::Data)),
-        (bytes, 33, 64, Err(BadPacket::TooShort)),
-        (bytes, 66, 67, Err(BadPacket::BadLength)),
-        (bytes, 96, 97, Err(BadPacket::Mixed)),
-    ];
-    are_prefixes(&rows)
+/// Nothing stands behind a pad.
+static PAD_FRONTS: [Prefix; 4] = [
+    (32, 33, Ok(Held::Data)),
+    (33, 64, Err(BadPacket::TooShort)),
+    (66, 67, Err(BadPacket::BadLength)),
+    (96, 97, Err(BadPacket::Mixed)),
+];
+
+fn is_run(bytes: &[u8]) -> bool {
+    has_frames(bytes, &RUN_ROWS) && has_prefixes(bytes, &RUN_FRONTS)
 }
 
 /// Of the first data frame there is one, and there could be no other.
 fn could_be_one() -> bool {
-    match frames(&DATA) {
-        Some(frames) => frames.most() == 1,
-        None => false,
+    match Datagram::read(&DATA) {
+        Ok(Packet::Data(frames)) => frames.most() == 1,
+        _ => false,
     }
 }
 
 #[test]
 fn prefixes(rt: HostRuntime) {
-    let several = is_run(&run()) & is_pad_and_data(&pad_and_data());
-    assert!(rt; are_prefixes(&FRONTS) & several & could_be_one());
+    let several = is_run(&run()) & has_prefixes(&pad_and_data(), &PAD_FRONTS);
+    assert!(rt; have_prefixes(&FRONTS) & several & could_be_one());
 }
 
 /// One too few, one too many, in another order, and one of another kind.
@@ -645,8 +723,10 @@ fn has_any(bytes: &[u8], tables: &[&[Row]]) -> bool {
 
 #[test]
 fn others_are_told(rt: HostRuntime) {
-    let fields = has_other_fields() | is_another_frame() | has_other_answers();
-    assert!(rt; !fields & !has_any(&run(), &OTHER_ROWS) & !has_frames(&SETUP, &[]));
+    let fields = are_read(&FIELDS) & FULL_STATUS_FIELDS.flags.asks_for_setup();
+    let frames = has_any(&run(), &OTHER_ROWS) | has_frames(&SETUP, &[]);
+    let first = is_read(&run(), Wanted::Frame(DATA_HEADER, &DATA, b"abc"));
+    assert!(rt; fields & !frames & !first & !has_other_answers());
 }
 
 /// Whether a datagram has these faults with one byte set, so many bytes from its start.
