@@ -100,10 +100,29 @@ impl Play {
             term_length: 65_536,
             linger: LINGER,
         };
-        let streams = Streams::new(alloc, defaults, 1)?;
-        let clients = two_clients(alloc)?;
-        let readers = Readers::new(alloc)?;
-        Ok(Play::of(streams, clients, policy, readers))
+        match Streams::new(alloc, defaults, 1) {
+            Ok(streams) => Play::with(alloc, policy, streams),
+            Err(refused) => Err(refused),
+        }
+    }
+
+    fn with(alloc: Global, policy: Policy, streams: Streams) -> Result<Play, AllocError> {
+        match two_clients(alloc) {
+            Ok(clients) => Play::with_clients(alloc, policy, streams, clients),
+            Err(refused) => Err(refused),
+        }
+    }
+
+    fn with_clients(
+        alloc: Global,
+        policy: Policy,
+        streams: Streams,
+        clients: Clients,
+    ) -> Result<Play, AllocError> {
+        match Readers::new(alloc) {
+            Ok(readers) => Ok(Play::of(streams, clients, policy, readers)),
+            Err(refused) => Err(refused),
+        }
     }
 
     /// The readers are asked from the beginning.
