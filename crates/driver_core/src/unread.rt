@@ -14,6 +14,7 @@ use stream_registry::LogPlace;
 impl Registry {
     /// The logs that close with an event, by what its own rule tells: those that it closes, and the images of which no pair is
     /// left.
+    #[inline(always)]
     pub(crate) fn closed(
         &self,
         alloc: Global,

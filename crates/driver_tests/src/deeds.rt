@@ -46,6 +46,11 @@ pub(crate) const UNPUBLISH_1: Deed = Deed::Command(&[
     0x02, 0, 0, 0, 1, 0, 0, 0, 0, 0, 0, 0, 11, 0, 0, 0, 0, 0, 0, 0, 1, 0, 0, 0, 0, 0, 0, 0,
 ]);
 
+/// CLIENT_KEEPALIVE of client 1.
+pub(crate) const KEEP_ALIVE: Deed = Deed::Command(&[
+    0x06, 0, 0, 0, 1, 0, 0, 0, 0, 0, 0, 0, 11, 0, 0, 0, 0, 0, 0, 0,
+]);
+
 /// TERMINATE_DRIVER of client 1, without a token.
 pub(crate) const TERMINATE: Deed = Deed::Command(&[
     0x0e, 0, 0, 0, 1, 0, 0, 0, 0, 0, 0, 0, 11, 0, 0, 0, 0, 0, 0, 0, 0, 0, 0, 0,

@@ -1,6 +1,6 @@
 //! What events tell beside their replies: which logs they open and close, which pairs go and come, and what was decided.
 
-use crate::deeds::{Deed, PUBLISH_ALONE, SUBSCRIBE, TERMINATE, event};
+use crate::deeds::{Deed, KEEP_ALIVE, PUBLISH_ALONE, SUBSCRIBE, TERMINATE, event};
 use driver_core::{Entry, Event, Inputs, Outcome, Registry, Settings};
 use policy_core::{Act, Decision, Policy, Verdict};
 use std::alloc::{AllocError, Global};
@@ -63,7 +63,7 @@ const TERMINATED: Decision = Decision {
 const ATTACHED: Row = (Deed::Attach, None, &[], &[], &[], &[], &[]);
 
 /// One client's events. What scripts show of decisions and pairs is not shown again.
-const ROWS: [Row; 4] = [
+const ROWS: [Row; 5] = [
     ATTACHED,
     (SUBSCRIBE, None, &[], &[], &[], &[SUBSCRIBED], &[]),
     (
@@ -75,6 +75,7 @@ const ROWS: [Row; 4] = [
         &[PUBLISHED, IMAGE],
         &[PAIR],
     ),
+    (KEEP_ALIVE, None, &[], &[], &[], &[], &[PAIR]),
     (TERMINATE, None, &[LOG], &[PAIR], &[], &[TERMINATED], &[]),
 ];
 
@@ -132,10 +133,35 @@ fn plan_comes_to(
     Ok(is_told(&entry.outcome, row) && entry_leaves(alloc, registry, &entry, row)?)
 }
 
+/// Whether a copy of the registry comes to the row by the bytes of the command where they lie.
+fn bytes_come_to(
+    alloc: Global,
+    registry: &Registry,
+    bytes: &[u8],
+    row: &Row,
+) -> Result<bool, AllocError> {
+    let mut copy = registry.copy(alloc)?;
+    let outcome = copy.command(alloc, 0, 1, bytes, &Inputs::none(alloc))?;
+    Ok(is_told(&outcome, row) && has_pairs(alloc, &copy, row)?)
+}
+
+/// Whether a copy of the registry comes to the row by the bytes of its command, if it is of one.
+fn command_comes_to(alloc: Global, registry: &Registry, row: &Row) -> Result<bool, AllocError> {
+    match row.0 {
+        Deed::Command(bytes) => bytes_come_to(alloc, registry, bytes, row),
+        _ => Ok(true),
+    }
+}
+
 /// Whether the row's event comes to the row, in two parts and as one step.
-fn comes_to(alloc: Global, registry: &mut Registry, row: &Row) -> Result<bool, AllocError> {
+fn event_comes_to(alloc: Global, registry: &mut Registry, row: &Row) -> Result<bool, AllocError> {
     let event = event(alloc, row.0)?;
     Ok(plan_comes_to(alloc, registry, &event, row)? && step_comes_to(alloc, registry, &event, row)?)
+}
+
+/// Whether the row comes about by its bytes and by its event.
+fn comes_to(alloc: Global, registry: &mut Registry, row: &Row) -> Result<bool, AllocError> {
+    Ok(command_comes_to(alloc, registry, row)? && event_comes_to(alloc, registry, row)?)
 }
 
 fn all_come_to(alloc: Global, registry: &mut Registry, rows: &[Row]) -> Result<bool, AllocError> {
