@@ -22,6 +22,7 @@ pub mod SettingLemmas
 pub mod SizeLemmas
 pub mod SoundnessLemmas
 pub mod StayLemmas
+pub mod StillReadLemmas
 pub mod SubscribeLemmas
 pub mod TargetLemmas
 pub mod TickLemmas

@@ -1,5 +1,5 @@
 -- ADD_PUBLICATION and ADD_EXCLUSIVE_PUBLICATION.
-use Rattle.std.specs.Prelude.{ℕ, ◌+◌, ℤ, Bool, true, not, ◌&&◌, [], ◌∷◌, Option, Some, None, Result, Ok, Err, is_some, unwrap_or, if◌then◌else◌}
+use Rattle.std.specs.Prelude.{ℕ, ◌+◌, ℤ, Bool, true, false, not, ◌&&◌, [], ◌∷◌, Option, Some, None, Result, Ok, Err, is_some, unwrap_or, if◌then◌else◌}
 use Rattle.driver_core.specs.Draft.{Draft}
 use Rattle.driver_core.specs.declared.refusal.Refusal.{Refusal}
 use Rattle.driver_core.specs.declared.refusal.Refusal.TheVariants.{InvalidChannel, Denied, Conflict, Full, NoRoom}
@@ -166,3 +166,8 @@ publish_on s client correlation (Ok channel) stream exclusive =
 unfoldable pub add_publication : State → Client → ℕ → AddPublication → Bool → Draft
 add_publication s client correlation fields exclusive =
     publish_on s client correlation (denotes fields.channel) fields.stream exclusive
+
+-- a log that is there is joined
+abbrev pub is_joined : Adding → Bool
+is_joined (Join source session) = true
+is_joined (Make session) = false

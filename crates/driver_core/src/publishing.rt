@@ -1,10 +1,10 @@
-ghost use Rattle.driver_core.specs.Publishing.{add_publication, granting_of, has_place, has_room_for_publication, is_publishable, new_log, place_of_new, publication_decision, publish, published, publishing_act, publishing_of, ready_for, refused_by_streams, session_of, with_directed_publication, with_publication};
+ghost use Rattle.driver_core.specs.Publishing.{add_publication, granting_of, has_place, has_room_for_publication, is_joined, is_publishable, new_log, place_of_new, publication_decision, publish, published, publishing_act, publishing_of, ready_for, refused_by_streams, session_of, with_directed_publication, with_publication};
 ghost use Rattle.channel_uri.specs.Channel.{denotes};
 ghost use Rattle.driver_core.specs.Commands.{at_asking};
 ghost use Rattle.driver_core.specs.Renewal.{outcome_by, outcome_opening};
 ghost use Rattle.driver_core.specs.Pairs.{pairs_of};
 ghost use Rattle.driver_core.specs.Received.{channel_lent};
-ghost use Rattle.std.specs.Prelude.{◌≡◌, true, Ok, Some, length, ℕ, IfOk, unwrap_or};
+ghost use Rattle.std.specs.Prelude.{◌≡◌, ◌&&◌, true, Ok, Some, length, ℕ, IfOk, unwrap_or};
 ghost use Rattle.driver_core.specs.State.{has_number};
 ghost use Rattle.stream_registry.specs.Adding.{added, adding_of};
 ghost use Rattle.stream_registry.specs.Lingering.{place_of};
@@ -71,6 +71,13 @@ fn session_of(adding: Adding) -> i32
         Adding::Join { session, .. } => session,
         Adding::Make { session } => session,
     }
+}
+
+/// Whether it is known that each image has a pair still, where that was known: no pair changes where a log is joined.
+fn are_read_still(known: bool, adding: Adding) -> bool
+    ensures { result ≡ (known && is_joined adding) }
+{
+    known && matches!(adding, Adding::Join { .. })
 }
 
 /// The reply that the publication stands.
@@ -356,7 +363,7 @@ impl Registry {
         self.streams
             .add_publication(number, client, wanted, place, adding);
         self.last_number = number;
-        self.all_read = false;
+        self.all_read = are_read_still(self.all_read, adding);
     }
 
     /// The client is registered under the next number, and a log that is made has its one destination, if its channel

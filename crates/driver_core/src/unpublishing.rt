@@ -40,7 +40,6 @@ impl Registry {
         ensures { (correlation : ℕ) → self.new ≡ (remove_publication self.old client correlation fields).after }
     {
         let now = self.moment;
-        self.all_read = false;
         match self
             .streams
             .remove_publication(client.number, fields.registration, now)

@@ -1,6 +1,6 @@
 use Rattle.std.proofs.Common.{◌≡◌, rules}
 use Rattle.stream_registry.specs.Leaving.{unregistered}
-use Rattle.driver_core.proofs.KeptLemmas.{kept_unregistered, unknown}
+use Rattle.driver_core.proofs.StillReadLemmas.{tended_unregistered}
 use Rattle.driver_core.proofs.registry.Registry.do_remove_publication.Goals.{in-Ok, in-Err}
 use Rattle.driver_core.proofs.registry.Registry.do_remove_publication.Goals as goal
 
@@ -10,9 +10,9 @@ invariant_of-self c =
       | in-Ok w ↦
           let is : c.remove_publication.new.self ≡ unregistered c.self.inside.streams c.args.client.number c.args.fields.registration c.self.inside.moment = search rules in
           rw is
-          (unknown (kept_unregistered c.self.inside.streams c.self.inside.clients.rows c.self.inside.compiled.policy c.self.inside.compiled.epoch c.self.inside.last_number
-          c.args.client.number c.args.fields.registration c.self.inside.moment c.self.inside.readers c.self.invariant.kept))
+          (tended_unregistered c.self.inside.streams c.self.inside.clients.rows c.self.inside.compiled.policy c.self.inside.compiled.epoch c.self.inside.last_number
+          c.args.client.number c.args.fields.registration c.self.inside.moment c.self.inside.readers c.self.inside.all_read c.self.invariant)
       | in-Err w ↦
           let is : c.remove_publication.new.self ≡ c.self.inside.streams = search rules in
-          rw is (unknown c.self.invariant.kept)
+          rw is c.self.invariant
     ]
