@@ -6,6 +6,7 @@ pub mod CodeLemmas
 pub mod AddPublicationLemmas
 pub mod AddSubscriptionLemmas
 mod AliveLemmas
+mod SeenLemmas
 pub mod RemovalLemmas
 pub mod AddCounterLemmas
 pub mod SetCounterLemmas

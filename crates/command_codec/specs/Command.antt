@@ -153,14 +153,14 @@ pub record IsCommand (c : Command) : Type 0 where
 
 -- ---- what is known at a look
 
--- the kind of a command, the client that it names, and the bytes behind its head
-abbrev pub head_of : List ℕ → Result (Kind × ℕ × List ℕ) CommandFault
+-- the kind of a command, the client that it names, its correlation id, and the bytes behind its head
+abbrev pub head_of : List ℕ → Result (Kind × ℕ × ℕ × List ℕ) CommandFault
 head_of bytes = do
   number ← number_at 4 bytes
   kind ← kind_of number.0
   client ← number_at 8 number.1
   correlation ← number_at 8 client.1
-  Ok (kind, client.0, correlation.1)
+  Ok (kind, client.0, correlation.0, correlation.1)
 
 -- whether a client says by this that it is there still
 abbrev pub is_alive : Body → Bool

@@ -1,5 +1,5 @@
 ghost use Rattle.std.specs.Prelude.{◌≡◌, ◌++◌, false, true, IfOk, OnOk};
-ghost use Rattle.command_codec.specs.Gives.{Gives, takes_memory};
+ghost use Rattle.command_codec.specs.Gives.{Equals, Gives, takes_memory};
 
 use crate::fault::CommandFault;
 use crate::fields;
@@ -17,16 +17,24 @@ pub struct AddPublication {
 impl AddPublication {
     ghost use Rattle.command_codec.specs.AddPublication.{add_publication_bytes, add_publication_of};
 
-    /// The fields behind a command's head.
+    /// The fields behind a command's head, the channel where it lies.
     #[tactic(auto, unfolding(crate::specs::AddPublication::add_publication_of))]
+    pub(crate) fn seen(bytes: &[u8]) -> Result<(i32, &str), CommandFault>
+        ensures { Equals (λ fields. record { stream = fields.0; channel = fields.1.now }) result (add_publication_of bytes.now) }
+    {
+        let (stream, rest) = fields::i32_at(bytes)?;
+        let (channel, rest) = fields::text_at(rest, fields::LONGEST)?;
+        fields::end(rest)?;
+        Ok((stream, channel))
+    }
+
+    /// The fields behind a command's head.
     pub(crate) fn read(alloc: Global, bytes: &[u8]) -> Result<AddPublication, CommandFault>
         ensures exact { Gives result (add_publication_of bytes.now) }
         ensures without_memory { takes_memory (λ _. true) (add_publication_of bytes.now) ≡ false
             → result ≡ add_publication_of bytes.now }
     {
-        let (stream, rest) = fields::i32_at(bytes)?;
-        let (channel, rest) = fields::text_at(rest, fields::LONGEST)?;
-        fields::end(rest)?;
+        let (stream, channel) = AddPublication::seen(bytes)?;
         Ok(AddPublication {
             stream,
             channel: Text::new(alloc, channel)?,

@@ -1,5 +1,5 @@
 ghost use Rattle.std.specs.Prelude.{◌≡◌, ◌++◌, false, true, IfOk, OnOk};
-ghost use Rattle.command_codec.specs.Gives.{Gives, takes_memory};
+ghost use Rattle.command_codec.specs.Gives.{Equals, Gives, takes_memory};
 
 use crate::fault::CommandFault;
 use crate::fields;
@@ -19,17 +19,25 @@ pub struct AddSubscription {
 impl AddSubscription {
     ghost use Rattle.command_codec.specs.AddSubscription.{add_subscription_bytes, add_subscription_of};
 
-    /// The fields behind a command's head.
+    /// The fields behind a command's head, the channel where it lies.
     #[tactic(auto, unfolding(crate::specs::AddSubscription::add_subscription_of))]
-    pub(crate) fn read(alloc: Global, bytes: &[u8]) -> Result<AddSubscription, CommandFault>
-        ensures exact { Gives result (add_subscription_of bytes.now) }
-        ensures without_memory { takes_memory (λ _. true) (add_subscription_of bytes.now) ≡ false
-            → result ≡ add_subscription_of bytes.now }
+    pub(crate) fn seen(bytes: &[u8]) -> Result<(u64, i32, &str), CommandFault>
+        ensures { Equals (λ fields. record { registration_correlation = fields.0; stream = fields.1; channel = fields.2.now }) result (add_subscription_of bytes.now) }
     {
         let (registration_correlation, rest) = fields::u64_at(bytes)?;
         let (stream, rest) = fields::i32_at(rest)?;
         let (channel, rest) = fields::text_at(rest, fields::LONGEST)?;
         fields::end(rest)?;
+        Ok((registration_correlation, stream, channel))
+    }
+
+    /// The fields behind a command's head.
+    pub(crate) fn read(alloc: Global, bytes: &[u8]) -> Result<AddSubscription, CommandFault>
+        ensures exact { Gives result (add_subscription_of bytes.now) }
+        ensures without_memory { takes_memory (λ _. true) (add_subscription_of bytes.now) ≡ false
+            → result ≡ add_subscription_of bytes.now }
+    {
+        let (registration_correlation, stream, channel) = AddSubscription::seen(bytes)?;
         Ok(AddSubscription {
             registration_correlation,
             stream,
