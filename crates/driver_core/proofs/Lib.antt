@@ -24,6 +24,7 @@ pub mod SoundnessLemmas
 pub mod StayLemmas
 pub mod StillReadLemmas
 pub mod SubscribeLemmas
+pub mod TakingLemmas
 pub mod TargetLemmas
 pub mod TickLemmas
 pub mod UnreadLemmas

@@ -32,6 +32,7 @@ pub mod Settings
 pub mod Soundness
 pub mod State
 pub mod Subscribing
+pub mod Taking
 pub mod Terminating
 pub mod Ticking
 pub mod Told

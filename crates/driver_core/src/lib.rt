@@ -49,6 +49,7 @@ mod settings;
 mod setup_fault;
 mod source_identity;
 mod subscribing;
+mod taking;
 mod terminating;
 mod ticking;
 mod told;

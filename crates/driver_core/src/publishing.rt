@@ -36,7 +36,7 @@ pub(crate) struct Granted {
 
 /// Whether a publication takes such a channel: no spy, and `udp` with an endpoint or with destinations named by hand.
 #[tactic(auto, unfolding(crate::specs::Publishing::is_publishable))]
-fn is_publishable(channel: &Channel) -> bool
+pub(crate) fn is_publishable(channel: &Channel) -> bool
     ensures { result ≡ is_publishable channel.now }
 {
     !channel.is_spy() && channel.place().is_some()
@@ -227,7 +227,7 @@ impl Registry {
     }
 
     /// What is decided on it, once the client was heard of.
-    fn publishing_at(&self, asking: Asking, wanted: &Wanted) -> Result<Granted, Refused>
+    pub(crate) fn publishing_at(&self, asking: Asking, wanted: &Wanted) -> Result<Granted, Refused>
         ensures { result ≡ publishing_of (at_asking self.now asking) asking.client wanted.now }
     {
         self.publishing(asking.client, wanted)
@@ -264,7 +264,7 @@ impl Registry {
     }
 
     /// What a publication tells that is granted, and does outside the registry.
-    fn outcome_of_published(
+    pub(crate) fn outcome_of_published(
         &self,
         alloc: Global,
         asking: Asking,
@@ -369,7 +369,12 @@ impl Registry {
     /// The client is registered under the next number, and a log that is made has its one destination, if its channel
     /// names one.
     #[tactic(auto, unfolding(crate::specs::Publishing::with_directed_publication, crate::specs::Publishing::with_publication, crate::specs::Directing::with_sole))]
-    fn put_directed_publication(&mut self, client: Client, wanted: &Wanted, adding: Adding)
+    pub(crate) fn put_directed_publication(
+        &mut self,
+        client: Client,
+        wanted: &Wanted,
+        adding: Adding,
+    )
         requires room { has_room_for_publication self.old client.number wanted.now adding ≡ true }
         requires taken { adding_of self.old.streams wanted.now ≡ Ok adding }
         ensures { self.new ≡ with_directed_publication self.old client wanted.now adding }

@@ -13,7 +13,7 @@ use log_readers::Readers;
 use policy_core::Policy;
 use std::alloc::{AllocError, Global};
 use std::marker::Model;
-use stream_registry::{Measures, Streams};
+use stream_registry::{Measures, Streams, Wanted};
 
 /// What the conductor knows: its settings, the policy in force, the clients, what they publish and subscribe to, where
 /// their publications are directed, and their counters.
@@ -35,6 +35,8 @@ pub struct Registry {
     pub(crate) stopped: bool,
     /// Whether it is known that each image has a pair, so that none is looked for that has none.
     pub(crate) all_read: bool,
+    /// Room in which the channel of a command is read, once there was one.
+    pub(crate) spare: Option<Box<Wanted>>,
 }
 
 impl Model for Registry {
@@ -96,6 +98,7 @@ impl Registry {
             last_number: 0,
             stopped: false,
             all_read: true,
+            spare: None,
         })
     }
 
@@ -116,6 +119,7 @@ impl Registry {
             last_number: self.last_number,
             stopped: self.stopped,
             all_read: self.all_read,
+            spare: None,
         })
     }
 

@@ -28,7 +28,7 @@ use stream_registry::Wish;
 
 /// Whether a subscription takes such a channel: a spy needs a place, and `udp` an endpoint and no control mode.
 #[tactic(auto, unfolding(crate::specs::Subscribing::is_subscribable))]
-fn is_subscribable(channel: &Channel) -> bool
+pub(crate) fn is_subscribable(channel: &Channel) -> bool
     ensures { result ≡ is_subscribable channel.now }
 {
     if channel.is_spy() {
@@ -105,7 +105,7 @@ impl Registry {
     }
 
     /// What is decided on it, once the client was heard of.
-    fn subscribing_at(
+    pub(crate) fn subscribing_at(
         &self,
         asking: Asking,
         channel: &Channel,
@@ -143,7 +143,7 @@ impl Registry {
 
     /// What a subscription tells that is granted, and does outside the registry.
     #[tactic(auto, unfolding(crate::specs::Subscribing::subscribed, crate::specs::Subscribing::has_room_for_subscription, crate::specs::Commands::heard, crate::specs::State::at_moment, crate::specs::State::has_number, crate::specs::Draft::replied, crate::specs::Draft::told))]
-    fn outcome_of_subscribed(
+    pub(crate) fn outcome_of_subscribed(
         &self,
         alloc: Global,
         asking: Asking,
@@ -217,7 +217,7 @@ impl Registry {
 
     /// The client subscribes under the next number.
     #[tactic(auto, unfolding(crate::specs::Subscribing::has_room_for_subscription, crate::specs::Subscribing::with_subscription))]
-    fn put_subscription(&mut self, client: u64, channel: &Channel, stream: i32)
+    pub(crate) fn put_subscription(&mut self, client: u64, channel: &Channel, stream: i32)
         requires owned { is_some (principal_at self.old.clients.rows client) ≡ true }
         requires room { has_room_for_subscription self.old client channel.now stream ≡ true }
         ensures { self.new ≡ with_subscription self.old client channel.now stream }
