@@ -1,5 +1,6 @@
 pub mod EndpointLemmas
 pub mod FewLemmas
+pub mod LeavingLemmas
 pub mod LimitLemmas
 pub mod PageLawLemmas
 pub mod PageLemmas

@@ -10,6 +10,11 @@ use Rattle.stream_registry.specs.Streams.{Streams}
 abbrev pub is_own_registration : ℕ → ℕ → Registration → Bool
 is_own_registration client number registration = registration.client == client && registration.number == number
 
+-- and it is with that log
+abbrev pub is_own_with : ℕ → ℕ → ℕ → Registration → Bool
+is_own_with client number source registration =
+    is_own_registration client number registration && registration.source == source
+
 abbrev pub is_another_registration : ℕ → ℕ → Registration → Bool
 is_another_registration client number registration = not (is_own_registration client number registration)
 

@@ -1,6 +1,7 @@
-ghost use Rattle.stream_registry.specs.Leaving.{has_registration, has_subscription, is_another_registration, is_another_subscription, is_registration_of_another, is_subscription_of_another, left, unregistered, unsubscribed};
+ghost use Rattle.stream_registry.specs.Leaving.{has_registration, has_subscription, is_another_registration, is_another_subscription, is_own_registration, is_own_subscription, is_own_with, is_registration_of_another, is_subscription_of_another, left, unregistered, unsubscribed};
 ghost use Rattle.stream_registry.specs.declared.fault.StreamFault.TheVariants.{UnknownPublication, UnknownSubscription};
-ghost use Rattle.std.specs.Prelude.{◌≡◌, ◌↔◌, IfErr, IsOk, OnOk, OnErr, true};
+ghost use Rattle.std.specs.List.{list_any};
+ghost use Rattle.std.specs.Prelude.{◌≡◌, ◌↔◌, ℕ, IfErr, IsOk, OnOk, OnErr, Some, true};
 
 use crate::fault::StreamFault;
 use crate::row::{Registration, Subscription};
@@ -52,25 +53,65 @@ impl Test<Subscription> for OfAnother {
     }
 }
 
+/// The log with which the client is registered under this number, where a search finds that registration. Numbers ascend,
+/// so it does; what is found is looked at, and nothing else rests on their order.
+fn found_registration(rows: &[Registration], client: u64, number: u64) -> Option<u64>
+    ensures { (source : ℕ) → result ≡ Some source → list_any (is_own_with client number source) rows.now ≡ true }
+{
+    match rows.binary_search_by_key(&number, |row| row.number) {
+        Ok(at) => {
+            let row = &rows[at];
+            if row.client == client && row.number == number {
+                Some(row.source)
+            } else {
+                None
+            }
+        }
+        Err(_) => None,
+    }
+}
+
+/// Whether a search finds the client's registration of this number.
+fn finds_registration(rows: &[Registration], client: u64, number: u64) -> bool
+    ensures { result ≡ true → list_any (is_own_registration client number) rows.now ≡ true }
+{
+    match found_registration(rows, client, number) {
+        Some(_) => true,
+        None => false,
+    }
+}
+
+/// Whether a search finds the client's subscription of this number.
+fn finds_subscription(rows: &[Subscription], client: u64, number: u64) -> bool
+    ensures { result ≡ true → list_any (is_own_subscription client number) rows.now ≡ true }
+{
+    match rows.binary_search_by_key(&number, |row| row.number) {
+        Ok(at) => rows[at].client == client && rows[at].number == number,
+        Err(_) => false,
+    }
+}
+
 impl Streams {
     /// Whether the client has a registration of this number.
     pub fn has_registration(&self, client: u64, number: u64) -> bool
         ensures { result ≡ has_registration self.now client number }
     {
-        self.registrations
-            .as_slice()
-            .iter()
-            .any(|row| row.client == client && row.number == number)
+        let rows = self.registrations.as_slice();
+        finds_registration(rows, client, number)
+            || rows
+                .iter()
+                .any(|row| row.client == client && row.number == number)
     }
 
     /// Whether the client has a subscription of this number.
     pub fn has_subscription(&self, client: u64, number: u64) -> bool
         ensures { result ≡ has_subscription self.now client number }
     {
-        self.subscriptions
-            .as_slice()
-            .iter()
-            .any(|row| row.client == client && row.number == number)
+        let rows = self.subscriptions.as_slice();
+        finds_subscription(rows, client, number)
+            || rows
+                .iter()
+                .any(|row| row.client == client && row.number == number)
     }
 
     /// The client's registration of this number goes. Its publication lingers from `now` on where it was the last one.
