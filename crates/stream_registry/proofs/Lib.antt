@@ -5,5 +5,6 @@ pub mod LimitLemmas
 pub mod PageLawLemmas
 pub mod PageLemmas
 pub mod PairLemmas
+pub mod RestLemmas
 pub mod SessionLemmas
 pub mod SlotLemmas

@@ -114,11 +114,29 @@ impl Streams {
                 .any(|row| row.client == client && row.number == number)
     }
 
+    /// The client's registrations of this number go, and all is settled. Where all logs rested and one registration went, that is
+    /// a matter of its own log.
+    #[tactic(auto, unfolding(crate::specs::Leaving::unregistered))]
+    fn take_registration(&mut self, client: u64, number: u64, now: u64)
+        ensures { self.new ≡ unregistered self.old client number now }
+    {
+        let source = found_registration(self.registrations.as_slice(), client, number);
+        let rested = self.at_rest;
+        let before = self.registrations.len();
+        self.at_rest = false;
+        self.registrations.retain(&Another { client, number });
+        match source {
+            Some(source) if rested && self.registrations.len() + 1 == before => {
+                self.settle_beside(source, now)
+            }
+            _ => self.settle(now),
+        }
+    }
+
     /// The client's registration of this number goes. Its publication lingers from `now` on where it was the last one.
     ///
     /// # Errors
     /// [`StreamFault::UnknownPublication`] where the client has no such registration; nothing is changed then.
-    #[tactic(auto, unfolding(crate::specs::Leaving::unregistered))]
     pub fn remove_publication(
         &mut self,
         client: u64,
@@ -133,8 +151,7 @@ impl Streams {
         if !self.has_registration(client, number) {
             return Err(StreamFault::UnknownPublication);
         }
-        self.registrations.retain(&Another { client, number });
-        self.settle(now);
+        self.take_registration(client, number, now);
         Ok(())
     }
 
@@ -162,6 +179,7 @@ impl Streams {
     pub fn client_left(&mut self, client: u64, now: u64)
         ensures { self.new ≡ left self.old client now }
     {
+        self.at_rest = false;
         self.registrations.retain(&OfAnother { client });
         self.subscriptions.retain(&OfAnother { client });
         self.settle(now);
