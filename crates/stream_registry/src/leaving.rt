@@ -1,7 +1,8 @@
-ghost use Rattle.stream_registry.specs.Leaving.{has_registration, has_subscription, is_another_registration, is_another_subscription, is_own_registration, is_own_subscription, is_own_with, is_registration_of_another, is_subscription_of_another, left, unregistered, unsubscribed};
+ghost use Rattle.stream_registry.specs.Leaving.{IsOwnAt, has_registration, has_subscription, is_another_registration, is_another_subscription, is_own_registration, is_own_subscription, is_own_with, is_registration_of_another, is_subscription_of_another, left, unregistered, unsubscribed};
 ghost use Rattle.stream_registry.specs.declared.fault.StreamFault.TheVariants.{UnknownPublication, UnknownSubscription};
-ghost use Rattle.std.specs.List.{list_any};
-ghost use Rattle.std.specs.Prelude.{◌≡◌, ◌↔◌, ℕ, IfErr, IsOk, OnOk, OnErr, Some, true};
+ghost use Rattle.std.specs.List.{Contains, list_any};
+ghost use Rattle.std.specs.Option.{option_copied};
+ghost use Rattle.std.specs.Prelude.{◌≡◌, ◌↔◌, ℕ, IfErr, IfSome, IsOk, OnOk, OnErr, Some, is_some, true};
 
 use crate::fault::StreamFault;
 use crate::row::{Registration, Subscription};
@@ -81,13 +82,43 @@ fn finds_registration(rows: &[Registration], client: u64, number: u64) -> bool
     }
 }
 
-/// Whether a search finds the client's subscription of this number.
-fn finds_subscription(rows: &[Subscription], client: u64, number: u64) -> bool
-    ensures { result ≡ true → list_any (is_own_subscription client number) rows.now ≡ true }
+/// Where the client's subscription of this number is found by a search, as above.
+fn searched_subscription(rows: &[Subscription], client: u64, number: u64) -> Option<usize>
+    ensures { IfSome result (λ at. IsOwnAt client number rows.now at) }
 {
     match rows.binary_search_by_key(&number, |row| row.number) {
-        Ok(at) => rows[at].client == client && rows[at].number == number,
-        Err(_) => false,
+        Ok(at) => {
+            if rows[at].client == client && rows[at].number == number {
+                Some(at)
+            } else {
+                None
+            }
+        }
+        Err(_) => None,
+    }
+}
+
+/// Where the client has the first subscription of this number.
+fn first_subscription(rows: &[Subscription], client: u64, number: u64) -> Option<usize>
+    ensures found { IfSome result (λ at. IsOwnAt client number rows.now at) }
+    ensures known { is_some result ≡ list_any (is_own_subscription client number) rows.now }
+{
+    for at in 0..rows.len() {
+        if rows[at].client == client && rows[at].number == number {
+            return Some(at);
+        }
+    }
+    None
+}
+
+/// Where the client has a subscription of this number.
+fn place_of_subscription(rows: &[Subscription], client: u64, number: u64) -> Option<usize>
+    ensures found { IfSome result (λ at. IsOwnAt client number rows.now at) }
+    ensures known { is_some result ≡ list_any (is_own_subscription client number) rows.now }
+{
+    match searched_subscription(rows, client, number) {
+        Some(at) => Some(at),
+        None => first_subscription(rows, client, number),
     }
 }
 
@@ -107,11 +138,20 @@ impl Streams {
     pub fn has_subscription(&self, client: u64, number: u64) -> bool
         ensures { result ≡ has_subscription self.now client number }
     {
+        place_of_subscription(self.subscriptions.as_slice(), client, number).is_some()
+    }
+
+    /// The client's subscription of this number, where it has one.
+    pub fn own_subscription(&self, client: u64, number: u64) -> Option<&Subscription>
+        ensures known { is_some (option_copied result) ≡ has_subscription self.now client number }
+        ensures there { IfSome (option_copied result) (λ row. Contains self.now.subscriptions row) }
+        ensures own { IfSome (option_copied result) (λ row. is_own_subscription client number row ≡ true) }
+    {
         let rows = self.subscriptions.as_slice();
-        finds_subscription(rows, client, number)
-            || rows
-                .iter()
-                .any(|row| row.client == client && row.number == number)
+        match place_of_subscription(rows, client, number) {
+            Some(at) => Some(&rows[at]),
+            None => None,
+        }
     }
 
     /// The client's registrations of this number go, and all is settled. Where all logs rested and one registration went, that is
