@@ -13,7 +13,7 @@ use Rattle.driver_core.proofs.ListLemmas.{contains_none, left_was_there, only_on
 use Rattle.driver_core.specs.Kept.{AreRead}
 use Rattle.client_registry.specs.declared.client.Client.{Client}
 use Rattle.log_readers.specs.Numbering.{source_of}
-use Rattle.log_readers.specs.Unread.{has_left, has_pair, is_closed as is_closed_by, is_kept, is_left, is_of_source, is_unread, unread_of, without_unread}
+use Rattle.log_readers.specs.Unread.{has_left, has_none, has_pair, is_closed as is_closed_by, is_kept, is_left, is_of_source, is_unread, unread_of, without_unread}
 use Rattle.policy_core.specs.RuleList.{Rules}
 use Rattle.stream_registry.specs.Pairs.{pairs_of as pairs_in}
 use Rattle.stream_registry.specs.Streams.{Streams}
@@ -226,3 +226,7 @@ none_mapped (log ∷ logs) none = absurd (cc none)
 pub read_by : (s : Streams) (clients : List Client) (policy : Rules) (epoch : ℕ) →
     unread_of s (pairs_in s clients policy epoch) ≡ [] → AreRead s clients policy epoch
 read_by s clients policy epoch none = record { all = none_mapped (filter (is_unread (pairs_in s clients policy epoch)) s.sources) none }
+
+pub none_there : (numbers : List ℕ) → has_none numbers ≡ true → numbers ≡ []
+none_there [] none = refl
+none_there (number ∷ numbers) none = absurd (cc)

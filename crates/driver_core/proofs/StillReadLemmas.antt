@@ -1,11 +1,18 @@
 -- Where each image has a pair, it has one still behind what changes no pair.
-use Rattle.std.proofs.Common.{◌≡◌, ℕ, ℤ, ◌+◌, ◌&&◌, Bool, true, false, not, cond, List, [], ◌∷◌, filter, map, refl, ap, ◌∙◌}
+use Rattle.std.proofs.Common.{◌≡◌, ℕ, ℤ, ◌+◌, ◌&&◌, Bool, true, false, not, cond, List, [], ◌∷◌, ◌++◌, filter, is_some, map, refl, sym, ap, ◌∙◌}
+use Rattle.std.specs.Prelude.{◌||◌}
+use Rattle.std.specs.List.{flat_map, list_any}
+use Rattle.std.proofs.lemmas.List.{map-append}
+use Rattle.std.proofs.lemmas.List.Elements.{filter-append}
+use Rattle.std.proofs.lemmas.List.Folds.{list_any-append}
+use Rattle.channel_uri.specs.Channel.{Shape}
+use Rattle.client_registry.specs.Clients.{principal_at}
 use Rattle.client_registry.specs.declared.client.Client.{Client}
 use Rattle.driver_core.specs.Kept.{AreRead, IsTended}
 use Rattle.driver_core.specs.Publishing.{is_joined}
-use Rattle.driver_core.proofs.KeptLemmas.{kept_added, kept_unregistered}
+use Rattle.driver_core.proofs.KeptLemmas.{kept_added, kept_subscribed, kept_unregistered}
 use Rattle.log_readers.specs.Readers.{all_readers}
-use Rattle.log_readers.specs.Unread.{has_pair, is_unread}
+use Rattle.log_readers.specs.Unread.{has_pair, is_of_source, is_unread}
 use Rattle.log_readers.proofs.SameLemmas.{joined_alike, unregistered_alike}
 use Rattle.policy_core.specs.RuleList.{Rules}
 use Rattle.stream_registry.specs.declared.pairs.Pair.{Pair}
@@ -13,14 +20,15 @@ use Rattle.stream_registry.specs.declared.row.Origin.{Origin}
 use Rattle.stream_registry.specs.declared.row.Origin.TheVariants.{Published, Remote}
 use Rattle.stream_registry.specs.declared.row.Registration.{Registration}
 use Rattle.stream_registry.specs.declared.row.Source.{Source}
+use Rattle.stream_registry.specs.declared.row.Subscription.{Subscription}
 use Rattle.stream_registry.specs.declared.wanted.Adding.{Adding}
 use Rattle.stream_registry.specs.declared.wanted.Adding.TheVariants.{Join, Make}
 use Rattle.stream_registry.specs.declared.wanted.Wanted.{Wanted}
-use Rattle.stream_registry.specs.Adding.{added}
+use Rattle.stream_registry.specs.Adding.{added, subscribed}
 use Rattle.stream_registry.specs.Leaving.{is_another_registration, unregistered}
 use Rattle.stream_registry.specs.Lingering.{is_used, left_alone, settled, settled_one}
-use Rattle.stream_registry.specs.Origins.{is_published_by, left_by}
-use Rattle.stream_registry.specs.Pairs.{pairs_of}
+use Rattle.stream_registry.specs.Origins.{is_published_by, is_remote, left_by}
+use Rattle.stream_registry.specs.Pairs.{is_pair, pair_of, pairs_at, pairs_of}
 use Rattle.stream_registry.specs.Streams.{Streams}
 
 -- ---- a log that begins to linger is an image as before, and has its pairs
@@ -94,4 +102,71 @@ pub tended_added : (s : Streams) (clients : List Client) (policy : Rules) (epoch
 tended_added s clients policy epoch last client wanted place adding readers after known tended is = record {
   kept = kept_added s clients policy epoch last client wanted place adding readers after tended.kept is;
   read = read_added s clients policy epoch (last + 1) client wanted place adding known tended.read;
+}
+
+-- ---- with a subscription pairs come, and none goes
+
+more_true : (first more rest later : Bool) → (rest ≡ true → later ≡ true) → (first || rest) ≡ true → ((first || more) || later) ≡ true
+more_true true more rest later h is = refl
+more_true false true rest later h is = refl
+more_true false false rest later h is = h is
+
+pairs_at_more : (clients : List Client) (policy : Rules) (epoch : ℕ) (test : Pair → Bool) (subs : List Subscription) (row : Subscription)
+    (log : Source) →
+    list_any test (pairs_at clients policy epoch (subs ++ row ∷ []) log)
+    ≡ (list_any test (pairs_at clients policy epoch subs log) || list_any test (pairs_at clients policy epoch (row ∷ []) log))
+pairs_at_more clients policy epoch test subs row log =
+    ap (λ (rows : List Subscription). list_any test (map (pair_of log) rows))
+    (filter-append (is_pair clients policy epoch log) subs (row ∷ []))
+    ∙ ap (list_any test)
+    (map-append (pair_of log) (filter (is_pair clients policy epoch log) subs) (filter (is_pair clients policy epoch log) (row ∷ [])))
+    ∙ list_any-append test (pairs_at clients policy epoch subs log) (pairs_at clients policy epoch (row ∷ []) log)
+
+any_more : (clients : List Client) (policy : Rules) (epoch : ℕ) (test : Pair → Bool) (subs : List Subscription) (row : Subscription)
+    (logs : List Source) → list_any test (flat_map (pairs_at clients policy epoch subs) logs) ≡ true →
+    list_any test (flat_map (pairs_at clients policy epoch (subs ++ row ∷ [])) logs) ≡ true
+any_more clients policy epoch test subs row [] any = any
+any_more clients policy epoch test subs row (log ∷ logs) any =
+    let rest : List Pair = flat_map (pairs_at clients policy epoch subs) logs in
+    let later : List Pair = flat_map (pairs_at clients policy epoch (subs ++ row ∷ [])) logs in
+    let first : Bool = list_any test (pairs_at clients policy epoch subs log) in
+    let more : Bool = list_any test (pairs_at clients policy epoch (row ∷ []) log) in
+    let before : (first || list_any test rest) ≡ true = sym (list_any-append test (pairs_at clients policy epoch subs log) rest) ∙ any in
+    list_any-append test (pairs_at clients policy epoch (subs ++ row ∷ []) log) later
+    ∙ ap (λ (b : Bool). b || list_any test later) (pairs_at_more clients policy epoch test subs row log)
+    ∙ more_true first more (list_any test rest) (list_any test later) (any_more clients policy epoch test subs row logs) before
+
+none_step : (remote had has : Bool) (log : Source) (rest others : List Source) → (had ≡ true → has ≡ true) → (rest ≡ [] → others ≡ []) →
+    cond (remote && not had) (log ∷ rest) rest ≡ [] → cond (remote && not has) (log ∷ others) others ≡ []
+none_step true true has log rest others more later none = rw (more refl) (later none)
+none_step true false has log rest others more later none = absurd (cc)
+none_step false had has log rest others more later none = later none
+
+none_more : (pairs others : List Pair) (logs : List Source) → ((log : Source) → has_pair pairs log ≡ true → has_pair others log ≡ true) →
+    filter (is_unread pairs) logs ≡ [] → filter (is_unread others) logs ≡ []
+none_more pairs others [] more none = refl
+none_more pairs others (log ∷ logs) more none =
+    none_step (is_remote log) (has_pair pairs log) (has_pair others log) log (filter (is_unread pairs) logs) (filter (is_unread others) logs)
+    (more log) (none_more pairs others logs more) none
+
+read_subscribed : (s : Streams) (clients : List Client) (policy : Rules) (epoch number client : ℕ) (channel : Shape) (stream : ℤ) →
+    AreRead s clients policy epoch → AreRead (subscribed s number client channel stream) clients policy epoch
+unfolding pairs_of subscribed
+read_subscribed s clients policy epoch number client channel stream read =
+    let row : Subscription = record { number = number; client = client; channel = channel; stream = stream } in
+    record {
+      all =
+          none_more (flat_map (pairs_at clients policy epoch s.subscriptions) s.sources)
+          (flat_map (pairs_at clients policy epoch (s.subscriptions ++ row ∷ [])) s.sources) s.sources
+          (λ log. any_more clients policy epoch (is_of_source log.number) s.subscriptions row s.sources) read.all;
+    }
+
+pub tended_subscribed : (s : Streams) (clients : List Client) (policy : Rules) (epoch last client : ℕ) (channel : Shape) (stream : ℤ)
+    (readers after : List (List ℕ)) (known : Bool) → IsTended s clients policy epoch last readers known →
+    is_some (principal_at clients client) ≡ true →
+    after ≡ all_readers (subscribed s (last + 1) client channel stream) clients policy epoch →
+    IsTended (subscribed s (last + 1) client channel stream) clients policy epoch (last + 1) after known
+tended_subscribed s clients policy epoch last client channel stream readers after known tended owned is = record {
+  kept = kept_subscribed s clients policy epoch last client channel stream readers after tended.kept owned is;
+  read = λ yes. read_subscribed s clients policy epoch (last + 1) client channel stream (tended.read yes);
 }

@@ -1,5 +1,5 @@
 -- A subscription goes: what goes with it is known by its number, and nobody is told of it.
-use Rattle.std.proofs.Common.{◌≡◌, ℕ, max, Bool, true, false, not, cond, List, [], filter, Option, None, refl, ap, ◌∙◌}
+use Rattle.std.proofs.Common.{◌≡◌, ℕ, max, ◌==◌, ◌&&◌, Bool, true, false, not, cond, List, [], filter, Option, None, refl, ap, ◌∙◌}
 use Rattle.std.proofs.lemmas.Bool.{eq-eqb, eqb-true}
 use Rattle.driver_core.specs.declared.event.Inputs.{Inputs}
 use Rattle.driver_core.specs.declared.refusal.Refusal.TheVariants.{UnknownSubscription}
@@ -22,7 +22,7 @@ use Rattle.log_readers.specs.Turnover.{is_of_number}
 use Rattle.log_readers.proofs.TurnoverLemmas.{own_alone, unsubscribed_turnover}
 use Rattle.stream_registry.specs.declared.pairs.Pair.{Pair}
 use Rattle.stream_registry.specs.declared.row.Subscription.{Subscription}
-use Rattle.stream_registry.specs.Leaving.{has_subscription, is_another_subscription, unsubscribed as unsubscribed_in}
+use Rattle.stream_registry.specs.Leaving.{has_subscription, is_another_subscription, is_own_subscription, unsubscribed as unsubscribed_in}
 use Rattle.stream_registry.specs.Pairs.{pairs_of as pairs_on}
 use Rattle.stream_registry.specs.Streams.{Streams}
 
@@ -81,6 +81,14 @@ unsubscribed_outcome s last now handle inputs client correlation number up there
     (none_of_part (is_of_number number) (decided_on after) (pairs_of s) (λ pair is. not_decided after pair (nobody pair is)))
 
 -- ---- whether there is such a subscription
+
+-- what is the client's own of this number has it
+pub own_number : (client number : ℕ) (row : Subscription) → is_own_subscription client number row ≡ true → row.number ≡ number
+own_number client number row own = eqb-true row.number number (second (row.client == client) (row.number == number) own)
+  where
+    second : (b c : Bool) → (b && c) ≡ true → c ≡ true
+    second true c is = is
+    second false c is = absurd (cc)
 
 pub removed_where : (s : State) (now handle : ℕ) (client : Client) (correlation : ℕ) (fields : Removal) →
     has_subscription s.streams client.number fields.registration ≡ true →

@@ -238,7 +238,6 @@ impl Registry {
         self.streams
             .add_subscription(wish.number, client, channel, stream);
         self.last_number = wish.number;
-        self.all_read = false;
     }
 
     /// A subscription on a channel that such a command takes.

@@ -44,18 +44,25 @@ impl Registry {
         self.drop_all_unread();
     }
 
-    /// The images go that no subscription reads, which are looked for. It is a call of its own, since there is room in it for the
-    /// numbers of as many as there may be.
-    #[tactic(auto, unfolding(crate::specs::Unread::without_unread))]
-    #[inline(never)]
+    /// The images go that no subscription reads, which are looked for. Mostly there is none.
     fn drop_all_unread(&mut self)
         ensures { self.new ≡ without_unread self.old }
     {
-        let numbers = self.readers.unread(&self.streams);
-        if numbers.is_empty() {
+        if self.readers.are_all_read(&self.streams) {
             self.all_read = true;
             return;
         }
+        self.drop_unread_ones();
+    }
+
+    /// The images go that no subscription reads. It is a call of its own, since there is room in it for the numbers of as many as
+    /// there may be.
+    #[tactic(auto, unfolding(crate::specs::Unread::without_unread))]
+    #[inline(never)]
+    fn drop_unread_ones(&mut self)
+        ensures { self.new ≡ without_unread self.old }
+    {
+        let numbers = self.readers.unread(&self.streams);
         self.all_read = false;
         self.readers
             .remove_images(&self.streams, numbers.as_slice());

@@ -5,6 +5,7 @@ ghost use Rattle.driver_core.specs.Unsubscribing.{remove_subscription, unsubscri
 ghost use Rattle.driver_core.specs.declared.event.Inputs.{Inputs as InputsSpec};
 ghost use Rattle.log_readers.specs.Numbering.{Rises, number_of};
 ghost use Rattle.log_readers.specs.Turnover.{is_of_number};
+ghost use Rattle.std.specs.List.{Contains};
 ghost use Rattle.std.specs.Prelude.{◌≡◌, ℕ, true, filter, IfOk};
 ghost use Rattle.stream_registry.specs.Leaving.{has_subscription};
 
@@ -19,15 +20,16 @@ use byte_strings::Items;
 use client_registry::Client;
 use command_codec::Removal;
 use std::alloc::{AllocError, Global};
-use stream_registry::Pair;
+use stream_registry::{Pair, Subscription};
 
 impl Registry {
-    /// The pairs of the subscription of this number, by source. Each subscription has a number of its own.
-    fn pairs_with(&self, alloc: Global, number: u64) -> Result<Items<Pair>, AllocError>
-        ensures exact { IfOk result (λ pairs. pairs ≡ filter (is_of_number number) (pairs_of self.now)) }
+    /// The pairs of a subscription that is there, by source. Each subscription has a number of its own.
+    fn pairs_with(&self, alloc: Global, row: &Subscription) -> Result<Items<Pair>, AllocError>
+        requires { Contains self.now.streams.subscriptions row.now }
+        ensures exact { IfOk result (λ pairs. pairs ≡ filter (is_of_number row.now.number) (pairs_of self.now)) }
         ensures order { Rises number_of 0 self.now.last_number self.now.streams.subscriptions }
     {
-        self.readers.pairs_of_number(alloc, &self.streams, number)
+        self.readers.pairs_of_row(alloc, &self.streams, &row.wish())
     }
 
     /// What the end of a client's subscription tells, and does outside the registry: its pairs go, and nobody is told of
@@ -36,12 +38,13 @@ impl Registry {
         &self,
         alloc: Global,
         asking: Asking,
-        number: u64,
+        row: &Subscription,
     ) -> Result<Outcome, AllocError>
-        requires { has_subscription self.now.streams asking.client.number number ≡ true }
-        ensures { (inputs : InputsSpec) → IfOk result (λ outcome. outcome ≡ outcome_by self.now inputs (unsubscribed (at_asking self.now asking) asking.client asking.correlation number)) }
+        requires there { Contains self.now.streams.subscriptions row.now }
+        requires own { has_subscription self.now.streams asking.client.number row.now.number ≡ true }
+        ensures { (inputs : InputsSpec) → IfOk result (λ outcome. outcome ≡ outcome_by self.now inputs (unsubscribed (at_asking self.now asking) asking.client asking.correlation row.now.number)) }
     {
-        let gone = self.pairs_with(alloc, number)?;
+        let gone = self.pairs_with(alloc, row)?;
         outcome_of_done(alloc, asking, gone)
     }
 
@@ -57,11 +60,13 @@ impl Registry {
         ensures { IfOk result (λ outcome. outcome ≡ outcome_by self.now inputs.now (remove_subscription (at_asking self.now asking) asking.client asking.correlation fields)) }
     {
         let number = fields.registration;
-        if !self.streams.has_subscription(asking.client.number, number) {
-            let unknown = Refused::plainly(Refusal::UnknownSubscription);
-            return self.outcome_of_refused(alloc, asking, unknown);
+        match self.streams.own_subscription(asking.client.number, number) {
+            Some(row) => self.outcome_of_unsubscribed(alloc, asking, row),
+            None => {
+                let unknown = Refused::plainly(Refusal::UnknownSubscription);
+                self.outcome_of_refused(alloc, asking, unknown)
+            }
         }
-        self.outcome_of_unsubscribed(alloc, asking, number)
     }
 
     /// The command REMOVE_SUBSCRIPTION of a client that is there.
@@ -69,13 +74,15 @@ impl Registry {
     pub(crate) fn do_remove_subscription(&mut self, client: Client, fields: Removal)
         ensures { (correlation : ℕ) → self.new ≡ (remove_subscription self.old client correlation fields).after }
     {
+        let number = fields.registration;
+        let Some(row) = self.streams.own_subscription(client.number, number) else {
+            return;
+        };
+        self.readers.remove_row(&self.streams, &row.wish());
         self.all_read = false;
-        match self
-            .streams
-            .remove_subscription(client.number, fields.registration)
-        {
-            Ok(()) => self.readers.remove_subscription(fields.registration),
-            Err(_) => {}
+        match self.streams.remove_subscription(client.number, number) {
+            Ok(()) => {}
+            Err(_) => unreachable!(),
         }
     }
 }

@@ -13,6 +13,7 @@ pub mod PartLemmas
 pub mod ReaderLemmas
 pub mod ReloadLemmas
 pub mod RisingLemmas
+pub mod RowLemmas
 pub mod SameLemmas
 pub mod TellLemmas
 pub mod TurnoverLemmas

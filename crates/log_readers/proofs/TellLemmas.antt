@@ -13,7 +13,7 @@ use Rattle.stream_registry.specs.Streams.{Streams}
 use Rattle.client_registry.specs.declared.client.Client.{Client}
 use Rattle.policy_core.specs.RuleList.{Rules}
 
-row_told : (log : Source) (read : List Subscription) → map (pair_at log.number) (map number_of read) ≡ map (pair_of log) read
+pub row_told : (log : Source) (read : List Subscription) → map (pair_at log.number) (map number_of read) ≡ map (pair_of log) read
 row_told log [] = refl
 row_told log (one ∷ read) = ap (λ (pairs : List Pair). pair_of log one ∷ pairs) (row_told log read)
 

@@ -33,6 +33,23 @@ unread_step (first ∷ logs) (row ∷ readers) zero log numbers d same below is 
 unread_step (first ∷ logs) (row ∷ readers) (suc i) log numbers d same below is are =
     unread_step logs readers i log numbers d (omega (arith, same)) (omega (arith, below)) is are
 
+swapped : (a b : Bool) → (a && b) ≡ (b && a)
+swapped true true = refl
+swapped true false = refl
+swapped false true = refl
+swapped false false = refl
+
+-- it is read, and those behind it decide
+pub read_on : (logs : List Source) (readers : List (List ℕ)) (i : ℕ) (log : Source) (numbers d : List ℕ) →
+    length readers ≡ length logs → i < length logs → log ≡ get_or logs i log → numbers ≡ get_or readers i d →
+    (has_none numbers && is_remote log) ≡ false →
+    has_none (unread_beside (drop (i + 1) logs) (drop (i + 1) readers)) ≡ has_none (unread_beside (drop i logs) (drop i readers))
+read_on logs readers i log numbers d same below is are goes =
+    let rest = unread_beside (drop (suc i) logs) (drop (suc i) readers) in
+    rw add-one
+    (ap (λ (b : Bool). has_none (cond b (log.number ∷ rest) rest)) (sym (swapped (is_remote log) (has_none numbers) ∙ goes))
+    ∙ ap has_none (sym (unread_step logs readers i log numbers d same below is are)))
+
 one_counted : {X : Type 0} (b : Bool) (x : X) (rest : List X) → length (cond b (x ∷ rest) rest) ≡ cond b 1 0 + length rest
 one_counted true x rest = omega arith
 one_counted false x rest = omega arith

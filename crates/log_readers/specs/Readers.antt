@@ -33,6 +33,18 @@ noted subscription (log ∷ logs) (numbers ∷ readers) =
 abbrev pub is_unlike : ℕ → ℕ → Bool
 is_unlike number other = not (other == number)
 
+-- the subscription's number is gone from those of the log, where it fits
+abbrev pub forgotten_at : Subscription → Source → List ℕ → List ℕ
+forgotten_at subscription log numbers =
+    if fits log subscription then filter (is_unlike subscription.number) numbers else numbers
+
+-- so at each of these logs
+abbrev pub forgotten : Subscription → List Source → List (List ℕ) → List (List ℕ)
+forgotten subscription [] readers = readers
+forgotten subscription (log ∷ logs) [] = []
+forgotten subscription (log ∷ logs) (numbers ∷ readers) =
+    forgotten_at subscription log numbers ∷ forgotten subscription logs readers
+
 -- it is not the number of a subscription of this client
 abbrev pub is_of_others : Streams → ℕ → ℕ → Bool
 is_of_others s client number = not (has_subscription s client number)

@@ -1,5 +1,5 @@
 -- Which pairs one list has and another lacks, and what an event's own rows have to do with that. Own rules.
-use Rattle.std.specs.Prelude.{◌≡◌, ℕ, Bool, not, ◌==◌, ◌&&◌, ◌||◌, List, [], ◌∷◌, ◌++◌, map, filter}
+use Rattle.std.specs.Prelude.{◌≡◌, ℕ, Bool, not, ◌==◌, ◌&&◌, ◌||◌, List, [], ◌∷◌, ◌++◌, map, filter, if◌then◌else◌}
 use Rattle.std.specs.List.{list_any}
 use Rattle.log_readers.specs.Readers.{all_readers}
 use Rattle.stream_registry.specs.declared.lingering.LogPlace.{LogPlace}
@@ -7,7 +7,7 @@ use Rattle.stream_registry.specs.declared.pairs.Pair.{Pair}
 use Rattle.stream_registry.specs.declared.row.Source.{Source}
 use Rattle.stream_registry.specs.declared.row.Subscription.{Subscription}
 use Rattle.stream_registry.specs.Leaving.{has_subscription, left}
-use Rattle.stream_registry.specs.Pairs.{is_pair, pair_of, pairs_of}
+use Rattle.stream_registry.specs.Pairs.{fits, is_pair, pair_of, pairs_of}
 use Rattle.stream_registry.specs.Streams.{Streams}
 use Rattle.client_registry.specs.declared.client.Client.{Client}
 use Rattle.client_registry.specs.Clients.{ClientList, without}
@@ -43,6 +43,17 @@ abbrev pub told : List Source → List (List ℕ) → List Pair
 told [] readers = []
 told (log ∷ logs) [] = []
 told (log ∷ logs) (numbers ∷ readers) = map (pair_at log.number) numbers ++ told logs readers
+
+-- the pairs of a log, where the subscription fits
+abbrev pub told_at : Subscription → Source → List ℕ → List Pair
+told_at subscription log numbers = if fits log subscription then map (pair_at log.number) numbers else []
+
+-- those of each of these logs, a row of numbers for each
+abbrev pub told_to : Subscription → List Source → List (List ℕ) → List Pair
+told_to subscription [] readers = []
+told_to subscription (log ∷ logs) [] = []
+told_to subscription (log ∷ logs) (numbers ∷ readers) =
+    told_at subscription log numbers ++ told_to subscription logs readers
 
 -- it is of the subscription of this number
 abbrev pub is_of_number : ℕ → Pair → Bool

@@ -1,18 +1,21 @@
 //! The pairs, all and those that go with a subscription, with clients or with logs, from what is kept: the policy is not asked.
 
 ghost use Rattle.log_readers.specs.Readers.{all_readers};
-ghost use Rattle.log_readers.specs.Turnover.{is_going, is_had_by, is_of_any, is_of_client, is_of_closing, is_of_number, pair_at, told};
+ghost use Rattle.log_readers.specs.Turnover.{is_going, is_had_by, is_of_any, is_of_client, is_of_closing, is_of_number, pair_at, told, told_at, told_to};
 ghost use Rattle.client_registry.specs.declared.client.Client.{Client};
 ghost use Rattle.policy_core.specs.RuleList.{Rules};
 ghost use Rattle.std.specs.List.{list_any};
 ghost use Rattle.std.specs.Prelude.{◌≡◌, ◌==◌, ◌++◌, ℕ, List, IfOk, OnOk, filter, length, map, true};
+ghost use Rattle.log_readers.specs.Numbering.{Rises, number_of};
+ghost use Rattle.std.specs.List.{Contains};
 ghost use Rattle.stream_registry.specs.Pairs.{pairs_of};
+ghost use Rattle.stream_registry.specs.Wish.{row_of};
 
 use crate::readers::Readers;
 use byte_strings::Items;
 use rows::{Rows, Test};
 use std::alloc::{AllocError, Global};
-use stream_registry::{LogPlace, Pair, Source, Streams, Subscription};
+use stream_registry::{LogPlace, Pair, Source, Streams, Subscription, Wish, fits};
 
 /// Keeps all pairs.
 #[derive(Clone, Copy)]
@@ -153,6 +156,40 @@ fn push_rows<S: Test<Pair>>(
     Ok(())
 }
 
+/// Puts the pair of the subscription with this log behind the others. Where they don't fit, its number is not looked for.
+fn push_fitting(
+    pairs: &mut Items<Pair>,
+    log: &Source,
+    numbers: &[u64],
+    wish: &Wish<'_>,
+) -> Result<(), AllocError>
+    ensures { OnOk result (pairs.new ≡ pairs.old ++ filter (is_of_number wish.now.number) (told_at (row_of wish.now) log.now numbers.now)) }
+{
+    if fits(log, wish) {
+        let test = OfNumber {
+            number: wish.number,
+        };
+        push_row(pairs, log.number, numbers, &test)?;
+    }
+    Ok(())
+}
+
+/// Puts the pairs of the subscription with these logs behind the others.
+fn push_all_fitting(
+    pairs: &mut Items<Pair>,
+    logs: &[Source],
+    slots: &[Rows<u64, 512>],
+    wish: &Wish<'_>,
+) -> Result<(), AllocError>
+    requires { length slots.now ≡ length logs.now }
+    ensures { OnOk result (pairs.new ≡ pairs.old ++ filter (is_of_number wish.now.number) (told_to (row_of wish.now) logs.now slots.now)) }
+{
+    for at in 0..logs.len() {
+        push_fitting(pairs, &logs[at], slots[at].as_slice(), wish)?;
+    }
+    Ok(())
+}
+
 impl Readers {
     /// The slots that are those of logs.
     pub(crate) fn rows(&self) -> &[Rows<u64, 512>]
@@ -184,17 +221,19 @@ impl Readers {
         self.pairs_that(alloc, streams.sources(), &Each)
     }
 
-    /// The pairs of the subscription of this number, by source.
-    pub fn pairs_of_number(
+    /// The pairs of this subscription, by source. Its number is looked for at the logs that it fits alone.
+    pub fn pairs_of_row(
         &self,
         alloc: Global,
         streams: &Streams,
-        number: u64,
+        wish: &Wish<'_>,
     ) -> Result<Items<Pair>, AllocError>
         requires { length self.now ≡ length streams.now.sources }
-        ensures { (clients : List Client) (policy : Rules) (epoch : ℕ) → self.now ≡ all_readers streams.now clients policy epoch → IfOk result (λ pairs. pairs ≡ filter (is_of_number number) (pairs_of streams.now clients policy epoch)) }
+        ensures { (clients : List Client) (policy : Rules) (epoch low last : ℕ) → Rises number_of low last streams.now.subscriptions → Contains streams.now.subscriptions (row_of wish.now) → self.now ≡ all_readers streams.now clients policy epoch → IfOk result (λ pairs. pairs ≡ filter (is_of_number wish.now.number) (pairs_of streams.now clients policy epoch)) }
     {
-        self.pairs_that(alloc, streams.sources(), &OfNumber { number })
+        let mut pairs = Items::new(alloc);
+        push_all_fitting(&mut pairs, streams.sources(), self.rows(), wish)?;
+        Ok(pairs)
     }
 
     /// The pairs of the client's subscriptions, by source and then subscription.

@@ -4,10 +4,10 @@ ghost use Rattle.client_registry.specs.declared.client.Client.{Client};
 ghost use Rattle.log_readers.specs.Numbering.{Rises, source_of};
 ghost use Rattle.log_readers.specs.Readers.{all_readers};
 ghost use Rattle.log_readers.specs.Turnover.{is_lacked_by, is_same_pair, pair_at};
-ghost use Rattle.log_readers.specs.Unread.{closed_beside, has_pair, is_closed, is_closed_beside, is_left, unread_beside, unread_of, without_unread};
+ghost use Rattle.log_readers.specs.Unread.{closed_beside, has_none, has_pair, is_closed, is_closed_beside, is_left, unread_beside, unread_of, without_unread};
 ghost use Rattle.policy_core.specs.RuleList.{Rules};
 ghost use Rattle.std.specs.List.{list_any};
-ghost use Rattle.std.specs.Prelude.{◌≡◌, ◌==◌, ◌≤◌, ◌++◌, ℕ, List, IfOk, OnOk, filter, length, map};
+ghost use Rattle.std.specs.Prelude.{◌≡◌, ◌==◌, ◌&&◌, ◌≤◌, ◌++◌, ℕ, List, IfOk, OnOk, filter, length, map};
 ghost use Rattle.stream_registry.specs.Images.{without_images};
 ghost use Rattle.stream_registry.specs.Lingering.{place_of};
 ghost use Rattle.stream_registry.specs.Origins.{is_remote};
@@ -34,6 +34,27 @@ fn unread_beside(logs: &[Source], slots: &[Rows<u64, 512>]) -> ArrayVec<u64, 512
         }
     }
     numbers
+}
+
+/// Whether it is an image beside which no subscription's number stands. Where one does, the log is not looked at.
+#[tactic(auto, using(crate::proofs::UnreadLemmas::empty_is))]
+fn is_unread(log: &Source, numbers: &[u64]) -> bool
+    ensures { result ≡ (has_none numbers.now && is_remote log.now) }
+{
+    numbers.is_empty() && !log.is_published()
+}
+
+/// Whether beside each image some subscription's number stands.
+fn are_all_read(logs: &[Source], slots: &[Rows<u64, 512>]) -> bool
+    requires { length slots.now ≡ length logs.now }
+    ensures { result ≡ has_none (unread_beside logs.now slots.now) }
+{
+    for at in 0..logs.len() {
+        if is_unread(&logs[at], slots[at].as_slice()) {
+            return false;
+        }
+    }
+    true
 }
 
 /// Whether that pair is one of these.
@@ -145,6 +166,15 @@ impl Readers {
             self.rows(),
         )?;
         Ok(places)
+    }
+
+    /// Whether a subscription reads each image: whether [`Readers::unread`] tells none. It takes no memory, nor has it room for
+    /// their numbers.
+    pub fn are_all_read(&self, streams: &Streams) -> bool
+        requires { length self.now ≡ length streams.now.sources }
+        ensures { (clients : List Client) (policy : Rules) (epoch low last : ℕ) → Rises source_of low last streams.now.sources → self.now ≡ all_readers streams.now clients policy epoch → result ≡ has_none (unread_of streams.now (pairs_of streams.now clients policy epoch)) }
+    {
+        are_all_read(streams.sources(), self.rows())
     }
 
     /// The images that no subscription reads, by their numbers. It takes no memory.

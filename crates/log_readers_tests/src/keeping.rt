@@ -1,5 +1,7 @@
 //! Readers as lists change.
 
+ghost use Rattle.std.specs.Prelude.{◌≡◌, IfOk, length};
+
 use crate::play::{LINGER, Play, pair};
 use log_readers::Readers;
 use std::alloc::{AllocError, Global};
@@ -20,7 +22,10 @@ pub(crate) fn denied_reads_nothing(play: &mut Play) -> bool {
 }
 
 /// The readers in the play, from the beginning.
-fn asked(alloc: Global, play: &Play) -> Result<Readers, AllocError> {
+#[tactic(auto, using(log_readers::proofs::ReaderLemmas::as_many_as_logs))]
+fn asked(alloc: Global, play: &Play) -> Result<Readers, AllocError>
+    ensures { IfOk result (λ readers. length readers ≡ length play.now.sources) }
+{
     let mut readers = Readers::new(alloc)?;
     readers.ask_again(&play.streams, &play.clients, &play.policy, 1);
     Ok(readers)
@@ -33,12 +38,16 @@ pub(crate) fn numbers_go(alloc: Global, play: &mut Play) -> bool {
         return false;
     };
     let all = readers.total() == 3;
-    readers.remove_subscription(2);
-    let fewer = readers.total() == 2;
-    readers.remove_subscription(9);
-    let same = readers.total() == 2;
+    let fewer = match play.streams.own_subscription(2, 2) {
+        Some(row) => {
+            readers.remove_row(&play.streams, &row.wish());
+            readers.total() == 2
+        }
+        None => false,
+    };
+    let unknown = play.streams.own_subscription(1, 2).is_none();
     readers.close_all();
-    there && all && fewer && same && readers.total() == 0
+    there && all && fewer && unknown && readers.total() == 0
 }
 
 /// Whether one reader is left of those where the first client leaves.

@@ -244,7 +244,11 @@ impl Play {
     /// Whether these are the pairs of the subscription of this number.
     #[tactic(auto, using(log_readers::proofs::ReaderLemmas::as_many_as_logs))]
     pub(crate) fn has_number(&self, alloc: Global, number: u64, pairs: &[Pair]) -> bool {
-        match self.readers.pairs_of_number(alloc, &self.streams, number) {
+        let rows = self.streams.subscriptions();
+        let Some(row) = rows.iter().find(|row| row.number == number) else {
+            return pairs.is_empty();
+        };
+        match self.readers.pairs_of_row(alloc, &self.streams, &row.wish()) {
             Ok(found) => found.as_slice() == pairs,
             Err(_) => false,
         }

@@ -1,5 +1,5 @@
 -- How many logs of a kind there are once one came, or some went or linger.
-use Rattle.std.proofs.Common.{◌≡◌, ℕ, ◌+◌, ◌<◌, ◌≤◌, Bool, true, false, not, cond, List, [], ◌∷◌, ◌++◌, length, map, filter, refl, ap, ◌∙◌, arith}
+use Rattle.std.proofs.Common.{◌≡◌, ℕ, ◌+◌, ◌<◌, ◌≤◌, Bool, true, false, not, ◌==◌, cond, List, [], ◌∷◌, ◌++◌, length, map, filter, refl, ap, ◌∙◌, arith}
 use Rattle.std.proofs.lemmas.List.{length-append}
 use Rattle.std.proofs.lemmas.List.Elements.{filter-append}
 use Rattle.std.proofs.lemmas.List.Filters.{length-filter_both}
@@ -9,6 +9,7 @@ use Rattle.stream_registry.specs.declared.row.Registration.{Registration}
 use Rattle.stream_registry.specs.declared.row.Source.{Source}
 use Rattle.stream_registry.specs.Few.{AreFew}
 use Rattle.stream_registry.specs.Lingering.{is_used, left_alone, settled_one}
+use Rattle.stream_registry.specs.Rest.{settled_where}
 use Rattle.stream_registry.specs.Origins.{is_published, is_published_by, is_remote, left_by}
 
 -- ---- some go
@@ -56,6 +57,21 @@ mapped_same kind f same [] = refl
 mapped_same kind f same (log ∷ logs) =
     ap (λ (b : Bool). length (cond b (f log ∷ filter kind (map f logs)) (filter kind (map f logs)))) (same log)
     ∙ mapped_step (kind log) (f log) log (filter kind (map f logs)) (filter kind logs) (mapped_same kind f same logs)
+
+pub where_few : (source : ℕ) (registrations : List Registration) (now : ℕ) (logs : List Source) → AreFew logs →
+    AreFew (map (settled_where source registrations now) logs)
+where_few source registrations now logs few =
+    let publications = mapped_same is_published (settled_where source registrations now) same logs in
+    let images =
+    mapped_same is_remote (settled_where source registrations now) (λ (log : Source). ap not (same log)) logs in
+    record { published = omega (arith, publications, few.published); remote = omega (arith, images, few.remote) }
+  where
+    same : (log : Source) → is_published (settled_where source registrations now log) ≡ is_published log
+    same log = by (log.number == source)
+      where
+        by : (b : Bool) → is_published (cond b (settled_one registrations now log) log) ≡ is_published log
+        by true = settled_kind registrations now log
+        by false = refl
 
 pub settled_few : (registrations : List Registration) (now : ℕ) (logs : List Source) → AreFew logs →
     AreFew (map (settled_one registrations now) logs)

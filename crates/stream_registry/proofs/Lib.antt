@@ -1,8 +1,10 @@
 pub mod EndpointLemmas
 pub mod FewLemmas
+pub mod LeavingLemmas
 pub mod LimitLemmas
 pub mod PageLawLemmas
 pub mod PageLemmas
 pub mod PairLemmas
+pub mod RestLemmas
 pub mod SessionLemmas
 pub mod SlotLemmas

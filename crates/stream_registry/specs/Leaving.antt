@@ -1,5 +1,5 @@
 -- What goes where a registration, a subscription or a client goes.
-use Rattle.std.specs.Prelude.{ℕ, Bool, not, ◌==◌, ◌&&◌, filter}
+use Rattle.std.specs.Prelude.{◌≡◌, ℕ, ◌<◌, Bool, true, not, ◌==◌, ◌&&◌, List, filter, length, slice_index_or}
 use Rattle.std.specs.List.{list_any}
 use Rattle.stream_registry.specs.declared.row.Registration.{Registration}
 use Rattle.stream_registry.specs.declared.row.Subscription.{Subscription}
@@ -9,6 +9,11 @@ use Rattle.stream_registry.specs.Streams.{Streams}
 -- the client's registration of this number
 abbrev pub is_own_registration : ℕ → ℕ → Registration → Bool
 is_own_registration client number registration = registration.client == client && registration.number == number
+
+-- and it is with that log
+abbrev pub is_own_with : ℕ → ℕ → ℕ → Registration → Bool
+is_own_with client number source registration =
+    is_own_registration client number registration && registration.source == source
 
 abbrev pub is_another_registration : ℕ → ℕ → Registration → Bool
 is_another_registration client number registration = not (is_own_registration client number registration)
@@ -25,6 +30,11 @@ unregistered s client number now =
 -- the client's subscription of this number
 abbrev pub is_own_subscription : ℕ → ℕ → Subscription → Bool
 is_own_subscription client number subscription = subscription.client == client && subscription.number == number
+
+-- it is the row at this place
+abbrev pub IsOwnAt : ℕ → ℕ → List Subscription → ℕ → Type 0
+IsOwnAt client number rows at =
+    (at < length rows) × ((d : Subscription) → is_own_subscription client number (slice_index_or rows at d) ≡ true)
 
 abbrev pub is_another_subscription : ℕ → ℕ → Subscription → Bool
 is_another_subscription client number subscription = not (is_own_subscription client number subscription)

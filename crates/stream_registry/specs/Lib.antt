@@ -12,6 +12,7 @@ pub mod PageLaws
 pub mod Pairs
 pub mod Places
 pub mod SessionLaws
+pub mod Rest
 pub mod Sessions
 pub mod SlotLaws
 pub mod Slots

@@ -1,4 +1,5 @@
 ghost use Rattle.stream_registry.specs.Adding.{added, adding_of, has_room_for_log, has_room_for_registration, has_room_for_subscription, joining_of, log_of, made, making_of, registered, session_of, subscribed};
+ghost use Rattle.stream_registry.specs.Lingering.{is_used};
 ghost use Rattle.std.specs.Prelude.{◌≡◌, Ok, true};
 
 use crate::fault::StreamFault;
@@ -154,9 +155,10 @@ impl Streams {
         }
     }
 
-    /// Makes a log.
+    /// Makes a log, with which a client is registered already.
     fn make(&mut self, number: u64, wanted: &Wanted, place: u64, session: i32)
-        requires { has_room_for_log self.old ≡ true }
+        requires room { has_room_for_log self.old ≡ true }
+        requires used { is_used self.old.registrations number ≡ true }
         ensures { self.new ≡ made self.old number wanted.now place session }
     {
         let log = self.log(number, wanted, place, session);
@@ -197,8 +199,8 @@ impl Streams {
         match adding {
             Adding::Join { source, .. } => self.register(number, client, wanted, source),
             Adding::Make { session } => {
-                self.make(number, wanted, place, session);
                 self.register(number, client, wanted, number);
+                self.make(number, wanted, place, session);
             }
         }
     }

@@ -1,4 +1,4 @@
-ghost use Rattle.stream_registry.specs.Joining.{is_joinable, joined_at, contradicts};
+ghost use Rattle.stream_registry.specs.Joining.{is_joinable, is_open, joined_at, contradicts};
 ghost use Rattle.std.specs.Option.{option_copied};
 ghost use Rattle.std.specs.Prelude.{◌≡◌};
 
@@ -8,17 +8,23 @@ use crate::row::Source;
 use crate::sessions::agrees_with;
 use channel_uri::Channel;
 
-/// Whether others may join the publication, and it is of this place and stream.
-#[tactic(auto, unfolding(crate::specs::Joining::is_joinable))]
-fn is_joinable(log: &Source, channel: &Channel, stream: i32) -> bool
-    ensures { result ≡ is_joinable channel.now stream log.now }
+/// Whether others may join the publication.
+fn is_open(log: &Source) -> bool
+    ensures { result ≡ is_open log.now }
 {
     log.is_published()
         && !log.is_exclusive()
         && !is_manual(&log.channel)
         && log.lingering_since().is_none()
-        && log.stream == stream
-        && is_same_place(&log.channel, channel)
+}
+
+/// Whether others may join the publication, and it is of this place and stream. Most are of another stream, and nothing else
+/// is looked at there.
+#[tactic(auto, unfolding(crate::specs::Joining::is_joinable))]
+fn is_joinable(log: &Source, channel: &Channel, stream: i32) -> bool
+    ensures { result ≡ is_joinable channel.now stream log.now }
+{
+    log.stream == stream && is_open(log) && is_same_place(&log.channel, channel)
 }
 
 /// The publication that others of this place and stream join.

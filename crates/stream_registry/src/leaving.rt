@@ -1,6 +1,8 @@
-ghost use Rattle.stream_registry.specs.Leaving.{has_registration, has_subscription, is_another_registration, is_another_subscription, is_registration_of_another, is_subscription_of_another, left, unregistered, unsubscribed};
+ghost use Rattle.stream_registry.specs.Leaving.{IsOwnAt, has_registration, has_subscription, is_another_registration, is_another_subscription, is_own_registration, is_own_subscription, is_own_with, is_registration_of_another, is_subscription_of_another, left, unregistered, unsubscribed};
 ghost use Rattle.stream_registry.specs.declared.fault.StreamFault.TheVariants.{UnknownPublication, UnknownSubscription};
-ghost use Rattle.std.specs.Prelude.{◌≡◌, ◌↔◌, IfErr, IsOk, OnOk, OnErr, true};
+ghost use Rattle.std.specs.List.{Contains, list_any};
+ghost use Rattle.std.specs.Option.{option_copied};
+ghost use Rattle.std.specs.Prelude.{◌≡◌, ◌↔◌, ℕ, IfErr, IfSome, IsOk, OnOk, OnErr, Some, is_some, true};
 
 use crate::fault::StreamFault;
 use crate::row::{Registration, Subscription};
@@ -52,32 +54,129 @@ impl Test<Subscription> for OfAnother {
     }
 }
 
+/// The log with which the client is registered under this number, where a search finds that registration. Numbers ascend,
+/// so it does; what is found is looked at, and nothing else rests on their order.
+fn found_registration(rows: &[Registration], client: u64, number: u64) -> Option<u64>
+    ensures { (source : ℕ) → result ≡ Some source → list_any (is_own_with client number source) rows.now ≡ true }
+{
+    match rows.binary_search_by_key(&number, |row| row.number) {
+        Ok(at) => {
+            let row = &rows[at];
+            if row.client == client && row.number == number {
+                Some(row.source)
+            } else {
+                None
+            }
+        }
+        Err(_) => None,
+    }
+}
+
+/// Whether a search finds the client's registration of this number.
+fn finds_registration(rows: &[Registration], client: u64, number: u64) -> bool
+    ensures { result ≡ true → list_any (is_own_registration client number) rows.now ≡ true }
+{
+    match found_registration(rows, client, number) {
+        Some(_) => true,
+        None => false,
+    }
+}
+
+/// Where the client's subscription of this number is found by a search, as above.
+fn searched_subscription(rows: &[Subscription], client: u64, number: u64) -> Option<usize>
+    ensures { IfSome result (λ at. IsOwnAt client number rows.now at) }
+{
+    match rows.binary_search_by_key(&number, |row| row.number) {
+        Ok(at) => {
+            if rows[at].client == client && rows[at].number == number {
+                Some(at)
+            } else {
+                None
+            }
+        }
+        Err(_) => None,
+    }
+}
+
+/// Where the client has the first subscription of this number.
+fn first_subscription(rows: &[Subscription], client: u64, number: u64) -> Option<usize>
+    ensures found { IfSome result (λ at. IsOwnAt client number rows.now at) }
+    ensures known { is_some result ≡ list_any (is_own_subscription client number) rows.now }
+{
+    for at in 0..rows.len() {
+        if rows[at].client == client && rows[at].number == number {
+            return Some(at);
+        }
+    }
+    None
+}
+
+/// Where the client has a subscription of this number.
+fn place_of_subscription(rows: &[Subscription], client: u64, number: u64) -> Option<usize>
+    ensures found { IfSome result (λ at. IsOwnAt client number rows.now at) }
+    ensures known { is_some result ≡ list_any (is_own_subscription client number) rows.now }
+{
+    match searched_subscription(rows, client, number) {
+        Some(at) => Some(at),
+        None => first_subscription(rows, client, number),
+    }
+}
+
 impl Streams {
     /// Whether the client has a registration of this number.
     pub fn has_registration(&self, client: u64, number: u64) -> bool
         ensures { result ≡ has_registration self.now client number }
     {
-        self.registrations
-            .as_slice()
-            .iter()
-            .any(|row| row.client == client && row.number == number)
+        let rows = self.registrations.as_slice();
+        finds_registration(rows, client, number)
+            || rows
+                .iter()
+                .any(|row| row.client == client && row.number == number)
     }
 
     /// Whether the client has a subscription of this number.
     pub fn has_subscription(&self, client: u64, number: u64) -> bool
         ensures { result ≡ has_subscription self.now client number }
     {
-        self.subscriptions
-            .as_slice()
-            .iter()
-            .any(|row| row.client == client && row.number == number)
+        place_of_subscription(self.subscriptions.as_slice(), client, number).is_some()
+    }
+
+    /// The client's subscription of this number, where it has one.
+    pub fn own_subscription(&self, client: u64, number: u64) -> Option<&Subscription>
+        ensures known { is_some (option_copied result) ≡ has_subscription self.now client number }
+        ensures there { IfSome (option_copied result) (λ row. Contains self.now.subscriptions row) }
+        ensures own { IfSome (option_copied result) (λ row. is_own_subscription client number row ≡ true) }
+    {
+        let rows = self.subscriptions.as_slice();
+        match place_of_subscription(rows, client, number) {
+            Some(at) => Some(&rows[at]),
+            None => None,
+        }
+    }
+
+    /// The client's registrations of this number go, and all is settled. Where all logs rested and one registration went, that is
+    /// a matter of its own log.
+    #[tactic(auto, unfolding(crate::specs::Leaving::unregistered))]
+    fn take_registration(&mut self, client: u64, number: u64, now: u64)
+        ensures { self.new ≡ unregistered self.old client number now }
+    {
+        let source = found_registration(self.registrations.as_slice(), client, number);
+        let rested = self.at_rest;
+        let before = self.registrations.len();
+        self.at_rest = false;
+        self.registrations.retain(&Another { client, number });
+        match source {
+            Some(source) if rested && self.registrations.len() + 1 == before => {
+                self.settle_beside(source, now)
+            }
+            _ => self.settle(now),
+        }
     }
 
     /// The client's registration of this number goes. Its publication lingers from `now` on where it was the last one.
     ///
     /// # Errors
     /// [`StreamFault::UnknownPublication`] where the client has no such registration; nothing is changed then.
-    #[tactic(auto, unfolding(crate::specs::Leaving::unregistered))]
     pub fn remove_publication(
         &mut self,
         client: u64,
@@ -92,8 +191,7 @@ impl Streams {
         if !self.has_registration(client, number) {
             return Err(StreamFault::UnknownPublication);
         }
-        self.registrations.retain(&Another { client, number });
-        self.settle(now);
+        self.take_registration(client, number, now);
         Ok(())
     }
 
@@ -121,6 +219,7 @@ impl Streams {
     pub fn client_left(&mut self, client: u64, now: u64)
         ensures { self.new ≡ left self.old client now }
     {
+        self.at_rest = false;
         self.registrations.retain(&OfAnother { client });
         self.subscriptions.retain(&OfAnother { client });
         self.settle(now);

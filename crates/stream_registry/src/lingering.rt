@@ -1,6 +1,7 @@
 ghost use Rattle.stream_registry.specs.Lingering.{closed, closing_of, is_closing, is_image_of, is_number, is_past, is_used, registrations_of, settled, settled_one, stays_live};
 ghost use Rattle.std.specs.List.{list_any};
-ghost use Rattle.std.specs.Prelude.{◌≡◌, IfOk, true};
+ghost use Rattle.stream_registry.specs.Rest.{RestsBeside, settled_where};
+ghost use Rattle.std.specs.Prelude.{◌≡◌, All, IfOk, true};
 
 use crate::row::{Registration, Source};
 use crate::streams::Streams;
@@ -58,6 +59,24 @@ impl Change<Source> for Settling<'_> {
 
     fn change(&self, log: &mut Source) {
         settle_one(log, self.registrations, self.now);
+    }
+}
+
+/// Lets the publication of this number linger from `now` on, if none of these is registered with it.
+#[derive(Clone, Copy)]
+pub(crate) struct SettlingOne<'a> {
+    pub(crate) source: u64,
+    pub(crate) registrations: &'a [Registration],
+    pub(crate) now: u64,
+}
+
+impl Change<Source> for SettlingOne<'_> {
+    ghost changed = { λ change log. settled_where change.source change.registrations.now change.now log };
+
+    fn change(&self, log: &mut Source) {
+        if log.number == self.source {
+            settle_one(log, self.registrations, self.now);
+        }
     }
 }
 
@@ -130,6 +149,18 @@ impl Streams {
         ensures { self.new ≡ settled self.old now }
     {
         self.sources.settle(self.registrations.as_slice(), now);
+        self.at_rest = true;
+    }
+
+    /// As [`Streams::settle`], where all logs but that one rest.
+    #[tactic(auto, unfolding(crate::specs::Lingering::settled))]
+    pub(crate) fn settle_beside(&mut self, source: u64, now: u64)
+        requires { All (RestsBeside source self.old.registrations) self.old.sources }
+        ensures { self.new ≡ settled self.old now }
+    {
+        self.sources
+            .settle_where(source, self.registrations.as_slice(), now);
+        self.at_rest = true;
     }
 
     /// The logs that close at `now`, by their source numbers: of the publications that linger for longer than they may, and

@@ -1,7 +1,9 @@
 ghost use Rattle.stream_registry.specs.Pairs.{fits, is_allowed, is_of, is_pair, is_read, pairs_at, pairs_of, reaches, reaches_published, reads_as};
+ghost use Rattle.stream_registry.specs.Sessions.{agrees_with};
 ghost use Rattle.stream_registry.specs.Wish.{row_of};
+ghost use Rattle.channel_uri.specs.Parameters.{stated_session_of};
 ghost use Rattle.std.specs.List.{list_any};
-ghost use Rattle.std.specs.Prelude.{◌≡◌, ◌++◌, IfOk, OnOk};
+ghost use Rattle.std.specs.Prelude.{◌≡◌, ◌&&◌, ◌++◌, IfOk, OnOk};
 
 use crate::places::{is_ipc, is_same_place, is_udp};
 use crate::row::{Source, Subscription};
@@ -47,14 +49,21 @@ fn reaches(channel: &Channel, log: &Source) -> bool
     }
 }
 
-/// Whether the subscription reads the log, if the policy lets it.
+/// Whether the channel reaches the log, and states its session or none.
+fn is_met_by(log: &Source, channel: &Channel) -> bool
+    ensures { result ≡ (reaches channel.now log.now && agrees_with log.now.session (stated_session_of channel.now)) }
+{
+    reaches(channel, log) && agrees_with(log.session, channel.session_id())
+}
+
+/// Whether the subscription reads the log, if the policy lets it. Most logs are of another stream, so that their channels are
+/// not looked at.
+#[inline(always)]
 #[tactic(auto, unfolding(crate::specs::Pairs::fits))]
 pub fn fits(log: &Source, wish: &Wish<'_>) -> bool
     ensures { result ≡ fits log.now (row_of wish.now) }
 {
-    reaches(wish.channel, log)
-        && log.stream == wish.stream
-        && agrees_with(log.session, wish.channel.session_id())
+    log.stream == wish.stream && is_met_by(log, wish.channel)
 }
 
 /// Whether the policy, which goes by the number `epoch`, lets the client have messages on its subscription.

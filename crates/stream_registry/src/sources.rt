@@ -1,11 +1,12 @@
 ghost use Rattle.stream_registry.specs.Few.{AreFew};
 ghost use Rattle.stream_registry.specs.Images.{stays_beside};
 ghost use Rattle.stream_registry.specs.Lingering.{settled_one, stays_live};
+ghost use Rattle.stream_registry.specs.Rest.{settled_where};
 ghost use Rattle.stream_registry.specs.Origins.{is_published, is_remote};
 ghost use Rattle.std.specs.Prelude.{◌≡◌, ◌≤◌, ◌<◌, ◌++◌, ◌∷◌, [], IfOk, length, filter, map, true};
 
 use crate::images::Beside;
-use crate::lingering::{Settling, StaysLive};
+use crate::lingering::{Settling, SettlingOne, StaysLive};
 use crate::row::{Registration, Source};
 use rows::Rows;
 use std::alloc::{AllocError, Global};
@@ -102,6 +103,17 @@ impl Sources {
         ensures { self.new ≡ map (settled_one registrations.now now) self.old }
     {
         self.rows.change(&Settling { registrations, now });
+    }
+
+    /// As [`Sources::settle`], of the log of this number alone.
+    pub(crate) fn settle_where(&mut self, source: u64, registrations: &[Registration], now: u64)
+        ensures { self.new ≡ map (settled_where source registrations.now now) self.old }
+    {
+        self.rows.change(&SettlingOne {
+            source,
+            registrations,
+            now,
+        });
     }
 
     /// Takes the logs away that close at this moment, where these images are silent.

@@ -19,10 +19,15 @@ pub struct Streams {
     pub(crate) sources: Sources,
     pub(crate) registrations: Rows<Registration, 1024>,
     pub(crate) subscriptions: Rows<Subscription, 512>,
+    /// Whether it is known that each log rests: that no publication would begin to linger. Then where a registration goes, its
+    /// own log alone is to be looked at.
+    pub(crate) at_rest: bool,
 }
 
 impl Model for Streams {
     ghost use Rattle.stream_registry.specs.Streams.{Streams as StreamLists};
+    ghost use Rattle.stream_registry.specs.Rest.{Rests};
+    ghost use Rattle.std.specs.Prelude.{◌≡◌, All, true};
 
     ghost Value = { StreamLists };
 
@@ -33,6 +38,8 @@ impl Model for Streams {
       registrations = streams.registrations;
       subscriptions = streams.subscriptions;
     } };
+
+    ghost invariant = { λ streams. streams.at_rest ≡ true → All (Rests streams.registrations) streams.sources };
 }
 
 impl Streams {
@@ -49,6 +56,7 @@ impl Streams {
             sources: Sources::new(alloc)?,
             registrations: Rows::new(alloc)?,
             subscriptions: Rows::new(alloc)?,
+            at_rest: true,
         })
     }
 
@@ -62,6 +70,7 @@ impl Streams {
             sources: self.sources.copy(alloc)?,
             registrations: self.registrations.copy(alloc)?,
             subscriptions: self.subscriptions.copy(alloc)?,
+            at_rest: self.at_rest,
         })
     }
 

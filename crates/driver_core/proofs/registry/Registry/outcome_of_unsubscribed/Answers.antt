@@ -6,4 +6,4 @@ pub returns : goal.returns
 returns c =
     λ inputs.
     rw (unsubscribed_outcome c.args.self.now c.args.self.now.last_number c.args.asking.now c.args.asking.handle inputs c.args.asking.client
-    c.args.asking.correlation c.args.number c.pairs_with.ensures.order c.requires) (search rules)
+    c.args.asking.correlation c.args.row.now.number c.pairs_with.ensures.order c.requires.own) (search rules)

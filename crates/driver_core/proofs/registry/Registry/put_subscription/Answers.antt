@@ -4,7 +4,7 @@ use Rattle.client_registry.specs.Clients.{principal_at}
 use Rattle.std.specs.Prelude.{true, is_some}
 use Rattle.log_readers.specs.Readers.{all_readers}
 use Rattle.stream_registry.specs.Adding.{subscribed}
-use Rattle.driver_core.proofs.KeptLemmas.{kept_subscribed, unknown}
+use Rattle.driver_core.proofs.StillReadLemmas.{tended_subscribed}
 use Rattle.driver_core.proofs.registry.Registry.put_subscription.Goals as goal
 
 pub invariant_of-self : goal.invariant_of-self
@@ -16,5 +16,5 @@ invariant_of-self c =
     let rows : c.add_subscription-2.new.self ≡ subscribed c.self.inside.streams (c.self.inside.last_number + 1) c.args.client c.args.channel.now c.args.stream = search rules in
     let after : c.add_subscription.new.self ≡ all_readers (subscribed c.self.inside.streams (c.self.inside.last_number + 1) c.args.client c.args.channel.now c.args.stream) c.self.inside.clients.rows c.self.inside.compiled.policy c.self.inside.compiled.epoch = search rules in
     rw (number, rows)
-    (unknown (kept_subscribed c.self.inside.streams c.self.inside.clients.rows c.self.inside.compiled.policy c.self.inside.compiled.epoch c.self.inside.last_number
-    c.args.client c.args.channel.now c.args.stream c.self.inside.readers c.add_subscription.new.self c.self.invariant.kept owned after))
+    (tended_subscribed c.self.inside.streams c.self.inside.clients.rows c.self.inside.compiled.policy c.self.inside.compiled.epoch c.self.inside.last_number
+    c.args.client c.args.channel.now c.args.stream c.self.inside.readers c.add_subscription.new.self c.self.inside.all_read c.self.invariant owned after)
