@@ -58,20 +58,31 @@ mapped_same kind f same (log ∷ logs) =
     ap (λ (b : Bool). length (cond b (f log ∷ filter kind (map f logs)) (filter kind (map f logs)))) (same log)
     ∙ mapped_step (kind log) (f log) log (filter kind (map f logs)) (filter kind logs) (mapped_same kind f same logs)
 
+where_kind : (source : ℕ) (registrations : List Registration) (now : ℕ) (log : Source) →
+    is_published (settled_where source registrations now log) ≡ is_published log
+where_kind source registrations now log = by (log.number == source)
+  where
+    by : (b : Bool) → is_published (cond b (settled_one registrations now log) log) ≡ is_published log
+    by true = settled_kind registrations now log
+    by false = refl
+
+pub where_count : (source : ℕ) (registrations : List Registration) (now : ℕ) (logs : List Source) →
+    length (filter is_published (map (settled_where source registrations now) logs)) ≡ length (filter is_published logs)
+where_count source registrations now =
+    mapped_same is_published (settled_where source registrations now) (where_kind source registrations now)
+
 pub where_few : (source : ℕ) (registrations : List Registration) (now : ℕ) (logs : List Source) → AreFew logs →
     AreFew (map (settled_where source registrations now) logs)
 where_few source registrations now logs few =
-    let publications = mapped_same is_published (settled_where source registrations now) same logs in
+    let publications = where_count source registrations now logs in
     let images =
-    mapped_same is_remote (settled_where source registrations now) (λ (log : Source). ap not (same log)) logs in
+    mapped_same is_remote (settled_where source registrations now) (λ (log : Source). ap not (where_kind source registrations now log))
+    logs in
     record { published = omega (arith, publications, few.published); remote = omega (arith, images, few.remote) }
-  where
-    same : (log : Source) → is_published (settled_where source registrations now log) ≡ is_published log
-    same log = by (log.number == source)
-      where
-        by : (b : Bool) → is_published (cond b (settled_one registrations now log) log) ≡ is_published log
-        by true = settled_kind registrations now log
-        by false = refl
+
+pub settled_count : (registrations : List Registration) (now : ℕ) (logs : List Source) →
+    length (filter is_published (map (settled_one registrations now) logs)) ≡ length (filter is_published logs)
+settled_count registrations now = mapped_same is_published (settled_one registrations now) (settled_kind registrations now)
 
 pub settled_few : (registrations : List Registration) (now : ℕ) (logs : List Source) → AreFew logs →
     AreFew (map (settled_one registrations now) logs)
@@ -123,9 +134,23 @@ imaged_few logs log is room few =
       remote = omega (arith, images, one, room);
     }
 
+pub published_count : (logs : List Source) (log : Source) → is_published log ≡ true →
+    length (filter is_published (logs ++ log ∷ [])) ≡ length (filter is_published logs) + 1
+published_count logs log is =
+    let publications = pushed is_published logs log in
+    let one : cond {A = ℕ} (is_published log) 1 0 ≡ 1 = counts (is_published log) true is in
+    omega (arith, publications, one)
+
+pub imaged_count : (logs : List Source) (log : Source) → is_remote log ≡ true →
+    length (filter is_published (logs ++ log ∷ [])) ≡ length (filter is_published logs)
+imaged_count logs log is =
+    let publications = pushed is_published logs log in
+    let none : cond {A = ℕ} (is_published log) 1 0 ≡ 0 = counts (is_published log) false (not_both (is_published log) is) in
+    omega (arith, publications, none)
+
 -- ---- all together
 
-all_of : (logs : List Source) → length (filter is_published logs) + length (filter is_remote logs) ≡ length logs
+pub all_of : (logs : List Source) → length (filter is_published logs) + length (filter is_remote logs) ≡ length logs
 all_of logs = length-filter_both is_published is_remote (λ log. refl) logs
 
 pub room_for_publication : (logs : List Source) → length (filter is_published logs) < 256 → AreFew logs → length logs < 768

@@ -1,5 +1,5 @@
 -- How many logs there may be.
-use Rattle.std.specs.Prelude.{◌≤◌, List, length, filter}
+use Rattle.std.specs.Prelude.{◌≡◌, ℕ, ◌≤◌, List, length, filter}
 use Rattle.stream_registry.specs.declared.row.Source.{Source}
 use Rattle.stream_registry.specs.Origins.{is_published, is_remote}
 
@@ -7,3 +7,8 @@ use Rattle.stream_registry.specs.Origins.{is_published, is_remote}
 pub record AreFew (logs : List Source) : Type 0 where
   pub published : length (filter is_published logs) ≤ 256
   pub remote : length (filter is_remote logs) ≤ 512
+
+-- they are, and so many are publications
+pub record AreCounted (logs : List Source) (published : ℕ) : Type 0 where
+  pub few : AreFew logs
+  pub count : published ≡ length (filter is_published logs)

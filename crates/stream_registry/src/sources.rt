@@ -16,18 +16,27 @@ use std::marker::Model;
 #[derive(Debug, Drop)]
 pub(crate) struct Sources {
     rows: Rows<Source, 768>,
+    /// How many of them are publications.
+    published: usize,
 }
 
 impl Model for Sources {
     ghost use Rattle.stream_registry.specs.declared.row.Source.{Source};
-    ghost use Rattle.stream_registry.specs.Few.{AreFew};
+    ghost use Rattle.stream_registry.specs.Few.{AreCounted};
     ghost use Rattle.std.specs.Prelude.{List};
 
     ghost Value = { List Source };
 
     ghost view = { λ sources. sources.rows };
 
-    ghost invariant = { λ sources. AreFew sources.rows };
+    ghost invariant = { λ sources. AreCounted sources.rows sources.published };
+}
+
+/// How many of the logs are publications.
+fn publications_among(logs: &[Source]) -> usize
+    ensures { result ≡ length (filter is_published logs.now) }
+{
+    logs.iter().filter(|log| log.is_published()).count()
 }
 
 impl Sources {
@@ -38,6 +47,7 @@ impl Sources {
     {
         Ok(Sources {
             rows: Rows::new(alloc)?,
+            published: 0,
         })
     }
 
@@ -47,6 +57,7 @@ impl Sources {
     {
         Ok(Sources {
             rows: self.rows.copy(alloc)?,
+            published: self.published,
         })
     }
 
@@ -62,22 +73,14 @@ impl Sources {
     pub(crate) fn publications(&self) -> usize
         ensures { result ≡ length (filter is_published self.now) }
     {
-        self.rows
-            .as_slice()
-            .iter()
-            .filter(|log| log.is_published())
-            .count()
+        self.published
     }
 
     /// How many images there are.
     pub(crate) fn images(&self) -> usize
         ensures { result ≡ length (filter is_remote self.now) }
     {
-        self.rows
-            .as_slice()
-            .iter()
-            .filter(|log| !log.is_published())
-            .count()
+        self.rows.len() - self.published
     }
 
     /// Puts a publication behind the others.
@@ -87,6 +90,7 @@ impl Sources {
         ensures { self.new ≡ self.old ++ log ∷ [] }
     {
         self.rows.push(log);
+        self.published += 1;
     }
 
     /// Puts an image behind the others.
@@ -121,6 +125,7 @@ impl Sources {
         ensures { self.new ≡ filter (stays_live now silent.now) self.old }
     {
         self.rows.retain(&StaysLive { now, silent });
+        self.published = publications_among(self.rows.as_slice());
     }
 
     /// Takes the images of these numbers away.
@@ -128,6 +133,7 @@ impl Sources {
         ensures { self.new ≡ filter (stays_beside numbers.now) self.old }
     {
         self.rows.retain(&Beside { numbers });
+        self.published = publications_among(self.rows.as_slice());
     }
 
     /// Takes all logs away.
@@ -135,5 +141,6 @@ impl Sources {
         ensures { self.new ≡ [] }
     {
         self.rows.clear();
+        self.published = 0;
     }
 }

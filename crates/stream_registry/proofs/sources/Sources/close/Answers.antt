@@ -1,8 +1,16 @@
-use Rattle.std.proofs.Common.{sym, subst}
+use Rattle.std.proofs.Common.{List, length, filter, sym, subst, ap, ◌∙◌}
+use Rattle.stream_registry.specs.declared.row.Source.{Source}
 use Rattle.stream_registry.specs.Few.{AreFew}
 use Rattle.stream_registry.specs.Lingering.{stays_live}
+use Rattle.stream_registry.specs.Origins.{is_published}
 use Rattle.stream_registry.proofs.FewLemmas.{kept_few}
 use Rattle.stream_registry.proofs.sources.Sources.close.Goals as goal
 
 pub invariant_of-self : goal.invariant_of-self
-invariant_of-self c = subst AreFew (sym c.retain.ensures) (kept_few (stays_live c.args.now c.args.silent.now) c.self.inside.rows c.self.invariant)
+invariant_of-self c = record {
+  few =
+      subst AreFew (sym c.retain.ensures)
+      (kept_few (stays_live c.args.now c.args.silent.now) c.self.inside.rows c.self.invariant.few);
+  count =
+      c.publications_among-self-inside.ensures ∙ ap (λ (logs : List Source). length (filter is_published logs)) c.as_slice.ensures.value;
+}
