@@ -137,7 +137,11 @@ static CASES: [Case; 3] = [
 /// Whether a desk goes as the case says; false without memory.
 fn is_shown(alloc: Global, case: Case) -> bool {
     match desk(alloc) {
-        Some(mut desk) => goes(alloc, &mut desk, case),
+        Some(mut desk) => {
+            let so = goes(alloc, &mut desk, case);
+            drop(desk);
+            so
+        }
         None => false,
     }
 }
@@ -168,7 +172,11 @@ fn answers_stand(alloc: Global, desk: &mut Desk) -> bool {
 
 fn all_answers_stand(alloc: Global) -> bool {
     match desk(alloc) {
-        Some(mut desk) => answers_stand(alloc, &mut desk),
+        Some(mut desk) => {
+            let stand = answers_stand(alloc, &mut desk);
+            drop(desk);
+            stand
+        }
         None => true,
     }
 }

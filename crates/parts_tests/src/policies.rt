@@ -136,7 +136,11 @@ fn decide(policy: &Policy, rows: &[Copied]) -> bool {
 /// Whether a copy of the policy decides so.
 fn copy_decides(alloc: Global, policy: &Policy) -> bool {
     match policy.copy(alloc) {
-        Ok(copy) => decide(&copy, &COPIES),
+        Ok(copy) => {
+            let so = decide(&copy, &COPIES);
+            drop(copy);
+            so
+        }
         Err(_) => false,
     }
 }
@@ -147,7 +151,9 @@ fn room_becomes(alloc: Global, policy: &Policy) -> bool {
         Ok(mut room) => {
             let denies = room.rules().is_empty() && !room.default_allows();
             room.set_from(policy);
-            denies && decide(&room, &COPIES)
+            let so = decide(&room, &COPIES);
+            drop(room);
+            denies && so
         }
         Err(_) => false,
     }
@@ -155,7 +161,11 @@ fn room_becomes(alloc: Global, policy: &Policy) -> bool {
 
 fn policy_is_copied(alloc: Global) -> bool {
     match of_ipc(alloc) {
-        Some(policy) => copy_decides(alloc, &policy) && room_becomes(alloc, &policy),
+        Some(policy) => {
+            let so = copy_decides(alloc, &policy) && room_becomes(alloc, &policy);
+            drop(policy);
+            so
+        }
         None => false,
     }
 }

@@ -1,6 +1,6 @@
 //! Readers as lists change.
 
-use crate::play::{LINGER, Play, pair};
+use crate::reader_play::{LINGER, Play, pair};
 use log_readers::Readers;
 use std::alloc::{AllocError, Global};
 

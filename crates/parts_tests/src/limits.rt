@@ -1,6 +1,6 @@
 //! How much there may be.
 
-use crate::play::{self, Answer, Many, Play, Step};
+use crate::stream_play::{self, Answer, Many, Play, Step};
 use stream_registry::StreamFault;
 
 const FULL: Answer = Answer::Refused(StreamFault::Full);
@@ -31,5 +31,5 @@ static STEPS: [(Step, bool); 16] = [
 ];
 
 pub(crate) fn are_taken(play: &mut Play) -> bool {
-    play::are_taken(play, &STEPS)
+    stream_play::are_taken(play, &STEPS)
 }

@@ -1,6 +1,6 @@
 //! Images that no subscription reads.
 
-use crate::play::Play;
+use crate::reader_play::Play;
 use channel_uri::{Address, Channel, UriError};
 use stream_registry::{ImageWanted, Measures};
 

@@ -1,6 +1,6 @@
 //! Which subscription reads which log, under a policy that allows everything or one that denies `image` to principal 2.
 
-use crate::play::Play;
+use crate::stream_play::Play;
 use byte_strings::ShortText;
 use channel_uri::{Channel, Pattern, UriError};
 use client_registry::Clients;

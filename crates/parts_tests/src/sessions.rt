@@ -1,6 +1,6 @@
 //! Which session a log has.
 
-use crate::play::{self, Answer, LINGER, Play, Step};
+use crate::stream_play::{self, Answer, LINGER, Play, Step};
 use stream_registry::StreamFault;
 
 const STATED: &str = "aeron:ipc?session-id=-7";
@@ -71,5 +71,5 @@ static STEPS: [(Step, bool); 21] = [
 ];
 
 pub(crate) fn are_taken(play: &mut Play) -> bool {
-    play::are_taken(play, &STEPS)
+    stream_play::are_taken(play, &STEPS)
 }

@@ -1,6 +1,6 @@
 //! The pairs of what is about to come.
 
-use crate::play::{Play, pair, wanted};
+use crate::reader_play::{Play, pair, wanted};
 use channel_uri::Channel;
 use log_readers::{logs_read, pairs_of_log, pairs_of_subscription, readers_of};
 use std::alloc::Global;

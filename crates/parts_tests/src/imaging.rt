@@ -1,6 +1,6 @@
 //! Images: the logs of remote publishers.
 
-use crate::play::{self, Answer, HERE, Play, Step};
+use crate::stream_play::{self, Answer, HERE, Play, Step};
 
 static STEPS: [(Step, bool); 67] = [
     // They are read at their endpoint.
@@ -106,5 +106,5 @@ static STEPS: [(Step, bool); 67] = [
 ];
 
 pub(crate) fn are_taken(play: &mut Play) -> bool {
-    play::are_taken(play, &STEPS)
+    stream_play::are_taken(play, &STEPS)
 }

@@ -1,6 +1,6 @@
 //! Which subscription reads which log.
 
-use crate::play::{self, Answer, Play, Step};
+use crate::stream_play::{self, Answer, Play, Step};
 use stream_registry::Pair;
 
 const FIRST: Pair = Pair {
@@ -87,5 +87,5 @@ static STEPS: [(Step, bool); 36] = [
 ];
 
 pub(crate) fn are_taken(play: &mut Play) -> bool {
-    play::are_taken(play, &STEPS)
+    stream_play::are_taken(play, &STEPS)
 }

@@ -1,6 +1,6 @@
 //! What goes, and when.
 
-use crate::play::{self, Answer, LINGER, Play, Step};
+use crate::stream_play::{self, Answer, LINGER, Play, Step};
 use stream_registry::StreamFault;
 
 const UNKNOWN: Result<(), StreamFault> = Err(StreamFault::UnknownPublication);
@@ -71,5 +71,5 @@ static STEPS: [(Step, bool); 43] = [
 ];
 
 pub(crate) fn are_taken(play: &mut Play) -> bool {
-    play::are_taken(play, &STEPS)
+    stream_play::are_taken(play, &STEPS)
 }

@@ -1,6 +1,6 @@
 //! Who joins whose log.
 
-use crate::play::{self, Answer, Play, Step};
+use crate::stream_play::{self, Answer, Play, Step};
 use stream_registry::StreamFault;
 
 const CONFLICT: Answer = Answer::Refused(StreamFault::Conflict);
@@ -78,5 +78,5 @@ static STEPS: [(Step, bool); 20] = [
 ];
 
 pub(crate) fn are_taken(play: &mut Play) -> bool {
-    play::are_taken(play, &STEPS)
+    stream_play::are_taken(play, &STEPS)
 }

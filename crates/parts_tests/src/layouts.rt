@@ -6,7 +6,10 @@ use std::alloc::{AllocError, Global};
 /// Why the bytes are no reply; none where they are one.
 pub(crate) fn reply_fault(alloc: Global, bytes: &[u8]) -> Option<CommandFault> {
     match Reply::read(alloc, bytes) {
-        Ok(_) => None,
+        Ok(reply) => {
+            drop(reply);
+            None
+        }
         Err(fault) => Some(fault),
     }
 }

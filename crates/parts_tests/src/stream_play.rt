@@ -295,7 +295,9 @@ fn is_copied(play: &mut Play) -> bool {
     match play.streams.copy(play.alloc) {
         Ok(copy) => {
             play.streams.close_all();
-            has(&copy, 1, 2, 2)
+            let whole = has(&copy, 1, 2, 2);
+            drop(copy);
+            whole
         }
         Err(_) => false,
     }

@@ -1,6 +1,6 @@
 //! Each question to a play is answered with false beside something that differs in one place.
 
-use crate::play::{self, Answer, LINGER, Play, Step};
+use crate::stream_play::{self, Answer, LINGER, Play, Step};
 use stream_registry::StreamFault;
 
 static STEPS: [(Step, bool); 26] = [
@@ -45,5 +45,5 @@ static STEPS: [(Step, bool); 26] = [
 ];
 
 pub(crate) fn are_taken(play: &mut Play) -> bool {
-    play::are_taken(play, &STEPS)
+    stream_play::are_taken(play, &STEPS)
 }

@@ -1,6 +1,6 @@
 //! Where logs go. A log with terms of 64 KiB has 48 pages, and one with terms of 128 KiB has 96.
 
-use crate::play::{self, LINGER, Play, Step};
+use crate::stream_play::{self, LINGER, Play, Step};
 
 const SHORT: &str = "aeron:ipc?term-length=64k";
 
@@ -48,5 +48,5 @@ static STEPS: [(Step, bool); 34] = [
 ];
 
 pub(crate) fn are_taken(play: &mut Play) -> bool {
-    play::are_taken(play, &STEPS)
+    stream_play::are_taken(play, &STEPS)
 }

@@ -196,47 +196,65 @@ fn counter(type_id: i32, key: &[u8], label: &str) -> Result<AddCounter, CommandF
     })
 }
 
-fn body(alloc: Global, plain: Plain) -> Result<Body, CommandFault> {
-    Ok(match plain {
-        Plain::AddPublication(stream, channel) => {
-            Body::AddPublication(publication(alloc, stream, channel)?)
-        }
+/// A body without bytes of its own.
+fn short(plain: Plain) -> Body {
+    match plain {
         Plain::RemovePublication(registration) => Body::RemovePublication(Removal { registration }),
-        Plain::AddExclusivePublication(stream, channel) => {
-            Body::AddExclusivePublication(publication(alloc, stream, channel)?)
-        }
-        Plain::AddSubscription(other, stream, channel) => {
-            Body::AddSubscription(subscription(alloc, other, stream, channel)?)
-        }
         Plain::RemoveSubscription(registration) => {
             Body::RemoveSubscription(Removal { registration })
         }
         Plain::ClientKeepalive => Body::ClientKeepalive,
-        Plain::AddDestination(registration, channel) => {
-            Body::AddDestination(destination(alloc, registration, channel)?)
-        }
-        Plain::RemoveDestination(registration, channel) => {
-            Body::RemoveDestination(destination(alloc, registration, channel)?)
-        }
-        Plain::AddCounter(type_id, key, label) => {
-            Body::AddCounter(counter(type_id, key, label)?)
-        }
         Plain::RemoveCounter(registration) => Body::RemoveCounter(Removal { registration }),
-        Plain::ClientClose => Body::ClientClose,
-        Plain::TerminateDriver(token) => Body::TerminateDriver(TerminateDriver {
-            token: Bytes::new(alloc, token)?,
-        }),
         Plain::SetCounter(registration, value) => Body::SetCounter(SetCounter {
             registration,
             value,
         }),
-    })
+        _ => Body::ClientClose,
+    }
+}
+
+/// A body that names a channel, or one without bytes.
+fn named(alloc: Global, plain: Plain) -> Result<Body, AllocError> {
+    match plain {
+        Plain::AddPublication(stream, channel) => {
+            Ok(Body::AddPublication(publication(alloc, stream, channel)?))
+        }
+        Plain::AddExclusivePublication(stream, channel) => {
+            Ok(Body::AddExclusivePublication(publication(alloc, stream, channel)?))
+        }
+        Plain::AddSubscription(other, stream, channel) => Ok(Body::AddSubscription(subscription(
+            alloc, other, stream, channel,
+        )?)),
+        Plain::AddDestination(registration, channel) => Ok(Body::AddDestination(destination(
+            alloc,
+            registration,
+            channel,
+        )?)),
+        Plain::RemoveDestination(registration, channel) => Ok(Body::RemoveDestination(destination(
+            alloc,
+            registration,
+            channel,
+        )?)),
+        _ => Ok(short(plain)),
+    }
+}
+
+fn body(alloc: Global, plain: Plain) -> Result<Body, CommandFault> {
+    match plain {
+        Plain::AddCounter(type_id, key, label) => {
+            Ok(Body::AddCounter(counter(type_id, key, label)?))
+        }
+        Plain::TerminateDriver(token) => Ok(Body::TerminateDriver(TerminateDriver {
+            token: Bytes::new(alloc, token)?,
+        })),
+        _ => Ok(named(alloc, plain)?),
+    }
 }
 
 /// The client, the correlation id and the rest of a command, and its bytes.
 type Row = (u64, u64, Plain, &'static [u8]);
 
-const COMMANDS: [Row; 16] = [
+static COMMANDS: [Row; 16] = [
     (1, 12, Plain::AddPublication(10, "aeron:ipc"), &ADD),
     (
         2,
@@ -298,38 +316,53 @@ fn is_written(alloc: Global, command: &Command, bytes: &[u8]) -> bool {
     }
 }
 
+fn is(found: Command, command: &Command) -> bool {
+    let same = found == *command;
+    drop(found);
+    same
+}
+
 /// Whether these bytes are read as the command.
 fn is_read(alloc: Global, command: &Command, bytes: &[u8]) -> bool {
     match Command::read(alloc, bytes) {
-        Ok(read) => read == *command,
+        Ok(read) => is(read, command),
         Err(_) => false,
     }
 }
 
 fn is_copied(alloc: Global, command: &Command) -> bool {
     match command.copy(alloc) {
-        Ok(copy) => copy == *command,
+        Ok(copy) => is(copy, command),
         Err(_) => false,
     }
 }
 
-/// Whether the command of the row is written as its bytes, read from them, copied, and named by its correlation id.
-fn is_row(alloc: Global, row: Row) -> bool {
-    let (client, correlation, plain, bytes) = row;
-    let Ok(body) = body(alloc, plain) else {
-        return false;
-    };
-    let command = Command {
-        client,
-        correlation,
-        body,
-    };
-    is_written(alloc, &command, bytes)
+/// Whether the command is written as the bytes, read from them, copied, and named by its correlation id.
+fn has_bytes(alloc: Global, command: Command, bytes: &[u8]) -> bool {
+    let named = Command::correlation_of(bytes) == command.correlation;
+    let same = is_written(alloc, &command, bytes)
         && is_read(alloc, &command, bytes)
-        && is_copied(alloc, &command)
-        && Command::correlation_of(bytes) == correlation
+        && is_copied(alloc, &command);
+    drop(command);
+    named && same
 }
 
+fn is_row(alloc: Global, row: Row) -> bool {
+    let (client, correlation, plain, bytes) = row;
+    match body(alloc, plain) {
+        Ok(body) => {
+            let command = Command {
+                client,
+                correlation,
+                body,
+            };
+            has_bytes(alloc, command, bytes)
+        }
+        Err(_) => false,
+    }
+}
+
+/// Whether the command of each row has the bytes of the row.
 fn are_rows(alloc: Global, rows: &[Row]) -> bool {
     for &row in rows {
         if !is_row(alloc, row) {
@@ -339,9 +372,11 @@ fn are_rows(alloc: Global, rows: &[Row]) -> bool {
     true
 }
 
+/// The bytes of another correlation id.
+static OTHER: [Row; 1] = [(2, 6, Plain::ClientKeepalive, &KEEPALIVE)];
+
 /// With ample memory.
 #[test]
 fn commands_have_their_bytes(rt: HostRuntime) {
-    assert!(rt; are_rows(rt.alloc(), &COMMANDS));
-    assert!(rt; !are_rows(rt.alloc(), &[(2, 6, Plain::ClientKeepalive, &KEEPALIVE)]));
+    assert!(rt; are_rows(rt.alloc(), &COMMANDS) & !are_rows(rt.alloc(), &OTHER));
 }

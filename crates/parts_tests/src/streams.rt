@@ -1,6 +1,6 @@
 //! Plays that go as they should, each from its beginning.
 
-use crate::play::{Play, without_streams};
+use crate::stream_play::{Play, without_streams};
 use crate::{differing, imaging, leaving, limits, pairing, placing, publishing, sessions};
 use std::alloc::Global;
 
@@ -17,7 +17,11 @@ fn all_are_taken(play: &mut Play) -> bool {
 
 fn go_as_they_should(alloc: Global) -> bool {
     match without_streams(alloc) {
-        Ok(mut play) => all_are_taken(&mut play),
+        Ok(mut play) => {
+            let taken = all_are_taken(&mut play);
+            drop(play);
+            taken
+        }
         Err(_) => false,
     }
 }

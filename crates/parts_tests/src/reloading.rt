@@ -1,6 +1,6 @@
 //! Who reads a log, and what another policy changes of that.
 
-use crate::play::{Play, pair, policy};
+use crate::reader_play::{Play, pair, policy};
 use std::alloc::Global;
 use stream_registry::Pair;
 
@@ -30,7 +30,11 @@ pub(crate) fn turns_over(
     come: &[Pair],
 ) -> bool {
     match policy(alloc, is_denied) {
-        Ok(after) => two_logs(play) && play.turns_over(alloc, &after, gone, come),
+        Ok(after) => {
+            let so = two_logs(play) && play.turns_over(alloc, &after, gone, come);
+            drop(after);
+            so
+        }
         Err(_) => false,
     }
 }

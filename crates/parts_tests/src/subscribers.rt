@@ -4,7 +4,7 @@ use crate::coming::{is_read_beside_two, subscriptions_would_read};
 use crate::keeping::{
     all_read, are_told, closed_logs_are_not_read, denied_reads_nothing, numbers_go, one_is_left,
 };
-use crate::play::{Play, pair, policy};
+use crate::reader_play::{Play, pair, policy};
 use crate::reloading::{first_is_found, turns_over};
 use crate::unread::unread_image_is_told;
 use std::alloc::{AllocError, Global};
@@ -87,7 +87,11 @@ fn play(alloc: Global, is_denied: bool) -> Result<Play, AllocError> {
 /// Whether a play goes as the case says; false without memory.
 fn is_shown(alloc: Global, is_denied: bool, case: Case) -> bool {
     match play(alloc, is_denied) {
-        Ok(mut play) => goes(alloc, &mut play, case),
+        Ok(mut play) => {
+            let so = goes(alloc, &mut play, case);
+            drop(play);
+            so
+        }
         Err(_) => false,
     }
 }
