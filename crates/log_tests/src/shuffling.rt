@@ -2,7 +2,7 @@
 // plain table of the positions of their stream.
 ghost use Rattle.std.specs.Prelude.{◌≡◌, ◌%◌, ◌<◌, ◌≤◌, [], IfOk};
 
-use crate::reading::read_portion;
+use crate::image_reading::read_portion;
 use crate::table::{Cell, Table};
 use frame_codec::{Flags, TermPlace, term_of, write_data, write_pad};
 use image_log::{Ident, ImageLog, ImageRoom, Insert};

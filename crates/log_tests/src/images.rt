@@ -1,6 +1,6 @@
 ghost use Rattle.std.specs.Prelude.{◌≡◌, [], IfOk};
 
-use crate::reading::{fill, gives, join, polls, read_to, reads};
+use crate::image_reading::{fill, gives, join, polls, read_to, reads};
 use crate::receiving::{beat_is_heard, is_answered_in_time};
 use crate::shuffling::{agree, go_on, hand_in, hand_in_cell, open, open_later};
 use crate::table::{Cell, Table};
@@ -126,7 +126,9 @@ fn other_table_agrees(alloc: Global, log: &mut ImageLog) -> bool {
     match Table::new(alloc, 16_384) {
         Ok(mut table) => {
             table.insert(64, Cell::Short);
-            go_on(log, &mut table, 100)
+            let same = go_on(log, &mut table, 100);
+            drop(table);
+            same
         }
         Err(_) => true,
     }
@@ -474,7 +476,10 @@ fn is_played(alloc: Global, play: Play) -> bool {
             let taken = begins(&mut log, play.0) && are_taken(alloc, &mut log, play.1);
             match play.2 {
                 Some(at) => taken & gives_back(log, at),
-                None => taken,
+                None => {
+                    drop(log);
+                    taken
+                }
             }
         }
         Err(_) => false,

@@ -394,7 +394,11 @@ fn are_taken(log: &mut TermLog, alloc: Global, steps: &[Step]) -> bool {
 /// Whether a log of the stream goes as the steps say; false without memory.
 fn is_sent(alloc: Global, is_late: bool, steps: &[Step]) -> bool {
     match opened(alloc, if is_late { LATE_STREAM } else { STREAM }) {
-        Ok(mut log) => are_taken(&mut log, alloc, steps),
+        Ok(mut log) => {
+            let taken = are_taken(&mut log, alloc, steps);
+            drop(log);
+            taken
+        }
         Err(_) => false,
     }
 }

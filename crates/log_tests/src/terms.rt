@@ -3,7 +3,7 @@ ghost use Rattle.term_log.specs.Ident.{IsIdent};
 
 use crate::filling::{fill, is_held};
 use crate::plain::Plain;
-use crate::reading::{begin_at, gives_all};
+use crate::term_reading::{begin_at, gives_all};
 use std::alloc::Global;
 use term_log::{Ident, LogKind, Offer, TermLog};
 

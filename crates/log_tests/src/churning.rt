@@ -1,5 +1,5 @@
 // Leases that come and go in an order that looks random, beside a plain page table.
-ghost use Rattle.log_arena_tests.specs.Leases.{AllOf};
+ghost use Rattle.log_tests.specs.Leases.{AllOf};
 
 use log_arena::{Arena, Lease, NoRoom, PAGE};
 use std::alloc::{AllocError, Global};

@@ -5,7 +5,7 @@ use Rattle.term_log.specs.Reading.{frames_left, spans}
 use Rattle.term_log.specs.Sender.{Sending, budget_of}
 use Rattle.term_log.specs.SenderSteps.{IsStartIn, frames_for, next_frames, sent_to, sent_on}
 use Rattle.term_log.specs.Whole.{Stands}
-use Rattle.term_log_tests.proofs.stepping.send.Goals as goal
+use Rattle.log_tests.proofs.stepping.send.Goals as goal
 
 pub returns-in-Udp : goal.returns-in-Udp
 unfolding sent_on

@@ -4,7 +4,7 @@ use Rattle.std.specs.List.{remove}
 use Rattle.log_arena.specs.Homes.{Home}
 use Rattle.log_arena.specs.Lease.{lease_home}
 use Rattle.log_arena.specs.declared.lease.Lease.{Lease}
-use Rattle.log_arena_tests.specs.Leases.{AllOf}
+use Rattle.log_tests.specs.Leases.{AllOf}
 
 pub all-push : (home : Home) (ls : List Lease) (l : Lease) → AllOf home ls → lease_home l ≡ home → AllOf home (ls ++ l ∷ [])
 all-push home [] l all is = (is, tt)

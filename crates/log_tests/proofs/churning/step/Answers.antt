@@ -1,9 +1,9 @@
 use Rattle.std.proofs.Common.{List, sym, subst, arith}
 use Rattle.log_arena.specs.Pages.{Region}
 use Rattle.log_arena.specs.declared.lease.Lease.{Lease}
-use Rattle.log_arena_tests.specs.Leases.{AllOf}
-use Rattle.log_arena_tests.proofs.Lists.{all-push, all-remove, all-at}
-use Rattle.log_arena_tests.proofs.churning.step.Goals as goal
+use Rattle.log_tests.specs.Leases.{AllOf}
+use Rattle.log_tests.proofs.Lists.{all-push, all-remove, all-at}
+use Rattle.log_tests.proofs.churning.step.Goals as goal
 
 pub returns-then-choice-lt3 : goal.returns-then-choice-lt3
 returns-then-choice-lt3 c =

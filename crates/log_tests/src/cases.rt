@@ -6,7 +6,7 @@ use crate::resends::are_sent;
 use crate::sending::{
     CONNECTS, LIMITS, OPENS, SETUPS_AND_HEARTBEATS, are_taken, connects_by_pairs,
 };
-use crate::tests::{
+use crate::terms::{
     begin_with_abc, counts_each, ends_at_the_greatest, follows_the_slowest, ident, meets_ranges,
     other_answers_are_told, pads_the_rest, put_three, tells_lists, terms_are_used_again,
     waits_for_the_slowest,
@@ -89,7 +89,11 @@ static CASES: [Case; 11] = [
 /// Whether the log for the case goes as it says; false without memory.
 fn is_shown(alloc: Global, case: Case) -> bool {
     match log_for(alloc, case) {
-        Ok(mut log) => goes(alloc, &mut log, case),
+        Ok(mut log) => {
+            let so = goes(alloc, &mut log, case);
+            drop(log);
+            so
+        }
         Err(_) => false,
     }
 }
