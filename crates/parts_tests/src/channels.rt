@@ -75,13 +75,13 @@ fn other_is_written(alloc: Global, channel: &Channel, wanted: &str) -> bool {
 
 fn is_stated(channel: &Channel, wanted: Stated) -> bool {
     let (endpoint, control, session, mtu, term_length, linger, manual) = wanted;
-    channel.endpoint() == endpoint
-        && channel.control() == control
-        && channel.session_id() == session
-        && channel.mtu() == mtu
-        && channel.term_length() == term_length
-        && channel.linger() == linger
-        && channel.is_manual() == manual
+    (channel.endpoint() == endpoint)
+        & (channel.control() == control)
+        & (channel.session_id() == session)
+        & (channel.mtu() == mtu)
+        & (channel.term_length() == term_length)
+        & (channel.linger() == linger)
+        & (channel.is_manual() == manual)
 }
 
 fn shows(alloc: Global, channel: &Channel, case: Case) -> bool {

@@ -17,7 +17,11 @@ fn would_read(alloc: Global, play: &Play, client: u64, pairs: &[Pair]) -> bool {
     };
     let count = logs_read(&play.streams, &play.clients, &play.policy, 1, &wish);
     match pairs_of_subscription(alloc, &play.streams, &play.clients, &play.policy, 1, &wish) {
-        Ok(found) => found.as_slice() == pairs && count == pairs.len(),
+        Ok(found) => {
+            let same = found.as_slice() == pairs;
+            drop(found);
+            same & (count == pairs.len())
+        }
         Err(_) => false,
     }
 }

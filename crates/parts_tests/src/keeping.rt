@@ -38,7 +38,9 @@ pub(crate) fn numbers_go(alloc: Global, play: &mut Play) -> bool {
     readers.remove_subscription(9);
     let same = readers.total() == 2;
     readers.close_all();
-    there && all && fewer && same && readers.total() == 0
+    let none = readers.total() == 0;
+    drop(readers);
+    there & all & fewer & same & none
 }
 
 /// Whether one reader is left of those where the first client leaves.
@@ -48,30 +50,32 @@ pub(crate) fn one_is_left(alloc: Global, play: &mut Play) -> bool {
         return false;
     };
     readers.client_left(&play.streams, 1);
-    there && readers.total() == 1
+    let one = readers.total() == 1;
+    drop(readers);
+    there & one
 }
 
 /// Whether logs that their clients left are read up to their moment, and no longer.
 pub(crate) fn closed_logs_are_not_read(alloc: Global, play: &mut Play) -> bool {
     let there = play.publishes(1, 1)
-        && play.publishes(2, 2)
-        && play.publishes(3, 1)
-        && play.subscribes(4, 2)
-        && play.reads(3);
+        & play.publishes(2, 2)
+        & play.publishes(3, 1)
+        & play.subscribes(4, 2)
+        & play.reads(3);
     play.leaves(1);
     play.closes(LINGER);
     let lingering = play.reads(3);
     play.closes(LINGER + 1);
-    there && lingering && play.reads(1) && play.has_number(alloc, 4, &[pair(2, 4)])
+    there & lingering & play.reads(1) & play.has_number(alloc, 4, &[pair(2, 4)])
 }
 
 /// Whether the pairs of a subscription, a client and a log are those.
 pub(crate) fn are_told(alloc: Global, play: &mut Play) -> bool {
     let of_first = [pair(3, 1), pair(3, 4), pair(5, 1), pair(5, 4)];
     two_read(play)
-        && play.publishes(5, 2)
-        && play.has_number(alloc, 2, &[pair(3, 2), pair(5, 2)])
-        && play.has_number(alloc, 3, &[])
-        && play.has_client(alloc, 1, &of_first)
-        && play.has_log(alloc, 5, &[pair(5, 1), pair(5, 2), pair(5, 4)])
+        & play.publishes(5, 2)
+        & play.has_number(alloc, 2, &[pair(3, 2), pair(5, 2)])
+        & play.has_number(alloc, 3, &[])
+        & play.has_client(alloc, 1, &of_first)
+        & play.has_log(alloc, 5, &[pair(5, 1), pair(5, 2), pair(5, 4)])
 }

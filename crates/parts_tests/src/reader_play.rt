@@ -102,14 +102,21 @@ impl Play {
         };
         match Streams::new(alloc, defaults, 1) {
             Ok(streams) => Play::with(alloc, policy, streams),
-            Err(refused) => Err(refused),
+            Err(refused) => {
+                drop(policy);
+                Err(refused)
+            }
         }
     }
 
     fn with(alloc: Global, policy: Policy, streams: Streams) -> Result<Play, AllocError> {
         match two_clients(alloc) {
             Ok(clients) => Play::with_clients(alloc, policy, streams, clients),
-            Err(refused) => Err(refused),
+            Err(refused) => {
+                drop(policy);
+                drop(streams);
+                Err(refused)
+            }
         }
     }
 
@@ -121,7 +128,12 @@ impl Play {
     ) -> Result<Play, AllocError> {
         match Readers::new(alloc) {
             Ok(readers) => Ok(Play::of(streams, clients, policy, readers)),
-            Err(refused) => Err(refused),
+            Err(refused) => {
+                drop(policy);
+                drop(streams);
+                drop(clients);
+                Err(refused)
+            }
         }
     }
 
@@ -303,7 +315,11 @@ impl Play {
             .readers
             .turnover_under(alloc, &self.streams, &self.clients, policy, 2)
         {
-            Ok(turnover) => turnover.gone.as_slice() == gone && turnover.come.as_slice() == come,
+            Ok(turnover) => {
+                let same = turnover.gone.as_slice() == gone && turnover.come.as_slice() == come;
+                drop(turnover);
+                same
+            }
             Err(_) => false,
         }
     }

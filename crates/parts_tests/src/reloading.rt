@@ -12,12 +12,12 @@ fn two_logs(play: &mut Play) -> bool {
 /// Whether only the first client's subscription is found where `image` is denied to the second.
 pub(crate) fn first_is_found(alloc: Global, play: &mut Play) -> bool {
     two_logs(play)
-        && play.has_pairs(alloc, &[pair(3, 1), pair(4, 1)])
-        && play.has(4, 1)
-        && !play.has(4, 2)
-        && !play.has(5, 1)
-        && play.is_read_by(4, &[1])
-        && play.is_read_by(5, &[])
+        & play.has_pairs(alloc, &[pair(3, 1), pair(4, 1)])
+        & play.has(4, 1)
+        & !play.has(4, 2)
+        & !play.has(5, 1)
+        & play.is_read_by(4, &[1])
+        & play.is_read_by(5, &[])
 }
 
 /// Whether these pairs go and those come where a policy follows that denies `image` to the second client, or one that

@@ -3,6 +3,7 @@
 use crate::readers::{Asked, is_asked};
 use channel_uri::{Address, Channel, UriError};
 use std::alloc::{AllocError, Global};
+use std::mem::replace;
 use stream_registry::{
     Adding, ImageWanted, LogPlace, Measures, Pair, StreamFault, Streams, Wanted,
 };
@@ -123,7 +124,7 @@ pub(crate) fn without_streams(alloc: Global) -> Result<Play, AllocError> {
 fn begins(play: &mut Play, first: i32) -> bool {
     match new(play.alloc, first) {
         Ok(streams) => {
-            play.streams = streams;
+            drop(replace(&mut play.streams, streams));
             true
         }
         Err(_) => false,

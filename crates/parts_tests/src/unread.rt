@@ -30,12 +30,12 @@ pub(crate) fn unread_image_is_told(play: &mut Play) -> bool {
         return false;
     };
     let read = play.publishes(1, 1)
-        && play.subscribes_to(2, 1, &wanted.channel)
-        && play.images(3, &wanted)
-        && play.has(3, 2)
-        && play.has_unread(&[]);
+        & play.subscribes_to(2, 1, &wanted.channel)
+        & play.images(3, &wanted)
+        & play.has(3, 2)
+        & play.has_unread(&[]);
     play.leaves(1);
-    let told = play.reads(0) && play.has_unread(&[3]);
+    let told = play.reads(0) & play.has_unread(&[3]);
     play.removes_images(&[3]);
-    read && told && play.has_unread(&[])
+    read & told & play.has_unread(&[])
 }
