@@ -19,7 +19,7 @@ static ADDRESSES: [Row; 8] = [
 /// Whether the address is written so.
 fn is_written(alloc: Global, address: &Address, text: &str) -> bool {
     match address.to_string(alloc) {
-        Ok(shown) => shown.as_str() == text && address.text().as_str() == text,
+        Ok(shown) => (shown.as_str() == text) & (address.text().as_str() == text),
         Err(_) => false,
     }
 }
@@ -27,7 +27,7 @@ fn is_written(alloc: Global, address: &Address, text: &str) -> bool {
 fn are_read_back(alloc: Global, rows: &[Row]) -> bool {
     for &(octets, port, text, wanted) in rows {
         let address = Address { octets, port };
-        let same = is_written(alloc, &address, text) && address_of(text) == Some(address);
+        let same = is_written(alloc, &address, text) & (address_of(text) == Some(address));
         if same != wanted {
             return false;
         }
@@ -48,7 +48,7 @@ static TEXTS: [(&str, bool); 3] = [
 fn is_of(alloc: Global, channel: &Channel, address: &Address) -> bool {
     match channel.canonical(alloc) {
         Ok(text) => {
-            text.as_str() == AT && channel.endpoint() == Some(*address) && channel.is_at(address)
+            (text.as_str() == AT) & (channel.endpoint() == Some(*address)) & channel.is_at(address)
         }
         Err(_) => false,
     }

@@ -87,14 +87,14 @@ fn is_stated(channel: &Channel, wanted: Stated) -> bool {
 fn shows(alloc: Global, channel: &Channel, case: Case) -> bool {
     match case {
         Case::Text(wanted) => {
-            is_written(alloc, &channel.copy(), wanted) && other_is_written(alloc, channel, wanted)
+            is_written(alloc, &channel.copy(), wanted) & other_is_written(alloc, channel, wanted)
         }
         Case::Value(key, value) => channel.get(key) == value,
         Case::TermLength(length) => channel.term_length() == length,
-        Case::SpyOfUdp => channel.is_spy() && channel.media() == Media::Udp,
+        Case::SpyOfUdp => channel.is_spy() & (channel.media() == Media::Udp),
         Case::States(wanted) => is_stated(channel, wanted),
         Case::Numbers(session, linger) => {
-            channel.session_id() == session && channel.linger() == linger
+            (channel.session_id() == session) & (channel.linger() == linger)
         }
         Case::Place(wanted) => word_of(channel.place()) == wanted,
     }
@@ -123,8 +123,8 @@ fn are_shown(alloc: Global, rows: &[Row]) -> bool {
 /// Channels of no text.
 fn others_are_so(alloc: Global) -> bool {
     let ipc = Channel::ipc();
-    let written = is_written(alloc, &ipc, "aeron:ipc") && !is_written(alloc, &ipc, "aeron:udp");
-    written && Channel::counter().place().is_none()
+    let written = is_written(alloc, &ipc, "aeron:ipc") & !is_written(alloc, &ipc, "aeron:udp");
+    written & Channel::counter().place().is_none()
 }
 
 static ROWS: [Row; 22] = [

@@ -29,9 +29,9 @@ fn would_read(alloc: Global, play: &Play, client: u64, pairs: &[Pair]) -> bool {
 /// Whether subscriptions of the two clients would have their pairs, where `image` is denied to the second.
 pub(crate) fn subscriptions_would_read(alloc: Global, play: &mut Play) -> bool {
     play.publishes(3, 1)
-        && play.publishes(4, 2)
-        && would_read(alloc, play, 1, &[pair(3, 9), pair(4, 9)])
-        && would_read(alloc, play, 2, &[])
+        & play.publishes(4, 2)
+        & would_read(alloc, play, 1, &[pair(3, 9), pair(4, 9)])
+        & would_read(alloc, play, 2, &[])
 }
 
 /// Whether a log would have these pairs.
@@ -39,12 +39,12 @@ fn would_be_read(alloc: Global, play: &Play, pairs: &[Pair]) -> bool {
     let log = play.streams.log(9, &wanted(), 0, 7);
     let count = readers_of(&play.streams, &play.clients, &play.policy, 1, &log);
     match pairs_of_log(alloc, &play.streams, &play.clients, &play.policy, 1, &log) {
-        Ok(found) => found.as_slice() == pairs && count == pairs.len(),
+        Ok(found) => (found.as_slice() == pairs) & (count == pairs.len()),
         Err(_) => false,
     }
 }
 
 /// Whether a log would have these pairs beside two subscriptions.
 pub(crate) fn is_read_beside_two(alloc: Global, play: &mut Play, pairs: &[Pair]) -> bool {
-    play.subscribes(1, 1) && play.subscribes(2, 2) && would_be_read(alloc, play, pairs)
+    play.subscribes(1, 1) & play.subscribes(2, 2) & would_be_read(alloc, play, pairs)
 }

@@ -341,10 +341,10 @@ fn is_copied(alloc: Global, command: &Command) -> bool {
 fn has_bytes(alloc: Global, command: Command, bytes: &[u8]) -> bool {
     let named = Command::correlation_of(bytes) == command.correlation;
     let same = is_written(alloc, &command, bytes)
-        && is_read(alloc, &command, bytes)
-        && is_copied(alloc, &command);
+        & is_read(alloc, &command, bytes)
+        & is_copied(alloc, &command);
     drop(command);
-    named && same
+    named & same
 }
 
 fn is_row(alloc: Global, row: Row) -> bool {

@@ -134,7 +134,7 @@ fn agrees(compiled: &Compiled, policy: &Policy, epoch: u64, asked: &Asked) -> Op
         stream: asked.3,
     };
     let verdict = compiled.verdict(&request);
-    Some(verdict == policy.verdict(epoch, &request) && verdict.rule == asked.4)
+    Some((verdict == policy.verdict(epoch, &request)) & (verdict.rule == asked.4))
 }
 
 fn all_agree(compiled: &Compiled, policy: &Policy, epoch: u64) -> Option<bool> {
@@ -247,7 +247,7 @@ fn is_room(compiled: &Compiled) -> bool {
 }
 
 fn is_full(compiled: &Compiled) -> bool {
-    let mut same = compiled.policy().rules().len() == 1024 && compiled.epoch() == 5;
+    let mut same = (compiled.policy().rules().len() == 1024) & (compiled.epoch() == 5);
     for &(stream, by, wanted) in &STREAMS {
         same &= is_by(compiled, stream, by) == wanted;
     }
@@ -269,7 +269,7 @@ fn copy_is_full(alloc: Global, compiled: &Compiled) -> bool {
 fn fills(alloc: Global, compiled: &mut Compiled, policy: &Policy) -> bool {
     let empty = is_room(compiled);
     compiled.compile(policy, 5);
-    empty && is_full(compiled) && copy_is_full(alloc, compiled)
+    empty & is_full(compiled) & copy_is_full(alloc, compiled)
 }
 
 fn room_fills(alloc: Global, policy: &Policy) -> bool {

@@ -185,8 +185,8 @@ static LENGTHS: [Length; 10] = [
 
 fn has_faults(text: &mut String, row: Length) -> bool {
     let filled = fills(text, row.1);
-    let found = channel_fault(text.as_str()) == row.2 && pattern_fault(text.as_str()) == row.3;
-    filled && found == row.4
+    let found = (channel_fault(text.as_str()) == row.2) & (pattern_fault(text.as_str()) == row.3);
+    filled & (found == row.4)
 }
 
 fn is_found(alloc: Global, row: Length) -> bool {
@@ -266,7 +266,7 @@ static KEY_TEXTS: [(Key, &str, bool); 10] = [
 
 fn are_called(alloc: Global, rows: &[(Key, &str, bool)]) -> bool {
     for &(key, text, wanted) in rows {
-        let called = is_shown(alloc, &key, text) && Key::from_text(text) == Some(key);
+        let called = is_shown(alloc, &key, text) & (Key::from_text(text) == Some(key));
         if called != wanted {
             return false;
         }

@@ -6,17 +6,17 @@ use std::alloc::{AllocError, Global};
 
 /// Whether two subscriptions, a log, and one subscription more are there.
 fn two_read(play: &mut Play) -> bool {
-    play.subscribes(1, 1) && play.subscribes(2, 2) && play.publishes(3, 1) && play.subscribes(4, 1)
+    play.subscribes(1, 1) & play.subscribes(2, 2) & play.publishes(3, 1) & play.subscribes(4, 1)
 }
 
 /// Whether subscriptions and logs that come have readers where all is allowed.
 pub(crate) fn all_read(play: &mut Play) -> bool {
-    play.reads(0) && two_read(play) && play.reads(3) && play.publishes(5, 2) && play.reads(6)
+    play.reads(0) & two_read(play) & play.reads(3) & play.publishes(5, 2) & play.reads(6)
 }
 
 /// Whether a subscription that is denied reads nothing.
 pub(crate) fn denied_reads_nothing(play: &mut Play) -> bool {
-    two_read(play) && play.reads(2)
+    two_read(play) & play.reads(2)
 }
 
 /// The readers in the play, from the beginning.

@@ -223,7 +223,7 @@ impl Play {
     /// Whether there are so many readers, and as many pairs.
     pub(crate) fn reads(&self, total: usize) -> bool {
         let pairs = log_readers::pair_count(&self.streams, &self.clients, &self.policy, 1);
-        self.readers.total() == total && pairs == total
+        (self.readers.total() == total) & (pairs == total)
     }
 
     /// A client leaves at 0, and all are asked again.
@@ -316,7 +316,7 @@ impl Play {
             .turnover_under(alloc, &self.streams, &self.clients, policy, 2)
         {
             Ok(turnover) => {
-                let same = turnover.gone.as_slice() == gone && turnover.come.as_slice() == come;
+                let same = (turnover.gone.as_slice() == gone) & (turnover.come.as_slice() == come);
                 drop(turnover);
                 same
             }

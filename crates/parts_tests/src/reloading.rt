@@ -6,7 +6,7 @@ use stream_registry::Pair;
 
 /// Whether two clients subscribe, and two logs are there.
 fn two_logs(play: &mut Play) -> bool {
-    play.subscribes(1, 1) && play.subscribes(2, 2) && play.publishes(3, 1) && play.publishes(4, 2)
+    play.subscribes(1, 1) & play.subscribes(2, 2) & play.publishes(3, 1) & play.publishes(4, 2)
 }
 
 /// Whether only the first client's subscription is found where `image` is denied to the second.
@@ -31,7 +31,7 @@ pub(crate) fn turns_over(
 ) -> bool {
     match policy(alloc, is_denied) {
         Ok(after) => {
-            let so = two_logs(play) && play.turns_over(alloc, &after, gone, come);
+            let so = two_logs(play) & play.turns_over(alloc, &after, gone, come);
             drop(after);
             so
         }

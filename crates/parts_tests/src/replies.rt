@@ -274,8 +274,8 @@ fn is_row(alloc: Global, row: Row) -> bool {
     match reply(alloc, plain) {
         Ok(reply) => {
             let same = is_written(alloc, &reply, bytes)
-                && is_read(alloc, &reply, bytes)
-                && is_copied(alloc, &reply);
+                & is_read(alloc, &reply, bytes)
+                & is_copied(alloc, &reply);
             drop(reply);
             same
         }
@@ -288,7 +288,7 @@ fn is_whole(alloc: Global, bytes: &[u8]) -> bool {
     match longer(alloc, bytes) {
         Ok(longer) => {
             each_front_is_a_malformed_reply(alloc, bytes)
-                && reply_fault(alloc, longer.as_slice()) == Some(CommandFault::Malformed)
+                & (reply_fault(alloc, longer.as_slice()) == Some(CommandFault::Malformed))
         }
         Err(_) => false,
     }

@@ -287,9 +287,9 @@ fn closes(play: &mut Play, now: u64, silent: &[u64], log: Option<(u64, u64)>) ->
 }
 
 fn has(streams: &Streams, logs: usize, registrations: usize, subscriptions: usize) -> bool {
-    streams.sources().len() == logs
-        && streams.registrations().len() == registrations
-        && streams.subscriptions().len() == subscriptions
+    (streams.sources().len() == logs)
+        & (streams.registrations().len() == registrations)
+        & (streams.subscriptions().len() == subscriptions)
 }
 
 fn is_copied(play: &mut Play) -> bool {

@@ -6,13 +6,13 @@ use std::alloc::Global;
 
 fn all_are_taken(play: &mut Play) -> bool {
     differing::are_taken(play)
-        && imaging::are_taken(play)
-        && leaving::are_taken(play)
-        && limits::are_taken(play)
-        && pairing::are_taken(play)
-        && placing::are_taken(play)
-        && publishing::are_taken(play)
-        && sessions::are_taken(play)
+        & imaging::are_taken(play)
+        & leaving::are_taken(play)
+        & limits::are_taken(play)
+        & pairing::are_taken(play)
+        & placing::are_taken(play)
+        & publishing::are_taken(play)
+        & sessions::are_taken(play)
 }
 
 fn go_as_they_should(alloc: Global) -> bool {

@@ -8,7 +8,7 @@ fn is_copied(alloc: Global, bytes: &str, wanted: &str) -> Result<bool, AllocErro
     let text = Text::new(alloc, bytes)?;
     let copied = match text.copy(alloc) {
         Ok(copy) => {
-            let same = copy == text && copy.as_str() == wanted;
+            let same = (copy == text) & (copy.as_str() == wanted);
             drop(copy);
             Ok(same)
         }
@@ -57,7 +57,7 @@ fn are_copied(alloc: Global, bytes: &[u8], wanted: &[u8]) -> Result<bool, AllocE
     let bytes = Bytes::from(Vec::from_slice(alloc, bytes)?);
     let copied = match bytes.copy(alloc) {
         Ok(copy) => {
-            let same = copy == bytes && copy.as_slice() == wanted && copy.len() == wanted.len();
+            let same = (copy == bytes) & (copy.as_slice() == wanted) & (copy.len() == wanted.len());
             drop(copy);
             Ok(same)
         }
@@ -84,15 +84,15 @@ fn are_same(alloc: Global, left: &[u8], right: &[u8]) -> Result<bool, AllocError
 
 /// Whether two items find memory. They are there then.
 fn take_two(items: &mut Items<u64>, first: u64, second: u64) -> bool {
-    items.push(first).is_ok() && items.push(second).is_ok()
+    items.push(first).is_ok() & items.push(second).is_ok()
 }
 
 /// Whether 7 and 9 in a row are equal to 7 and another.
 fn ends_in(alloc: Global, last: u64) -> Result<bool, AllocError> {
     let other = Items::from(Vec::from_slice(alloc, &[7, last])?);
     let mut items = Items::new(alloc);
-    let pushed = items.is_empty() && take_two(&mut items, 7, 9) && items.len() == 2;
-    let same = pushed && items == other && items.as_slice() == [7, last].as_slice();
+    let pushed = items.is_empty() & take_two(&mut items, 7, 9) & (items.len() == 2);
+    let same = pushed & (items == other) & (items.as_slice() == [7, last].as_slice());
     drop(items);
     drop(other);
     Ok(same)
@@ -106,7 +106,7 @@ fn short_text_tells(left: &str, right: &str, equal: bool) -> bool {
     }
     let text: ShortText<4> = ShortText::new(left);
     let copy = text.copy();
-    copy == text && copy.as_str() == left && (copy == ShortText::new(right)) == equal
+    (copy == text) & (copy.as_str() == left) & ((copy == ShortText::new(right)) == equal)
 }
 
 /// Whether a short text is printed so.
@@ -126,7 +126,7 @@ fn short_bytes_tell(left: &[u8], right: &[u8], equal: bool) -> bool {
     }
     let bytes: ShortBytes<4> = ShortBytes::new(left);
     let copy = bytes.copy();
-    copy == bytes && copy.as_slice() == left && (copy == ShortBytes::new(right)) == equal
+    (copy == bytes) & (copy.as_slice() == left) & ((copy == ShortBytes::new(right)) == equal)
 }
 
 /// At most four bytes: these, up to so many of them.
