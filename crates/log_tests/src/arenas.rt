@@ -132,7 +132,7 @@ fn change_hands(arena: &mut Arena) -> Result<bool, NoRoom> {
 
 fn lease_is_dropped(arena: &mut Arena) -> bool {
     let leased = arena.lease(2 * PAGE).is_ok();
-    leased && arena.used() == 2 * PAGE && arena.holes() == [(2 * PAGE, 2 * PAGE)].as_slice()
+    leased & (arena.used() == 2 * PAGE) & (arena.holes() == [(2 * PAGE, 2 * PAGE)].as_slice())
 }
 
 /// What an arena shows.
@@ -237,7 +237,7 @@ fn moves_into_a_thread(rt: &impl Threads, mut lease: Lease) -> bool {
     match spawned {
         Ok(child) => {
             let lease = child.join(rt);
-            lease.place() == 0 && is_filled(lease.bytes(), 7)
+            (lease.place() == 0) & is_filled(lease.bytes(), 7)
         }
         Err(_) => false,
     }

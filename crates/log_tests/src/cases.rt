@@ -50,7 +50,7 @@ fn log_for(alloc: Global, case: Case) -> Result<TermLog, NoRoom>
 
 fn frames_are_met(log: &mut TermLog) -> bool {
     put_three(log);
-    log.tail() == 65_760 && counts_each(log) && meets_ranges(log)
+    (log.tail() == 65_760) & counts_each(log) & meets_ranges(log)
 }
 
 /// Whether a log in which nothing happened yet goes as the case says.
@@ -61,7 +61,7 @@ fn goes(alloc: Global, log: &mut TermLog, case: Case) -> bool
         Case::OtherListsAreTold => tells_lists(alloc, log),
         Case::RestIsPadded => pads_the_rest(log),
         Case::GreatestPosition => ends_at_the_greatest(log),
-        Case::SlowestPairLimits => waits_for_the_slowest(log) && follows_the_slowest(log),
+        Case::SlowestPairLimits => waits_for_the_slowest(log) & follows_the_slowest(log),
         Case::OtherAnswersAreTold => other_answers_are_told(alloc, log),
         Case::FramesOfAPaddedLog => frames_are_met(log),
         Case::StatusOpensTheLog => are_taken(log, &OPENS),

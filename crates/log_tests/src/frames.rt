@@ -116,8 +116,8 @@ static PLACES: [(i32, i32, u32, u64); 3] = [
 fn are_positions(rows: &[(i32, i32, u32, u64)]) -> bool {
     let mut same = true;
     for (initial, term, offset, wanted) in rows {
-        same &= position(*initial, *term, *offset, 65_536) == *wanted
-            && term_of(*initial, *wanted, 65_536) == (*term, *offset);
+        same &= (position(*initial, *term, *offset, 65_536) == *wanted)
+            & (term_of(*initial, *wanted, 65_536) == (*term, *offset));
     }
     same
 }
@@ -230,8 +230,8 @@ enum Wanted {
 fn is_frame(mut frames: Frames<'_>, header: &Header, bytes: &[u8], payload: &[u8]) -> bool {
     match frames.next() {
         Some(frame) => {
-            let same = frame.header == *header && frame.bytes == bytes;
-            same && frame.payload() == payload && frames.next().is_none()
+            let same = (frame.header == *header) & (frame.bytes == bytes);
+            same & (frame.payload() == payload) & frames.next().is_none()
         }
         None => false,
     }
@@ -243,7 +243,7 @@ fn is_read(datagram: &[u8], wanted: Wanted) -> bool {
         (Ok(Packet::Sm(read)), Wanted::Status(status)) => read == status,
         (Ok(Packet::Nak(read)), Wanted::Nak(nak)) => read == nak,
         (Ok(Packet::Beat(read)), Wanted::Beat(length, place)) => {
-            read.length == length && read.place == place
+            (read.length == length) & (read.place == place)
         }
         (Ok(Packet::Data(frames)), Wanted::Frame(header, bytes, payload)) => {
             is_frame(frames, &header, bytes, payload)
@@ -413,7 +413,7 @@ static SETUP_AND_DATA_BYTES: [(Written, &[u8]); 2] = [
 ];
 
 fn is_of_one_frame(flags: Flags) -> bool {
-    flags.begins_message() && flags.ends_message() && !flags.ends_stream()
+    flags.begins_message() & flags.ends_message() & !flags.ends_stream()
 }
 
 #[test]
@@ -675,7 +675,7 @@ static PAD_FRONTS: [Prefix; 4] = [
 ];
 
 fn is_run(bytes: &[u8]) -> bool {
-    has_frames(bytes, &RUN_ROWS) && has_prefixes(bytes, &RUN_FRONTS)
+    has_frames(bytes, &RUN_ROWS) & has_prefixes(bytes, &RUN_FRONTS)
 }
 
 /// Of the first data frame there is one, and there could be no other.

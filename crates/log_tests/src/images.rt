@@ -73,7 +73,7 @@ enum Step {
 }
 
 fn is_at(log: &ImageLog, base: u64, contiguous: u64, gap: Option<(u64, u32)>) -> bool {
-    log.base() == base && log.contiguous() == contiguous && log.gap() == gap
+    (log.base() == base) & (log.contiguous() == contiguous) & (log.gap() == gap)
 }
 
 fn stands_at(log: &ImageLog, subscription: u64, position: u64) -> bool {
@@ -83,10 +83,10 @@ fn stands_at(log: &ImageLog, subscription: u64, position: u64) -> bool {
 fn two_read(log: &mut ImageLog) -> bool
     requires { log.old.rebuilt.pairs ≡ [] }
 {
-    let first = join(log, 4) == 0 && hand_in(log, 0, 1) == Some(Insert::Taken);
-    let second = join(log, 9) == 64 && hand_in(log, 64, 2) == Some(Insert::Taken);
-    let places = stands_at(log, 4, 0) && stands_at(log, 9, 64);
-    first && second && places && log.pair_position(5) == None && log.base() == 0
+    let first = (join(log, 4) == 0) & (hand_in(log, 0, 1) == Some(Insert::Taken));
+    let second = (join(log, 9) == 64) & (hand_in(log, 64, 2) == Some(Insert::Taken));
+    let places = stands_at(log, 4, 0) & stands_at(log, 9, 64);
+    first & second & places & (log.pair_position(5) == None) & (log.base() == 0)
 }
 
 // Whether bytes are zeros but for the 64 from a place on, of which 32 are 7.
@@ -94,7 +94,7 @@ fn is_one_frame(bytes: &[u8], at: usize) -> bool {
     let filled = bytes.iter().filter(|b| **b == 7).count();
     let before = bytes.iter().take(at).all(|b| *b == 0);
     let behind = bytes.iter().skip(at.saturating_add(64)).all(|b| *b == 0);
-    filled == 32 && before && behind
+    (filled == 32) & before & behind
 }
 
 // Whether the log's lease comes back with one frame, and zeros.
@@ -116,9 +116,9 @@ fn frames_of_others_are_told() -> bool {
         ..STREAM
     };
     STREAM.admits(0, &frame)
-        && !STREAM.admits(64, &frame)
-        && !other.admits(0, &frame)
-        && !STREAM.admits(0, b"")
+        & !STREAM.admits(64, &frame)
+        & !other.admits(0, &frame)
+        & !STREAM.admits(0, b"")
 }
 
 // A table with a frame that the log does not have.
@@ -137,12 +137,12 @@ fn other_table_agrees(alloc: Global, log: &mut ImageLog) -> bool {
 fn tells_other_bytes() -> bool {
     let mut bytes = [0; 256];
     bytes[64..96].copy_from_slice(&[7; 32]);
-    let sound = is_one_frame(&bytes, 64) && !is_one_frame(&bytes, 128);
+    let sound = is_one_frame(&bytes, 64) & !is_one_frame(&bytes, 128);
     bytes[128] = 1;
     let behind = is_one_frame(&bytes, 64);
     bytes[128] = 0;
     bytes[64] = 0;
-    sound && !behind && !is_one_frame(&bytes, 64)
+    sound & !behind & !is_one_frame(&bytes, 64)
 }
 
 fn rejoins(log: &mut ImageLog, subscriptions: &[u64]) -> bool {

@@ -34,7 +34,7 @@ fn empties(rt: &impl Wait, taker: &mut Taker<Sent>, by: u32, count: u32) -> bool
 
 /// Whether a full queue takes no event, and one that is taken makes room for one.
 fn is_full(rt: &impl Wait, sender: &mut Sender<Sent>, taker: &mut Taker<Sent>) -> bool {
-    let filled = taker.pop(rt).is_none() && fills(rt, sender);
+    let filled = taker.pop(rt).is_none() & fills(rt, sender);
     let first = taker.pop(rt) == Some(Sent { by: 0, number: 0 });
     let one = Sent {
         by: 0,
@@ -44,15 +44,15 @@ fn is_full(rt: &impl Wait, sender: &mut Sender<Sent>, taker: &mut Taker<Sent>) -
         by: 0,
         number: 1025,
     };
-    let pushed = sender.push(rt, one).is_ok() && sender.push(rt, other).is_err();
-    filled && first && pushed && taker.pop(rt) == Some(Sent { by: 0, number: 1 })
+    let pushed = sender.push(rt, one).is_ok() & sender.push(rt, other).is_err();
+    filled & first & pushed & (taker.pop(rt) == Some(Sent { by: 0, number: 1 }))
 }
 
 /// Whether a queue is filled and emptied more than once.
 fn goes_round(rt: &impl Wait, sender: &mut Sender<Sent>, taker: &mut Taker<Sent>) -> bool {
     let mut same = true;
     for _ in 0..3 {
-        same &= fills(rt, sender) && empties(rt, taker, 0, EVENTS as u32);
+        same &= fills(rt, sender) & empties(rt, taker, 0, EVENTS as u32);
     }
     same
 }

@@ -55,5 +55,5 @@ pub(crate) fn beat_is_heard(log: &mut ImageLog) -> bool {
         term_offset: 96,
     };
     receive_beat(log, 1000, &place);
-    log.gap() == Some((0, 96)) && log.silent(1201, 200) && !log.silent(1200, 200)
+    (log.gap() == Some((0, 96))) & log.silent(1201, 200) & !log.silent(1200, 200)
 }

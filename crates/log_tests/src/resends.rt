@@ -133,7 +133,7 @@ const NO_FRAME: Frame = (&[], 0, 0);
 fn is_frame(bytes: &[u8], frame: Frame) -> bool {
     let (head, fill, size) = frame;
     let (front, rest) = bytes.split_at(bytes.len().min(head.len()));
-    let mut same = bytes.len() == size && front == head;
+    let mut same = (bytes.len() == size) & (front == head);
     for byte in rest {
         same &= *byte == fill;
     }
@@ -150,7 +150,7 @@ fn gives(datagrams: &mut Datagrams<'_>, first: Frame, second: Frame) -> bool {
         Some(size) => {
             let bytes = &out[..size.min(1408)];
             let (front, rest) = bytes.split_at(first.2.min(bytes.len()));
-            size > 0 && is_frame(front, first) && is_frame(rest, second)
+            (size > 0) & is_frame(front, first) & is_frame(rest, second)
         }
         None => first.2 == 0,
     }
@@ -171,7 +171,7 @@ enum Answered {
 fn is_answered(answer: NakAnswer<'_>, wanted: Answered) -> bool {
     match (answer, wanted) {
         (NakAnswer::Denied(decision), Answered::Denied) => {
-            decision.verdict.epoch == 1 && !decision.verdict.allow
+            (decision.verdict.epoch == 1) & !decision.verdict.allow
         }
         (NakAnswer::Empty, Answered::Empty) => true,
         (NakAnswer::OutOfWindow, Answered::OutOfWindow) => true,
@@ -179,8 +179,8 @@ fn is_answered(answer: NakAnswer<'_>, wanted: Answered) -> bool {
         (NakAnswer::Busy, Answered::Busy) => true,
         (NakAnswer::Resent(mut datagrams), Answered::Resent(first, second, third)) => {
             gives(&mut datagrams, first, second)
-                && gives(&mut datagrams, third, NO_FRAME)
-                && gives(&mut datagrams, NO_FRAME, NO_FRAME)
+                & gives(&mut datagrams, third, NO_FRAME)
+                & gives(&mut datagrams, NO_FRAME, NO_FRAME)
         }
         _ => false,
     }
@@ -406,10 +406,10 @@ fn is_sent(alloc: Global, is_late: bool, steps: &[Step]) -> bool {
 /// Whether logs are sent, and NAKs answered, as they should.
 pub(crate) fn are_sent(alloc: Global) -> bool {
     is_sent(alloc, false, &SETUPS)
-        && is_sent(alloc, false, &BEATS)
-        && is_sent(alloc, false, &OPENS)
-        && is_sent(alloc, false, &ONE_FRAME)
-        && is_sent(alloc, false, &DATAGRAMS_FILL)
-        && is_sent(alloc, false, &FEW_LINGER)
-        && is_sent(alloc, true, &TERMS_STAY_APART)
+        & is_sent(alloc, false, &BEATS)
+        & is_sent(alloc, false, &OPENS)
+        & is_sent(alloc, false, &ONE_FRAME)
+        & is_sent(alloc, false, &DATAGRAMS_FILL)
+        & is_sent(alloc, false, &FEW_LINGER)
+        & is_sent(alloc, true, &TERMS_STAY_APART)
 }

@@ -174,8 +174,8 @@ pub(crate) static SETUPS_AND_HEARTBEATS: [(Step, bool); 23] = [
 pub(crate) fn connects_by_pairs(log: &mut TermLog) -> bool
     requires { log.old.pairs ≡ [] }
 {
-    let status = log.status(0, 0, 0) == Status::Accepted(0) && !log.connected(0, TIMEOUT);
-    let joined = log.join_pair(1) == 0 && log.connected(u64::MAX, 0);
+    let status = (log.status(0, 0, 0) == Status::Accepted(0)) & !log.connected(0, TIMEOUT);
+    let joined = (log.join_pair(1) == 0) & log.connected(u64::MAX, 0);
     log.leave_pair(1);
-    status && joined && !log.connected(0, TIMEOUT)
+    status & joined & !log.connected(0, TIMEOUT)
 }

@@ -173,10 +173,10 @@ fn step(log: &mut ImageLog, table: &mut Table, choice: u64) -> bool {
     };
     let answer = hand_in_cell(log, position, cell, forged);
     let read = choice / 65_536 % 8 > 0 || read_portion(log, table, 1);
-    answer == wanted && read && is_like(log, table)
+    (answer == wanted) & read & is_like(log, table)
 }
 
 // Whether the log tells what the table does.
 fn is_like(log: &ImageLog, table: &Table) -> bool {
-    log.contiguous() == table.contiguous && log.base() == table.base && table.has_gap(log.gap())
+    (log.contiguous() == table.contiguous) & (log.base() == table.base) & table.has_gap(log.gap())
 }

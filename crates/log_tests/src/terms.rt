@@ -38,9 +38,9 @@ static HEADER: [u8; 32] = [
 
 fn begins_with_abc(bytes: &[u8]) -> bool {
     let (header, rest) = bytes.split_at(bytes.len().min(32));
-    header == HEADER.as_slice()
-        && rest.starts_with(b"abc")
-        && rest.iter().skip(3).all(|byte| *byte == 0)
+    (header == HEADER.as_slice())
+        & rest.starts_with(b"abc")
+        & rest.iter().skip(3).all(|byte| *byte == 0)
 }
 
 fn list_of(alloc: Global, message: &[u8]) -> Option<Plain> {
@@ -55,7 +55,7 @@ fn list_of(alloc: Global, message: &[u8]) -> Option<Plain> {
 // Whether a list with this message has its bytes laid out as by the transport's specification.
 fn list_begins_with_abc(alloc: Global, message: &[u8]) -> bool {
     match list_of(alloc, message) {
-        Some(plain) => plain.tail() == 64 && begins_with_abc(plain.bytes.as_slice()),
+        Some(plain) => (plain.tail() == 64) & begins_with_abc(plain.bytes.as_slice()),
         None => false,
     }
 }
@@ -69,7 +69,7 @@ fn is_list_of(alloc: Global, bytes: &[u8], message: &[u8]) -> bool {
 }
 
 fn lease_begins_with_abc(alloc: Global, bytes: &[u8]) -> bool {
-    begins_with_abc(bytes) && is_list_of(alloc, bytes, b"abc") && !is_list_of(alloc, bytes, b"abd")
+    begins_with_abc(bytes) & is_list_of(alloc, bytes, b"abc") & !is_list_of(alloc, bytes, b"abd")
 }
 
 // Whether the first bytes of lists, and of a log without frames, are laid out as by the transport's specification.
@@ -91,11 +91,11 @@ fn gives_message(alloc: Global, log: &TermLog, message: &[u8]) -> bool {
 
 // A log of one message, and lists with it, with another byte, with a byte less, and with a frame more.
 pub(crate) fn tells_lists(alloc: Global, log: &mut TermLog) -> bool {
-    log.offer(b"abc") == Offer::At(64)
-        && gives_message(alloc, log, b"abc")
-        && !gives_message(alloc, log, b"abd")
-        && !gives_message(alloc, log, b"ab")
-        && !gives_message(alloc, log, [7; 1377].as_slice())
+    (log.offer(b"abc") == Offer::At(64))
+        & gives_message(alloc, log, b"abc")
+        & !gives_message(alloc, log, b"abd")
+        & !gives_message(alloc, log, b"ab")
+        & !gives_message(alloc, log, [7; 1377].as_slice())
 }
 
 pub(crate) fn pads_the_rest(log: &mut TermLog) -> bool
@@ -103,9 +103,9 @@ pub(crate) fn pads_the_rest(log: &mut TermLog) -> bool
 {
     let joined = log.join_pair(1) == 65_504;
     let padded = log.offer(b"x") == Offer::AdminAction;
-    let passed = log.tail() == 65_536 && log.messages() == 0;
+    let passed = (log.tail() == 65_536) & (log.messages() == 0);
     let taken = log.offer(b"x") == Offer::At(65_600);
-    joined && padded && passed && taken && log.low() == 65_504 && log.messages() == 1
+    joined & padded & passed & taken & (log.low() == 65_504) & (log.messages() == 1)
 }
 
 pub(crate) fn ends_at_the_greatest(log: &mut TermLog) -> bool
@@ -113,7 +113,7 @@ pub(crate) fn ends_at_the_greatest(log: &mut TermLog) -> bool
 {
     let joined = log.join_pair(1) == 140_737_488_355_264;
     let last = log.offer(b"x") == Offer::At(140_737_488_355_328);
-    joined && last && log.offer(b"x") == Offer::MaxPosition
+    joined & last & (log.offer(b"x") == Offer::MaxPosition)
 }
 
 // A subscription reads up to a position. False where it can't.
@@ -131,17 +131,17 @@ pub(crate) fn waits_for_the_slowest(log: &mut TermLog) -> bool
     requires { log.old.pairs ≡ [] }
 {
     let closed = log.offer(b"x") == Offer::BackPressured;
-    let first = log.join_pair(4) == 0 && log.offer(b"") == Offer::At(32);
-    let second = log.join_pair(9) == 32 && log.limit() == 32_768;
-    closed && first && second
+    let first = (log.join_pair(4) == 0) & (log.offer(b"") == Offer::At(32));
+    let second = (log.join_pair(9) == 32) & (log.limit() == 32_768);
+    closed & first & second
 }
 
 pub(crate) fn follows_the_slowest(log: &mut TermLog) -> bool {
-    let placed = log.pair_position(9) == Some(32) && log.pair_position(5) == None;
-    let moved = read_to(log, 4, 32) && log.limit() == 32_800;
+    let placed = (log.pair_position(9) == Some(32)) & (log.pair_position(5) == None);
+    let moved = read_to(log, 4, 32) & (log.limit() == 32_800);
     log.leave_pair(4);
     log.leave_pair(9);
-    placed && moved && log.limit() == 32
+    placed & moved & (log.limit() == 32)
 }
 
 // Offers so many messages, and then looks at all frames that the log gives for each budget.
@@ -162,9 +162,9 @@ fn fills_and_gives(
 // Three terms many times over: each answer, and the frames from each frame on, are those of plain lists.
 fn lists_are_kept(alloc: Global, log: &mut TermLog, plain: &mut Plain) -> bool {
     let kept = fills_and_gives(alloc, log, plain, 30, [1408; 3])
-        && fills_and_gives(alloc, log, plain, 170, [0, 63, 1408])
-        && fills_and_gives(alloc, log, plain, 200, [1407, 5000, 65_536]);
-    kept && plain.tail() > 655_360 && log.tail() == plain.tail() && log.messages() == 400
+        & fills_and_gives(alloc, log, plain, 170, [0, 63, 1408])
+        & fills_and_gives(alloc, log, plain, 200, [1407, 5000, 65_536]);
+    kept & (plain.tail() > 655_360) & (log.tail() == plain.tail()) & (log.messages() == 400)
 }
 
 // At the end each byte is, too.
@@ -181,7 +181,7 @@ fn tells_answers(alloc: Global, log: &mut TermLog, plain: &mut Plain) -> bool {
     let first = fill(alloc, log, plain, 1);
     let term = fill(alloc, log, plain, 26);
     let level = log.tail() == plain.tail();
-    put && !first && !term && level && fill(alloc, log, plain, 26)
+    put & !first & !term & level & fill(alloc, log, plain, 26)
 }
 
 pub(crate) fn other_answers_are_told(alloc: Global, log: &mut TermLog) -> bool {
@@ -267,5 +267,5 @@ fn tells_each(log: &TermLog, rows: &[(u64, u64, &[u64])]) -> bool {
 
 // A frame meets a range also where they share but its filling, over the end of a term too.
 pub(crate) fn meets_ranges(log: &TermLog) -> bool {
-    meets_each(log, &RANGES) && tells_each(log, &OTHER_RANGES)
+    meets_each(log, &RANGES) & tells_each(log, &OTHER_RANGES)
 }
