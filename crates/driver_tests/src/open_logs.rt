@@ -19,7 +19,7 @@ const IDENT: Ident = Ident {
 /// Whether a log that is new says so, and who reads it.
 fn is_new(log: &OpenLog) -> bool {
     log.has_whole();
-    log.source() == 7 && log.reach() == 0 && log.messages() == 0
+    (log.source() == 7) & (log.reach() == 0) & (log.messages() == 0)
 }
 
 /// Whether the log of a publication opens, is read and closes.
@@ -34,7 +34,7 @@ fn moves(arena: &mut Arena, room: LogRoom) -> bool {
             let lease = log.close();
             let len = lease.len();
             drop(lease);
-            is_new && joins == 0 && len == 196_608
+            is_new & (joins == 0) & (len == 196_608)
         }
         Err(_) => {
             drop(room);

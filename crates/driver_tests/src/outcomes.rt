@@ -80,11 +80,11 @@ static ROWS: [Row; 5] = [
 ];
 
 fn is_told(outcome: &Outcome, row: &Row) -> bool {
-    outcome.opens == row.1
-        && outcome.closes.as_slice() == row.2
-        && outcome.gone.as_slice() == row.3
-        && outcome.come.as_slice() == row.4
-        && outcome.decisions.as_slice() == row.5
+    (outcome.opens == row.1)
+        & (outcome.closes.as_slice() == row.2)
+        & (outcome.gone.as_slice() == row.3)
+        & (outcome.come.as_slice() == row.4)
+        & (outcome.decisions.as_slice() == row.5)
 }
 
 /// The same of an outcome that goes. What is large is let go by a call, which costs the proof less than the end of a scope.
@@ -149,7 +149,7 @@ fn entry_is_told(
     entry: &Entry,
     row: &Row,
 ) -> Result<bool, AllocError> {
-    Ok(is_told(&entry.outcome, row) && entry_leaves(alloc, registry, entry, row)?)
+    Ok(is_told(&entry.outcome, row) & entry_leaves(alloc, registry, entry, row)?)
 }
 
 fn plan_is_told(
@@ -175,7 +175,7 @@ fn both_are_told(
 ) -> Result<bool, AllocError> {
     Ok(
         plan_is_told(alloc, registry, event, inputs, row)?
-            && step_is_told(alloc, registry, event, inputs, row)?,
+            & step_is_told(alloc, registry, event, inputs, row)?,
     )
 }
 
@@ -203,7 +203,7 @@ fn comes_to(
         (Way::Bytes, Deed::Command(bytes)) => bytes_are_told(alloc, registry, bytes, inputs, row)?,
         _ => event_is_told(alloc, registry, inputs, row)?,
     };
-    Ok(told && has_pairs(alloc, registry, row)?)
+    Ok(told & has_pairs(alloc, registry, row)?)
 }
 
 fn all_come_to(

@@ -54,15 +54,15 @@ const ATTACHED: &[u8] = b"attached 1\n";
 /// Whether a writer with ample room takes a text as these bytes, and nothing behind it.
 fn is_written(alloc: Global, text: &[u8], wanted: &[u8]) -> bool {
     let mut ample = MayFail(Choppy::new(alloc, 100, true));
-    write_whole(&mut ample, text) == Ok(())
-        && write_whole(&mut ample, b"") == Ok(())
-        && ample.0.taken.as_slice() == wanted
+    (write_whole(&mut ample, text) == Ok(()))
+        & (write_whole(&mut ample, b"") == Ok(()))
+        & (ample.0.taken.as_slice() == wanted)
 }
 
 /// Whether a writer with room for seven bytes has those of a text.
 fn has_seven(alloc: Global, text: &[u8], front: &[u8], fails: bool) -> bool {
     let mut short = MayFail(Choppy::new(alloc, 7, fails));
-    write_whole(&mut short, text) == Err(RunFault::Write) && short.0.taken.as_slice() == front
+    (write_whole(&mut short, text) == Err(RunFault::Write)) & (short.0.taken.as_slice() == front)
 }
 
 /// What a writer with room for seven bytes has of the text, whether it fails then, and whether that is so.

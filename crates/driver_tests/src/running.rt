@@ -14,9 +14,9 @@ const FIRST_ANSWERS: &str =
 /// Whether a writer that takes so many bytes has so many of the answers.
 fn has_a_front(alloc: Global, room: usize) -> bool {
     let (ended, written) = run_into(alloc, FIRST, room);
-    ended == Err(RunFault::Write)
-        && written.len() == room
-        && FIRST_ANSWERS.as_bytes().starts_with(written.as_slice())
+    (ended == Err(RunFault::Write))
+        & (written.len() == room)
+        & FIRST_ANSWERS.as_bytes().starts_with(written.as_slice())
 }
 
 /// Of how many bytes a writer has the front of the answers, and whether it has.
@@ -41,7 +41,7 @@ fn fails_to_read(alloc: Global, left: usize, fault: RunFault) -> bool {
     let mut reader = MayFail(LineFeeds { left, fails: true });
     let mut writer = MayFail(Choppy::new(alloc, 1000, true));
     let ended = script::run(alloc, &mut reader, &mut writer);
-    ended == Err(fault) && writer.0.taken.is_empty()
+    (ended == Err(fault)) & writer.0.taken.is_empty()
 }
 
 /// Behind how many bytes a reader fails, a fault, and whether the script ends by it.

@@ -93,7 +93,7 @@ fn runs_to(alloc: Global, world: &mut World, row: &Row) -> Result<bool, AllocErr
     let answers = answers_to(alloc, world, row.0)?;
     let answered = are_answered(answers.as_slice(), row.1);
     drop(answers);
-    Ok(answered && are_free(world, row.2))
+    Ok(answered & are_free(world, row.2))
 }
 
 fn all_run_to(alloc: Global, world: &mut World, rows: &[Row]) -> Result<bool, AllocError> {
