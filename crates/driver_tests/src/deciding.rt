@@ -20,14 +20,32 @@ fn is_answered(alloc: Global, policy: &[u8], channel: &str, stream: i32, text: &
     }
 }
 
+/// Channels, streams, answers, and whether each is given so.
+static ANSWERS: [(&str, i32, &str, bool); 3] = [
+    (
+        "aeron:ipc",
+        -2_147_483_648,
+        "allowed by default in policy 1",
+        true,
+    ),
+    ("aeron:tcp", -1, "allowed by default in policy 1", false),
+    ("aeron:tcp", -1, "invalid channel", true),
+];
+
+fn are_answered(alloc: Global, rows: &[(&str, i32, &str, bool)]) -> bool {
+    for &(channel, stream, text, wanted) in rows {
+        if is_answered(alloc, OPEN, channel, stream, text) != wanted {
+            return false;
+        }
+    }
+    true
+}
+
 /// The command line asks of no stream below 0, and has no end of memory to show.
 #[test]
 fn ample_memory(rt: HostRuntime) {
-    let allowed = "allowed by default in policy 1";
-    assert!(rt; is_checked(rt.alloc(), OPEN, "ok: 0 rules"));
-    assert!(rt; !is_checked(rt.alloc(), OPEN, "ok: 1 rules"));
-    assert!(rt; is_answered(rt.alloc(), OPEN, "aeron:ipc", -2_147_483_648, allowed));
-    assert!(rt; !is_answered(rt.alloc(), OPEN, "aeron:tcp", -1, allowed));
-    assert!(rt; is_answered(rt.alloc(), OPEN, "aeron:tcp", -1, "invalid channel"));
-    assert!(rt; is_shown(rt.alloc(), &DecideFault::NoMemory, "no memory"));
+    let checked = is_checked(rt.alloc(), OPEN, "ok: 0 rules")
+        & !is_checked(rt.alloc(), OPEN, "ok: 1 rules");
+    let told = is_shown(rt.alloc(), &DecideFault::NoMemory, "no memory");
+    assert!(rt; checked & told & are_answered(rt.alloc(), &ANSWERS));
 }

@@ -19,21 +19,43 @@ const IDENT: Ident = Ident {
 /// Whether a log that is new says so, and who reads it.
 fn is_new(log: &OpenLog) -> bool {
     log.has_whole();
-    log.source() == 7 && log.reach() == 0 && log.messages() == 0
+    (log.source() == 7) & (log.reach() == 0) & (log.messages() == 0)
 }
 
 /// Whether the log of a publication opens, is read and closes.
+fn moves(arena: &mut Arena, room: LogRoom) -> bool {
+    match arena.lease(196_608) {
+        Ok(lease) => {
+            let mut log = OpenLog::of_publication(room, lease, 7, IDENT, Settings::default());
+            let joins = log.join(3);
+            log.leave(3);
+            log.rejoin(&[4]);
+            let is_new = is_new(&log);
+            let lease = log.close();
+            let len = lease.len();
+            drop(lease);
+            is_new & (joins == 0) & (len == 196_608)
+        }
+        Err(_) => {
+            drop(room);
+            false
+        }
+    }
+}
+
 fn opens_and_closes(alloc: Global) -> Result<bool, AllocError> {
     let room = LogRoom::new(alloc)?;
-    let mut arena = Arena::new(alloc, 48)?;
-    let Ok(lease) = arena.lease(196_608) else {
-        return Ok(false);
-    };
-    let mut log = OpenLog::of_publication(room, lease, 7, IDENT, Settings::default());
-    let joins = log.join(3);
-    log.leave(3);
-    log.rejoin(&[4]);
-    Ok(is_new(&log) && joins == 0 && log.close().len() == 196_608)
+    match Arena::new(alloc, 48) {
+        Ok(mut arena) => {
+            let moved = moves(&mut arena, room);
+            drop(arena);
+            Ok(moved)
+        }
+        Err(refused) => {
+            drop(room);
+            Err(refused)
+        }
+    }
 }
 
 #[test]

@@ -63,7 +63,7 @@ const TERMINATED: Decision = Decision {
 const ATTACHED: Row = (Deed::Attach, None, &[], &[], &[], &[], &[]);
 
 /// One client's events. What scripts show of decisions and pairs is not shown again.
-const ROWS: [Row; 5] = [
+static ROWS: [Row; 5] = [
     ATTACHED,
     (SUBSCRIBE, None, &[], &[], &[], &[SUBSCRIBED], &[]),
     (
@@ -80,34 +80,53 @@ const ROWS: [Row; 5] = [
 ];
 
 fn is_told(outcome: &Outcome, row: &Row) -> bool {
-    outcome.opens == row.1
-        && outcome.closes.as_slice() == row.2
-        && outcome.gone.as_slice() == row.3
-        && outcome.come.as_slice() == row.4
-        && outcome.decisions.as_slice() == row.5
+    (outcome.opens == row.1)
+        & (outcome.closes.as_slice() == row.2)
+        & (outcome.gone.as_slice() == row.3)
+        & (outcome.come.as_slice() == row.4)
+        & (outcome.decisions.as_slice() == row.5)
+}
+
+/// The same of an outcome that goes. What is large is let go by a call, which costs the proof less than the end of a scope.
+fn tells(outcome: Outcome, row: &Row) -> bool {
+    let told = is_told(&outcome, row);
+    drop(outcome);
+    told
 }
 
 fn has_pairs(alloc: Global, registry: &Registry, row: &Row) -> Result<bool, AllocError> {
     Ok(registry.pairs(alloc)?.as_slice() == row.6)
 }
 
-fn taken(alloc: Global, registry: &mut Registry, event: &Event) -> Result<Outcome, AllocError> {
-    registry.step(alloc, event, &Inputs::none(alloc))
+/// How a command comes.
+#[derive(Clone, Copy)]
+enum Way {
+    /// As an event, which is planned first, and then taken by one step.
+    Event,
+    /// By its bytes where they lie.
+    Bytes,
 }
 
-fn planned(alloc: Global, registry: &Registry, event: &Event) -> Result<Entry, AllocError> {
-    registry.plan(alloc, event, &Inputs::none(alloc))
+fn bytes_are_told(
+    alloc: Global,
+    registry: &mut Registry,
+    bytes: &[u8],
+    inputs: &Inputs,
+    row: &Row,
+) -> Result<bool, AllocError> {
+    let outcome = registry.command(alloc, 0, 1, bytes, inputs)?;
+    Ok(tells(outcome, row))
 }
 
-/// Whether the event comes to the row by one step.
-fn step_comes_to(
+fn step_is_told(
     alloc: Global,
     registry: &mut Registry,
     event: &Event,
+    inputs: &Inputs,
     row: &Row,
 ) -> Result<bool, AllocError> {
-    let is_told = is_told(&taken(alloc, registry, event)?, row);
-    Ok(is_told && has_pairs(alloc, registry, row)?)
+    let outcome = registry.step(alloc, event, inputs)?;
+    Ok(tells(outcome, row))
 }
 
 /// Whether the entry leaves the pairs of the row, where it is applied to a copy of the registry.
@@ -119,98 +138,144 @@ fn entry_leaves(
 ) -> Result<bool, AllocError> {
     let mut copy = registry.copy(alloc)?;
     copy.apply(entry);
-    has_pairs(alloc, &copy, row)
+    let left = has_pairs(alloc, &copy, row);
+    drop(copy);
+    left
 }
 
-/// Whether the event comes to the row where it is planned first and applied then.
-fn plan_comes_to(
+fn entry_is_told(
+    alloc: Global,
+    registry: &Registry,
+    entry: &Entry,
+    row: &Row,
+) -> Result<bool, AllocError> {
+    Ok(is_told(&entry.outcome, row) & entry_leaves(alloc, registry, entry, row)?)
+}
+
+fn plan_is_told(
     alloc: Global,
     registry: &Registry,
     event: &Event,
+    inputs: &Inputs,
     row: &Row,
 ) -> Result<bool, AllocError> {
-    let entry = planned(alloc, registry, event)?;
-    Ok(is_told(&entry.outcome, row) && entry_leaves(alloc, registry, &entry, row)?)
+    let entry = registry.plan(alloc, event, inputs)?;
+    let told = entry_is_told(alloc, registry, &entry, row);
+    drop(entry);
+    told
 }
 
-/// Whether a copy of the registry comes to the row by the bytes of the command where they lie.
-fn bytes_come_to(
+/// Whether the event comes to the row where it is planned and applied to a copy, and tells it by one step.
+fn both_are_told(
     alloc: Global,
-    registry: &Registry,
-    bytes: &[u8],
+    registry: &mut Registry,
+    event: &Event,
+    inputs: &Inputs,
     row: &Row,
 ) -> Result<bool, AllocError> {
-    let mut copy = registry.copy(alloc)?;
-    let outcome = copy.command(alloc, 0, 1, bytes, &Inputs::none(alloc))?;
-    Ok(is_told(&outcome, row) && has_pairs(alloc, &copy, row)?)
+    Ok(
+        plan_is_told(alloc, registry, event, inputs, row)?
+            & step_is_told(alloc, registry, event, inputs, row)?,
+    )
 }
 
-/// Whether a copy of the registry comes to the row by the bytes of its command, if it is of one.
-fn command_comes_to(alloc: Global, registry: &Registry, row: &Row) -> Result<bool, AllocError> {
-    match row.0 {
-        Deed::Command(bytes) => bytes_come_to(alloc, registry, bytes, row),
-        _ => Ok(true),
-    }
-}
-
-/// Whether the row's event comes to the row, in two parts and as one step.
-fn event_comes_to(alloc: Global, registry: &mut Registry, row: &Row) -> Result<bool, AllocError> {
+fn event_is_told(
+    alloc: Global,
+    registry: &mut Registry,
+    inputs: &Inputs,
+    row: &Row,
+) -> Result<bool, AllocError> {
     let event = event(alloc, row.0)?;
-    Ok(plan_comes_to(alloc, registry, &event, row)? && step_comes_to(alloc, registry, &event, row)?)
+    let told = both_are_told(alloc, registry, &event, inputs, row);
+    drop(event);
+    told
 }
 
-/// Whether the row comes about by its bytes and by its event.
-fn comes_to(alloc: Global, registry: &mut Registry, row: &Row) -> Result<bool, AllocError> {
-    Ok(command_comes_to(alloc, registry, row)? && event_comes_to(alloc, registry, row)?)
+/// Whether the row comes about that way.
+fn comes_to(
+    alloc: Global,
+    registry: &mut Registry,
+    inputs: &Inputs,
+    way: Way,
+    row: &Row,
+) -> Result<bool, AllocError> {
+    let told = match (way, row.0) {
+        (Way::Bytes, Deed::Command(bytes)) => bytes_are_told(alloc, registry, bytes, inputs, row)?,
+        _ => event_is_told(alloc, registry, inputs, row)?,
+    };
+    Ok(told & has_pairs(alloc, registry, row)?)
 }
 
-fn all_come_to(alloc: Global, registry: &mut Registry, rows: &[Row]) -> Result<bool, AllocError> {
+fn all_come_to(
+    alloc: Global,
+    registry: &mut Registry,
+    inputs: &Inputs,
+    way: Way,
+    rows: &[Row],
+) -> Result<bool, AllocError> {
     for row in rows {
-        if !comes_to(alloc, registry, row)? {
+        if !comes_to(alloc, registry, inputs, way, row)? {
             return Ok(false);
         }
     }
     Ok(true)
 }
 
-/// Whether the rows' events come to the rows, one behind the other, where everything is allowed.
-fn come_to(alloc: Global, rows: &[Row]) -> Result<bool, AllocError> {
+/// A registry to which nothing happened yet, and where everything is allowed.
+fn registry(alloc: Global) -> Result<Registry, AllocError> {
     let policy = Policy::new(Vec::new(alloc), true)?;
-    let mut registry = Registry::new(alloc, Settings::default(), policy, &[])?;
-    all_come_to(alloc, &mut registry, rows)
+    Registry::new(alloc, Settings::default(), policy, &[])
 }
 
-fn rows_come_to(alloc: Global) -> Result<bool, AllocError> {
-    come_to(alloc, &ROWS)
+/// Whether the rows come about, one behind the other, where the logs tell this.
+fn come_beside(alloc: Global, inputs: &Inputs, way: Way, rows: &[Row]) -> Result<bool, AllocError> {
+    let mut registry = registry(alloc)?;
+    let come = all_come_to(alloc, &mut registry, inputs, way, rows);
+    drop(registry);
+    come
+}
+
+/// Whether the rows come about that way, one behind the other, where there are no logs.
+fn come_to(alloc: Global, way: Way, rows: &[Row]) -> Result<bool, AllocError> {
+    let inputs = Inputs::none(alloc);
+    come_beside(alloc, &inputs, way, rows)
 }
 
 #[test]
 fn ample_memory(rt: HostRuntime) {
-    assert!(rt; rows_come_to(rt.alloc()) == Ok(true));
+    let by_events = come_to(rt.alloc(), Way::Event, &ROWS) == Ok(true);
+    assert!(rt; by_events & (come_to(rt.alloc(), Way::Bytes, &ROWS) == Ok(true)));
 }
 
 /// What another log, another pair, another decision and another list of pairs would be, where the client subscribes.
-const OTHER_ROWS: [Row; 4] = [
-    (SUBSCRIBE, Some(LOG), &[], &[], &[], &[SUBSCRIBED], &[]),
-    (SUBSCRIBE, None, &[], &[], &[PAIR], &[SUBSCRIBED], &[]),
-    (SUBSCRIBE, None, &[], &[], &[], &[], &[]),
-    (SUBSCRIBE, None, &[], &[], &[], &[SUBSCRIBED], &[PAIR]),
+static OTHERS: [[Row; 2]; 4] = [
+    [
+        ATTACHED,
+        (SUBSCRIBE, Some(LOG), &[], &[], &[], &[SUBSCRIBED], &[]),
+    ],
+    [
+        ATTACHED,
+        (SUBSCRIBE, None, &[], &[], &[PAIR], &[SUBSCRIBED], &[]),
+    ],
+    [ATTACHED, (SUBSCRIBE, None, &[], &[], &[], &[], &[])],
+    [
+        ATTACHED,
+        (SUBSCRIBE, None, &[], &[], &[], &[SUBSCRIBED], &[PAIR]),
+    ],
 ];
 
-fn any_comes_to(alloc: Global, rows: &[Row]) -> Result<bool, AllocError> {
-    for row in rows {
-        if come_to(alloc, &[ATTACHED, *row])? {
-            return Ok(true);
+/// Whether none of these comes about that way. It is asked with ample memory.
+fn none_come_to(alloc: Global, way: Way, others: &[[Row; 2]]) -> bool {
+    for rows in others {
+        if come_to(alloc, way, rows) != Ok(false) {
+            return false;
         }
     }
-    Ok(false)
-}
-
-fn other_row_comes_to(alloc: Global) -> Result<bool, AllocError> {
-    any_comes_to(alloc, &OTHER_ROWS)
+    true
 }
 
 #[test]
 fn other_rows_are_told(rt: HostRuntime) {
-    assert!(rt; other_row_comes_to(rt.alloc()) == Ok(false));
+    let by_events = none_come_to(rt.alloc(), Way::Event, &OTHERS);
+    assert!(rt; by_events & none_come_to(rt.alloc(), Way::Bytes, &OTHERS));
 }

@@ -27,11 +27,23 @@ const DEFAULT: Settings = Settings {
     },
 };
 
+/// Whether the choice is taken.
+fn choose(
+    alloc: Global,
+    choices: &mut Choices,
+    key: &str,
+    value: &str,
+) -> Result<bool, AllocError> {
+    choices.choose(Text::new(alloc, key)?, value)
+}
+
 /// Whether a setting was chosen, or is not the default one.
 fn is_chosen(alloc: Global, key: &str, value: &str) -> Result<bool, AllocError> {
     let mut choices = Choices::new(alloc);
-    let chosen = choices.choose(Text::new(alloc, key)?, value)?;
-    Ok(chosen || choices.settings != DEFAULT)
+    let chosen = choose(alloc, &mut choices, key, value);
+    let differs = choices.settings != DEFAULT;
+    drop(choices);
+    Ok(chosen? || differs)
 }
 
 /// Whether the key takes each of these values, or none of them.
@@ -44,14 +56,15 @@ fn takes(alloc: Global, key: &str, values: &[&str], taken: bool) -> bool {
     true
 }
 
-/// Keys, values that each of them takes, and values that none of them takes.
+/// Keys, values that each of them takes, values that none of them takes, and whether that is so.
 type Row = (
     &'static [&'static str],
     &'static [&'static str],
     &'static [&'static str],
+    bool,
 );
 
-const VALUES: [Row; 8] = [
+static VALUES: [Row; 10] = [
     (
         &[
             "client-liveness",
@@ -67,11 +80,13 @@ const VALUES: [Row; 8] = [
         ],
         &["0", "9223372036854775807", "007"],
         &["-1", "-0", "9223372036854775808", "5s", "+5", "", "1 2"],
+        true,
     ),
     (
         &["receiver-id"],
         &["0", "18446744073709551615", "007"],
         &["-1", "18446744073709551616", "+5"],
+        true,
     ),
     (
         &["term-length"],
@@ -85,6 +100,7 @@ const VALUES: [Row; 8] = [
             "64k",
             "18446744073709617152",
         ],
+        true,
     ),
     (
         &["mtu"],
@@ -99,16 +115,19 @@ const VALUES: [Row; 8] = [
             "-64",
             "18446744073709553024",
         ],
+        true,
     ),
     (
         &["arena-pages"],
         &["1", "65536", "001"],
         &["0", "65537", "-1", "18446744073709551617"],
+        true,
     ),
     (
         &["first-session", "initial-term"],
         &["-2147483648", "2147483647", "0", "-0", "-007", "007"],
         &["-2147483649", "2147483648", "+1", "--1", "-", "", "0x1"],
+        true,
     ),
     (
         &["send-address"],
@@ -131,6 +150,7 @@ const VALUES: [Row; 8] = [
             "localhost:40000",
             "",
         ],
+        true,
     ),
     (
         &[
@@ -144,11 +164,14 @@ const VALUES: [Row; 8] = [
         ],
         &[],
         &["1408", "65536"],
+        true,
     ),
+    (&["linger", "mtu"], &["64", "1"], &[], false),
+    (&["mtu", "linge"], &[], &["1", "1408"], false),
 ];
 
-fn all_take(alloc: Global, row: &Row) -> bool {
-    let (keys, taken, refused) = *row;
+/// Whether each key takes each of the first values and none of the others.
+fn take(alloc: Global, keys: &[&str], taken: &[&str], refused: &[&str]) -> bool {
     for &key in keys {
         if !takes(alloc, key, taken, true) || !takes(alloc, key, refused, false) {
             return false;
@@ -158,8 +181,8 @@ fn all_take(alloc: Global, row: &Row) -> bool {
 }
 
 fn rows_take(alloc: Global, rows: &[Row]) -> bool {
-    for row in rows {
-        if !all_take(alloc, row) {
+    for &(keys, taken, refused, wanted) in rows {
+        if take(alloc, keys, taken, refused) != wanted {
             return false;
         }
     }
@@ -169,17 +192,10 @@ fn rows_take(alloc: Global, rows: &[Row]) -> bool {
 #[test]
 fn keys_take_their_values(rt: HostRuntime) {
     assert!(rt; rows_take(rt.alloc(), &VALUES));
-    assert!(rt;
-        !rows_take(
-            rt.alloc(),
-            &[VALUES[0], (&["linger", "mtu"], &["64", "1"], &[])]
-        )
-    );
-    assert!(rt; !rows_take(rt.alloc(), &[(&["mtu", "linge"], &[], &["1", "1408"])]));
 }
 
-/// A key, its value, and the settings where nothing else is chosen.
-const CHOSEN: [(&str, &str, Settings); 18] = [
+/// A key, its value, the settings where nothing else is chosen, and whether they are so.
+static CHOSEN: [(&str, &str, Settings, bool); 20] = [
     (
         "client-liveness",
         "3",
@@ -187,6 +203,7 @@ const CHOSEN: [(&str, &str, Settings); 18] = [
             client_liveness: 3,
             ..DEFAULT
         },
+        true,
     ),
     (
         "image-liveness",
@@ -195,6 +212,7 @@ const CHOSEN: [(&str, &str, Settings); 18] = [
             image_liveness: 3,
             ..DEFAULT
         },
+        true,
     ),
     (
         "linger",
@@ -203,6 +221,7 @@ const CHOSEN: [(&str, &str, Settings); 18] = [
             linger: 3,
             ..DEFAULT
         },
+        true,
     ),
     (
         "connection-timeout",
@@ -211,6 +230,7 @@ const CHOSEN: [(&str, &str, Settings); 18] = [
             connection_timeout: 3,
             ..DEFAULT
         },
+        true,
     ),
     (
         "resend-linger",
@@ -219,6 +239,7 @@ const CHOSEN: [(&str, &str, Settings); 18] = [
             resend_linger: 3,
             ..DEFAULT
         },
+        true,
     ),
     (
         "nak-delay",
@@ -227,6 +248,7 @@ const CHOSEN: [(&str, &str, Settings); 18] = [
             nak_delay: 3,
             ..DEFAULT
         },
+        true,
     ),
     (
         "nak-repeat",
@@ -235,6 +257,7 @@ const CHOSEN: [(&str, &str, Settings); 18] = [
             nak_repeat: 3,
             ..DEFAULT
         },
+        true,
     ),
     (
         "setup-interval",
@@ -243,6 +266,7 @@ const CHOSEN: [(&str, &str, Settings); 18] = [
             setup_interval: 3,
             ..DEFAULT
         },
+        true,
     ),
     (
         "heartbeat-interval",
@@ -251,6 +275,7 @@ const CHOSEN: [(&str, &str, Settings); 18] = [
             heartbeat_interval: 3,
             ..DEFAULT
         },
+        true,
     ),
     (
         "status-interval",
@@ -259,6 +284,7 @@ const CHOSEN: [(&str, &str, Settings); 18] = [
             status_interval: 3,
             ..DEFAULT
         },
+        true,
     ),
     (
         "term-length",
@@ -267,8 +293,9 @@ const CHOSEN: [(&str, &str, Settings); 18] = [
             term_length: 131_072,
             ..DEFAULT
         },
+        true,
     ),
-    ("mtu", "64", Settings { mtu: 64, ..DEFAULT }),
+    ("mtu", "64", Settings { mtu: 64, ..DEFAULT }, true),
     (
         "arena-pages",
         "48",
@@ -276,6 +303,7 @@ const CHOSEN: [(&str, &str, Settings); 18] = [
             arena_pages: 48,
             ..DEFAULT
         },
+        true,
     ),
     (
         "arena-pages",
@@ -284,6 +312,7 @@ const CHOSEN: [(&str, &str, Settings); 18] = [
             arena_pages: 65_536,
             ..DEFAULT
         },
+        true,
     ),
     (
         "first-session",
@@ -292,6 +321,7 @@ const CHOSEN: [(&str, &str, Settings); 18] = [
             first_session: -5,
             ..DEFAULT
         },
+        true,
     ),
     (
         "initial-term",
@@ -300,6 +330,7 @@ const CHOSEN: [(&str, &str, Settings); 18] = [
             initial_term: -2_147_483_648,
             ..DEFAULT
         },
+        true,
     ),
     (
         "receiver-id",
@@ -308,6 +339,7 @@ const CHOSEN: [(&str, &str, Settings); 18] = [
             receiver_id: 18_446_744_073_709_551_615,
             ..DEFAULT
         },
+        true,
     ),
     (
         "send-address",
@@ -319,21 +351,51 @@ const CHOSEN: [(&str, &str, Settings); 18] = [
             },
             ..DEFAULT
         },
+        true,
+    ),
+    (
+        "nak-delay",
+        "4",
+        Settings {
+            nak_delay: 3,
+            ..DEFAULT
+        },
+        false,
+    ),
+    (
+        "linger",
+        "3",
+        Settings {
+            client_liveness: 3,
+            ..DEFAULT
+        },
+        false,
     ),
 ];
+
+/// Whether a first choice is taken, and not taken again.
+fn is_taken_once(
+    alloc: Global,
+    choices: &mut Choices,
+    key: &str,
+    value: &str,
+) -> Result<bool, AllocError> {
+    let begins = choices.settings == DEFAULT;
+    Ok(choose(alloc, choices, key, value)? & !choose(alloc, choices, key, value)? & begins)
+}
 
 /// Whether a choice is taken, and not taken again, and leaves these settings.
 fn chooses(alloc: Global, key: &str, value: &str, settings: &Settings) -> Result<bool, AllocError> {
     let mut choices = Choices::new(alloc);
-    let begins = choices.settings == DEFAULT;
-    let taken = choices.choose(Text::new(alloc, key)?, value)?;
-    let again = choices.choose(Text::new(alloc, key)?, value)?;
-    Ok(begins && taken && !again && choices.settings == *settings)
+    let taken = is_taken_once(alloc, &mut choices, key, value);
+    let same = choices.settings == *settings;
+    drop(choices);
+    Ok(taken? && same)
 }
 
-fn all_choose(alloc: Global, rows: &[(&str, &str, Settings)]) -> bool {
-    for (key, value, settings) in rows {
-        if chooses(alloc, key, value, settings) != Ok(true) {
+fn all_choose(alloc: Global, rows: &[(&str, &str, Settings, bool)]) -> bool {
+    for (key, value, settings, wanted) in rows {
+        if chooses(alloc, key, value, settings) != Ok(*wanted) {
             return false;
         }
     }
@@ -343,6 +405,4 @@ fn all_choose(alloc: Global, rows: &[(&str, &str, Settings)]) -> bool {
 #[test]
 fn a_setting_is_that_of_its_key(rt: HostRuntime) {
     assert!(rt; all_choose(rt.alloc(), &CHOSEN));
-    assert!(rt; !all_choose(rt.alloc(), &[CHOSEN[1], ("nak-delay", "4", CHOSEN[5].2)]));
-    assert!(rt; !all_choose(rt.alloc(), &[("linger", "3", CHOSEN[0].2)]));
 }

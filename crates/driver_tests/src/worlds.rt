@@ -1,4 +1,5 @@
-//! A driver with logs: runs of it, and the pages that no log has.
+//! A driver with logs: runs of it, and the pages that no log has. What is large is let go by a call, which costs the proof
+//! less than the end of a scope.
 
 use crate::deeds::{Deed, PUBLISH_ALONE, UNPUBLISH_1, event};
 use byte_strings::Items;
@@ -16,7 +17,7 @@ type Row = (
 );
 
 /// In 48 pages, which one log has, also while it lingers.
-const ROWS: [Row; 4] = [
+static ROWS: [Row; 4] = [
     (&[Deed::Attach], &[Some(1)], &[(0, 196_608)]),
     (&[Deed::Tick(0), PUBLISH_ALONE], &[None; 2], &[]),
     (&[UNPUBLISH_1, Deed::Tick(5_000_000_000)], &[None; 2], &[]),
@@ -59,12 +60,22 @@ fn step_of(alloc: Global, deed: Deed) -> Result<Reading, AllocError> {
     Ok(Reading::newest(Step::Conductor(event(alloc, deed)?)))
 }
 
-fn steps_of(alloc: Global, deeds: &[Deed]) -> Result<Vec<Reading>, AllocError> {
-    let mut steps = Vec::new(alloc);
+fn fill(alloc: Global, steps: &mut Vec<Reading>, deeds: &[Deed]) -> Result<(), AllocError> {
     for &deed in deeds {
         steps.push(step_of(alloc, deed)?)?;
     }
-    Ok(steps)
+    Ok(())
+}
+
+fn steps_of(alloc: Global, deeds: &[Deed]) -> Result<Vec<Reading>, AllocError> {
+    let mut steps = Vec::new(alloc);
+    match fill(alloc, &mut steps, deeds) {
+        Ok(()) => Ok(steps),
+        Err(refused) => {
+            drop(steps);
+            Err(refused)
+        }
+    }
 }
 
 fn answers_to(
@@ -73,12 +84,16 @@ fn answers_to(
     deeds: &[Deed],
 ) -> Result<Items<Answer>, AllocError> {
     let steps = steps_of(alloc, deeds)?;
-    world.run(alloc, steps.as_slice())
+    let answers = world.run(alloc, steps.as_slice());
+    drop(steps);
+    answers
 }
 
 fn runs_to(alloc: Global, world: &mut World, row: &Row) -> Result<bool, AllocError> {
     let answers = answers_to(alloc, world, row.0)?;
-    Ok(are_answered(answers.as_slice(), row.1) && are_free(world, row.2))
+    let answered = are_answered(answers.as_slice(), row.1);
+    drop(answers);
+    Ok(answered & are_free(world, row.2))
 }
 
 fn all_run_to(alloc: Global, world: &mut World, rows: &[Row]) -> Result<bool, AllocError> {
@@ -93,15 +108,32 @@ fn all_run_to(alloc: Global, world: &mut World, rows: &[Row]) -> Result<bool, Al
 /// Whether the rows' events come to the rows, one behind the other.
 fn run_to(alloc: Global, rows: &[Row]) -> Result<bool, AllocError> {
     let mut world = world(alloc)?;
-    all_run_to(alloc, &mut world, rows)
+    let run = all_run_to(alloc, &mut world, rows);
+    drop(world);
+    run
+}
+
+/// Another client, no client, and no page that is free.
+static OTHERS: [Row; 3] = [
+    (&[Deed::Attach], &[None], &[(0, 196_608)]),
+    (&[Deed::Attach], &[], &[(0, 196_608)]),
+    (&[], &[], &[]),
+];
+
+/// Whether none of these rows comes about by itself. It is asked with ample memory.
+fn none_run_to(alloc: Global, others: &[Row]) -> bool {
+    for &row in others {
+        if run_to(alloc, &[row]) != Ok(false) {
+            return false;
+        }
+    }
+    true
 }
 
 #[test]
 fn runs_leave_the_pages_without_a_log(rt: HostRuntime) {
-    assert!(rt; run_to(rt.alloc(), &ROWS) == Ok(true));
-    assert!(rt; run_to(rt.alloc(), &[(&[Deed::Attach], &[None], &[(0, 196_608)])]) == Ok(false));
-    assert!(rt; run_to(rt.alloc(), &[(&[Deed::Attach], &[], &[(0, 196_608)])]) == Ok(false));
-    assert!(rt; run_to(rt.alloc(), &[(&[], &[], &[])]) == Ok(false));
+    let others = none_run_to(rt.alloc(), &OTHERS);
+    assert!(rt; others & (run_to(rt.alloc(), &ROWS) == Ok(true)));
 }
 
 /// A data frame without a payload.
@@ -120,17 +152,21 @@ fn finds_no_stream(alloc: Global, world: &mut World, bytes: &[u8]) -> bool {
         port: 40_123,
     };
     let answer = world.packet(alloc, None, 0, &address, &address, bytes);
-    is_no_stream(&answer)
+    let is_none = is_no_stream(&answer);
+    drop(answer);
+    is_none
 }
 
 /// Whether a datagram is one for no image, in a world in which nothing happened yet.
 fn is_astray(alloc: Global, bytes: &[u8]) -> Result<bool, AllocError> {
     let mut world = world(alloc)?;
-    Ok(finds_no_stream(alloc, &mut world, bytes))
+    let finds_none = finds_no_stream(alloc, &mut world, bytes);
+    drop(world);
+    Ok(finds_none)
 }
 
 #[test]
 fn a_datagram_needs_no_step(rt: HostRuntime) {
-    assert!(rt; is_astray(rt.alloc(), &EMPTY_FRAME) == Ok(true));
-    assert!(rt; is_astray(rt.alloc(), &[]) == Ok(false));
+    let empty = is_astray(rt.alloc(), &[]) == Ok(false);
+    assert!(rt; empty & (is_astray(rt.alloc(), &EMPTY_FRAME) == Ok(true)));
 }

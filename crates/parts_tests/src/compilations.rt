@@ -1,4 +1,4 @@
-//! Tests of `compiled_policy`.
+//! Tests of `compiled_policy`. What is large is let go by a call, which costs the proof less than the end of a scope.
 
 use crate::policies::{Row, policy_with, puts};
 use channel_uri::Channel;
@@ -134,16 +134,15 @@ fn agrees(compiled: &Compiled, policy: &Policy, epoch: u64, asked: &Asked) -> Op
         stream: asked.3,
     };
     let verdict = compiled.verdict(&request);
-    Some(verdict == policy.verdict(epoch, &request) && verdict.rule == asked.4)
+    Some((verdict == policy.verdict(epoch, &request)) & (verdict.rule == asked.4))
 }
 
 fn all_agree(compiled: &Compiled, policy: &Policy, epoch: u64) -> Option<bool> {
+    let mut same = true;
     for asked in &REQUESTS {
-        if !agrees(compiled, policy, epoch, asked)? {
-            return Some(false);
-        }
+        same &= agrees(compiled, policy, epoch, asked)?;
     }
-    Some(true)
+    Some(same)
 }
 
 /// What is compiled of the policy under this number.
@@ -167,7 +166,11 @@ static COMPARED: [Compared; 6] = [
 /// Whether the policy is there, and agrees as the row says.
 fn agrees_so(alloc: Global, compiled: &Compiled, row: Compared) -> bool {
     match policy_of(alloc, row.2) {
-        Some(policy) => all_agree(compiled, &policy, row.3) == Some(row.4),
+        Some(policy) => {
+            let agrees = all_agree(compiled, &policy, row.3) == Some(row.4);
+            drop(policy);
+            agrees
+        }
         None => false,
     }
 }
@@ -177,7 +180,9 @@ fn is_turned(alloc: Global, compiled: &Compiled, row: Compared) -> bool {
     match built(alloc, full(alloc), 1) {
         Some(mut turned) => {
             turned.set_from(compiled);
-            agrees_so(alloc, &turned, row)
+            let agrees = agrees_so(alloc, &turned, row);
+            drop(turned);
+            agrees
         }
         None => false,
     }
@@ -186,11 +191,13 @@ fn is_turned(alloc: Global, compiled: &Compiled, row: Compared) -> bool {
 fn is_compared(alloc: Global, row: Compared) -> bool {
     match built(alloc, policy_of(alloc, row.1), 3) {
         Some(compiled) => {
-            if row.0 {
+            let agrees = if row.0 {
                 is_turned(alloc, &compiled, row)
             } else {
                 agrees_so(alloc, &compiled, row)
-            }
+            };
+            drop(compiled);
+            agrees
         }
         None => false,
     }
@@ -240,7 +247,7 @@ fn is_room(compiled: &Compiled) -> bool {
 }
 
 fn is_full(compiled: &Compiled) -> bool {
-    let mut same = compiled.policy().rules().len() == 1024 && compiled.epoch() == 5;
+    let mut same = (compiled.policy().rules().len() == 1024) & (compiled.epoch() == 5);
     for &(stream, by, wanted) in &STREAMS {
         same &= is_by(compiled, stream, by) == wanted;
     }
@@ -249,7 +256,11 @@ fn is_full(compiled: &Compiled) -> bool {
 
 fn copy_is_full(alloc: Global, compiled: &Compiled) -> bool {
     match compiled.copy(alloc) {
-        Ok(copy) => is_full(&copy),
+        Ok(copy) => {
+            let full = is_full(&copy);
+            drop(copy);
+            full
+        }
         Err(_) => false,
     }
 }
@@ -258,19 +269,27 @@ fn copy_is_full(alloc: Global, compiled: &Compiled) -> bool {
 fn fills(alloc: Global, compiled: &mut Compiled, policy: &Policy) -> bool {
     let empty = is_room(compiled);
     compiled.compile(policy, 5);
-    empty && is_full(compiled) && copy_is_full(alloc, compiled)
+    empty & is_full(compiled) & copy_is_full(alloc, compiled)
 }
 
 fn room_fills(alloc: Global, policy: &Policy) -> bool {
     match Compiled::room(alloc) {
-        Ok(mut compiled) => fills(alloc, &mut compiled, policy),
+        Ok(mut compiled) => {
+            let filled = fills(alloc, &mut compiled, policy);
+            drop(compiled);
+            filled
+        }
         Err(_) => false,
     }
 }
 
 fn full_decides(alloc: Global) -> bool {
     match full(alloc) {
-        Some(policy) => room_fills(alloc, &policy),
+        Some(policy) => {
+            let filled = room_fills(alloc, &policy);
+            drop(policy);
+            filled
+        }
         None => false,
     }
 }

@@ -11,7 +11,7 @@ fn policy(alloc: Global, allow: bool) -> Option<Policy> {
     let mut rules = Vec::new(alloc);
     let first = puts(&mut rules, (Principals::One(1), None, "*", 0, 9, allow));
     let second = puts(&mut rules, (Principals::Any, None, "*", 0, 99, !allow));
-    policy_with(rules, first && second, allow)
+    policy_with(rules, first & second, allow)
 }
 
 /// A desk with no policy.
@@ -62,8 +62,8 @@ fn are_in_turn(alloc: Global, desk: &mut Desk) -> bool {
         same &= are_decided(desk, epoch, allow);
         same &= desk.held() as u64 == epoch.wrapping_mul(6);
     }
-    same &= are_decided(desk, 1, true) && desk.held() == 24;
-    same && desk.ask(5, 9, 1, Act::Offer).is_none() && desk.ask(0, 9, 1, Act::Offer).is_none()
+    same &= are_decided(desk, 1, true) & (desk.held() == 24);
+    same & desk.ask(5, 9, 1, Act::Offer).is_none() & desk.ask(0, 9, 1, Act::Offer).is_none()
 }
 
 /// Whether policy 1 allows that or denies it, and so many verdicts are held then.
@@ -76,7 +76,7 @@ fn is_asked(
     held: usize,
 ) -> bool {
     match desk.ask(1, subject, principal, act) {
-        Some(verdict) => verdict.allow == allow && desk.held() == held,
+        Some(verdict) => (verdict.allow == allow) & (desk.held() == held),
         None => false,
     }
 }
@@ -107,7 +107,7 @@ fn are_at_most_256(desk: &mut Desk) -> bool {
         let held = usize::from(subject).wrapping_add(1).min(256);
         same &= is_asked(desk, subject, 1, Act::Offer, allow, held);
     }
-    same && is_asked(desk, 0, 1, Act::Offer, true, 256)
+    same & is_asked(desk, 0, 1, Act::Offer, true, 256)
 }
 
 /// What a desk shows.
@@ -137,7 +137,11 @@ static CASES: [Case; 3] = [
 /// Whether a desk goes as the case says; false without memory.
 fn is_shown(alloc: Global, case: Case) -> bool {
     match desk(alloc) {
-        Some(mut desk) => goes(alloc, &mut desk, case),
+        Some(mut desk) => {
+            let so = goes(alloc, &mut desk, case);
+            drop(desk);
+            so
+        }
         None => false,
     }
 }
@@ -163,12 +167,16 @@ fn answers_stand(alloc: Global, desk: &mut Desk) -> bool {
     }
     let first = are_decided(desk, 1, true);
     let second = are_decided(desk, 2, false);
-    first && second && are_decided(desk, 1, true)
+    first & second & are_decided(desk, 1, true)
 }
 
 fn all_answers_stand(alloc: Global) -> bool {
     match desk(alloc) {
-        Some(mut desk) => answers_stand(alloc, &mut desk),
+        Some(mut desk) => {
+            let stand = answers_stand(alloc, &mut desk);
+            drop(desk);
+            stand
+        }
         None => true,
     }
 }

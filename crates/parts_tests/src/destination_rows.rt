@@ -39,8 +39,8 @@ fn removes(
 /// Log 1 goes to ports 40201 and 40202, named for 7 and 9, and log 2 to port 40201, named for 7.
 fn names_three(destinations: &mut Destinations) -> bool {
     adds(destinations, 1, 40201, 7, Ok(1))
-        && adds(destinations, 2, 40201, 7, Ok(2))
-        && adds(destinations, 1, 40202, 9, Ok(3))
+        & adds(destinations, 2, 40201, 7, Ok(2))
+        & adds(destinations, 1, 40202, 9, Ok(3))
 }
 
 /// Whether the log has these, each with its number, port and principal, in this order.
@@ -64,7 +64,7 @@ fn is_copied(alloc: Global, destinations: &Destinations) -> bool {
     match Destinations::new(alloc) {
         Ok(mut other) => {
             other.set_from(destinations);
-            goes_to(&other, 2, &[(2, 40201, 7)]) && other.rows() == destinations.rows()
+            goes_to(&other, 2, &[(2, 40201, 7)]) & (other.rows() == destinations.rows())
         }
         Err(_) => false,
     }
@@ -75,19 +75,19 @@ const CONFLICT: DestinationFault = DestinationFault::Conflict;
 /// Whether an address is refused that is there twice, and one that is taken back twice; the number it had is not given
 /// again.
 fn conflicts(destinations: &mut Destinations, next: u64) -> bool {
-    let twice = names_three(destinations) && adds(destinations, 1, 40201, 9, Err(CONFLICT));
-    let gone = removes(destinations, 40202, Ok(())) && removes(destinations, 40202, Err(CONFLICT));
-    let left = goes_to(destinations, 1, &[(1, 40201, 7)]) && destinations.has(2, &at(40201));
-    twice && gone && left && adds(destinations, 1, 40202, 9, Ok(next))
+    let twice = names_three(destinations) & adds(destinations, 1, 40201, 9, Err(CONFLICT));
+    let gone = removes(destinations, 40202, Ok(())) & removes(destinations, 40202, Err(CONFLICT));
+    let left = goes_to(destinations, 1, &[(1, 40201, 7)]) & destinations.has(2, &at(40201));
+    twice & gone & left & adds(destinations, 1, 40202, 9, Ok(next))
 }
 
 /// Whether the destinations of log 1 alone go as it closes, and then all.
 fn close(destinations: &mut Destinations) -> bool {
     let named = names_three(destinations);
     destinations.remove_of_sources(&[3, 1]);
-    let left = goes_to(destinations, 1, &[]) && goes_to(destinations, 2, &[(2, 40201, 7)]);
+    let left = goes_to(destinations, 1, &[]) & goes_to(destinations, 2, &[(2, 40201, 7)]);
     destinations.clear();
-    named && left && destinations.rows().is_empty() && adds(destinations, 2, 1, 7, Ok(4))
+    named & left & destinations.rows().is_empty() & adds(destinations, 2, 1, 7, Ok(4))
 }
 
 /// Whether 32 destinations of log 1 are named, at the ports from 1 on.
@@ -102,11 +102,11 @@ fn names_many(destinations: &mut Destinations) -> bool {
 /// Whether a log with 32 destinations gets no other, another log one, and the first one again once one went.
 fn fills(destinations: &mut Destinations, next: u64) -> bool {
     let full = Err(DestinationFault::Full);
-    let refused = names_many(destinations) && adds(destinations, 1, 33, 7, full);
+    let refused = names_many(destinations) & adds(destinations, 1, 33, 7, full);
     // An address that is there is a conflict also in a full log.
     let twice = adds(destinations, 1, 32, 7, Err(CONFLICT));
-    let other = adds(destinations, 2, 33, 7, Ok(33)) && removes(destinations, 5, Ok(()));
-    refused && twice && other && adds(destinations, 1, 33, 7, Ok(next))
+    let other = adds(destinations, 2, 33, 7, Ok(33)) & removes(destinations, 5, Ok(()));
+    refused & twice & other & adds(destinations, 1, 33, 7, Ok(next))
 }
 
 /// What destinations show.
@@ -126,8 +126,8 @@ fn goes(alloc: Global, destinations: &mut Destinations, case: Case) -> bool {
     match case {
         Case::Order(wanted) => {
             names_three(destinations)
-                && goes_to(destinations, 1, wanted)
-                && is_copied(alloc, destinations)
+                & goes_to(destinations, 1, wanted)
+                & is_copied(alloc, destinations)
         }
         Case::Conflicts(next) => conflicts(destinations, next),
         Case::LogsClose => close(destinations),

@@ -87,12 +87,15 @@ fn matches(rule: &Rule, principal: u32, stream: i32) -> bool {
 
 /// Whether the twin has this name and these streams, and matches these requests alone.
 fn is_twin(twin: &Rule, name: &str, low: i32, high: i32) -> bool {
-    let fields = twin.name.as_str() == name && twin.low == low && twin.high == high && !twin.allow;
+    let fields = (twin.name.as_str() == name)
+        & (twin.low == low)
+        & (twin.high == high)
+        & !twin.allow;
     fields
-        && twin.acts.hold(Act::Image)
-        && matches(twin, 2, high)
-        && !matches(twin, 3, high)
-        && !matches(twin, 2, 5)
+        & twin.acts.hold(Act::Image)
+        & matches(twin, 2, high)
+        & !matches(twin, 3, high)
+        & !matches(twin, 2, 5)
 }
 
 /// Whether a twin of that rule is this one, and not one of another name.
@@ -100,7 +103,7 @@ fn rule_is_twinned() -> bool {
     match rule(Principals::One(2), "aeron:ipc", 3, 4, false) {
         Ok(rule) => {
             let twin = rule.twin();
-            is_twin(&twin, "a rule", 3, 4) && !is_twin(&twin, "a role", 3, 4)
+            is_twin(&twin, "a rule", 3, 4) & !is_twin(&twin, "a role", 3, 4)
         }
         Err(_) => false,
     }
@@ -110,8 +113,8 @@ fn rule_is_twinned() -> bool {
 fn decides(policy: &Policy, count: usize, principal: u32, by: Option<u32>) -> bool {
     let channel = Channel::ipc();
     policy.default_allows()
-        && policy.rules().len() == count
-        && answer(policy, principal, Act::Image, &channel, 3).rule == by
+        & (policy.rules().len() == count)
+        & (answer(policy, principal, Act::Image, &channel, 3).rule == by)
 }
 
 /// Of how many rules a copy is, who asks, which rule decides, and whether that is so.
@@ -136,7 +139,11 @@ fn decide(policy: &Policy, rows: &[Copied]) -> bool {
 /// Whether a copy of the policy decides so.
 fn copy_decides(alloc: Global, policy: &Policy) -> bool {
     match policy.copy(alloc) {
-        Ok(copy) => decide(&copy, &COPIES),
+        Ok(copy) => {
+            let so = decide(&copy, &COPIES);
+            drop(copy);
+            so
+        }
         Err(_) => false,
     }
 }
@@ -145,9 +152,11 @@ fn copy_decides(alloc: Global, policy: &Policy) -> bool {
 fn room_becomes(alloc: Global, policy: &Policy) -> bool {
     match Policy::room(alloc) {
         Ok(mut room) => {
-            let denies = room.rules().is_empty() && !room.default_allows();
+            let denies = room.rules().is_empty() & !room.default_allows();
             room.set_from(policy);
-            denies && decide(&room, &COPIES)
+            let so = decide(&room, &COPIES);
+            drop(room);
+            denies & so
         }
         Err(_) => false,
     }
@@ -155,7 +164,11 @@ fn room_becomes(alloc: Global, policy: &Policy) -> bool {
 
 fn policy_is_copied(alloc: Global) -> bool {
     match of_ipc(alloc) {
-        Some(policy) => copy_decides(alloc, &policy) && room_becomes(alloc, &policy),
+        Some(policy) => {
+            let so = copy_decides(alloc, &policy) & room_becomes(alloc, &policy);
+            drop(policy);
+            so
+        }
         None => false,
     }
 }

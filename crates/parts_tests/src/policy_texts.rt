@@ -53,11 +53,11 @@ fn is_refused(alloc: Global, names: &Names, fault: PolicyFault) -> bool {
 fn allows_streams(policy: &Policy, name: &str, low: i32, high: i32) -> bool {
     match policy.rules() {
         [rule] => {
-            rule.name.as_str() == name
-                && rule.low == low
-                && rule.high == high
-                && rule.allow
-                && !policy.default_allows()
+            (rule.name.as_str() == name)
+                & (rule.low == low)
+                & (rule.high == high)
+                & rule.allow
+                & !policy.default_allows()
         }
         _ => false,
     }
@@ -87,13 +87,13 @@ fn texts_are_read(alloc: Global, names: &Names) -> bool {
     let syntax = is_refused(alloc, names, PolicyFault::NotToml);
     let streams = bob_allows_streams(alloc, names, 100, 199);
     let others = bob_allows_streams(alloc, names, 100, 198);
-    version && !syntax && streams && !others
+    version & !syntax & streams & !others
 }
 
 /// Whether names are known, and texts are read where they are.
 fn are_known(alloc: Global) -> bool {
     let mut names = Names::new(alloc);
-    adds_all(alloc, &mut names) && are_numbered(&names) && texts_are_read(alloc, &names)
+    adds_all(alloc, &mut names) & are_numbered(&names) & texts_are_read(alloc, &names)
 }
 
 #[test]

@@ -216,7 +216,7 @@ static COPIES: [(&[Row], &[Row], bool); 5] = [
 fn is_copied(alloc: Global, rows: &[Row], wanted: &[Row], so: bool) -> bool {
     match three(alloc, rows) {
         Some(rows) => {
-            copy_is(alloc, &rows, wanted) == so && other_is(alloc, &rows, wanted) == so
+            (copy_is(alloc, &rows, wanted) == so) & (other_is(alloc, &rows, wanted) == so)
         }
         None => false,
     }

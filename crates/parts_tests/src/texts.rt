@@ -6,48 +6,96 @@ use std::alloc::{AllocError, Global};
 /// Whether a text of these bytes and its copy are equal, and the copy shows the wanted ones.
 fn is_copied(alloc: Global, bytes: &str, wanted: &str) -> Result<bool, AllocError> {
     let text = Text::new(alloc, bytes)?;
-    let copy = text.copy(alloc)?;
-    Ok(copy == text && copy.as_str() == wanted)
+    let copied = match text.copy(alloc) {
+        Ok(copy) => {
+            let same = (copy == text) & (copy.as_str() == wanted);
+            drop(copy);
+            Ok(same)
+        }
+        Err(refused) => Err(refused),
+    };
+    drop(text);
+    copied
+}
+
+fn text_of(alloc: Global, text: &str) -> Result<Text, AllocError> {
+    Ok(Text::from(String::from_str(alloc, text)?))
 }
 
 /// Whether the texts of two strings are equal.
 fn are_equal(alloc: Global, left: &str, right: &str) -> Result<bool, AllocError> {
-    let left = Text::from(String::from_str(alloc, left)?);
-    let right = Text::from(String::from_str(alloc, right)?);
-    Ok(left == right)
+    let left = text_of(alloc, left)?;
+    let equal = match text_of(alloc, right) {
+        Ok(right) => {
+            let same = left == right;
+            drop(right);
+            Ok(same)
+        }
+        Err(refused) => Err(refused),
+    };
+    drop(left);
+    equal
 }
 
 /// Whether the text is printed so.
 fn is_printed(alloc: Global, bytes: &str, wanted: &str) -> Result<bool, AllocError> {
     let text = Text::new(alloc, bytes)?;
-    let printed = format!(in alloc; "<{text}>")?;
-    Ok(printed.as_str() == wanted)
+    let printed = match format!(in alloc; "<{text}>") {
+        Ok(printed) => {
+            let same = printed.as_str() == wanted;
+            drop(printed);
+            Ok(same)
+        }
+        Err(refused) => Err(refused),
+    };
+    drop(text);
+    printed
 }
 
 /// Whether the bytes and their copy are equal, and the copy shows the wanted ones.
 fn are_copied(alloc: Global, bytes: &[u8], wanted: &[u8]) -> Result<bool, AllocError> {
     let bytes = Bytes::from(Vec::from_slice(alloc, bytes)?);
-    let copy = bytes.copy(alloc)?;
-    Ok(copy == bytes && copy.as_slice() == wanted && copy.len() == wanted.len())
+    let copied = match bytes.copy(alloc) {
+        Ok(copy) => {
+            let same = (copy == bytes) & (copy.as_slice() == wanted) & (copy.len() == wanted.len());
+            drop(copy);
+            Ok(same)
+        }
+        Err(refused) => Err(refused),
+    };
+    drop(bytes);
+    copied
 }
 
 /// Whether the bytes are none, or are equal to others.
 fn are_same(alloc: Global, left: &[u8], right: &[u8]) -> Result<bool, AllocError> {
     let bytes = Bytes::new(alloc, left)?;
-    Ok(bytes.is_empty() || bytes == Bytes::new(alloc, right)?)
+    let same = match Bytes::new(alloc, right) {
+        Ok(other) => {
+            let same = bytes.is_empty() || bytes == other;
+            drop(other);
+            Ok(same)
+        }
+        Err(refused) => Err(refused),
+    };
+    drop(bytes);
+    same
 }
 
 /// Whether two items find memory. They are there then.
 fn take_two(items: &mut Items<u64>, first: u64, second: u64) -> bool {
-    items.push(first).is_ok() && items.push(second).is_ok()
+    items.push(first).is_ok() & items.push(second).is_ok()
 }
 
 /// Whether 7 and 9 in a row are equal to 7 and another.
 fn ends_in(alloc: Global, last: u64) -> Result<bool, AllocError> {
-    let mut items = Items::new(alloc);
-    let pushed = items.is_empty() && take_two(&mut items, 7, 9) && items.len() == 2;
     let other = Items::from(Vec::from_slice(alloc, &[7, last])?);
-    Ok(pushed && items == other && items.as_slice() == [7, last].as_slice())
+    let mut items = Items::new(alloc);
+    let pushed = items.is_empty() & take_two(&mut items, 7, 9) & (items.len() == 2);
+    let same = pushed & (items == other) & (items.as_slice() == [7, last].as_slice());
+    drop(items);
+    drop(other);
+    Ok(same)
 }
 
 /// Whether a text of at most four bytes and its copy are equal, and show its bytes, and it is equal to the other where
@@ -58,7 +106,7 @@ fn short_text_tells(left: &str, right: &str, equal: bool) -> bool {
     }
     let text: ShortText<4> = ShortText::new(left);
     let copy = text.copy();
-    copy == text && copy.as_str() == left && (copy == ShortText::new(right)) == equal
+    (copy == text) & (copy.as_str() == left) & ((copy == ShortText::new(right)) == equal)
 }
 
 /// Whether a short text is printed so.
@@ -78,7 +126,7 @@ fn short_bytes_tell(left: &[u8], right: &[u8], equal: bool) -> bool {
     }
     let bytes: ShortBytes<4> = ShortBytes::new(left);
     let copy = bytes.copy();
-    copy == bytes && copy.as_slice() == left && (copy == ShortBytes::new(right)) == equal
+    (copy == bytes) & (copy.as_slice() == left) & ((copy == ShortBytes::new(right)) == equal)
 }
 
 /// At most four bytes: these, up to so many of them.

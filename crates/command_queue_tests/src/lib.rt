@@ -1,5 +1,0 @@
-//! Tests of `command_queue`.
-#![tactic(auto)]
-
-#[cfg(test)]
-mod tests;

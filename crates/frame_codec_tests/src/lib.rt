@@ -1,5 +1,0 @@
-//! Tests of `frame_codec`.
-#![tactic(auto)]
-
-#[cfg(test)]
-mod tests;

@@ -1,5 +1,0 @@
-use Rattle.log_arena_tests.specs.Leases.{AllOf}
-use Rattle.log_arena_tests.proofs.churning.churn.Given as goal
-
-abbrev pub invariant-loop : goal.invariant-loop
-invariant-loop l = AllOf l.arena.home l.leases.items

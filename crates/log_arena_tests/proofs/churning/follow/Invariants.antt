@@ -1,5 +1,0 @@
-use Rattle.log_arena_tests.specs.Leases.{AllOf}
-use Rattle.log_arena_tests.proofs.churning.follow.Given as goal
-
-abbrev pub invariant-loop-choice : goal.invariant-loop-choice
-invariant-loop-choice l = AllOf l.arena.home l.leases.items
