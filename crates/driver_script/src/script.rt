@@ -673,6 +673,24 @@ fn take_steps<W: Target>(
     }
 }
 
+/// Takes the statements behind the head by a world that ends with them.
+fn take_all_steps<W: Target>(
+    alloc: Global,
+    names: &Names,
+    statements: &mut Statements<'_>,
+    world: World,
+    writer: &mut W,
+) -> Result<Ended, RunFault>
+    ensures whole { IfOk result (λ ended. WritesWhole names.now world (left statements.old) ended (W.contents writer.old) (W.contents writer.new)) }
+    ensures front { OnErr result (WritesFront names.now world (left statements.old) (W.contents writer.old) (W.contents writer.new)) }
+    ensures begun { IfErr result (OfAnswering W.may_fail) }
+{
+    let mut world = world;
+    let result = take_steps(alloc, names, statements, &mut world, writer);
+    drop(world);
+    result
+}
+
 /// Goes on from what the head came to.
 fn follow_head<W: Target>(
     alloc: Global,
@@ -688,7 +706,7 @@ fn follow_head<W: Target>(
     match head {
         Head::Ended => Ok(Ended::Done),
         Head::Refused(line) => write_bad_line(alloc, line, writer),
-        Head::Opened(mut world) => take_steps(alloc, names, statements, &mut world, writer),
+        Head::Opened(world) => take_all_steps(alloc, names, statements, world, writer),
     }
 }
 
