@@ -46,6 +46,16 @@ pub(crate) const UNPUBLISH_1: Deed = Deed::Command(&[
     0x02, 0, 0, 0, 1, 0, 0, 0, 0, 0, 0, 0, 11, 0, 0, 0, 0, 0, 0, 0, 1, 0, 0, 0, 0, 0, 0, 0,
 ]);
 
+/// REMOVE_PUBLICATION of client 1, for registration 2.
+pub(crate) const UNPUBLISH_2: Deed = Deed::Command(&[
+    0x02, 0, 0, 0, 1, 0, 0, 0, 0, 0, 0, 0, 11, 0, 0, 0, 0, 0, 0, 0, 2, 0, 0, 0, 0, 0, 0, 0,
+]);
+
+/// REMOVE_SUBSCRIPTION of client 1, for registration 1.
+pub(crate) const UNSUBSCRIBE_1: Deed = Deed::Command(&[
+    0x05, 0, 0, 0, 1, 0, 0, 0, 0, 0, 0, 0, 11, 0, 0, 0, 0, 0, 0, 0, 1, 0, 0, 0, 0, 0, 0, 0,
+]);
+
 /// CLIENT_KEEPALIVE of client 1.
 pub(crate) const KEEP_ALIVE: Deed = Deed::Command(&[
     0x06, 0, 0, 0, 1, 0, 0, 0, 0, 0, 0, 0, 11, 0, 0, 0, 0, 0, 0, 0,

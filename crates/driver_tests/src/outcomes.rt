@@ -1,6 +1,8 @@
 //! What events tell beside their replies: which logs they open and close, which pairs go and come, and what was decided.
 
-use crate::deeds::{Deed, KEEP_ALIVE, PUBLISH_ALONE, SUBSCRIBE, TERMINATE, event};
+use crate::deeds::{
+    Deed, KEEP_ALIVE, PUBLISH_ALONE, SUBSCRIBE, TERMINATE, UNPUBLISH_2, UNSUBSCRIBE_1, event,
+};
 use driver_core::{Entry, Event, Inputs, Outcome, Registry, Settings};
 use policy_core::{Act, Decision, Policy, Verdict};
 use std::alloc::{AllocError, Global};
@@ -241,10 +243,32 @@ fn come_to(alloc: Global, way: Way, rows: &[Row]) -> Result<bool, AllocError> {
     come_beside(alloc, &inputs, way, rows)
 }
 
+/// Whether the rows come about either way.
+fn come_both_ways(alloc: Global, rows: &[Row]) -> bool {
+    (come_to(alloc, Way::Event, rows) == Ok(true)) & (come_to(alloc, Way::Bytes, rows) == Ok(true))
+}
+
+/// What a client has goes again: its publication, which lingers and is read on, and then its subscription.
+static REMOVALS: [Row; 5] = [
+    ATTACHED,
+    (SUBSCRIBE, None, &[], &[], &[], &[SUBSCRIBED], &[]),
+    (
+        PUBLISH_ALONE,
+        Some(LOG),
+        &[],
+        &[],
+        &[PAIR],
+        &[PUBLISHED, IMAGE],
+        &[PAIR],
+    ),
+    (UNPUBLISH_2, None, &[], &[], &[], &[], &[PAIR]),
+    (UNSUBSCRIBE_1, None, &[], &[PAIR], &[], &[], &[]),
+];
+
 #[test]
 fn ample_memory(rt: HostRuntime) {
-    let by_events = come_to(rt.alloc(), Way::Event, &ROWS) == Ok(true);
-    assert!(rt; by_events & (come_to(rt.alloc(), Way::Bytes, &ROWS) == Ok(true)));
+    let come = come_both_ways(rt.alloc(), &ROWS);
+    assert!(rt; come & come_both_ways(rt.alloc(), &REMOVALS));
 }
 
 /// What another log, another pair, another decision and another list of pairs would be, where the client subscribes.
