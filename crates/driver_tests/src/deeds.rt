@@ -35,6 +35,12 @@ pub(crate) const SUBSCRIBE: Deed = Deed::Command(&[
     9, 0, 0, 0, 0x61, 0x65, 0x72, 0x6f, 0x6e, 0x3a, 0x69, 0x70, 0x63, // channel
 ]);
 
+/// ADD_PUBLICATION of client 1: `aeron:ipc`, stream 10.
+pub(crate) const PUBLISH: Deed = Deed::Command(&[
+    0x01, 0, 0, 0, 1, 0, 0, 0, 0, 0, 0, 0, 11, 0, 0, 0, 0, 0, 0, 0, 10, 0, 0, 0, //
+    9, 0, 0, 0, 0x61, 0x65, 0x72, 0x6f, 0x6e, 0x3a, 0x69, 0x70, 0x63,
+]);
+
 /// ADD_EXCLUSIVE_PUBLICATION of client 1: `aeron:ipc`, stream 10.
 pub(crate) const PUBLISH_ALONE: Deed = Deed::Command(&[
     0x03, 0, 0, 0, 1, 0, 0, 0, 0, 0, 0, 0, 11, 0, 0, 0, 0, 0, 0, 0, 10, 0, 0, 0, //

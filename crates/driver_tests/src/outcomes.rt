@@ -1,7 +1,8 @@
 //! What events tell beside their replies: which logs they open and close, which pairs go and come, and what was decided.
 
 use crate::deeds::{
-    Deed, KEEP_ALIVE, PUBLISH_ALONE, SUBSCRIBE, TERMINATE, UNPUBLISH_2, UNSUBSCRIBE_1, event,
+    Deed, KEEP_ALIVE, PUBLISH, PUBLISH_ALONE, SUBSCRIBE, TERMINATE, UNPUBLISH_2, UNSUBSCRIBE_1,
+    event,
 };
 use driver_core::{Entry, Event, Inputs, Outcome, Registry, Settings};
 use policy_core::{Act, Decision, Policy, Verdict};
@@ -41,6 +42,11 @@ const PUBLISHED: Decision = Decision {
         rule: None,
         epoch: 1,
     },
+};
+
+const SHARED: Decision = Decision {
+    act: Act::Publish,
+    ..PUBLISHED
 };
 
 const SUBSCRIBED: Decision = Decision {
@@ -253,12 +259,12 @@ static REMOVALS: [Row; 5] = [
     ATTACHED,
     (SUBSCRIBE, None, &[], &[], &[], &[SUBSCRIBED], &[]),
     (
-        PUBLISH_ALONE,
+        PUBLISH,
         Some(LOG),
         &[],
         &[],
         &[PAIR],
-        &[PUBLISHED, IMAGE],
+        &[SHARED, IMAGE],
         &[PAIR],
     ),
     (UNPUBLISH_2, None, &[], &[], &[], &[], &[PAIR]),
