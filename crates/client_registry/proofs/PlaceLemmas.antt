@@ -90,7 +90,7 @@ heard_nowhere number now low last rows d rises place =
 higher_at : (low last : ℕ) (rows : List Client) (at : ℕ) (d : Client) → Rises low last rows → at < length rows → low < (get_or rows at d).number
 higher_at low last rows at d rises within = above low last rows at (get_or rows at d) rises (slice_get-get_or rows at d within)
 
-place_here : (number low last : ℕ) (rows : List Client) (at : ℕ) (d : Client) → Rises low last rows → at < length rows → (get_or rows at d).number ≡ number →
+pub place_here : (number low last : ℕ) (rows : List Client) (at : ℕ) (d : Client) → Rises low last rows → at < length rows → (get_or rows at d).number ≡ number →
     Some at ≡ place_of number rows
 place_here number low last [] at d rises within is = absurd (omega (arith, within))
 place_here number low last (row ∷ rows) zero d rises within is =

@@ -1,6 +1,6 @@
 ghost use Rattle.client_registry.specs.Clients.{client_at, is_other};
 ghost use Rattle.client_registry.specs.Place.{place_of};
-ghost use Rattle.std.specs.Prelude.{◌≡◌, ◌<◌, IfOk, IfSome, OnOk, OnErr, length};
+ghost use Rattle.std.specs.Prelude.{◌≡◌, ◌<◌, IfOk, IfSome, OnOk, OnErr, Some, length};
 
 use crate::client::Client;
 use crate::error::AdmitError;
@@ -114,8 +114,36 @@ impl Clients {
         Ok(number)
     }
 
+    /// Where the client of this id stands if none of those between the first and it has gone.
+    #[inline]
+    fn place_unless_some_went(&self, number: u64) -> Option<usize>
+        ensures place { IfSome result (λ at. Some at ≡ place_of number self.now.rows) }
+        ensures within { IfSome result (λ at. at < length self.now.rows) }
+    {
+        let rows = self.rows.as_slice();
+        let first = rows.first()?.number;
+        let at = number.checked_sub(first)?;
+        if at < rows.len() as u64 && rows[at as usize].number == number {
+            Some(at as usize)
+        } else {
+            None
+        }
+    }
+
     /// Where the client of this id stands.
+    #[inline]
     fn place(&self, number: u64) -> Option<usize>
+        ensures place { result ≡ place_of number self.now.rows }
+        ensures within { IfSome result (λ at. at < length self.now.rows) }
+    {
+        match self.place_unless_some_went(number) {
+            Some(at) => Some(at),
+            None => self.place_by_halving(number),
+        }
+    }
+
+    /// Where the client of this id stands, looked for by halving.
+    fn place_by_halving(&self, number: u64) -> Option<usize>
         ensures place { result ≡ place_of number self.now.rows }
         ensures within { IfSome result (λ at. at < length self.now.rows) }
     {

@@ -5,7 +5,7 @@ use Rattle.client_registry.specs.Clients.{ClientList}
 use Rattle.client_registry.specs.Laws.{Rises}
 use Rattle.client_registry.specs.Place.{place_of}
 use Rattle.client_registry.proofs.PlaceLemmas.{searched}
-use Rattle.client_registry.proofs.clients.Clients.place.Goals as goal
+use Rattle.client_registry.proofs.clients.Clients.place_by_halving.Goals as goal
 
 pub returns-in-Ok-clause-place : goal.returns-in-Ok-clause-place
 returns-in-Ok-clause-place c =
