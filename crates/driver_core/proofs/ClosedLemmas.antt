@@ -8,7 +8,7 @@ use Rattle.driver_core.specs.Change.{Change}
 use Rattle.driver_core.specs.Pairs.{is_lacked_by, is_same_pair, lacking, pairs_of}
 use Rattle.driver_core.specs.Renewal.{come_to, gone_from}
 use Rattle.driver_core.specs.State.{State}
-use Rattle.driver_core.specs.Unread.{closed_from, is_closed, without_unread as without_unread_from}
+use Rattle.driver_core.specs.Unread.{are_all_read, closed_from, is_closed, without_unread as without_unread_from}
 use Rattle.driver_core.proofs.ListLemmas.{contains_none, left_was_there, only_one, passes_are_left}
 use Rattle.driver_core.specs.Kept.{AreRead}
 use Rattle.client_registry.specs.declared.client.Client.{Client}
@@ -195,6 +195,14 @@ none_closed pairs come logs none =
     ap (λ (all : List Pair). map place_of (filter (λ log. is_remote log && not (has_pair all log || has_pair come log)) logs)) (lack_none pairs)
     ∙ ap (map place_of) (none_closed_by pairs come logs none)
 
+-- so no log closes with an event that closes none by its own rule and takes no pair away
+nothing_closes : (s : State) (change : Change) (outcome : Outcome) → change.outcome ≡ outcome →
+    outcome.gone ≡ gone_from s change.after → outcome.come ≡ come_to s change.after → outcome.closes ≡ [] → outcome.gone ≡ [] →
+    filter (is_unread (pairs_of s)) s.streams.sources ≡ [] → [] ≡ closed_from s change
+nothing_closes s change outcome is gone come closes goes none =
+    rw (← closed_is s change outcome is gone come, closes, goes)
+    (sym (none_closed (pairs_of s) outcome.come s.streams.sources none))
+
 kept_step : (unread : Bool) (log : Source) (rest others logs : List Source) → cond unread (log ∷ rest) rest ≡ [] →
     (rest ≡ [] → others ≡ logs) → cond (not unread) (log ∷ others) others ≡ log ∷ logs
 kept_step true log rest others logs none step = absurd (cc none)
@@ -230,3 +238,10 @@ read_by s clients policy epoch none = record { all = none_mapped (filter (is_unr
 pub none_there : (numbers : List ℕ) → has_none numbers ≡ true → numbers ≡ []
 none_there [] none = refl
 none_there (number ∷ numbers) none = absurd (cc)
+
+pub none_closes : (s : State) (change : Change) (outcome : Outcome) → change.outcome ≡ outcome →
+    outcome.gone ≡ gone_from s change.after → outcome.come ≡ come_to s change.after → outcome.closes ≡ [] → outcome.gone ≡ [] →
+    are_all_read s ≡ true → outcome.closes ≡ closed_from s change
+none_closes s change outcome is gone come closes goes read =
+    closes ∙ nothing_closes s change outcome is gone come closes goes
+    (none_mapped (filter (is_unread (pairs_of s)) s.streams.sources) (none_there (unread_of s.streams (pairs_of s)) read))

@@ -3,10 +3,14 @@ use Rattle.std.specs.Prelude.{Bool, not, ◌||◌, List, map, filter}
 use Rattle.driver_core.specs.Change.{Change}
 use Rattle.driver_core.specs.Pairs.{pairs_of}
 use Rattle.driver_core.specs.State.{State}
-use Rattle.log_readers.specs.Unread.{is_left, is_unread, without_unread as without_unread_in}
+use Rattle.log_readers.specs.Unread.{has_none, is_left, is_unread, unread_of, without_unread as without_unread_in}
 use Rattle.stream_registry.specs.declared.lingering.LogPlace.{LogPlace}
 use Rattle.stream_registry.specs.declared.row.Source.{Source}
 use Rattle.stream_registry.specs.Lingering.{place_of}
+
+-- each image has a pair
+abbrev pub are_all_read : State → Bool
+are_all_read s = has_none (unread_of s.streams (pairs_of s))
 
 -- they are gone; a publication stays, read or not
 unfoldable pub without_unread : State → State

@@ -12,8 +12,9 @@ ghost use Rattle.driver_core.specs.Renewal.{outcome_kept};
 ghost use Rattle.driver_core.specs.Subscribing.{subscribe_on};
 ghost use Rattle.driver_core.specs.Taking.{outcome_finished, state_finished};
 ghost use Rattle.driver_core.specs.Told.{tells_answer};
+ghost use Rattle.driver_core.specs.Unread.{are_all_read};
 ghost use Rattle.driver_core.specs.declared.outcome.Response.TheVariants.{Nothing};
-ghost use Rattle.std.specs.Prelude.{◌≡◌, IfOk, Ok, OnErr, OnOk, is_some, true};
+ghost use Rattle.std.specs.Prelude.{◌≡◌, IfOk, Ok, OnErr, OnOk, is_some, false, true};
 
 use crate::asking::Asking;
 use crate::event::{Event, Inputs};
@@ -59,9 +60,13 @@ impl Registry {
     ) -> Result<Outcome, AllocError>
         requires sign { is_keepalive client (command_of bytes.now) ≡ true }
         requires there { is_some (client_at self.now.clients.rows client) ≡ true }
-        ensures { IfOk result (λ outcome. outcome ≡ outcome_of self.now (event_of now client bytes.now) inputs.now) }
+        ensures answer { IfOk result (λ outcome. outcome ≡ outcome_of self.now (event_of now client bytes.now) inputs.now) }
+        ensures without_memory { OnErr result (are_all_read self.now ≡ false) }
     {
         let mut outcome = nothing_told(alloc);
+        if self.are_all_read() {
+            return Ok(outcome);
+        }
         outcome.closes = self.closed(alloc, &outcome)?;
         Ok(outcome)
     }
@@ -93,6 +98,7 @@ impl Registry {
         ensures answer { IfOk result (λ outcome. outcome ≡ outcome_of self.old (event_of now client bytes.now) inputs.now) }
         ensures state { OnOk result (self.new ≡ state_after self.old (event_of now client bytes.now) inputs.now) }
         ensures err { OnErr result (self.new ≡ self.old) }
+        ensures without_memory { OnErr result (are_all_read self.old ≡ false) }
     {
         let outcome = self.outcome_of_alive(alloc, now, client, bytes, inputs)?;
         self.do_alive(now, client, bytes, inputs);
@@ -299,7 +305,8 @@ impl Registry {
     /// or goes: their bytes are read where they lie, and they are decided once.
     ///
     /// # Errors
-    /// Where there is no memory for the command or for what it tells, the registry stays as it was.
+    /// Where there is no memory for the command or for what it tells, the registry stays as it was. A sign of life of a client
+    /// that is there takes none where each image is read, as in every registry that events lead to.
     pub fn command(
         &mut self,
         alloc: Global,
@@ -311,6 +318,7 @@ impl Registry {
         ensures answer { IfOk result (λ outcome. outcome ≡ outcome_of self.old (event_of now client bytes.now) inputs.now) }
         ensures state { OnOk result (self.new ≡ state_after self.old (event_of now client bytes.now) inputs.now) }
         ensures err { OnErr result (self.new ≡ self.old) }
+        ensures without_memory { OnErr result (is_keepalive client (command_of bytes.now) ≡ true → is_some (client_at self.old.clients.rows client) ≡ true → are_all_read self.old ≡ false) }
     {
         if Command::is_keepalive(bytes, client) && self.clients.get(client).is_some() {
             return self.take_alive(alloc, now, client, bytes, inputs);

@@ -3,6 +3,7 @@ ghost use Rattle.std.specs.Prelude.{◌≡◌, ◌+◌, true, IfOk, OnOk, OnErr}
 use crate::entry::Entry;
 use crate::event::{Event, Inputs};
 use crate::outcome::Outcome;
+use crate::parts::both;
 use crate::peer::Peer;
 use crate::settings::Settings;
 use client_registry::Clients;
@@ -85,16 +86,26 @@ impl Registry {
             term_length: settings.term_length,
             linger: settings.linger,
         };
+        let parts = both(
+            Compiled::build(alloc, policy, 1)?,
+            Vec::from_slice(alloc, peers),
+        )?;
+        let parts = both(parts, Clients::new(alloc, settings.client_liveness))?;
+        let parts = both(parts, Streams::new(alloc, measures, settings.first_session))?;
+        let parts = both(parts, Readers::new(alloc))?;
+        let parts = both(parts, Destinations::new(alloc))?;
+        let (parts, counters) = both(parts, Counters::new(alloc))?;
+        let (((((compiled, peers), clients), streams), readers), destinations) = parts;
         Ok(Registry {
             settings,
-            peers: Vec::from_slice(alloc, peers)?,
-            compiled: Compiled::build(alloc, policy, 1)?,
+            peers,
+            compiled,
             moment: 0,
-            clients: Clients::new(alloc, settings.client_liveness)?,
-            streams: Streams::new(alloc, measures, settings.first_session)?,
-            readers: Readers::new(alloc)?,
-            destinations: Destinations::new(alloc)?,
-            counters: Counters::new(alloc)?,
+            clients,
+            streams,
+            readers,
+            destinations,
+            counters,
             last_number: 0,
             stopped: false,
             all_read: true,
@@ -106,16 +117,26 @@ impl Registry {
     pub fn copy(&self, alloc: Global) -> Result<Registry, AllocError>
         ensures { IfOk result (λ registry. registry ≡ self.now) }
     {
+        let parts = both(
+            self.compiled.copy(alloc)?,
+            Vec::from_slice(alloc, self.peers.as_slice()),
+        )?;
+        let parts = both(parts, self.clients.copy(alloc))?;
+        let parts = both(parts, self.streams.copy(alloc))?;
+        let parts = both(parts, self.readers.copy(alloc))?;
+        let parts = both(parts, self.destinations.copy(alloc))?;
+        let (parts, counters) = both(parts, self.counters.copy(alloc))?;
+        let (((((compiled, peers), clients), streams), readers), destinations) = parts;
         Ok(Registry {
             settings: self.settings,
-            peers: Vec::from_slice(alloc, self.peers.as_slice())?,
-            compiled: self.compiled.copy(alloc)?,
+            peers,
+            compiled,
             moment: self.moment,
-            clients: self.clients.copy(alloc)?,
-            streams: self.streams.copy(alloc)?,
-            readers: self.readers.copy(alloc)?,
-            destinations: self.destinations.copy(alloc)?,
-            counters: self.counters.copy(alloc)?,
+            clients,
+            streams,
+            readers,
+            destinations,
+            counters,
             last_number: self.last_number,
             stopped: self.stopped,
             all_read: self.all_read,

@@ -2,7 +2,7 @@
 
 ghost use Rattle.driver_core.specs.Change.{Change};
 ghost use Rattle.driver_core.specs.Renewal.{come_to, gone_from};
-ghost use Rattle.driver_core.specs.Unread.{closed_from, without_unread};
+ghost use Rattle.driver_core.specs.Unread.{are_all_read, closed_from, without_unread};
 ghost use Rattle.std.specs.Prelude.{◌≡◌, IfOk};
 
 use crate::outcome::Outcome;
@@ -12,6 +12,14 @@ use std::alloc::{AllocError, Global};
 use stream_registry::LogPlace;
 
 impl Registry {
+    /// Whether each image has a pair. It takes no memory.
+    #[inline(always)]
+    pub(crate) fn are_all_read(&self) -> bool
+        ensures { result ≡ are_all_read self.now }
+    {
+        self.all_read || self.readers.are_all_read(&self.streams)
+    }
+
     /// The logs that close with an event, by what its own rule tells: those that it closes, and the images of which no pair is
     /// left.
     #[inline(always)]

@@ -21,7 +21,9 @@ use crate::opening::{Opening, open_next, prepare};
 use crate::packets::{image_of, packet_request};
 use crate::told::{Came, Looked, Told};
 use decision_cache::Cache;
-use driver_core::{Address, Entry, Event, Peer, Registry, Settings, cached_verdicts_stay_right};
+use driver_core::{
+    Address, Entry, Event, Peer, Registry, Settings, both, cached_verdicts_stay_right,
+};
 use frame_codec::{BadPacket, Frames, Packet, Setup, frames_are_of_one_term, frames_are_told};
 use policy_core::Policy;
 use rows::Rows;
@@ -62,7 +64,9 @@ fn plan_for(
     ensures moves { IfOk result (λ entry. IsSound registry.now → MovesLogs registry.now (conduct registry.now event.now (inputs_held registry.now event.now logs.now))) }
 {
     let inputs = inputs_of(alloc, registry, event, logs)?;
-    registry.plan(alloc, event, &inputs)
+    let planned = registry.plan(alloc, event, &inputs);
+    drop(inputs);
+    planned
 }
 
 /// The logs follow an event that left this registry: the log that it opens is opened before those are closed that it
@@ -121,11 +125,17 @@ impl Driver {
         ensures { IfOk result (λ driver. StandsForEnd driver (opening_end settings policy peers.now)) }
     {
         cached_verdicts_stay_right();
+        let parts = both(
+            Registry::new(alloc, settings, policy, peers)?,
+            OpenLogs::new(alloc, settings.arena_pages as usize),
+        )?;
+        let parts = both(parts, Rows::new(alloc))?;
+        let (((registry, logs), room), caches) = both(parts, caches(alloc))?;
         Ok(Driver {
-            registry: Registry::new(alloc, settings, policy, peers)?,
-            logs: OpenLogs::new(alloc, settings.arena_pages as usize)?,
-            room: Rows::new(alloc)?,
-            caches: caches(alloc)?,
+            registry,
+            logs,
+            room,
+            caches,
         })
     }
 
@@ -154,7 +164,13 @@ impl Driver {
     {
         cached_verdicts_stay_right();
         let entry = plan_for(&self.registry, alloc, event, self.logs.as_slice())?;
-        let opening = prepare(&mut self.logs, alloc, event, entry.outcome.opens)?;
+        let opening = match prepare(&mut self.logs, alloc, event, entry.outcome.opens) {
+            Ok(opening) => opening,
+            Err(error) => {
+                drop(entry);
+                return Err(error);
+            }
+        };
         self.registry.apply(&entry);
         follow(
             &mut self.logs,

@@ -34,7 +34,7 @@ follow-requires-clause-opens c =
     let moves : MovesLogs s change =
     subst (λ (x : Change). MovesLogs s x) (sym is) (c.in_ok-entry.ensures.moves c.self.invariant.0.sound) in
     let matches : Match s c.prepare.new.logs = match_roomy s c.self.inside.logs c.prepare.new.logs c.prepare.ensures.same c.self.invariant.0 in
-    subst (λ (opens : Option LogPlace). CanOpen c.prepare.new.logs after c.args.event.now opens) (sym c.in_ok-opening.ensures.place)
+    subst (λ (opens : Option LogPlace). CanOpen c.prepare.new.logs after c.args.event.now opens) (sym c.in-Ok.ensures.place)
     (opens_fit s c.prepare.new.logs c.args.event.now change matches moves
     (subst (λ (x : Change). Brings c.args.event.now x) (sym is) (brings s c.args.event.now inputs c.self.invariant.0.sound)))
 
@@ -64,8 +64,8 @@ invariant_of-self-2 c =
     let matches : Match s c.prepare.new.logs = match_roomy s c.self.inside.logs c.prepare.new.logs c.prepare.ensures.same c.self.invariant.0 in
     let closes : c.as_slice-2.result.now ≡ change.outcome.closes = search rules in
     let follows : Follows c.prepare.new.logs c.follow.new.logs after change.outcome.opens change.outcome.closes =
-    followed c.prepare.new.logs c.follow.new.logs after change.outcome (place_of c.in_ok-opening.opening) c.as_slice-2.result.now
-    c.in_ok-opening.ensures.place closes c.follow.ensures in (
+    followed c.prepare.new.logs c.follow.new.logs after change.outcome (place_of c.in-Ok.opening) c.as_slice-2.result.now
+    c.in-Ok.ensures.place closes c.follow.ensures in (
       rw follows.left
           (matches_after s c.prepare.new.logs follows.opened change (pairs_of after) matches moves follows.opens),
       cached_later s after c.self.inside.caches.items
@@ -88,8 +88,8 @@ returns-clause-taken c =
     let matches : Match s c.prepare.new.logs = match_roomy s c.self.inside.logs c.prepare.new.logs c.prepare.ensures.same c.self.invariant.0 in
     let closes : c.as_slice-2.result.now ≡ change.outcome.closes = search rules in
     let follows : Follows c.prepare.new.logs c.follow.new.logs after change.outcome.opens change.outcome.closes =
-    followed c.prepare.new.logs c.follow.new.logs after change.outcome (place_of c.in_ok-opening.opening) c.as_slice-2.result.now
-    c.in_ok-opening.ensures.place closes c.follow.ensures in
+    followed c.prepare.new.logs c.follow.new.logs after change.outcome (place_of c.in-Ok.opening) c.as_slice-2.result.now
+    c.in-Ok.ensures.place closes c.follow.ensures in
     let same : c.prepare.new.logs.logs ≡ c.self.inside.logs.logs =
     logs_as_before c.self.inside.logs c.prepare.new.logs c.prepare.ensures.same in
     let told : inputs ≡ inputs_held s c.args.event.now c.prepare.new.logs.logs =
