@@ -53,7 +53,9 @@ fn retake(
     ensures { OnOk result (registry.new ≡ state_after registry.old kept.now inputs.now) }
 {
     let event = kept.event(alloc)?;
-    registry.step(alloc, &event, inputs)?;
+    let taken = registry.step(alloc, &event, inputs);
+    drop(event);
+    drop(taken?);
     Ok(())
 }
 
@@ -130,8 +132,13 @@ impl Registries {
         let mut shown = shown;
         while shown.number < k {
             let one = &self.taken[shown.number as usize];
-            retake(&mut shown.registry, alloc, &one.0, &one.1)?;
-            shown.number += 1;
+            match retake(&mut shown.registry, alloc, &one.0, &one.1) {
+                Ok(()) => shown.number += 1,
+                Err(error) => {
+                    drop(shown);
+                    return Err(error);
+                }
+            }
         }
         Ok(shown)
     }
@@ -144,6 +151,7 @@ impl Registries {
         match kept {
             Some(shown) => {
                 if k < shown.number {
+                    drop(shown);
                     return self.opening(alloc);
                 }
                 Ok(shown)
@@ -177,7 +185,7 @@ impl Registries {
             Some(at) => self.shown[at].1 = shown,
             None => match self.shown.reserve(1) {
                 Ok(()) => self.shown.push_reserved((actor, shown)),
-                Err(_) => {}
+                Err(_) => drop(shown),
             },
         }
     }

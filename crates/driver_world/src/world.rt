@@ -17,7 +17,7 @@ use crate::seats::{AllSeats, Seat};
 use audit_ring::Audit;
 use byte_strings::Items;
 use channel_uri::Address;
-use driver_core::{Entry, Event, Inputs, Outcome, Peer, Registry, Settings};
+use driver_core::{Entry, Event, Inputs, Outcome, Peer, Registry, Settings, both};
 use driver_steps::{Answer, Came, Driver, Step, Told};
 use frame_codec::{BadPacket, Datagram, Frames, Packet, Setup};
 use policy_core::Policy;
@@ -81,10 +81,11 @@ fn parts_of(entry: Entry) -> (Inputs, Outcome)
     ensures { result ≡ (entry.inputs, entry.outcome) }
 {
     let Entry {
+        event,
         inputs,
         outcome,
-        ..
     } = entry;
+    drop(event);
     (inputs, outcome)
 }
 
@@ -122,10 +123,12 @@ impl World {
         ensures { IfOk result (λ world. StandsForEnd world (opening_end settings policy peers.now)) }
     {
         let driver = Driver::new(alloc, settings, policy, peers)?;
-        let opened = driver.registry().copy(alloc)?;
+        let opened = driver.registry().copy(alloc);
+        let parts = both(driver, opened)?;
+        let ((driver, opened), audits) = both(parts, Audits::new(alloc))?;
         Ok(World {
             driver,
-            audits: Audits::new(alloc)?,
+            audits,
             past: Registries::new(alloc, opened),
             seats: AllSeats::new(alloc),
         })

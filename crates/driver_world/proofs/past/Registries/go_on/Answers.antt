@@ -16,7 +16,7 @@ loop-shown-preserved c =
     record {
       at = (
         omega (arith, within),
-        c.in_ok-retake.ensures
+        c.in-Ok.ensures
             ∙ ap (λ (s : State). state_after s one.0 one.1) (search rules ∙ c.loop-shown.invariant.at.1)
             ∙ sym next,
       );
