@@ -562,7 +562,9 @@ fn go_on_by_policy<W: Target>(
         Ok(policy) => {
             let step = Step::Conductor(Event::Reload { now: 0, policy });
             let reading = Reading::newest(step);
-            go_on_by_step(alloc, world, line, &reading, writer)
+            let result = go_on_by_step(alloc, world, line, &reading, writer);
+            drop(reading);
+            result
         }
         Err(fault) => go_on_by_refusal(alloc, fault, writer),
     }
@@ -639,7 +641,11 @@ fn take_step<W: Target>(
 {
     let Statement { line, said } = statement;
     match said {
-        Said::Does(reading) => go_on_by_step(alloc, world, line, &reading, writer),
+        Said::Does(reading) => {
+            let result = go_on_by_step(alloc, world, line, &reading, writer);
+            drop(reading);
+            result
+        }
         Said::Audit(actor) => go_on_by_audit(alloc, world, actor, writer),
         Said::Policy(text) => go_on_by_policy(alloc, names, world, line, text.as_str(), writer),
         Said::Principal { .. } => stop_at(alloc, line, writer),

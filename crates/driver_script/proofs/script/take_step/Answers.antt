@@ -3,11 +3,11 @@ use Rattle.driver_script.proofs.script.take_step.Goals as goal
 
 pub returns-in-Does-clause-ok : goal.returns-in-Does-clause-ok
 returns-in-Does-clause-ok g c =
-    step_taken c.go_on_by_step.result _ _ _ c.args.statement c.in-Does.reading _ _ c.in-Does.is c.go_on_by_step.ensures.ok
+    step_taken c.go_on_by_step-result.result _ _ _ c.args.statement c.in-Does.reading _ _ c.in-Does.is c.go_on_by_step-result.ensures.ok
 
 pub returns-in-Does-clause-err : goal.returns-in-Does-clause-err
 returns-in-Does-clause-err g c =
-    step_given_up c.go_on_by_step.result _ _ c.args.statement c.in-Does.reading _ _ c.in-Does.is c.go_on_by_step.ensures.err
+    step_given_up c.go_on_by_step-result.result _ _ c.args.statement c.in-Does.reading _ _ c.in-Does.is c.go_on_by_step-result.ensures.err
 
 pub returns-in-Audit-clause-ok : goal.returns-in-Audit-clause-ok
 returns-in-Audit-clause-ok g c =
