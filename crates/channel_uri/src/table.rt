@@ -1,11 +1,15 @@
 ghost use Rattle.channel_uri.specs.Keys.{put, value_at};
 ghost use Rattle.channel_uri.specs.Table.{IsIn, IsPlace, IsTable, nothing_stored, pair_in, place_of, placed};
+ghost use Rattle.std.specs.List.{AllByRecursion};
 ghost use Rattle.std.specs.Prelude.{◌≡◌, ◌+◌, ◌<◌, ◌≤◌, ◌++◌, length, map, option_copied, slice_index_or};
 
 use arrayvec::{ArrayString, ArrayVec};
 use std::cmp::Ordering;
 use std::marker::Model;
 use std::str;
+
+/// Among so many keys at most one is found sooner by going through them than by halving.
+const FEW: usize = 8;
 
 /// Where a key and its value stand, one behind the other.
 #[derive(Clone, Copy, Debug, Default)]
@@ -70,6 +74,20 @@ fn place(text: &str, spans: &[Span], key: &str) -> Result<usize, usize>
     Err(low)
 }
 
+/// The value of the key, which is compared with one key behind the other. Keys of other lengths are told apart at once.
+#[inline]
+fn first_of<'a>(text: &'a str, spans: &[Span], key: &str) -> Option<&'a str>
+    requires { AllByRecursion (IsIn text.now) spans.now }
+    ensures { option_copied result ≡ value_at key.now (map (pair_in text.now) spans.now) }
+{
+    for span in spans {
+        if key == key_in(text, *span) {
+            return Some(value_in(text, *span));
+        }
+    }
+    None
+}
+
 /// Puts a span at this place.
 fn write(spans: &mut ArrayVec<Span, 342>, place: Result<usize, usize>, span: Span)
     requires within { IsPlace place (length spans.old.items) }
@@ -123,6 +141,9 @@ impl Table {
     {
         let text = self.text.as_str();
         let spans = self.spans.as_slice();
+        if spans.len() <= FEW {
+            return first_of(text, spans, key);
+        }
         match place(text, spans, key) {
             Ok(at) => Some(value_in(text, spans[at])),
             Err(_) => None,
