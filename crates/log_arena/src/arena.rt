@@ -29,6 +29,21 @@ pub struct Arena {
     holes: Holes,
 }
 
+/// Pages of zeros. They are written a page at a time, which a build that optimizes nothing does a thousand times faster than
+/// a byte at a time.
+fn blank(alloc: Global, pages: usize) -> Result<Vec<u8>, NoMemory>
+    requires { pages ≤ 65536 }
+    ensures { IfOk result (λ bytes. bytes.len ≡ pages * 4096) }
+{
+    let mut bytes = Vec::with_capacity(alloc, pages * PAGE)?;
+    let mut page = 0;
+    while page < pages {
+        bytes.extend_from_slice(&[0u8; PAGE])?;
+        page += 1;
+    }
+    Ok(bytes)
+}
+
 impl Model for Arena {
     ghost use Rattle.log_arena.specs.Pages.{Region, region_code};
     ghost use Rattle.log_arena.specs.Spans.{IsArena, table};
@@ -49,7 +64,7 @@ impl Arena {
         ensures { IfOk result (λ a. (a.home.pages ≡ pages) × (a.leased ≡ replicate pages false)) }
     {
         let room = Holes::room_for(alloc, pages / 2 + 2)?;
-        let mut bytes = Vec::from_elem(alloc, 0u8, pages * PAGE)?;
+        let mut bytes = blank(alloc, pages)?;
         let base = bytes.as_mut_ptr();
         let (run, deed) = detach(bytes);
         let holes = Holes::whole(base, pages * PAGE, run, room);
