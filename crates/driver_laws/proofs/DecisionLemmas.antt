@@ -54,7 +54,8 @@ use Rattle.stream_registry.specs.declared.row.Subscription.{Subscription}
 use Rattle.stream_registry.specs.Leaving.{has_registration}
 use Rattle.stream_registry.specs.Pairs.{image_question}
 use Rattle.driver_core.proofs.CacheLemmas.{found_in}
-use Rattle.driver_core.proofs.EventCases.{add_counter_cases, attach_cases, publish_cases, reload_cases, remove_cases, set_up_cases, subscribe_cases, target_cases, target_heard, terminate_cases}
+use Rattle.driver_core.proofs.EventCases.{attach_cases, reload_cases, set_up_cases, target_cases, target_heard}
+use Rattle.driver_core.proofs.RuleCases.{add_counter_cases, publish_cases, remove_cases, subscribe_cases, terminate_cases}
 use Rattle.driver_core.proofs.VerdictLemmas.{by_policy}
 use Rattle.driver_laws.proofs.DenialLemmas.{asked_before}
 use Rattle.driver_laws.proofs.DroppingLemmas.{all_weaker, first_there, later_there}

@@ -55,7 +55,8 @@ use Rattle.stream_registry.specs.Pairs.{image_question}
 use Rattle.frame_codec.specs.declared.join.Join.{Join}
 use Rattle.frame_codec.specs.declared.setup.Setup.{Setup as SetupFrame}
 use Rattle.frame_codec.specs.Join.{join_of}
-use Rattle.driver_core.proofs.EventCases.{target_heard, Cases, IsPlain, attach_cases, command_cases, reload_cases}
+use Rattle.driver_core.proofs.EventCases.{target_heard, Cases, attach_cases, command_cases, reload_cases}
+use Rattle.driver_core.proofs.RuleCases.{IsPlain}
 use Rattle.driver_core.proofs.VerdictLemmas.{by_policy}
 use Rattle.driver_laws.proofs.DenialTextLemmas.{epoch_of, denial_words, denial_is_named}
 use Rattle.driver_laws.proofs.SettingUpLemmas.{denied_is, denied_to}

@@ -1,7 +1,7 @@
 -- In every registry each image is read; and which requests take none away.
 use Rattle.std.proofs.Common.{◌≡◌, ℕ, ◌+◌, ℤ, Bool, true, false, not, ◌&&◌, cond, List, [], ◌∷◌, map, refl, ap, ◌∙◌, ⊎_elim}
 use Rattle.std.specs.List.{Contains}
-use Rattle.std.proofs.lemmas.Bool.{cond_both}
+use Rattle.std.proofs.lemmas.Bool.{cond_both, not-true}
 use Rattle.std.proofs.lemmas.List.Elements.{Contains-append_cases, Contains-append_left, Contains-push_cases}
 use Rattle.driver_core.specs.declared.event.Event.{Event}
 use Rattle.driver_core.specs.declared.event.Inputs.{Inputs}
@@ -9,7 +9,7 @@ use Rattle.driver_core.specs.declared.peer.Peer.{Peer}
 use Rattle.driver_core.specs.declared.refusal.Refusal.{Refusal}
 use Rattle.driver_core.specs.declared.settings.Settings.{Settings}
 use Rattle.driver_core.specs.Commands.{heard, at_request}
-use Rattle.driver_core.specs.Conduct.{conduct, drafted, state_after}
+use Rattle.driver_core.specs.Conduct.{conduct, drafted, state_after, state_of}
 use Rattle.driver_core.specs.Counting.{add_counter, counted, remove_counter, set_counter, uncounted, valued, with_counter}
 use Rattle.driver_core.specs.Draft.{Draft, refused, replied, replied_opening, told}
 use Rattle.driver_core.specs.Pairs.{pairs_of}
@@ -18,9 +18,9 @@ use Rattle.driver_core.specs.Renewal.{renewed}
 use Rattle.driver_core.specs.State.{State, at_moment, opened}
 use Rattle.driver_core.specs.Subscribing.{subscribe, subscribed, with_subscription}
 use Rattle.driver_core.specs.Unpublishing.{remove_publication, unpublished}
-use Rattle.driver_core.specs.Unread.{dropping, without_unread}
+use Rattle.driver_core.specs.Unread.{are_all_read, dropping, without_unread}
 use Rattle.driver_laws.specs.Events.{AfterAnyEvents}
-use Rattle.driver_laws.specs.ImageLaws.{AreRead, ImagesAreRead, IsOfReader}
+use Rattle.driver_laws.specs.ImageLaws.{AreRead, ImagesAreRead, IsOfReader, NoImageIsUnread}
 use Rattle.driver_laws.specs.NumberLaws.{AreRising}
 use Rattle.channel_uri.specs.Channel.{Shape}
 use Rattle.client_registry.specs.declared.client.Client.{Client}
@@ -28,7 +28,8 @@ use Rattle.command_codec.specs.declared.add_counter.AddCounter.{AddCounter}
 use Rattle.command_codec.specs.declared.removal.Removal.{Removal}
 use Rattle.command_codec.specs.declared.set_counter.SetCounter.{SetCounter}
 use Rattle.counters.specs.Counters.{has}
-use Rattle.log_readers.specs.Unread.{has_pair as has_pair_of, is_kept, without_unread as without_unread_in}
+use Rattle.log_readers.specs.Numbering.{source_of}
+use Rattle.log_readers.specs.Unread.{has_none, has_pair as has_pair_of, is_kept, is_unread, without_unread as without_unread_in}
 use Rattle.policy_core.specs.declared.decision.Decision.{Decision}
 use Rattle.policy_core.specs.RuleList.{Rules}
 use Rattle.stream_registry.specs.declared.pairs.Pair.{Pair}
@@ -46,11 +47,11 @@ use Rattle.stream_registry.specs.Lingering.{is_used, left_alone, settled, settle
 use Rattle.stream_registry.specs.Origins.{is_published_by, left_by}
 use Rattle.stream_registry.specs.Pairs.{image_question}
 use Rattle.stream_registry.specs.Streams.{Streams}
-use Rattle.driver_core.proofs.EventCases.{add_counter_cases, publish_cases, subscribe_cases}
+use Rattle.driver_core.proofs.RuleCases.{add_counter_cases, publish_cases, subscribe_cases}
 use Rattle.driver_core.proofs.ListLemmas.{contains_none, only_one}
 use Rattle.driver_core.proofs.PairLemmas.{pairs_by, pairs_heard}
 use Rattle.driver_core.proofs.VerdictLemmas.{by_policy}
-use Rattle.driver_laws.proofs.DroppingLemmas.{AreKept, drops_nothing, first_there, later_there, pairs_stay, passes_test, still_kept}
+use Rattle.driver_laws.proofs.DroppingLemmas.{AreKept, drops_nothing, first_there, later_there, none_pass, pairs_stay, passes_test, still_kept}
 use Rattle.driver_laws.proofs.ImageLemmas.{has_pair, has_reader}
 use Rattle.driver_laws.proofs.NumberLemmas.{draft_rises, event_rises, opened_rises}
 use Rattle.driver_laws.proofs.EveryLemmas.{after_any}
@@ -82,6 +83,16 @@ both_hold =
 
 pub images_read : ImagesAreRead
 images_read settings policy peers events = (both_hold settings policy peers events).1
+
+none_unread : (s : State) → AreRead s → are_all_read s ≡ true
+none_unread s read =
+    ap (λ (logs : List Source). has_none (map source_of logs))
+    (none_pass (is_unread (pairs_of s)) s.streams.sources
+    (λ log has. not-true (is_unread (pairs_of s) log) (read log has)))
+
+pub no_image_unread : NoImageIsUnread
+no_image_unread settings policy peers events =
+    none_unread (state_of (opened settings policy peers) events) (images_read settings policy peers events)
 
 -- ---- where no image goes
 

@@ -6,6 +6,7 @@ use Rattle.driver_core.specs.Conduct.{conduct}
 use Rattle.driver_core.specs.Pairs.{pairs_of}
 use Rattle.driver_core.specs.Renewal.{gone_from, come_to}
 use Rattle.driver_core.specs.State.{State}
+use Rattle.driver_core.specs.Unread.{are_all_read}
 use Rattle.driver_core.specs.Verdicts.{IsByPolicy, verdict_on}
 use Rattle.driver_laws.specs.Events.{AfterAnyEvents}
 use Rattle.client_registry.specs.Clients.{principal_at}
@@ -57,3 +58,7 @@ AreRead s = (log : Source) → Contains s.streams.sources log → is_kept (pairs
 
 abbrev pub ImagesAreRead : Type 0
 ImagesAreRead = AfterAnyEvents AreRead
+
+-- the same, as it is asked of a registry before a keepalive that is to take no memory
+abbrev pub NoImageIsUnread : Type 0
+NoImageIsUnread = AfterAnyEvents (λ s. are_all_read s ≡ true)

@@ -11,7 +11,7 @@ ghost use Rattle.driver_laws.specs.DecisionLaws.{DecisionsAreByThePolicyInForce}
 ghost use Rattle.driver_laws.specs.DenialLaws.{DenialsAreNamed};
 ghost use Rattle.driver_laws.specs.DestinationLaws.{DestinationsAreGrantedExactly, DestinationsAreOfLivePublications};
 ghost use Rattle.driver_laws.specs.GrantLaws.{CountersAreGrantedExactly, TerminationsAreGrantedExactly, CountersAndTerminationsAreGrantedOnly};
-ghost use Rattle.driver_laws.specs.ImageLaws.{ImagesAreGrantedExactly, ImagesAreRead};
+ghost use Rattle.driver_laws.specs.ImageLaws.{ImagesAreGrantedExactly, ImagesAreRead, NoImageIsUnread};
 ghost use Rattle.driver_laws.specs.ImageTellingLaws.{ImagesAreToldExactly};
 ghost use Rattle.driver_laws.specs.LeavingLaws.{ClientsGoExactly, ClientsGoOnly, RowsGoWithTheirClient};
 ghost use Rattle.driver_laws.specs.LimitLaws.{LimitsAreKept, RoomIsLeftBelowTheLimits};
@@ -74,6 +74,11 @@ pub fn images_are_granted_exactly()
 /// In every registry each image is read by some subscription.
 pub fn images_are_read()
     ensures { ImagesAreRead }
+{}
+
+/// In every registry no image is unread, so a keepalive of a client that is there takes no memory (`Registry::command`).
+pub fn no_image_is_unread()
+    ensures { NoImageIsUnread }
 {}
 
 /// In every registry no two images are of one endpoint, session and stream, so that a search by these finds the only one.

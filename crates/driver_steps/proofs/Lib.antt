@@ -14,6 +14,7 @@ pub mod ImageLemmas
 pub mod LiveLemmas
 pub mod MatchLemmas
 pub mod MoveLemmas
+pub mod OwnedLemmas
 pub mod PacketLemmas
 pub mod QuietLemmas
 pub mod ReadLemmas
