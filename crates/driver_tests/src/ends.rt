@@ -1,3 +1,5 @@
+ghost use Rattle.std.specs.Prelude.{◌≡◌, []};
+
 use std::alloc::Global;
 use std::io;
 use std::io::{Read, Write};
@@ -32,7 +34,9 @@ pub struct Choppy {
 }
 
 impl Choppy {
-    pub fn new(alloc: Global, room: usize, fails: bool) -> Choppy {
+    pub fn new(alloc: Global, room: usize, fails: bool) -> Choppy
+        ensures { (result.taken.items ≡ []) × (result.room ≡ room) × (result.fails ≡ fails) }
+    {
         Choppy {
             taken: Vec::new(alloc),
             room,
