@@ -22,7 +22,6 @@ use Rattle.script_lines.specs.declared.statements.Statement.{Statement}
 use Rattle.driver_script.specs.Output.{AppendsFront}
 use Rattle.policy_core.specs.RuleList.{Rules}
 use Rattle.policy_text.specs.declared.fault.PolicyFault.{PolicyFault}
-use Rattle.policy_text.specs.declared.fault.PolicyFault.TheVariants as text
 use Rattle.policy_text.specs.Document.{policy_of}
 use Rattle.policy_text.specs.Fault.{Fails}
 use Rattle.policy_text.specs.Names.{Known}
