@@ -8,7 +8,7 @@ static LENGTHS: [usize; 12] = [0, 1, 31, 32, 33, 1375, 1376, 1377, 2752, 5000, 8
 
 /// Offers `rounds` messages, each until it is taken, while the sender follows. Whether each answer was that of the plain
 /// list, for which there was memory.
-pub fn fill(alloc: Global, log: &mut TermLog, plain: &mut Plain, rounds: u32) -> bool {
+pub(crate) fn fill(alloc: Global, log: &mut TermLog, plain: &mut Plain, rounds: u32) -> bool {
     let mut same = true;
     let mut word: u64 = 1;
     for _ in 0..rounds {
@@ -41,7 +41,7 @@ fn next(word: u64) -> u64 {
 }
 
 /// The sender sends all there is.
-pub fn follow(log: &mut TermLog) {
+pub(crate) fn follow(log: &mut TermLog) {
     let _ = log.sender_position();
     let tail = log.tail();
     log.sent(tail);
@@ -74,7 +74,7 @@ fn offer(log: &mut TermLog, plain: &mut Plain, message: &[u8]) -> bool {
 }
 
 /// Whether these bytes of a log's lease are the last three terms of all, each in its buffer, and zeros behind the tail.
-pub fn is_held(bytes: &[u8], plain: &Plain) -> bool {
+pub(crate) fn is_held(bytes: &[u8], plain: &Plain) -> bool {
     let newest = plain.tail() / 65_536;
     let mut same = true;
     for (place, byte) in bytes.iter().enumerate() {

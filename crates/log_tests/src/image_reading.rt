@@ -8,7 +8,7 @@ use image_log::{ImageFrame, ImageLog, Insert};
 
 /// A subscription reads the log from now on. The answer is its position.
 #[tactic(auto, unfolding(image_log::specs::Rebuilt::settled))]
-pub fn join(log: &mut ImageLog, subscription: u64) -> u64
+pub(crate) fn join(log: &mut ImageLog, subscription: u64) -> u64
     requires { length log.old.rebuilt.pairs < 512 }
     ensures { length log.new.rebuilt.pairs ≡ length log.old.rebuilt.pairs + 1 }
 {
@@ -16,7 +16,7 @@ pub fn join(log: &mut ImageLog, subscription: u64) -> u64
 }
 
 /// A subscription reads up to a position. False where it does not read the log, or must not read so far or back.
-pub fn read_to(log: &mut ImageLog, subscription: u64, position: u64) -> bool {
+pub(crate) fn read_to(log: &mut ImageLog, subscription: u64, position: u64) -> bool {
     match log.pair_position(subscription) {
         Some(at) if at <= position && position <= log.contiguous() && log.is_start(position) => {
             log.advance(subscription, position);
@@ -28,7 +28,7 @@ pub fn read_to(log: &mut ImageLog, subscription: u64, position: u64) -> bool {
 
 /// Hands in frames of 64 bytes from the contiguous position on, at most `count`, until it is `end`; the subscription
 /// reads each. Whether each was taken.
-pub fn fill(log: &mut ImageLog, subscription: u64, end: u64, count: u32) -> bool {
+pub(crate) fn fill(log: &mut ImageLog, subscription: u64, end: u64, count: u32) -> bool {
     let mut taken = true;
     for _ in 0..count {
         let position = log.contiguous();
@@ -42,7 +42,7 @@ pub fn fill(log: &mut ImageLog, subscription: u64, end: u64, count: u32) -> bool
 }
 
 /// Whether so many frames are read from a position on, the last of which ends at `end`.
-pub fn reads(log: &ImageLog, position: u64, bytes: usize, count: u64, end: u64) -> bool {
+pub(crate) fn reads(log: &ImageLog, position: u64, bytes: usize, count: u64, end: u64) -> bool {
     if position > log.contiguous() {
         return false;
     }
@@ -56,7 +56,7 @@ pub fn reads(log: &ImageLog, position: u64, bytes: usize, count: u64, end: u64) 
 }
 
 /// Whether a poll of a subscription would give fragments that end at these positions, each with 32 bytes of 7.
-pub fn gives(log: &ImageLog, subscription: u64, limit: usize, ends: &[u64]) -> bool {
+pub(crate) fn gives(log: &ImageLog, subscription: u64, limit: usize, ends: &[u64]) -> bool {
     let mut same = true;
     let mut count: usize = 0;
     for fragment in log.fragments(subscription, limit) {
@@ -69,7 +69,7 @@ pub fn gives(log: &ImageLog, subscription: u64, limit: usize, ends: &[u64]) -> b
 }
 
 /// Polls, and says whether that gave fragments that end at these positions and left the subscription at a position.
-pub fn polls(
+pub(crate) fn polls(
     log: &mut ImageLog,
     subscription: u64,
     limit: usize,
@@ -86,7 +86,7 @@ const PORTION: usize = 4096;
 
 /// Reads one portion of what is whole, from the base on, and moves the subscription and the table's base behind it.
 /// Whether it was what the table has there.
-pub fn read_portion(log: &mut ImageLog, table: &mut Table, subscription: u64) -> bool {
+pub(crate) fn read_portion(log: &mut ImageLog, table: &mut Table, subscription: u64) -> bool {
     match portion(log, table) {
         Some(position) => {
             table.base = position;

@@ -5,18 +5,18 @@ use std::alloc::Global;
 
 /// A frame of a log.
 #[derive(Clone, Copy, Debug)]
-pub struct Row {
-    pub position: u64,
+pub(crate) struct Row {
+    pub(crate) position: u64,
     /// What its header says: of a data frame header and payload, of a pad all that it covers.
-    pub length: u32,
-    pub flags: u8,
+    pub(crate) length: u32,
+    pub(crate) flags: u8,
     /// 0 of a pad, 1 of a data frame.
-    pub kind: u8,
+    pub(crate) kind: u8,
 }
 
 impl Row {
     /// How many bytes of it are sent.
-    pub fn sent_size(&self) -> u64 {
+    pub(crate) fn sent_size(&self) -> u64 {
         if self.kind == 0 {
             return 32;
         }
@@ -27,13 +27,13 @@ impl Row {
 /// All frames of a log, and their bytes. The log starts at position 0, of session 7 and stream 1001, with terms of 64 KiB from
 /// id 5 on and an MTU of 1408.
 #[derive(Drop)]
-pub struct Plain {
-    pub bytes: Vec<u8>,
-    pub rows: Vec<Row>,
+pub(crate) struct Plain {
+    pub(crate) bytes: Vec<u8>,
+    pub(crate) rows: Vec<Row>,
 }
 
 impl Plain {
-    pub fn new(alloc: Global) -> Plain {
+    pub(crate) fn new(alloc: Global) -> Plain {
         Plain {
             bytes: Vec::new(alloc),
             rows: Vec::new(alloc),
@@ -41,7 +41,7 @@ impl Plain {
     }
 
     /// The position behind the last frame.
-    pub fn tail(&self) -> u64 {
+    pub(crate) fn tail(&self) -> u64 {
         self.bytes.len() as u64
     }
 
@@ -88,7 +88,7 @@ impl Plain {
     }
 
     /// A message, cut into frames of at most 1376 bytes each.
-    pub fn put_message(&mut self, message: &[u8]) -> bool {
+    pub(crate) fn put_message(&mut self, message: &[u8]) -> bool {
         let mut put = true;
         let mut flags = 0x80;
         let last = message.len().saturating_sub(1) / 1376;
@@ -102,7 +102,7 @@ impl Plain {
     }
 
     /// A pad up to the end of the term.
-    pub fn put_pad(&mut self) -> bool {
+    pub(crate) fn put_pad(&mut self) -> bool {
         let over = (self.bytes.len() % 65_536) as u32;
         self.put_header(65_536u32.wrapping_sub(over), 0xC0, 0) && self.put_filling(65_536)
     }

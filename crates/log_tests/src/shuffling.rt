@@ -12,7 +12,7 @@ use std::alloc::Global;
 /// Hands in a data frame of 64 bytes, whose payload is one byte over and over. None where the log's stream has no such
 /// frame.
 #[tactic(auto, unfolding(image_log::specs::Rebuilt::after_insert))]
-pub fn hand_in(log: &mut ImageLog, position: u64, fill: u8) -> Option<Insert>
+pub(crate) fn hand_in(log: &mut ImageLog, position: u64, fill: u8) -> Option<Insert>
     ensures pairs { log.new.rebuilt.pairs ≡ log.old.rebuilt.pairs }
 {
     let ident = log.ident();
@@ -54,7 +54,7 @@ fn open_in(alloc: Global, arena: &mut Arena, ident: Ident, join: u64) -> Result<
 }
 
 /// A log of three terms of 64 KiB, in an arena of its own, which its lease outlives. `NoRoom` where there is no memory.
-pub fn open(alloc: Global, ident: Ident, join: u64) -> Result<ImageLog, NoRoom>
+pub(crate) fn open(alloc: Global, ident: Ident, join: u64) -> Result<ImageLog, NoRoom>
     requires terms { ident.term_length ≡ 65536 }
     requires join { (join % 32 ≡ 0) × (join < 65536) }
     ensures pairs { IfOk result (λ log. log.rebuilt.pairs ≡ []) }
@@ -82,7 +82,7 @@ fn open_in_room(
 }
 
 /// As [`open`], with all memory taken first.
-pub fn open_later(alloc: Global, ident: Ident, join: u64) -> Result<ImageLog, NoRoom>
+pub(crate) fn open_later(alloc: Global, ident: Ident, join: u64) -> Result<ImageLog, NoRoom>
     requires terms { ident.term_length ≡ 65536 }
     requires join { (join % 32 ≡ 0) × (join < 65536) }
     ensures pairs { IfOk result (λ log. log.rebuilt.pairs ≡ []) }
@@ -98,7 +98,12 @@ pub fn open_later(alloc: Global, ident: Ident, join: u64) -> Result<ImageLog, No
 
 /// Hands in a frame as a cell of the table says: a data frame with a payload of 32 bytes or none, or a pad. A forged one
 /// is of another session. None where the log's stream has no such frame.
-pub fn hand_in_cell(log: &mut ImageLog, position: u64, cell: Cell, forged: bool) -> Option<Insert> {
+pub(crate) fn hand_in_cell(
+    log: &mut ImageLog,
+    position: u64,
+    cell: Cell,
+    forged: bool,
+) -> Option<Insert> {
     let ident = log.ident();
     let mut place = place_of(&ident, position)?;
     if forged {
@@ -136,7 +141,7 @@ fn lay_out(out: &mut [u8; 64], place: &TermPlace, cell: Cell) -> usize
 
 /// Hands in `steps` frames, and says whether each answer, and what the log tells behind it, were those of the table,
 /// and each answer was given a good many times; nothing without memory. Subscription 1 reads the log all the while.
-pub fn agree(alloc: Global, log: &mut ImageLog, steps: u32) -> Option<bool> {
+pub(crate) fn agree(alloc: Global, log: &mut ImageLog, steps: u32) -> Option<bool> {
     match Table::new(alloc, 16_384) {
         Ok(mut table) => Some(go_on(log, &mut table, steps) && table.has_seen_all()),
         Err(_) => None,
@@ -145,7 +150,7 @@ pub fn agree(alloc: Global, log: &mut ImageLog, steps: u32) -> Option<bool> {
 
 /// Hands in `steps` frames, and says whether each answer, and what the log tells behind it, were those of the table.
 /// Subscription 1 reads the log all the while.
-pub fn go_on(log: &mut ImageLog, table: &mut Table, steps: u32) -> bool {
+pub(crate) fn go_on(log: &mut ImageLog, table: &mut Table, steps: u32) -> bool {
     let mut word: u64 = 1;
     let mut same = true;
     for _ in 0..steps {

@@ -6,14 +6,14 @@ use image_log::Insert;
 use std::alloc::{AllocError, Global};
 
 /// The positions of a term.
-pub const TERM: u64 = 65_536;
+pub(crate) const TERM: u64 = 65_536;
 
 /// How far above the base frames may begin.
 const WINDOW: u64 = 32_768;
 
 /// What stands at 32 positions.
 #[derive(Clone, Copy, Debug, PartialEq, Eq)]
-pub enum Cell {
+pub(crate) enum Cell {
     /// Nothing.
     Free,
     /// A data frame without a payload.
@@ -28,7 +28,7 @@ pub enum Cell {
 
 impl Cell {
     /// How many positions a frame takes that begins here.
-    pub fn span(self) -> u64
+    pub(crate) fn span(self) -> u64
         ensures { result ≤ 64 }
     {
         match self {
@@ -39,7 +39,7 @@ impl Cell {
     }
 
     /// A frame that looks random.
-    pub fn chosen(choice: u64) -> Cell {
+    pub(crate) fn chosen(choice: u64) -> Cell {
         match choice % 8 {
             0..=2 => Cell::Short,
             3 => Cell::Pad,
@@ -59,20 +59,20 @@ struct Seen {
 }
 
 #[derive(Debug, Drop)]
-pub struct Table {
+pub(crate) struct Table {
     cells: Vec<Cell>,
     seen: Seen,
     /// The position up to which all is read.
-    pub base: u64,
+    pub(crate) base: u64,
     /// The position up to which all is there.
-    pub contiguous: u64,
+    pub(crate) contiguous: u64,
     /// The greatest position heard of.
     greatest: u64,
 }
 
 impl Table {
     /// So many cells, all of them free.
-    pub fn new(alloc: Global, cells: usize) -> Result<Table, AllocError> {
+    pub(crate) fn new(alloc: Global, cells: usize) -> Result<Table, AllocError> {
         Ok(Table {
             cells: Vec::from_elem(alloc, Cell::Free, cells)?,
             seen: Seen {
@@ -89,7 +89,7 @@ impl Table {
     }
 
     /// What stands at a position.
-    pub fn cell(&self, position: u64) -> Cell {
+    pub(crate) fn cell(&self, position: u64) -> Cell {
         match self.cells.get((position / 32) as usize) {
             Some(cell) => *cell,
             None => Cell::Free,
@@ -110,7 +110,7 @@ impl Table {
 
     /// A position that looks random: mostly where the stream goes on, else some way before or behind that, or about the
     /// window's end.
-    pub fn chosen_position(&self, choice: u64) -> u64 {
+    pub(crate) fn chosen_position(&self, choice: u64) -> u64 {
         let way = choice / 16 % 32 * 32;
         match choice % 16 {
             0..=9 => self.contiguous,
@@ -141,7 +141,7 @@ impl Table {
     }
 
     /// Hands in a frame.
-    pub fn insert(&mut self, position: u64, cell: Cell) -> Insert {
+    pub(crate) fn insert(&mut self, position: u64, cell: Cell) -> Insert {
         let answer = self.answer(position, cell);
         self.count(answer);
         if let Insert::Taken = answer {
@@ -177,7 +177,7 @@ impl Table {
     }
 
     /// Whether each answer was given a good many times, and the base came into the third term.
-    pub fn has_seen_all(&self) -> bool {
+    pub(crate) fn has_seen_all(&self) -> bool {
         let seen = self.seen;
         seen.taken > 1000
             && seen.repeat > 50
@@ -200,7 +200,7 @@ impl Table {
     }
 
     /// Whether that is what is missing next.
-    pub fn has_gap(&self, gap: Option<(u64, u32)>) -> bool {
+    pub(crate) fn has_gap(&self, gap: Option<(u64, u32)>) -> bool {
         let end = self.next().min(self.reach());
         match gap {
             None => end <= self.contiguous,

@@ -36,7 +36,7 @@ fn ends(plain: &Plain, first: usize, row: usize, left: u64) -> bool {
 }
 
 /// Whether the frames that the log gives from a row of the list on are the rows that it has to give.
-pub fn gives_rows(log: &TermLog, plain: &Plain, first: usize, budget: u64) -> bool {
+pub(crate) fn gives_rows(log: &TermLog, plain: &Plain, first: usize, budget: u64) -> bool {
     let position = match plain.rows.get(first) {
         Some(row) => row.position,
         None => plain.tail(),
@@ -65,7 +65,7 @@ pub fn gives_rows(log: &TermLog, plain: &Plain, first: usize, budget: u64) -> bo
 }
 
 /// Whether the log gives the rows that it has to from each of its frames on, for a budget.
-pub fn gives_all(log: &TermLog, plain: &Plain, budget: u64) -> bool {
+pub(crate) fn gives_all(log: &TermLog, plain: &Plain, budget: u64) -> bool {
     let low = log.low();
     let mut same = true;
     for (index, row) in plain.rows.as_slice().iter().enumerate() {
@@ -77,7 +77,7 @@ pub fn gives_all(log: &TermLog, plain: &Plain, budget: u64) -> bool {
 }
 
 /// Whether the frames begin at these positions.
-pub fn begin_at(frames: FramesOver<'_>, wanted: &[u64]) -> bool {
+pub(crate) fn begin_at(frames: FramesOver<'_>, wanted: &[u64]) -> bool {
     let mut count = 0usize;
     let mut same = true;
     for frame in frames {
