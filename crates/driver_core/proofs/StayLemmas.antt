@@ -18,6 +18,7 @@ use Rattle.driver_core.specs.declared.directing.Target.{Target}
 use Rattle.driver_core.specs.Counting.{counted, with_counter, valued, uncounted}
 use Rattle.driver_core.specs.Draft.{answered, told, replied, replied_opening, refused}
 use Rattle.driver_core.specs.Leaving.{left, all_left}
+use Rattle.driver_core.specs.Looking.{IsSameOrNewer}
 use Rattle.driver_core.specs.Publishing.{published, with_directed_publication, with_publication}
 use Rattle.driver_core.specs.Reloading.{in_force, reloaded}
 use Rattle.driver_core.specs.Renewal.{renewed}
@@ -55,10 +56,6 @@ pub record WasLog (logs : List Source) (log : Source) : Type 0 where
   pub stood : Contains logs before
   pub source_is : before.number ≡ log.number
   pub stream_is : before.stream ≡ log.stream
-
--- the policy is the one before under its number, or has a higher number
-abbrev pub IsSameOrNewer : State → State → Type 0
-IsSameOrNewer s after = ((after.policy ≡ s.policy) × (after.epoch ≡ s.epoch)) ⊎ (s.epoch < after.epoch)
 
 pub record Stays (s after : State) : Type 0 where
   pub last : s.last_number ≤ after.last_number

@@ -16,6 +16,7 @@ pub mod Leaving
 pub mod LeftOut
 pub mod Listing
 pub mod LogRequests
+pub mod Looking
 pub mod Pairs
 pub mod PublicationRequests
 pub mod Publishing

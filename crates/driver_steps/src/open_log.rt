@@ -1,5 +1,5 @@
 ghost use Rattle.any_log.specs.declared.any_log.AnyLog.TheVariants.{Term, Image as ImageOf};
-ghost use Rattle.any_log.specs.Held.{joined_held, left_held, messages_held, pairs_held, place_held, reach_held, rejoined_held};
+ghost use Rattle.any_log.specs.Held.{is_silent_held, joined_held, left_held, messages_held, pairs_held, place_held, reach_held, rejoined_held};
 ghost use Rattle.any_log.specs.Whole.{Carries, Counts, HasWhole, StandsFor, joined, left, rebuilt, rejoined, whole};
 ghost use Rattle.driver_steps.specs.Held.{LiesAsBefore};
 ghost use Rattle.driver_steps.specs.Idents.{heard_at};
@@ -120,6 +120,13 @@ impl OpenLog {
         ensures { result ≡ reach_held self.now.log }
     {
         self.log.reach()
+    }
+
+    /// Whether it is the log of a remote stream whose sender was not heard for longer than `limit` nanoseconds.
+    pub fn is_silent(&self, now: u64, limit: u64) -> bool
+        ensures { result ≡ is_silent_held self.now.log now limit }
+    {
+        self.log.is_silent(now, limit)
     }
 
     /// How many messages were appended: none to the log of a remote stream.

@@ -1,0 +1,4 @@
+pub mod CountLemmas
+pub mod MoveCounts
+pub mod SlotLemmas
+pub mod WholeCounts

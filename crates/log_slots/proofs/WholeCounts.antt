@@ -1,0 +1,98 @@
+-- How many messages a log has taken: only an offer that answers a position adds one, whatever the log stands for.
+use Rattle.std.proofs.Common.{◌≡◌, ℕ, ◌+◌, Bool, true, false, List, [], ◌∷◌, ◌++◌, Option, Some, None, refl, ap, ◌∙◌, arith}
+use Rattle.std.specs.Prelude.{if◌then◌else◌}
+use Rattle.log_slots.proofs.CountLemmas.{cut_begins, messages-append}
+use Rattle.any_log.specs.Asking.{after_status}
+use Rattle.any_log.specs.Reporting.{after_report}
+use Rattle.any_log.specs.Sending.{after_turn}
+use Rattle.any_log.specs.Whole.{AnyWhole, whole, rebuilt, beaten, messages_in, polled, received}
+use Rattle.frame_codec.specs.declared.header.TermPlace.{TermPlace}
+use Rattle.frame_codec.specs.declared.status_message.StatusMessage.{StatusMessage}
+use Rattle.frame_codec.specs.Frame.{Sent}
+use Rattle.image_receiver.specs.Receiver.{Receiving}
+use Rattle.log_pairs.specs.Pairs.{position_of}
+use Rattle.publication_sender.specs.declared.cutting.DatagramKind.{DatagramKind}
+use Rattle.publication_sender.specs.declared.cutting.DatagramKind.TheVariants as kinds
+use Rattle.publication_sender.specs.declared.cutting.Pace.{Pace}
+use Rattle.publication_sender.specs.Cutting.{after_due, cut_of, due_of}
+use Rattle.publication_sender.specs.Hearing.{heard_of}
+use Rattle.term_log.specs.declared.offer.Offer.{Offer}
+use Rattle.term_log.specs.declared.offer.Offer.TheVariants.{At, TooLong, MaxPosition, BackPressured, AdminAction}
+use Rattle.term_log.specs.Frames.{messages_of, pad}
+use Rattle.term_log.specs.Cut.{cut}
+use Rattle.term_log.specs.Ident.{payload_length}
+use Rattle.term_log.specs.Log.{appended_at, rest_at}
+use Rattle.term_log.specs.SenderSteps.{datagram_cut, sent_on, sent_to, setup_cut}
+use Rattle.term_log.specs.Whole.{Whole, answer_to, offered, tail_of, polled as term_polled, polled_from}
+
+-- ---- a poll
+
+polled_from_keeps : (w : Whole) (subscription limit : ℕ) (at : Option ℕ) → (polled_from w subscription limit at).after.frames ≡ w.frames
+polled_from_keeps w subscription limit None = refl
+polled_from_keeps w subscription limit (Some at) = refl
+
+pub polled_keeps : (w : AnyWhole) (subscription limit : ℕ) → messages_in (polled w subscription limit).after ≡ messages_in w
+unfolding term_polled
+polled_keeps (whole w) subscription limit = ap messages_of (polled_from_keeps w subscription limit (position_of w.pairs subscription))
+polled_keeps (rebuilt r) subscription limit = refl
+
+-- ---- what comes
+
+pub received_keeps : (w : AnyWhole) (now : ℕ) (frames : List Sent) → messages_in (received now frames w) ≡ messages_in w
+received_keeps (whole w) now frames = refl
+received_keeps (rebuilt r) now frames = refl
+
+pub beaten_keeps : (w : AnyWhole) (now : ℕ) (place : TermPlace) → messages_in (beaten now place w) ≡ messages_in w
+beaten_keeps (whole w) now place = refl
+beaten_keeps (rebuilt r) now place = refl
+
+pub status_keeps : (w : AnyWhole) (now : ℕ) (message : StatusMessage) → messages_in (after_status now message w) ≡ messages_in w
+unfolding heard_of
+status_keeps (whole w) now message = refl
+status_keeps (rebuilt r) now message = refl
+
+pub report_keeps : (w : AnyWhole) (now : ℕ) (receiver : Receiving) → messages_in (after_report now receiver w) ≡ messages_in w
+report_keeps (whole w) now receiver = refl
+report_keeps (rebuilt r) now receiver = refl
+
+-- ---- a turn of the sender
+
+due_keeps : (w : Whole) (now : ℕ) (due : Option DatagramKind) → (after_due now w due).frames ≡ w.frames
+unfolding datagram_cut sent_on sent_to setup_cut
+due_keeps w now None = refl
+due_keeps w now (Some kinds.Setup) = refl
+due_keeps w now (Some kinds.Frames) = refl
+due_keeps w now (Some kinds.Heartbeat) = refl
+
+turn_by : (w : Whole) (pace : Pace) (now : ℕ) (sends : Bool) → messages_in (if sends then whole (cut_of pace now w) else whole w) ≡ messages_in (whole w)
+unfolding cut_of
+turn_by w pace now true = ap messages_of (due_keeps w now (due_of pace now w))
+turn_by w pace now false = refl
+
+pub turn_keeps : (w : AnyWhole) (pace : Pace) (now : ℕ) → messages_in (after_turn pace now w) ≡ messages_in w
+turn_keeps (whole w) pace now = turn_by w pace now _
+turn_keeps (rebuilt r) pace now = refl
+
+-- ---- an offer
+
+abbrev pub counted : Offer → ℕ
+counted (At position) = 1
+counted TooLong = 0
+counted MaxPosition = 0
+counted BackPressured = 0
+counted AdminAction = 0
+
+appended_counts : (w : Whole) (answer : Offer) (tail : ℕ) (message : List ℕ) →
+    messages_of (w.frames ++ appended_at answer w.ident tail message) ≡ messages_of w.frames + counted answer
+appended_counts w (At position) tail message =
+    let one = cut_begins (payload_length w.ident) message in
+    messages-append w.frames (cut (payload_length w.ident) message) ∙ omega (arith, one)
+appended_counts w TooLong tail message = messages-append w.frames []
+appended_counts w MaxPosition tail message = messages-append w.frames []
+appended_counts w BackPressured tail message = messages-append w.frames []
+appended_counts w AdminAction tail message = messages-append w.frames (pad (rest_at w.ident tail) ∷ [])
+
+-- the log is offered the message: it has one message more where it answers a position
+pub offered_counts : (w : Whole) (message : List ℕ) → messages_of (offered w message).frames ≡ messages_of w.frames + counted (answer_to w message)
+unfolding offered
+offered_counts w message = appended_counts w (answer_to w message) (tail_of w) message

@@ -1,0 +1,22 @@
+//! What lies behind the lock of a slot for logs, and the ledgers of the messages that logs took.
+//!
+//! A [`LogSlot`] keeps the number of the log that is there, or was there last. Each step names the log that it is for, and
+//! finds it closed where the slot has none, or another one. A [`Slot`] is one for the log of a publication, with its share
+//! of a ledger: how many messages its logs have taken, that which is open and those that were closed in it.
+#![tactic(auto)]
+
+mod log_slot;
+mod naming;
+mod opening;
+mod region;
+mod settling;
+mod slot;
+mod totals;
+
+pub use log_slot::LogSlot;
+pub use naming::{Naming, OfClients, OfSlots};
+pub use opening::{ImageMemory, LogMemory, memory_for, open_log};
+pub use region::Region;
+pub use settling::settle_all;
+pub use slot::Slot;
+pub use totals::{Counts, Late, Totals};

@@ -1,0 +1,6 @@
+use Rattle.media_agents.proofs.TurnLemmas.{Going}
+use Rattle.media_agents.proofs.turning.take_all.Given as goal
+
+abbrev pub invariant-loop-taken : goal.invariant-loop-taken
+invariant-loop-taken g l =
+    Going l.fn.taker l.taker (g.C.Conducts.history l.fn.conductor) (g.C.Conducts.history l.conductor) l.misses l._taken

@@ -1,0 +1,51 @@
+//! What is left to do once an entry was committed. It is taken from the entry before, since that takes memory.
+
+ghost use Rattle.std.specs.Prelude.{◌≡◌, IfOk};
+
+use crate::slots::LogAt;
+use byte_strings::Items;
+use driver_core::{Message, Outcome, Registry};
+use std::alloc::{AllocError, Global};
+use stream_registry::{LogPlace, Pair};
+
+/// What is left to do.
+#[derive(Drop)]
+pub(crate) struct Aftermath {
+    pub(crate) opens: Option<LogPlace>,
+    pub(crate) closes: Items<LogAt>,
+    pub(crate) gone: Items<Pair>,
+    pub(crate) replies: Items<Message>,
+}
+
+/// Where the logs are that close.
+fn closing(
+    alloc: Global,
+    registry: &Registry,
+    closes: &[LogPlace],
+) -> Result<Items<LogAt>, AllocError> {
+    let mut logs = Items::new(alloc);
+    for place in closes {
+        if let Some(row) = registry.source(place.source) {
+            logs.push(LogAt::of(row))?;
+        }
+    }
+    Ok(logs)
+}
+
+impl Aftermath {
+    /// That of the outcome, where the registry is still the one before.
+    pub(crate) fn of(
+        alloc: Global,
+        registry: &Registry,
+        outcome: &Outcome,
+    ) -> Result<Aftermath, AllocError>
+        ensures { IfOk result (λ aftermath. aftermath.replies ≡ outcome.now.replies) }
+    {
+        Ok(Aftermath {
+            opens: outcome.opens,
+            closes: closing(alloc, registry, outcome.closes.as_slice())?,
+            gone: Items::from(Vec::from_slice(alloc, outcome.gone.as_slice())?),
+            replies: Items::from(Vec::from_slice(alloc, outcome.replies.as_slice())?),
+        })
+    }
+}

@@ -1,0 +1,56 @@
+ghost use Rattle.std.specs.Prelude.{◌≡◌, ◌++◌, ◌∷◌, [], List, MatchBool, ◌≤◌};
+ghost use Rattle.media_agents.specs.Turns.{TakesAll, Turned};
+
+use command_queue::Taker;
+use std::sync::Wait;
+
+/// How many events a turn takes at most.
+const MOST: u32 = 1024;
+
+/// Whoever makes entries of events.
+pub trait Conducts<E> {
+    /// The events of the entries so far.
+    ghost history: { Self → List E };
+
+    /// Makes an entry of an event, and says whether it did: not where it was refused memory.
+    fn conduct<R: Wait>(&mut self, rt: &R, event: E) -> bool
+        ensures { MatchBool result (history self.new ≡ history self.old ++ event ∷ []) (history self.new ≡ history self.old) };
+}
+
+/// Takes the events that lie in the queue.
+fn take_all<E: Drop, C: Conducts<E>, R: Wait>(
+    rt: &R,
+    taker: &mut Taker<E>,
+    conductor: &mut C,
+) -> u32
+    ensures all { TakesAll taker.old taker.new (C.history conductor.old) (C.history conductor.new) result }
+    ensures few { result ≤ 1024 }
+{
+    let mut misses = 0;
+    for _taken in 0..MOST {
+        let Some(event) = taker.pop(rt) else {
+            return misses;
+        };
+        if !conductor.conduct(rt, event) {
+            misses += 1;
+        }
+    }
+    misses
+}
+
+/// A turn.
+pub fn turn<E: Drop, C: Conducts<E>, R: Wait>(
+    rt: &R,
+    taker: &mut Taker<E>,
+    conductor: &mut C,
+    tick: E,
+) -> u32
+    ensures { Turned taker.old taker.new tick (C.history conductor.old) (C.history conductor.new) result }
+{
+    let misses = take_all(rt, taker, conductor);
+    if conductor.conduct(rt, tick) {
+        misses
+    } else {
+        misses + 1
+    }
+}

@@ -1,0 +1,6 @@
+pub mod Counting
+pub mod Flights
+pub mod Orders
+pub mod Places
+pub mod Sources
+pub mod Trying

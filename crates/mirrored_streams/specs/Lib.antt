@@ -1,0 +1,4 @@
+pub mod Line
+pub mod LineLaws
+pub mod Mirror
+pub mod Sending

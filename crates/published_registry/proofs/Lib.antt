@@ -1,0 +1,5 @@
+mod Adding
+mod Fronts
+mod Later
+mod Moves
+mod Steps

@@ -1,0 +1,464 @@
+-- All frames of a publication are those that its log had when it was last there; and the promise, of two worlds.
+use Rattle.std.proofs.Common.{◌≡◌, ℕ, ◌==◌, ◌<◌, ◌≤◌, Bool, true, false, cond, take, drop, List, [], ◌∷◌, ◌++◌, Option, Some, None, refl, sym, ap, ◌∙◌, subst, arith}
+use Rattle.std.specs.List.{All}
+use Rattle.std.proofs.lemmas.List.{append-nil, take-append-drop}
+use Rattle.std.proofs.lemmas.List.Elements.{All-nil, All-cons, All-head, All-tail}
+use Rattle.any_log.specs.Whole.{AnyWhole, whole, rebuilt}
+use Rattle.driver_core.specs.declared.event.Event.{Event}
+use Rattle.driver_core.specs.declared.event.Inputs.{Inputs}
+use Rattle.driver_core.specs.Conduct.{state_of}
+use Rattle.driver_core.specs.Soundness.{AreSettings}
+use Rattle.driver_core.specs.State.{State, opened}
+use Rattle.driver_laws.specs.NumberLaws.{AreRising}
+use Rattle.driver_laws.proofs.NumberLemmas.{opened_rises}
+use Rattle.driver_steps.specs.declared.answer.Answer.{Answer}
+use Rattle.driver_steps.specs.declared.answer.Answer.TheVariants.{NoMemory}
+use Rattle.driver_steps.specs.declared.step.Step.{Step}
+use Rattle.driver_steps.specs.Ends.{RunEnd, log_at, opening_end}
+use Rattle.driver_steps.specs.Moves.{WholeLog}
+use Rattle.driver_steps.specs.Runs.{Reading as DriverReading, AreAnswers, IsAnswerTo, end_of, left_by, read_by}
+use Rattle.driver_steps.proofs.EndLemmas.{opening_is, state_of_both}
+use Rattle.driver_steps.proofs.FollowLemmas.{Follows, ends_follow}
+use Rattle.driver_steps.proofs.LiveLemmas.{found_log}
+use Rattle.driver_world.specs.declared.actor.Actor.{Actor}
+use Rattle.driver_world.specs.declared.actor.Actor.TheVariants.{Client, Conductor, Receiver, Sender}
+use Rattle.driver_world.specs.declared.reading.Reading.{Reading}
+use Rattle.driver_world.specs.Ends.{RunEnd as WorldEnd, Moved, after, after_by, bad, moved_as, opening_end as world_opening}
+use Rattle.driver_world.specs.Views.{Past, actor_of, is_out, newest_of, registry_at, seat_of, view_or}
+use Rattle.driver_world.proofs.RunLemmas.{IsNewest, goes_as}
+use Rattle.mirrored_streams.specs.Line.{IsLine, line_of}
+use Rattle.mirrored_streams.specs.Sending.{IsFit, IsWell}
+use Rattle.mirrored_streams.proofs.ReadingLemmas.{line_is}
+use Rattle.term_log.specs.declared.ident.Ident.{Ident}
+use Rattle.term_log.specs.Frames.{Frame}
+use Rattle.term_log.specs.Whole.{Whole}
+use Rattle.two_drivers.specs.Publication.{AreSole, HasPair, IsSole, IsSoleOf, SecondGivesARunOfThePublication, firsts_after, frames_in, last_seen, later_of, seen, seen_in}
+use Rattle.two_drivers.proofs.AskedLemmas.{asked}
+use Rattle.two_drivers.proofs.FitLemmas.{fit_of}
+use Rattle.two_drivers.proofs.LaterLemmas.{IsLater, IsMore, left_later, more_later, stays_there}
+use Rattle.two_drivers.proofs.NumberLemmas.{IsPast, are_found, drawn_at, left_draws, past_on}
+use Rattle.two_drivers.proofs.PairLemmas.{pair_read}
+use Rattle.two_drivers.proofs.PromiseLemmas.{named_second, reads_of}
+use Rattle.two_worlds.specs.Drivers.{Opening}
+use Rattle.two_worlds.specs.Sent.{IsFitLog, IsPart}
+use Rattle.two_worlds.specs.Worlds.{AreAnswersOfBoth, AtEach, IsAnswerToBoth, ReadsThere, TwoEnds, WorldStep, after_both, after_second, comes, end_of_both, first_takes, opening_both, second_takes, step_of_second}
+use Rattle.two_worlds.proofs.DriversLemmas.{Holds, reached_follows}
+use Rattle.two_worlds.proofs.GivenLemmas.{answers_push, end_push}
+use Rattle.two_worlds.proofs.SentLemmas.{IsAsked, IsOverUdp, OverUdp, WellLog, opening_well, step_sends, step_well}
+use Rattle.two_worlds.proofs.WorldLemmas.{AreSentGood, IsSeen, SendsGood, an_older, both_held, both_opened, drivers_of, run_held, stayed, the_newest, went, went_sends, world_sends, world_went}
+
+-- ---- ends of a driver, one behind the other
+
+-- at the end of some run, with what holds there
+record IsEnd (opening : Opening) (e : RunEnd) : Type 0 where
+  readings : List DriverReading
+  answers : List Answer
+  are : AreAnswers (opening_end opening.settings opening.policy opening.peers) readings answers
+  is : e ≡ end_of (opening_end opening.settings opening.policy opening.peers) readings answers
+  rises : AreRising e.registry
+  well : All WellLog e.logs
+
+data IsNext (e next : RunEnd) : Type 0 where
+  same_end : next ≡ e → IsNext e next
+  one_step : (reading : DriverReading) (answer : Answer) → IsAnswerTo e reading answer → next ≡ left_by e reading answer → IsNext e next
+
+abbrev AreNext : RunEnd → List RunEnd → Type 0
+AreNext e [] = Unit {0}
+AreNext e (next ∷ later) = IsNext e next × AreNext next later
+
+end_left : (opening : Opening) (e : RunEnd) (reading : DriverReading) (answer : Answer) → IsEnd opening e → IsAnswerTo e reading answer →
+    IsEnd opening (left_by e reading answer)
+end_left opening e reading answer end answered =
+    let first : RunEnd = opening_end opening.settings opening.policy opening.peers in
+    record {
+      readings = end.readings ++ reading ∷ [];
+      answers = end.answers ++ answer ∷ [];
+      are = answers_push first end.readings end.answers reading answer end.are (subst (λ (x : RunEnd). IsAnswerTo x reading answer) end.is answered);
+      is = ap (λ (x : RunEnd). left_by x reading answer) end.is ∙ sym (end_push first end.readings end.answers reading answer end.are);
+      rises = (left_draws e reading answer end.rises).rises;
+      well = step_well e reading answer end.well;
+    }
+
+next_end : (opening : Opening) (e next : RunEnd) → IsEnd opening e → IsNext e next → IsEnd opening next
+next_end opening e next end (same_end is) = subst (IsEnd opening) (sym is) end
+next_end opening e next end (one_step reading answer answered is) =
+    subst (IsEnd opening) (sym is) (end_left opening e reading answer end answered)
+
+end_follows : (opening : Opening) (e : RunEnd) → AreSettings opening.settings → IsEnd opening e → Follows e
+end_follows opening e sound end =
+    subst Follows (sym end.is) (ends_follow opening.settings opening.policy opening.peers end.readings end.answers sound end.are)
+
+-- ---- what was last seen
+
+-- a number that went is not seen again
+past_next : (opening : Opening) (n : ℕ) (e next : RunEnd) → AreSettings opening.settings → IsEnd opening e → IsNext e next → IsPast n e → IsPast n next
+past_next opening n e next sound end (same_end is) past = subst (IsPast n) (sym is) past
+past_next opening n e next sound end (one_step reading answer answered is) past =
+    subst (IsPast n) (sym is)
+    (past_on n e (left_by e reading answer) (end_follows opening e sound end)
+    (end_follows opening (left_by e reading answer) sound (end_left opening e reading answer end answered)) (left_draws e reading answer end.rises) past)
+
+past_seen : (opening : Opening) (n : ℕ) (e : RunEnd) (later : List RunEnd) → AreSettings opening.settings → IsEnd opening e → AreNext e later →
+    IsPast n e → last_seen n later ≡ None
+past_seen opening n e [] sound end next past = refl
+past_seen opening n e (one ∷ later) sound end next past =
+    let there = past_next opening n e one sound end next.0 past in
+    ap (λ (o : Option Whole). later_of (seen n one) o) (past_seen opening n one later sound (next_end opening e one end next.0) next.1 there)
+    ∙ ap seen_in there.gone
+
+-- the log is later on what it was, and more
+next_later : (opening : Opening) (n : ℕ) (e next : RunEnd) (log new : WholeLog) → AreSettings opening.settings → IsEnd opening e → IsNext e next →
+    log_at e.logs n ≡ Some log → log_at next.logs n ≡ Some new → IsLater log.whole new.whole
+next_later opening n e next log new sound end (same_end is) live found =
+    stays_there n log e.logs live new (sym (ap (λ (x : RunEnd). log_at x.logs n) is) ∙ found)
+next_later opening n e next log new sound end (one_step reading answer answered is) live found =
+    left_later n log new e reading answer live (are_found e (end_follows opening e sound end) end.rises)
+    (sym (ap (λ (x : RunEnd). log_at x.logs n) is) ∙ found)
+
+later_whole : (w : Whole) (a : AnyWhole) → IsLater (whole w) a → (v : Whole) × (a ≡ whole v) × IsMore w v
+later_whole w (whole v) more = (v, refl, more)
+later_whole w (rebuilt r) more = absurd more
+
+seen_whole : (n : ℕ) (e : RunEnd) (log : WholeLog) (w : Whole) → log_at e.logs n ≡ Some log → log.whole ≡ whole w → seen n e ≡ Some w
+seen_whole n e log w live is = ap seen_in live ∙ ap frames_in is
+
+last_by : (w v last : Whole) (o : Option Whole) → IsMore w v → ((x : Whole) → o ≡ Some x → IsMore v x) → later_of (Some v) o ≡ Some last → IsMore w last
+last_by w v last None more rest is = let same : v ≡ last = cc is in subst (IsMore w) same more
+last_by w v last (Some x) more rest is = let same : x ≡ last = cc is in subst (IsMore w) same (more_later w v x more (rest x refl))
+
+-- at the next end it is there, or went
+data IsStillThere (n : ℕ) (w : Whole) (next : RunEnd) : Type 0 where
+  went_away : log_at next.logs n ≡ None → IsStillThere n w next
+  still_there : (log : WholeLog) (v : Whole) → log_at next.logs n ≡ Some log → log.whole ≡ whole v → IsMore w v → IsStillThere n w next
+
+there_by : (opening : Opening) (n : ℕ) (e next : RunEnd) (log : WholeLog) (w : Whole) (o : Option WholeLog) → AreSettings opening.settings →
+    IsEnd opening e → IsNext e next → log_at e.logs n ≡ Some log → log.whole ≡ whole w → log_at next.logs n ≡ o → IsStillThere n w next
+there_by opening n e next log w None sound end one live is found = went_away found
+there_by opening n e next log w (Some new) sound end one live is found =
+    let more = later_whole w new.whole
+    (subst (λ (a : AnyWhole). IsLater a new.whole) is (next_later opening n e next log new sound end one live found)) in
+    still_there new more.0 found more.1 more.2
+
+-- the number that was drawn last does not fall
+low_on : (opening : Opening) (n : ℕ) (e next : RunEnd) → IsEnd opening e → IsNext e next → n ≤ e.registry.last_number → n ≤ next.registry.last_number
+low_on opening n e next end (same_end is) low = subst (λ (x : RunEnd). n ≤ x.registry.last_number) (sym is) low
+low_on opening n e next end (one_step reading answer answered is) low =
+    let up = (left_draws e reading answer end.rises).last in
+    subst (λ (x : RunEnd). n ≤ x.registry.last_number) (sym is) (omega (arith, up, low))
+
+lasts : (opening : Opening) (n : ℕ) (e : RunEnd) (later : List RunEnd) (log : WholeLog) (w last : Whole) → AreSettings opening.settings →
+    IsEnd opening e → AreNext e later → log_at e.logs n ≡ Some log → log.whole ≡ whole w → last_seen n later ≡ Some last → IsMore w last
+lasts opening n e [] log w last sound end next live is seen' = absurd (cc seen')
+lasts opening n e (one ∷ later) log w last sound end next live is seen' =
+    let there = there_by opening n e one log w (log_at one.logs n) sound end next.0 live is refl in
+    let end' = next_end opening e one end next.0 in
+    elim there [
+      | went_away none ↦
+          (let past : IsPast n one = (record {
+            drawn = (let low = drawn_at n log e (end_follows opening e sound end) end.rises live in low_on opening n e one end next.0 low);
+            gone = none;
+          }) in
+          let nothing : last_seen n (one ∷ later) ≡ None =
+          ap (λ (o : Option Whole). later_of (seen n one) o) (past_seen opening n one later sound end' next.1 past) ∙ ap seen_in none in
+          absurd (cc (sym nothing ∙ seen')))
+      | still_there new v found whole' more ↦
+          last_by w v last (last_seen n later) more
+          (λ x is'. lasts opening n one later new v x sound end' next.1 found whole' is')
+          (ap (λ (o : Option Whole). later_of o (last_seen n later)) (sym (seen_whole n one new v found whole')) ∙ seen')
+    ]
+
+-- ---- all its frames
+
+-- if anything is last seen it is that
+abbrev IsAllOf : Ident → List Frame → ℕ → List RunEnd → Type 0
+IsAllOf i all n ends = (last : Whole) → last_seen n ends ≡ Some last → (last.ident ≡ i) × (last.frames ≡ all)
+
+all_behind : (i : Ident) (all : List Frame) (n : ℕ) (e : RunEnd) (later : List RunEnd) → IsAllOf i all n (e ∷ later) → IsAllOf i all n later
+all_behind i all n e later is last found = is last (ap (later_of (seen n e)) found)
+
+part_by : (opening : Opening) (i : Ident) (all : List Frame) (n : ℕ) (e : RunEnd) (later : List RunEnd) (log : WholeLog) (w : Whole) (o : Option Whole) →
+    AreSettings opening.settings → IsEnd opening e → AreNext e later → IsAllOf i all n (e ∷ later) → log_at e.logs n ≡ Some log → log.whole ≡ whole w →
+    last_seen n later ≡ o → IsPart i all w
+part_by opening i all n e later log w None sound end next is live whole' found =
+    let this = is w (ap (λ (o : Option Whole). later_of (seen n e) o) found ∙ seen_whole n e log w live whole') in
+    record { ident = this.0; later = []; frames = sym this.1 ∙ sym (append-nil w.frames) }
+part_by opening i all n e later log w (Some last) sound end next is live whole' found =
+    let this = is last (ap (λ (o : Option Whole). later_of (seen n e) o) found) in
+    let more = lasts opening n e later log w last sound end next live whole' found in
+    record { ident = sym more.ident ∙ this.0; later = more.more; frames = sym this.1 ∙ more.frames }
+
+only_by : (opening : Opening) (i : Ident) (all : List Frame) (n : ℕ) (e : RunEnd) (later : List RunEnd) (log : WholeLog) (a : AnyWhole) →
+    AreSettings opening.settings → IsEnd opening e → AreNext e later → IsAllOf i all n (e ∷ later) → log_at e.logs log.source ≡ Some log → log.whole ≡ a →
+    IsSoleOf i n log.source a → OverUdp i all a
+only_by opening i all n e later log (whole w) sound end next is live whole' sole = λ udp session stream.
+    (let number = sole udp session stream in
+    part_by opening i all n e later log w (last_seen n later) sound end next is (ap (log_at e.logs) (sym number) ∙ live) whole' refl)
+only_by opening i all n e later log (rebuilt r) sound end next is live whole' sole = tt
+
+all_both : (P Q R : WholeLog → Type 0) (logs : List WholeLog) → ((log : WholeLog) → P log → Q log → R log) → All P logs → All Q logs → All R logs
+all_both P Q R [] both ps qs = All-nil R
+all_both P Q R (log ∷ logs) both ps qs =
+    All-cons R log logs (both log (All-head P log logs ps) (All-head Q log logs qs))
+    (all_both P Q R logs both (All-tail P log logs ps) (All-tail Q log logs qs))
+
+end_only : (opening : Opening) (i : Ident) (all : List Frame) (n : ℕ) (e : RunEnd) (later : List RunEnd) → AreSettings opening.settings →
+    IsEnd opening e → AreNext e later → IsAllOf i all n (e ∷ later) → AreSole i n e → All (IsOverUdp i all) e.logs
+end_only opening i all n e later sound end next is sole =
+    all_both (λ (log : WholeLog). log_at e.logs log.source ≡ Some log) (IsSole i n) (IsOverUdp i all) e.logs
+    (λ log live one. record {
+      only = only_by opening i all n e later log log.whole sound end next is live refl one.sole;
+      fit = fit_of log.source e log (end_follows opening e sound end) live one.numbers;
+    })
+    (are_found e (end_follows opening e sound end) end.rises) sole
+
+ends_only : (opening : Opening) (i : Ident) (all : List Frame) (n : ℕ) (e : RunEnd) (later : List RunEnd) → AreSettings opening.settings →
+    IsEnd opening e → AreNext e later → IsAllOf i all n (e ∷ later) → All (AreSole i n) (e ∷ later) →
+    All (λ (end : RunEnd). All (IsOverUdp i all) end.logs) (e ∷ later)
+ends_only opening i all n e [] sound end next is sole =
+    All-cons (λ (x : RunEnd). All (IsOverUdp i all) x.logs) e []
+    (end_only opening i all n e [] sound end next is (All-head (AreSole i n) e [] sole)) (All-nil (λ (x : RunEnd). All (IsOverUdp i all) x.logs))
+ends_only opening i all n e (one ∷ later) sound end next is sole =
+    All-cons (λ (x : RunEnd). All (IsOverUdp i all) x.logs) e (one ∷ later)
+    (end_only opening i all n e (one ∷ later) sound end next is (All-head (AreSole i n) e (one ∷ later) sole))
+    (ends_only opening i all n one later sound (next_end opening e one end next.0) next.1 (all_behind i all n e (one ∷ later) is)
+    (All-tail (AreSole i n) e (one ∷ later) sole))
+
+-- ---- what was last seen is sound
+
+abbrev IsSoundWhole : Whole → Type 0
+IsSoundWhole w = IsFit w.ident × IsWell w
+
+log_sound : (a : AnyWhole) (last : Whole) → Rattle.two_worlds.proofs.SentLemmas.WellIf a → IsFitLog a → frames_in a ≡ Some last → IsSoundWhole last
+log_sound (whole w) last well fit is = let same : w ≡ last = cc is in subst IsSoundWhole same (fit, well fit)
+log_sound (rebuilt r) last well fit is = absurd (cc is)
+
+seen_sound : (i : Ident) (n : ℕ) (e : RunEnd) (last : Whole) (o : Option WholeLog) → Follows e → log_at e.logs n ≡ o → All WellLog e.logs → AreSole i n e →
+    seen_in o ≡ Some last → IsSoundWhole last
+seen_sound i n e last None follows found well sole is = absurd (cc is)
+seen_sound i n e last (Some log) follows found well sole is =
+    log_sound log.whole last (found_log WellLog n log e.logs well found).holds (fit_of n e log follows found (found_log (IsSole i n) n log e.logs sole found).holds.numbers) is
+
+last_sound : (opening : Opening) (i : Ident) (n : ℕ) (e : RunEnd) (later : List RunEnd) (last : Whole) (o : Option Whole) → AreSettings opening.settings →
+    IsEnd opening e →
+    AreNext e later → All (AreSole i n) (e ∷ later) → last_seen n later ≡ o → later_of (seen n e) o ≡ Some last → IsSoundWhole last
+last_sound opening i n e later last None sound end next sole found is =
+    seen_sound i n e last (log_at e.logs n) (end_follows opening e sound end) refl end.well (All-head (AreSole i n) e later sole) is
+last_sound opening i n e [] last (Some x) sound end next sole found is = absurd (cc found)
+last_sound opening i n e (one ∷ later) last (Some x) sound end next sole found is =
+    last_sound opening i n one later last (last_seen n later) sound (next_end opening e one end next.0) next.1
+    (All-tail (AreSole i n) e (one ∷ later) sole) refl (found ∙ is)
+
+-- ---- two worlds
+
+second_same : (e : TwoEnds) (answer : Answer) (o : Option Reading) →
+    (after_second e o answer).first.driver ≡ e.first.driver
+second_same e answer None = refl
+second_same e answer (Some reading) = refl
+
+none_next : (e : RunEnd) → AreNext e []
+none_next e = tt
+
+world_next : (e : TwoEnds) (step : WorldStep) (answer : Answer) → IsAnswerToBoth e step answer → IsNext e.first.driver (after_both e step answer).first.driver
+world_next e (first_takes reading) answer answered =
+    elim (world_went e.first reading answer answered) [
+      | stayed same silent ↦ same_end same
+      | went r like seen told leaves ↦ one_step r answer told leaves
+    ]
+world_next e (second_takes reading) answer answered = same_end (second_same e answer (step_of_second e (second_takes reading)))
+world_next e (comes sent now view) answer answered = same_end (second_same e answer (step_of_second e (comes sent now view)))
+
+worlds_next : (e : TwoEnds) (steps : List WorldStep) (answers : List Answer) (more : List RunEnd) → AreAnswersOfBoth e steps answers →
+    AreNext (end_of_both e steps answers).first.driver more → AreNext e.first.driver (firsts_after e steps answers ++ more)
+worlds_next e [] answers more are next = next
+worlds_next e (step ∷ steps) [] more are next = absurd are
+worlds_next e (step ∷ steps) (answer ∷ answers) more are next =
+    (world_next e step answer are.0, worlds_next (after_both e step answer) steps answers more are.1 next)
+
+-- of two lists of ends, both
+first_part : (P : RunEnd → Type 0) (xs ys : List RunEnd) → All P (xs ++ ys) → All P xs
+first_part P [] ys all = All-nil P
+first_part P (x ∷ xs) ys all = All-cons P x xs (All-head P x (xs ++ ys) all) (first_part P xs ys (All-tail P x (xs ++ ys) all))
+
+second_part : (P : RunEnd → Type 0) (xs ys : List RunEnd) → All P (xs ++ ys) → All P ys
+second_part P [] ys all = all
+second_part P (x ∷ xs) ys all = second_part P xs ys (All-tail P x (xs ++ ys) all)
+
+end_holds : (P : RunEnd → Type 0) (e : TwoEnds) (steps : List WorldStep) (answers : List Answer) → All P (e.first.driver ∷ firsts_after e steps answers) →
+    P (end_of_both e steps answers).first.driver
+end_holds P e [] answers all = All-head P e.first.driver [] all
+end_holds P e (step ∷ steps) [] all = All-head P e.first.driver [] all
+end_holds P e (step ∷ steps) (answer ∷ answers) all =
+    end_holds P (after_both e step answer) steps answers (All-tail P e.first.driver (firsts_after e (step ∷ steps) (answer ∷ answers)) all)
+
+opening_ends : (first second : Opening) → IsEnd first (opening_both first second).first.driver
+unfolding world_opening
+opening_ends first second = record {
+  readings = [];
+  answers = [];
+  are = tt;
+  is = refl;
+  rises = subst AreRising (sym (opening_is first.settings first.policy first.peers)) (opened_rises first.settings first.policy first.peers);
+  well = opening_well first.settings first.policy first.peers;
+}
+
+-- images of that session and stream are of the stream
+-- ---- all that the first sends
+
+-- the newest registry is what the events left
+record IsWorldEnd (opening : Opening) (e : WorldEnd) : Type 0 where
+  opened_is : e.past.opened ≡ opened opening.settings opening.policy opening.peers
+  newest : IsNewest e
+
+after_either : (P : WorldEnd → Type 0) (e : WorldEnd) (what : Moved) (answer : Answer) → P e → P what.after → P (after_by e what answer)
+after_either P e what NoMemory same moves = same
+after_either P e what answer same moves = moves
+
+abbrev IsPastOf : Past → WorldEnd → Type 0
+IsPastOf past e = e.past.opened ≡ past.opened
+
+opened_cond : (e : WorldEnd) (b : Bool) (what : Moved) → IsPastOf e.past what.after → IsPastOf e.past (cond b (bad e) what).after
+opened_cond e true what is = refl
+opened_cond e false what is = is
+
+opened_by : (e : WorldEnd) (actor : Actor) (view : Option ℕ) (step : Step) → IsPastOf e.past (moved_as e actor view step).after
+opened_by e Conductor None step = refl
+opened_by e Conductor (Some k) step = refl
+opened_by e Sender view step = opened_cond e (is_out (newest_of e.past) (seat_of Sender e.seats) (view_or (newest_of e.past) view)) _ refl
+opened_by e Receiver view step = opened_cond e (is_out (newest_of e.past) (seat_of Receiver e.seats) (view_or (newest_of e.past) view)) _ refl
+opened_by e (Client id) view step = opened_cond e (is_out (newest_of e.past) (seat_of (Client id) e.seats) (view_or (newest_of e.past) view)) _ refl
+
+world_end_after : (opening : Opening) (e : WorldEnd) (reading : Reading) (answer : Answer) → IsWorldEnd opening e → IsWorldEnd opening (after e reading answer)
+world_end_after opening e reading answer end =
+    after_either (IsWorldEnd opening) e (moved_as e (actor_of reading.step) reading.view reading.step) answer end
+    (record {
+      opened_is = opened_by e (actor_of reading.step) reading.view reading.step ∙ end.opened_is;
+      newest = (goes_as e (actor_of reading.step) reading.view reading.step refl).newest end.newest;
+    })
+
+world_end_opening : (opening : Opening) → IsWorldEnd opening (world_opening opening.settings opening.policy opening.peers)
+unfolding world_opening
+world_end_opening opening = record { opened_is = refl; newest = opening_is opening.settings opening.policy opening.peers }
+
+-- the first of the two
+second_world : (opening : Opening) (e : TwoEnds) (answer : Answer) (o : Option Reading) → IsWorldEnd opening e.first → IsWorldEnd opening (after_second e o answer).first
+second_world opening e answer None end = end
+second_world opening e answer (Some reading) end = end
+
+both_world : (opening : Opening) (e : TwoEnds) (step : WorldStep) (answer : Answer) → IsWorldEnd opening e.first → IsWorldEnd opening (after_both e step answer).first
+both_world opening e (first_takes reading) answer end = world_end_after opening e.first reading answer end
+both_world opening e (second_takes reading) answer end = second_world opening e answer (step_of_second e (second_takes reading)) end
+both_world opening e (comes sent now view) answer end = second_world opening e answer (step_of_second e (comes sent now view)) end
+
+-- whichever registry its actor looks at
+taken_parts : (k : ℕ) (events : List (Event × Inputs)) → events ≡ take k events ++ drop k events
+taken_parts k events = sym (take-append-drop k events)
+
+asked_older : (opening : Opening) (i : Ident) (all : List Frame) (e : WorldEnd) (k : ℕ) (b : Bool) → Follows e.driver → All (IsOverUdp i all) e.driver.logs →
+    IsWorldEnd opening e → IsAsked i all (read_by e.driver (cond b None (Some (registry_at e.past k)))) e.driver
+asked_older opening i all e k true follows over end =
+    asked opening i all e.past.taken [] e.driver.registry e.driver follows over
+    (end.newest ∙ ap (λ (s : State). state_of s e.past.taken) end.opened_is) refl
+asked_older opening i all e k false follows over end =
+    asked opening i all (take k e.past.taken) (drop k e.past.taken) (registry_at e.past k) e.driver follows over
+    (ap (λ (s : State). state_of s (take k e.past.taken)) end.opened_is)
+    (end.newest ∙ ap (state_of e.past.opened) (taken_parts k e.past.taken) ∙ state_of_both e.past.opened (take k e.past.taken) (drop k e.past.taken))
+
+asked_seen : (opening : Opening) (i : Ident) (all : List Frame) (e : WorldEnd) (o : Option State) → Follows e.driver → All (IsOverUdp i all) e.driver.logs →
+    IsWorldEnd opening e → IsSeen e.past o → IsAsked i all (read_by e.driver o) e.driver
+asked_seen opening i all e o follows over end (the_newest is) =
+    subst (λ (x : Option State). IsAsked i all (read_by e.driver x) e.driver) (sym is) (asked_older opening i all e 0 true follows over end)
+asked_seen opening i all e o follows over end (an_older k is) =
+    subst (λ (x : Option State). IsAsked i all (read_by e.driver x) e.driver) (sym is)
+    (asked_older opening i all e k (k == newest_of e.past) follows over end)
+
+step_good : (opening : Opening) (i : Ident) (all : List Frame) (e : TwoEnds) (step : WorldStep) (answer : Answer) → AreSettings opening.settings →
+    IsEnd opening e.first.driver → IsWorldEnd opening e.first → All (IsOverUdp i all) e.first.driver.logs → IsAnswerToBoth e step answer →
+    SendsGood i all step answer
+step_good opening i all e (first_takes reading) answer sound end world over answered =
+    went_sends i all e.first reading answer (world_went e.first reading answer answered)
+    (λ r seen told.
+    step_sends i all e.first.driver r answer told end.well over
+    (asked_seen opening i all e.first r.older (end_follows opening e.first.driver sound end) over world seen))
+step_good opening i all e (second_takes reading) answer sound end world over answered = tt
+step_good opening i all e (comes sent now view) answer sound end world over answered = tt
+
+abbrev OverAll : Ident → List Frame → RunEnd → Type 0
+OverAll i all e = All (IsOverUdp i all) e.logs
+
+steps_good : (opening : Opening) (i : Ident) (all : List Frame) (e : TwoEnds) (steps : List WorldStep) (answers : List Answer) → AreSettings opening.settings →
+    IsEnd opening e.first.driver → IsWorldEnd opening e.first → All (OverAll i all) (e.first.driver ∷ firsts_after e steps answers) →
+    AreAnswersOfBoth e steps answers → AreSentGood i all steps answers
+steps_good opening i all e [] answers sound end world over are = tt
+steps_good opening i all e (step ∷ steps) [] sound end world over are = tt
+steps_good opening i all e (step ∷ steps) (answer ∷ answers) sound end world over are =
+    let rest : List RunEnd = firsts_after e (step ∷ steps) (answer ∷ answers) in (
+      step_good opening i all e step answer sound end world (All-head (OverAll i all) e.first.driver rest over) are.0,
+      steps_good opening i all (after_both e step answer) steps answers sound
+          (next_end opening e.first.driver (after_both e step answer).first.driver end (world_next e step answer are.0))
+          (both_world opening e step answer world) (All-tail (OverAll i all) e.first.driver rest over) are.1,
+    )
+
+record IsEndOfBoth (opening : Opening) (e : TwoEnds) : Type 0 where
+  end : IsEnd opening e.first.driver
+  world : IsWorldEnd opening e.first
+
+ends_of_both : (opening : Opening) (e : TwoEnds) (steps : List WorldStep) (answers : List Answer) → AreAnswersOfBoth e steps answers → IsEndOfBoth opening e →
+    IsEndOfBoth opening (end_of_both e steps answers)
+ends_of_both opening e [] answers are is = is
+ends_of_both opening e (step ∷ steps) [] are is = is
+ends_of_both opening e (step ∷ steps) (answer ∷ answers) are is =
+    ends_of_both opening (after_both e step answer) steps answers are.1
+    (record {
+      end = next_end opening e.first.driver (after_both e step answer).first.driver is.end (world_next e step answer are.0);
+      world = both_world opening e step answer is.world;
+    })
+
+-- ---- the promise
+
+reads_there : (i : Ident) (all : List Frame) (opening : Opening) (source subscription : ℕ) (e : TwoEnds) (steps : List WorldStep) (answers : List Answer) →
+    0 < i.term_length → IsLine i.term_length i.start (line_of i i.start all) → AreSettings opening.settings → Holds i all opening (drivers_of e) →
+    AreSentGood i all steps answers → AreAnswersOfBoth e steps answers → AtEach (HasPair i source subscription) e steps answers →
+    AtEach (ReadsThere i source subscription) e steps answers
+reads_there i all opening source subscription e [] answers some is sound holds sends are read =
+    reads_of i source subscription e.second.driver (named_second i all opening (drivers_of e) sound holds)
+    (pair_read i source subscription e.second.driver (reached_follows i all opening e.second.driver sound holds.reached) read)
+reads_there i all opening source subscription e (step ∷ steps) [] some is sound holds sends are read =
+    reads_of i source subscription e.second.driver (named_second i all opening (drivers_of e) sound holds)
+    (pair_read i source subscription e.second.driver (reached_follows i all opening e.second.driver sound holds.reached) read)
+reads_there i all opening source subscription e (step ∷ steps) (answer ∷ answers) some is sound holds sends are read = (
+  reads_of i source subscription e.second.driver (named_second i all opening (drivers_of e) sound holds)
+      (pair_read i source subscription e.second.driver (reached_follows i all opening e.second.driver sound holds.reached) read.0),
+  reads_there i all opening source subscription (after_both e step answer) steps answers some is sound
+      (both_held i all opening e step answer some is sound holds sends.0 are.0) sends.1 are.1 read.1,
+)
+
+pub publication_run : SecondGivesARunOfThePublication
+publication_run first second before earlier steps answers publication source subscription last sound settings were are seen' sole read =
+    let start : TwoEnds = opening_both first second in
+    let e : TwoEnds = end_of_both start before earlier in
+    let i : Ident = last.ident in
+    let all : List Frame = last.frames in
+    let befores : List RunEnd = firsts_after start before earlier in
+    let afters : List RunEnd = firsts_after e steps answers in
+    let P : RunEnd → Type 0 = OverAll i all in
+    let end = opening_ends first second in
+    let last_next : AreNext e.first.driver afters =
+    subst (AreNext e.first.driver) (append-nil afters) (worlds_next e steps answers [] are (none_next (end_of_both e steps answers).first.driver)) in
+    let next : AreNext start.first.driver (befores ++ afters) = worlds_next start before earlier afters were last_next in
+    let fine = last_sound first i publication start.first.driver (befores ++ afters) last (last_seen publication (befores ++ afters)) sound end next sole refl seen' in
+    let is : IsAllOf i all publication (start.first.driver ∷ befores ++ afters) =
+    (λ other found. (let same : last ≡ other = cc (sym seen' ∙ found) in
+    (ap (λ (w : Whole). w.ident) (sym same), ap (λ (w : Whole). w.frames) (sym same)))) in
+    let only = ends_only first i all publication start.first.driver (befores ++ afters) sound end next is sole in
+    let only_before = first_part P (start.first.driver ∷ befores) afters only in
+    let only_after = All-cons P e.first.driver afters (end_holds P start before earlier only_before) (second_part P (start.first.driver ∷ befores) afters only) in
+    let at_start : IsEndOfBoth first start = record { end = end; world = world_end_opening first } in
+    let at_end = ends_of_both first start before earlier were at_start in
+    let sent_before = steps_good first i all start before earlier sound end at_start.world only_before were in
+    let sent_after = steps_good first i all e steps answers sound at_end.end at_end.world only_after are in
+    let low = fine.0.sizes.term_low in
+    let some : 0 < i.term_length = omega (arith, low) in
+    let line = line_is i i.start all fine.1.run in
+    world_sends i all first second before earlier steps answers source subscription some fine.1.run settings were sent_before are sent_after
+    (reads_there i all second source subscription e steps answers some line settings
+    (run_held i all second start before earlier some line settings (both_opened i all first second) sent_before were) sent_after are read)

@@ -1,0 +1,2 @@
+pub mod Publication
+pub mod Streams

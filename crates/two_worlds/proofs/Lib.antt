@@ -1,0 +1,7 @@
+pub mod DriversLemmas
+pub mod GivenLemmas
+pub mod PollingLemmas
+pub mod RowLemmas
+pub mod SentLemmas
+pub mod StandingLemmas
+pub mod WorldLemmas
