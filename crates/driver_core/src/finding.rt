@@ -43,7 +43,7 @@ impl Registry {
     }
 
     /// The registration of this number that is the client's own.
-    pub(crate) fn own_registration(&self, client: u64, number: u64) -> Option<&Registration>
+    pub fn own_registration(&self, client: u64, number: u64) -> Option<&Registration>
         ensures { option_copied result ≡ registration_at self.now.streams.registrations client number }
     {
         match self.registration(number) {

@@ -12,6 +12,7 @@ ghost use Rattle.std.specs.Prelude.{◌≡◌};
 use crate::registry::Registry;
 use counters::Counter;
 use policy_core::{Request, Verdict};
+use stream_registry::{Source, Subscription};
 
 /// Behind every event the policy in force is the same, under the same number, or another one under a greater number.
 pub fn policies_only_get_newer()
@@ -38,5 +39,19 @@ impl Registry {
         ensures { result.now ≡ self.now.counters }
     {
         self.counters.rows()
+    }
+
+    /// The live publications and images, in the order in which they came.
+    pub fn sources(&self) -> &[Source]
+        ensures { result.now ≡ self.now.streams.sources }
+    {
+        self.streams.sources()
+    }
+
+    /// The subscriptions, in the order in which they came.
+    pub fn subscriptions(&self) -> &[Subscription]
+        ensures { result.now ≡ self.now.streams.subscriptions }
+    {
+        self.streams.subscriptions()
     }
 }

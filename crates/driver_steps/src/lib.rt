@@ -47,6 +47,7 @@ pub use laws::{
 };
 pub use offering::offer_step;
 pub use open_log::OpenLog;
+pub use opening::{ident_of, stream_ident};
 pub use packets::{PacketRequest, packet_request, packet_step};
 pub use polling::poll_step;
 pub use receiving::frames_step;

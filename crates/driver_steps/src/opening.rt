@@ -26,7 +26,7 @@ fn kind_over(media: Media) -> LogKind
 }
 
 /// What the log of the publication is made for.
-fn ident_of(settings: Settings, publication: &Source) -> Ident
+pub fn ident_of(settings: Settings, publication: &Source) -> Ident
     ensures { result ≡ ident_of settings publication.now }
 {
     Ident {
@@ -41,7 +41,7 @@ fn ident_of(settings: Settings, publication: &Source) -> Ident
 }
 
 /// The stream of the image, whose log began with that term.
-fn stream_ident(image: &Source, initial_term: i32) -> image_log::Ident
+pub fn stream_ident(image: &Source, initial_term: i32) -> image_log::Ident
     ensures { result ≡ stream_ident image.now initial_term }
 {
     image_log::Ident {

@@ -1,4 +1,3 @@
-pub mod CountLemmas
 pub mod MoveCounts
 pub mod SlotLemmas
 pub mod WholeCounts

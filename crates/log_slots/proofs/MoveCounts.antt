@@ -25,10 +25,12 @@ use Rattle.driver_steps.specs.Reporting.{image_move, report_by}
 use Rattle.driver_steps.specs.Sending.{pace_of, send_by, send_move}
 use Rattle.frame_codec.specs.Datagram.{Content, frames, beat, nak, status, setup}
 use Rattle.frame_codec.specs.Frame.{Sent}
-use Rattle.log_slots.proofs.WholeCounts.{beaten_keeps, counted, offered_counts, polled_keeps, received_keeps, report_keeps, status_keeps, turn_keeps}
+use Rattle.log_slots.proofs.WholeCounts.{beaten_keeps, polled_keeps, received_keeps, report_keeps, status_keeps, turn_keeps}
 use Rattle.log_slots.specs.Counting.{taken_by}
 use Rattle.policy_core.specs.declared.decision.Decision.{Decision}
 use Rattle.policy_core.specs.declared.verdict.Verdict.{Verdict}
+use Rattle.term_log.proofs.Counts.{offered_counts}
+use Rattle.term_log.specs.Counting.{taken_by as message_of}
 use Rattle.term_log.specs.declared.offer.Offer.{Offer}
 use Rattle.term_log.specs.declared.offer.Offer.TheVariants.{At, TooLong, MaxPosition, BackPressured, AdminAction}
 use Rattle.term_log.specs.Log.{greatest_message}
@@ -103,7 +105,7 @@ if_takes : (b : Bool) (x y : Move) (n : ℕ) → Takes n x → Takes n y → Tak
 if_takes true x y n one two = one
 if_takes false x y n one two = two
 
-as_counted : (answer : Offer) → taken_by (OfferedAs (offered_as answer)) ≡ counted answer
+as_counted : (answer : Offer) → taken_by (OfferedAs (offered_as answer)) ≡ message_of answer
 as_counted (At position) = refl
 as_counted TooLong = refl
 as_counted MaxPosition = refl

@@ -1,7 +1,6 @@
--- How many messages a log has taken: only an offer that answers a position adds one, whatever the log stands for.
+-- No call but an offer changes how many messages a log has taken, whatever the log stands for.
 use Rattle.std.proofs.Common.{◌≡◌, ℕ, ◌+◌, Bool, true, false, List, [], ◌∷◌, ◌++◌, Option, Some, None, refl, ap, ◌∙◌, arith}
 use Rattle.std.specs.Prelude.{if◌then◌else◌}
-use Rattle.log_slots.proofs.CountLemmas.{cut_begins, messages-append}
 use Rattle.any_log.specs.Asking.{after_status}
 use Rattle.any_log.specs.Reporting.{after_report}
 use Rattle.any_log.specs.Sending.{after_turn}
@@ -16,14 +15,9 @@ use Rattle.publication_sender.specs.declared.cutting.DatagramKind.TheVariants as
 use Rattle.publication_sender.specs.declared.cutting.Pace.{Pace}
 use Rattle.publication_sender.specs.Cutting.{after_due, cut_of, due_of}
 use Rattle.publication_sender.specs.Hearing.{heard_of}
-use Rattle.term_log.specs.declared.offer.Offer.{Offer}
-use Rattle.term_log.specs.declared.offer.Offer.TheVariants.{At, TooLong, MaxPosition, BackPressured, AdminAction}
-use Rattle.term_log.specs.Frames.{messages_of, pad}
-use Rattle.term_log.specs.Cut.{cut}
-use Rattle.term_log.specs.Ident.{payload_length}
-use Rattle.term_log.specs.Log.{appended_at, rest_at}
+use Rattle.term_log.specs.Frames.{messages_of}
 use Rattle.term_log.specs.SenderSteps.{datagram_cut, sent_on, sent_to, setup_cut}
-use Rattle.term_log.specs.Whole.{Whole, answer_to, offered, tail_of, polled as term_polled, polled_from}
+use Rattle.term_log.specs.Whole.{Whole, polled as term_polled, polled_from}
 
 -- ---- a poll
 
@@ -72,27 +66,3 @@ turn_by w pace now false = refl
 pub turn_keeps : (w : AnyWhole) (pace : Pace) (now : ℕ) → messages_in (after_turn pace now w) ≡ messages_in w
 turn_keeps (whole w) pace now = turn_by w pace now _
 turn_keeps (rebuilt r) pace now = refl
-
--- ---- an offer
-
-abbrev pub counted : Offer → ℕ
-counted (At position) = 1
-counted TooLong = 0
-counted MaxPosition = 0
-counted BackPressured = 0
-counted AdminAction = 0
-
-appended_counts : (w : Whole) (answer : Offer) (tail : ℕ) (message : List ℕ) →
-    messages_of (w.frames ++ appended_at answer w.ident tail message) ≡ messages_of w.frames + counted answer
-appended_counts w (At position) tail message =
-    let one = cut_begins (payload_length w.ident) message in
-    messages-append w.frames (cut (payload_length w.ident) message) ∙ omega (arith, one)
-appended_counts w TooLong tail message = messages-append w.frames []
-appended_counts w MaxPosition tail message = messages-append w.frames []
-appended_counts w BackPressured tail message = messages-append w.frames []
-appended_counts w AdminAction tail message = messages-append w.frames (pad (rest_at w.ident tail) ∷ [])
-
--- the log is offered the message: it has one message more where it answers a position
-pub offered_counts : (w : Whole) (message : List ℕ) → messages_of (offered w message).frames ≡ messages_of w.frames + counted (answer_to w message)
-unfolding offered
-offered_counts w message = appended_counts w (answer_to w message) (tail_of w) message

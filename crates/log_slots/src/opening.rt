@@ -3,7 +3,7 @@
 ghost use Rattle.any_log.specs.Held.{for_stream};
 ghost use Rattle.any_log.specs.Whole.{rebuilt};
 ghost use Rattle.driver_core.specs.Soundness.{AreSizes, BeginsSoundly};
-ghost use Rattle.driver_steps.specs.Idents.{begins_of, heard_at, ident_of, kind_over, made_by, stream_ident};
+ghost use Rattle.driver_steps.specs.Idents.{begins_of, heard_at, made_by, stream_ident};
 ghost use Rattle.image_log.specs.Rebuilt.{opened as image_opened};
 ghost use Rattle.log_arena.specs.Lease.{lease_bytes, lease_home, lease_len};
 ghost use Rattle.log_slots.specs.Opening.{OpensAs};
@@ -12,51 +12,13 @@ ghost use Rattle.stream_registry.specs.Origins.{is_published};
 
 use crate::naming::Naming;
 use crate::region::Region;
-use channel_uri::Media;
 use driver_core::{Event, Settings};
-use driver_steps::OpenLog;
+use driver_steps::{OpenLog, ident_of, stream_ident};
 use image_log::ImageRoom;
 use log_arena::Lease;
 use std::alloc::{AllocError, Global};
 use stream_registry::{Origin, Source};
-use term_log::{Ident, LogKind, LogRoom};
-
-/// Over datagrams, or in shared memory.
-fn kind_over(media: Media) -> LogKind
-    ensures { result ≡ kind_over media }
-{
-    match media {
-        Media::Ipc => LogKind::Ipc,
-        Media::Udp | Media::Counter => LogKind::Udp,
-    }
-}
-
-/// What the log of the publication is made for.
-fn ident_of(settings: Settings, publication: &Source) -> Ident
-    ensures { result ≡ ident_of settings publication.now }
-{
-    Ident {
-        kind: kind_over(publication.channel.media()),
-        session: publication.session,
-        stream: publication.stream,
-        initial_term: settings.initial_term,
-        term_length: publication.measures.term_length,
-        mtu: publication.measures.mtu,
-        start: 0,
-    }
-}
-
-/// The stream of the image, whose log began with that term.
-fn stream_ident(image: &Source, initial_term: i32) -> image_log::Ident
-    ensures { result ≡ stream_ident image.now initial_term }
-{
-    image_log::Ident {
-        session_id: image.session,
-        stream_id: image.stream,
-        initial_term_id: initial_term,
-        term_length: image.measures.term_length,
-    }
-}
+use term_log::LogRoom;
 
 /// The memory for the log of an image, and how long its terms are to be.
 #[derive(Drop)]

@@ -13,3 +13,4 @@ pub mod Polling
 pub mod Whole
 pub mod SenderSteps
 pub mod PollLaws
+pub mod Counting

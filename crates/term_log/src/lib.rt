@@ -23,7 +23,7 @@ mod status;
 mod term_log;
 
 pub use ident::{Ident, LogKind};
-pub use laws::polls_give_frames;
+pub use laws::{offers_count_messages, polls_give_frames};
 pub use log_pairs::{CopiedFragments, Fragment, FragmentCopies, Pair};
 pub use offer::Offer;
 pub use polling::Fragments;

@@ -5,8 +5,14 @@ use Rattle.std.specs.List.{range_with_len}
 use Rattle.std.proofs.lemmas.Bool.{ne_eqb}
 use Rattle.std.proofs.lemmas.List.FromFn.{map-range_with_len_more}
 use Rattle.frame_codec.specs.Flags.{contains}
-use Rattle.term_log.specs.Frames.{Frame, begin_flag, begins, messages_of}
+use Rattle.term_log.specs.Counting.{taken_by}
 use Rattle.term_log.specs.Cut.{cut, last_part, part_of}
+use Rattle.term_log.specs.declared.offer.Offer.{Offer}
+use Rattle.term_log.specs.declared.offer.Offer.TheVariants.{At, TooLong, MaxPosition, BackPressured, AdminAction}
+use Rattle.term_log.specs.Frames.{Frame, begin_flag, begins, messages_of, pad}
+use Rattle.term_log.specs.Ident.{payload_length}
+use Rattle.term_log.specs.Log.{appended_at, rest_at}
+use Rattle.term_log.specs.Whole.{Whole, answer_to, offered, tail_of}
 
 pub messages-append : (xs ys : List Frame) → messages_of (xs ++ ys) ≡ messages_of xs + messages_of ys
 messages-append [] ys = omega arith
@@ -42,3 +48,20 @@ parts_begin payload message (suc i) =
 pub cut_begins : (payload : ℕ) (message : List ℕ) → messages_of (cut payload message) ≡ 1
 unfolding cut
 cut_begins payload message = parts_begin payload message (last_part payload (length message))
+
+-- ---- an offer
+
+appended_counts : (w : Whole) (answer : Offer) (tail : ℕ) (message : List ℕ) →
+    messages_of (w.frames ++ appended_at answer w.ident tail message) ≡ messages_of w.frames + taken_by answer
+appended_counts w (At position) tail message =
+    let one = cut_begins (payload_length w.ident) message in
+    messages-append w.frames (cut (payload_length w.ident) message) ∙ omega (arith, one)
+appended_counts w TooLong tail message = messages-append w.frames []
+appended_counts w MaxPosition tail message = messages-append w.frames []
+appended_counts w BackPressured tail message = messages-append w.frames []
+appended_counts w AdminAction tail message = messages-append w.frames (pad (rest_at w.ident tail) ∷ [])
+
+-- the log is offered the message: it has one message more where it answers a position
+pub offered_counts : (w : Whole) (message : List ℕ) → messages_of (offered w message).frames ≡ messages_of w.frames + taken_by (answer_to w message)
+unfolding offered
+offered_counts w message = appended_counts w (answer_to w message) (tail_of w) message
