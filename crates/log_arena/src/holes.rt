@@ -7,7 +7,7 @@ ghost use Rattle.log_arena.specs.Spans.{Span, Spaced, IsSpan, Remade, paged, sea
 
 use crate::memory::{Run, apart, cut, merge};
 use std::alloc::{AllocError, Global};
-use std::marker::Model;
+use std::marker::{Model, Send};
 
 // The spans are in bytes, with the run of each at its index. Contracts see them in pages.
 #[derive(Drop)]
@@ -16,6 +16,9 @@ pub(crate) struct Holes {
     spans: Vec<(usize, usize)>,
     runs: Vec<Run>,
 }
+
+// The pointer is where the region begins. What lies there is the runs' own.
+unsafe impl Send for Holes {}
 
 impl Model for Holes {
     ghost use Rattle.std.specs.Prelude.{ℕ, List, min};
