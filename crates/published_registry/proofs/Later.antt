@@ -1,4 +1,4 @@
--- What holds behind each event holds behind more entries.
+-- What each event keeps holds after more entries.
 use Rattle.std.proofs.Common.{◌≡◌, List, [], ◌∷◌, ◌++◌, refl, sym, ap, ◌∙◌, subst, inl, inr, ⊎_elim, arith}
 use Rattle.driver_core.specs.Conduct.{state_after}
 use Rattle.driver_core.specs.declared.entry.Entry.{Entry}

@@ -30,8 +30,8 @@ stranger = record {
 abbrev pub told : State → Known → Told
 told opening front = record { knows = true; opening = opening; front = front }
 
--- What is shown goes with what is known: it is the registry behind the entries that go with it, which are a legal history from
--- that opening on, and begin with those that are known
+-- What is shown goes with what is known: it is the registry after the entries that are shown with it, which are a legal history
+-- from that opening on, and begin with those that are known
 pub record Fits (opening : State) (front : Known) (x : Shown) : Type 0 where
   pub book : x.front.book ≡ front.book
   pub fold : x.registry ≡ registry_after opening x.front.entries

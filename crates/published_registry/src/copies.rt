@@ -2,7 +2,7 @@ ghost use Rattle.left_right.specs.Sides.{view};
 ghost use Rattle.published_registry.specs.Histories.{IsHistory, IsPlannedOn, Known, registry_of};
 ghost use Rattle.published_registry.specs.Rules.{Fits, Sees, after_step};
 ghost use Rattle.driver_core.specs.State.{State};
-ghost use Rattle.std.specs.Prelude.{◌≡◌, ◌+◌, ◌<◌, ◌^◌, ◌++◌, ◌∷◌, [], drop, length, IfOk, OnErr};
+ghost use Rattle.std.specs.Prelude.{◌≡◌, ◌+◌, ◌<◌, ◌^◌, ◌++◌, ◌∷◌, [], drop, length, IfOk, MatchResult, OnErr};
 
 use crate::front::{Front, Head};
 use crate::receipt::Receipt;
@@ -13,7 +13,7 @@ use std::alloc::AllocError;
 use std::marker::Model;
 use std::sync::Wait;
 
-// A registry that is shown: the two copies for the readers, one of the publisher's own, and the history behind which they are.
+// A registry that is shown: the two copies for the readers, one of the publisher's own, and the history that led to them.
 pub(crate) struct Copies {
     pub(crate) board: Board,
     pub(crate) newest: Registry,
@@ -34,7 +34,29 @@ impl Model for Copies {
         × (drop copies.board.behind copies.board.log.items ≡ []) };
 }
 
-// Puts a step behind those that readers were shown. The list of steps has its room from the beginning, so this does not wait;
+// The same, with an entry that stands in the history and that readers are not shown yet.
+pub(crate) struct Pending {
+    board: Board,
+    newest: Registry,
+    front: Front,
+    head: Head,
+    entry: Entry,
+}
+
+impl Model for Pending {
+    ghost use Rattle.published_registry.specs.Histories.{History};
+    ghost use Rattle.published_registry.specs.Publishers.{Waits};
+    ghost use Rattle.std.specs.Prelude.{◌≡◌, [], drop};
+
+    ghost Value = { History };
+
+    ghost view = { λ pending. record { book = pending.front.book; opening = pending.board.desk.place.me.0.client.opening; entries = pending.front.entries } };
+
+    ghost invariant = { λ pending. Waits pending.board.desk.place.me.0.client pending.board.desk.shown.value pending.newest pending.front pending.head pending.entry
+        × (drop pending.board.behind pending.board.log.items ≡ []) };
+}
+
+// Puts a step after those that readers were shown. The list of steps has its room from the beginning, so this does not wait;
 // if there were none, it would try again.
 fn put<R: Wait>(rt: &R, board: &mut Board, step: Step)
     requires { drop board.old.behind board.old.log.items ≡ [] }
@@ -68,8 +90,50 @@ fn show<R: Wait>(rt: &R, board: Board, step: Step) -> Board
     }
 }
 
+impl Pending {
+    // The registry after all entries, the one that readers are not shown yet among them.
+    pub(crate) fn newest(&self) -> &Registry
+        ensures newest { result.now ≡ registry_of self.now }
+        ensures legal { IsHistory self.now }
+    {
+        &self.newest
+    }
+
+    // How many entries there are.
+    pub(crate) fn number(&self) -> u64
+        ensures { result ≡ length self.now.entries }
+    {
+        self.front.count()
+    }
+
+    // Shows readers the registry. The receipt names it.
+    pub(crate) fn show<R: Wait>(self, rt: &R) -> (Copies, Receipt)
+        ensures copies { result.0 ≡ self }
+        ensures receipt { result.1 ≡ record { book = self.book; entries = self.entries } }
+    {
+        let Pending {
+            board,
+            newest,
+            front,
+            head,
+            entry,
+        } = self;
+        let board = show(rt, board, Step::Takes(entry, front.again()));
+        let receipt = Receipt {
+            front: front.again(),
+        };
+        let copies = Copies {
+            board,
+            newest,
+            front,
+            head,
+        };
+        (copies, receipt)
+    }
+}
+
 impl Copies {
-    // The registry behind all entries.
+    // The registry after all entries.
     pub(crate) fn newest(&self) -> &Registry
         ensures newest { result.now ≡ registry_of self.now }
         ensures legal { IsHistory self.now }
@@ -93,7 +157,34 @@ impl Copies {
         }
     }
 
-    // Does an entry, and shows readers what comes of it.
+    // Puts an entry into the history, and does it to the publisher's own registry. Readers are not shown it yet. The copies
+    // come back unchanged where the entry can't be put there.
+    pub(crate) fn begin(self, entry: Entry) -> Result<Pending, Copies>
+        requires room { length self.entries + 1 < 2 ^ 64 }
+        requires planned { IsPlannedOn (registry_of self) entry }
+        ensures { MatchResult result (λ pending. pending ≡ record self { entries = self.entries ++ entry ∷ [] }) (λ copies. copies ≡ self) }
+    {
+        let mut front = self.front.again();
+        if !front.add(&self.head, &entry) {
+            return Err(self);
+        }
+        let Copies {
+            board,
+            mut newest,
+            front: _,
+            head,
+        } = self;
+        newest.apply(&entry);
+        Ok(Pending {
+            board,
+            newest,
+            front,
+            head,
+            entry,
+        })
+    }
+
+    // Puts an entry into the history, and shows readers the registry after it.
     pub(crate) fn commit<R: Wait>(
         self,
         rt: &R,
@@ -105,28 +196,13 @@ impl Copies {
         ensures receipt { IfOk result.1 (λ receipt. receipt ≡ record { book = result.0.book; entries = result.0.entries }) }
         ensures err { OnErr result.1 (result.0 ≡ self) }
     {
-        let mut front = self.front.again();
-        if !front.add(&self.head, &entry) {
-            return (self, Err(AllocError));
+        match self.begin(entry) {
+            Ok(pending) => {
+                let (copies, receipt) = pending.show(rt);
+                (copies, Ok(receipt))
+            }
+            Err(copies) => (copies, Err(AllocError)),
         }
-        let Copies {
-            board,
-            mut newest,
-            front: _,
-            head,
-        } = self;
-        newest.apply(&entry);
-        let board = show(rt, board, Step::Takes(entry, front.again()));
-        let receipt = Receipt {
-            front: front.again(),
-        };
-        let copies = Copies {
-            board,
-            newest,
-            front,
-            head,
-        };
-        (copies, Ok(receipt))
     }
 
     // Waits until each look at the older copy has ended, and shows no registry any more.

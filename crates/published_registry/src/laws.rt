@@ -8,7 +8,7 @@ ghost use Rattle.std.specs.Prelude.{List};
 use driver_core::{cached_verdicts_stay_right, policies_only_get_newer};
 
 /// A later look is by the policy of an earlier one, under the same number, or by another one of a greater number. So a look
-/// behind the receipt of a reload is by that policy or a later one.
+/// of a pass that learned the receipt of a reload is by that policy or a later one.
 pub fn later_looks_are_by_that_policy_or_a_later_one()
     ensures { (earlier later : History) → IsContinuedBy earlier later → IsSameOrNewer (registry_of earlier) (registry_of later) }
 {

@@ -5,6 +5,7 @@ ghost use Rattle.published_registry.specs.Histories.{IsHistory, registry_of};
 ghost use Rattle.std.specs.Prelude.{◌≡◌, length, IfOk};
 
 use crate::pass::Pass;
+use crate::receipt::Receipt;
 use crate::rule::Glance;
 use byte_strings::Items;
 use counters::Counter;
@@ -48,6 +49,15 @@ impl Look {
         ensures legal { IsHistory self.now }
     {
         self.reading.get().front.count()
+    }
+
+    /// It names the registry of the look: who learns it sees none before this one. It takes no memory.
+    pub fn receipt(&self) -> Receipt
+        ensures { result ≡ record { book = self.now.book; entries = self.now.entries } }
+    {
+        Receipt {
+            front: self.reading.get().front.again(),
+        }
     }
 
     /// The number of the policy in force.

@@ -1,6 +1,7 @@
 ghost use Rattle.published_registry.specs.Histories.{IsHistory, IsPlannedOn, registry_of};
-ghost use Rattle.std.specs.Prelude.{◌≡◌, ◌+◌, ◌<◌, ◌^◌, ◌++◌, ◌∷◌, [], length, IfOk, OnErr};
+ghost use Rattle.std.specs.Prelude.{◌≡◌, ◌+◌, ◌<◌, ◌^◌, ◌++◌, ◌∷◌, [], length, IfOk, MatchResult, OnErr};
 
+use crate::begun::Begun;
 use crate::copies::Copies;
 use crate::receipt::Receipt;
 use driver_core::{Entry, Registry};
@@ -26,7 +27,7 @@ impl Model for Publisher {
 }
 
 impl Publisher {
-    /// The registry behind all entries that were committed.
+    /// The registry after all entries that were committed.
     pub fn newest(&self) -> &Registry
         ensures newest { result.now ≡ registry_of self.now }
         ensures legal { IsHistory self.now }
@@ -57,11 +58,35 @@ impl Publisher {
         }
     }
 
-    /// Does an entry that was planned on the newest registry, and shows readers the registry that comes of it. The receipt
-    /// names that one. It waits until each look at the copy that is changed has ended.
+    /// The first half of a commit: puts an entry that was planned on the newest registry into the history, where it can be
+    /// read by [`Begun::newest`]. Readers are not shown it yet.
     ///
     /// # Errors
-    /// `AllocError` where there is no memory. Nothing is changed then.
+    /// `AllocError` where there is no memory, with the publisher unchanged. The entry is dropped then.
+    pub fn begin(self, entry: Entry) -> Result<Begun, (Publisher, AllocError)>
+        requires room { length self.entries + 1 < 2 ^ 64 }
+        requires planned { IsPlannedOn (registry_of self) entry }
+        ensures { MatchResult result (λ begun. begun ≡ record self { entries = self.entries ++ entry ∷ [] }) (λ back. back.0 ≡ self) }
+    {
+        let Publisher { copies } = self;
+        let Some(copies) = copies else { unreachable!() };
+        match copies.begin(entry) {
+            Ok(pending) => Ok(Begun { pending }),
+            Err(copies) => {
+                let publisher = Publisher {
+                    copies: Some(copies),
+                };
+                Err((publisher, AllocError))
+            }
+        }
+    }
+
+    /// Both halves at once: puts an entry that was planned on the newest registry into the history, and shows readers the
+    /// registry after it. The receipt names that one. It waits until each look has ended that may still be at the copy that
+    /// is changed.
+    ///
+    /// # Errors
+    /// `AllocError` where there is no memory. Nothing is changed then, and the entry is dropped.
     pub fn commit<R: Wait>(&mut self, rt: &R, entry: Entry) -> Result<Receipt, AllocError>
         requires room { length self.old.entries + 1 < 2 ^ 64 }
         requires planned { IsPlannedOn (registry_of self.old) entry }

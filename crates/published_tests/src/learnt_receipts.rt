@@ -1,12 +1,11 @@
-ghost use Rattle.std.specs.Prelude.{◌≡◌, IfSome, OnErr, OnOk};
+ghost use Rattle.std.specs.Prelude.{◌≡◌, IfSome};
 
+use crate::looking::one_look;
 use crate::naming::{Author, Naming, Notice, Reader};
-use channel_uri::Channel;
+use crate::opening::{opened, reload};
 use crossbeam_channel::{Receiver, Sender, unbounded};
-use driver_core::{Event, Inputs, Registry, Settings};
-use policy_core::{Act, Policy, Request};
-use published_registry::{Pass, Publisher, make};
-use std::alloc::{AllocError, Global};
+use published_registry::{Pass, Publisher, Receipt, make};
+use std::alloc::Global;
 use std::marker::{Brand, PhantomData};
 use std::sync::Wait;
 use std::test::Fail;
@@ -15,47 +14,34 @@ use std::thread::{Threads, join};
 // The number of the last policy. The first one allows all, the next denies all, and so by turns.
 const LAST: u64 = 100;
 
-// A policy without rules.
-fn by_default(alloc: Global, allows: bool) -> Result<Policy, AllocError> {
-    Policy::new(Vec::new(alloc), allows)
-}
-
-// Puts the policy in force.
+// Puts a policy in force that allows all or nothing.
 fn put_in_force<R: Wait>(
     rt: &R,
     alloc: Global,
     publisher: &mut Publisher,
-    policy: Policy,
-) -> Option<published_registry::Receipt>
+    allows: bool,
+) -> Option<Receipt>
     ensures same { publisher.new.book ≡ publisher.old.book }
     ensures ours { IfSome result (λ receipt. receipt.book ≡ publisher.old.book) }
 {
-    if publisher.number() >= u64::MAX - 1 {
-        return None;
-    }
-    let event = Event::Reload { now: 0, policy };
-    let entry = publisher
-        .newest()
-        .plan(alloc, &event, &Inputs::none(alloc))
-        .ok()?;
+    let entry = reload(alloc, publisher, allows)?;
     publisher.commit(rt, entry).ok()
 }
 
 impl<N: Naming, R: Wait + Drop> Author<N, R> {
-    // Puts one policy in force, and tells of it.
-    fn writes(&mut self, alloc: Global, out: &Sender<Notice<N>>, allows: bool) -> bool {
-        let Ok(policy) = by_default(alloc, allows) else {
+    // Puts the policy of that number in force, which allows where the number is odd, and sends its receipt.
+    fn writes(&mut self, alloc: Global, out: &Sender<Notice<N>>, epoch: u64) -> bool {
+        let receipt = put_in_force(&self.rt, alloc, &mut self.publisher, epoch % 2 == 1);
+        let Some(receipt) = receipt else {
             return false;
         };
-        let Some(receipt) = put_in_force(&self.rt, alloc, &mut self.publisher, policy) else {
-            return false;
-        };
+        let is_next = self.publisher.newest().epoch() == epoch;
         let notice = Notice {
             receipt,
-            epoch: self.publisher.newest().epoch(),
+            epoch,
             of: PhantomData,
         };
-        out.send(&self.rt, notice).is_ok()
+        is_next & out.send(&self.rt, notice).is_ok()
     }
 
     // Puts all policies in force but for the first. It comes back, since nobody gets a look once the publisher has ended.
@@ -63,40 +49,24 @@ impl<N: Naming, R: Wait + Drop> Author<N, R> {
         let mut author = self;
         let mut written = true;
         for epoch in 2..LAST + 1 {
-            written = written && author.writes(alloc, &out, epoch % 2 == 1);
+            written = written && author.writes(alloc, &out, epoch);
         }
         (author, written)
     }
 }
 
-// What a look tells: the policy's number, and whether it allows.
-fn looked(pass: Pass) -> Option<(Pass, u64, bool)>
-    ensures { IfSome result (λ told. told.0.book ≡ pass.book) }
-{
-    let look = pass.enter().ok()?;
-    let channel = Channel::ipc();
-    let request = Request {
-        principal: 1,
-        act: Act::Offer,
-        channel: &channel,
-        stream: 10,
-    };
-    let epoch = look.epoch();
-    let allows = look.verdict(&request).allow;
-    Some((look.leave(), epoch, allows))
-}
-
 impl<N: Naming> Reader<N> {
-    // Learns the receipt and looks: the number of the policy, where it is at least that of the notice, and the verdict is
-    // its own.
+    // Learns the receipt and looks: the number of the policy, where it is at least that of the notice, and the policy allows
+    // exactly where its number is odd. None where the pass gets no look.
     fn reads(self, notice: Notice<N>) -> Option<(Reader<N>, u64)> {
         let Reader { mut pass, of } = self;
         pass.learn(&notice.receipt);
-        let (pass, epoch, allows) = looked(pass)?;
-        if epoch < notice.epoch || allows != (epoch % 2 == 1) {
+        let (pass, look) = one_look(pass);
+        let look = look?;
+        if look.epoch < notice.epoch || look.allows != (look.epoch % 2 == 1) {
             return None;
         }
-        Some((Reader { pass, of }, epoch))
+        Some((Reader { pass, of }, look.epoch))
     }
 
     // Reads all notices; the policy's number never falls.
@@ -152,8 +122,7 @@ fn both<N: Naming + Send + Sync + 'static, R: Threads + Wait + Sync>(
 #[test]
 fn learnt_receipts(rt: HostRuntime) -> Result<(), Fail> {
     let alloc = rt.alloc();
-    let policy = by_default(alloc, true)?;
-    let registry = Registry::new(alloc, Settings::default(), policy, &[])?;
+    let registry = opened(alloc)?;
     let (publisher, mut passes) = make(&rt, alloc, registry, 1).ok().ok_or("nothing is made")?;
     match passes.pop() {
         Some(pass) => {
