@@ -1,10 +1,11 @@
-ghost use Rattle.media_wire.specs.Events.{counted};
-ghost use Rattle.media_wire.specs.Sockets.{failed_once, new_sockets};
 ghost use Rattle.media_wire.specs.Doors.{is_at};
+ghost use Rattle.media_wire.specs.Events.{Event, counted, read_event, sent_event};
+ghost use Rattle.media_wire.specs.Letters.{letter};
+ghost use Rattle.media_wire.specs.Sockets.{IsUsed, called_once, failed_once, is_used_after, new_sockets, turned};
 ghost use Rattle.std.specs.List.{position};
 ghost use Rattle.std.specs.Net.Addr.{ipv4_octets};
 ghost use Rattle.std.specs.Net.Socket.{socket_ip, socket_port, v4_ip, v4_port};
-ghost use Rattle.std.specs.Prelude.{◌≡◌, ◌<◌, ◌≤◌, IfOk, IfSome, Some, length, vec_len};
+ghost use Rattle.std.specs.Prelude.{◌≡◌, ◌<◌, ◌≤◌, ◌++◌, ◌∷◌, [], List, IfOk, IfSome, OnOk, OnSome, Some, filter, length, true, vec_len};
 ghost use Rattle.std.specs.declared.net.ip_addr.IpAddr.TheVariants.{V4};
 ghost use Rattle.std.specs.declared.net.ipv4_addr.Ipv4Addr.{Ipv4Addr};
 
@@ -32,6 +33,7 @@ pub struct Udp<N: Net> {
     doors: Vec<Door>,
     places: usize,
     calls: u64,
+    turn: u64,
     failures: u64,
 }
 
@@ -40,7 +42,7 @@ impl<N: Net> Model for Udp<N> {
 
     ghost Value = { Sockets };
 
-    ghost view = { λ udp. record { places = udp.places; failures = udp.failures } };
+    ghost view = { λ udp. record { places = udp.places; doors = udp.doors.items; calls = udp.calls; turn = udp.turn; failures = udp.failures } };
 }
 
 fn socket_address(address: &Address) -> SocketAddrV4
@@ -96,6 +98,25 @@ fn close_oldest(doors: &mut Vec<Door>) {
     }
 }
 
+// Those that were used after this call stay.
+fn close_unused(doors: &mut Vec<Door>, call: u64)
+    ensures { doors.new.items ≡ filter (is_used_after call) doors.old.items }
+{
+    doors.retain(|door| door.used > call);
+}
+
+// Where one more stands.
+fn added(doors: &mut Vec<Door>, door: Door) -> Option<usize>
+    ensures within { IfSome result (λ place. place < vec_len doors.new) }
+    ensures added { OnSome result (doors.new.items ≡ doors.old.items ++ door ∷ []) }
+{
+    let place = doors.len();
+    match doors.push(door) {
+        Ok(()) => Some(place),
+        Err(_) => None,
+    }
+}
+
 // Where the socket of an address stands, which is opened if there is none. None where it can't be opened.
 fn entered<N: Net>(
     net: &N,
@@ -104,7 +125,8 @@ fn entered<N: Net>(
     call: u64,
     local: &Address,
 ) -> Option<usize>
-    ensures { IfSome result (λ place. place < vec_len doors.new) }
+    ensures within { IfSome result (λ place. place < vec_len doors.new) }
+    ensures used { OnSome result (IsUsed local.now call doors.new.items) }
 {
     if let Some(place) = place_of(doors, local) {
         doors[place].used = call;
@@ -114,16 +136,12 @@ fn entered<N: Net>(
     if doors.len() >= places {
         close_oldest(doors);
     }
-    let place = doors.len();
     let door = Door {
         local: *local,
         used: call,
         socket,
     };
-    match doors.push(door) {
-        Ok(()) => Some(place),
-        Err(_) => None,
-    }
+    added(doors, door)
 }
 
 // Whether all of it was sent.
@@ -163,6 +181,7 @@ impl<N: Net + Drop> Udp<N> {
             doors: Vec::with_capacity(alloc, places)?,
             places,
             calls: 0,
+            turn: 0,
             failures: 0,
         })
     }
@@ -176,7 +195,8 @@ impl<N: Net + Drop> Udp<N> {
 
     // Whether a datagram was sent.
     fn is_sent(&mut self, local: &Address, to: &Address, bytes: &[u8]) -> bool
-        ensures { self.new ≡ self.old }
+        ensures called { self.new ≡ called_once self.old self.new.doors }
+        ensures used { result ≡ true → IsUsed local.now self.new.calls self.new.doors }
     {
         self.calls = self.calls.saturating_add(1);
         match entered(&self.net, &mut self.doors, self.places, self.calls, local) {
@@ -191,7 +211,8 @@ impl<N: Net + Drop> Udp<N> {
         local: &Address,
         buffer: &mut [u8],
     ) -> Result<Option<(usize, Address)>, WireFault>
-        ensures same { self.new ≡ self.old }
+        ensures called { self.new ≡ called_once self.old self.new.doors }
+        ensures used { OnOk result (IsUsed local.now self.new.calls self.new.doors) }
         ensures within { IfOk result (λ read. IfSome read (λ datagram. datagram.0 ≤ length buffer.new)) }
     {
         self.calls = self.calls.saturating_add(1);
@@ -205,7 +226,12 @@ impl<N: Net + Drop> Udp<N> {
 impl<N: Net + Drop> Wire for Udp<N> {
     ghost went = { λ sockets events. sockets.failures ≡ counted events };
 
-    fn send(&mut self, local: &Address, to: &Address, bytes: &[u8]) -> Result<(), WireFault> {
+    fn send(&mut self, local: &Address, to: &Address, bytes: &[u8]) -> Result<(), WireFault>
+        ensures event { (events : List Event) → self.old.failures ≡ counted events
+            → self.new.failures ≡ counted (events ++ sent_event (letter local.now to.now bytes.now) result ∷ []) }
+        ensures called { self.new ≡ record (called_once self.old self.new.doors) { failures = self.new.failures } }
+        ensures used { OnOk result (IsUsed local.now self.new.calls self.new.doors) }
+    {
         if self.is_sent(local, to, bytes) {
             Ok(())
         } else {
@@ -217,11 +243,26 @@ impl<N: Net + Drop> Wire for Udp<N> {
         &mut self,
         local: &Address,
         buffer: &mut [u8],
-    ) -> Result<Option<(usize, Address)>, WireFault> {
+    ) -> Result<Option<(usize, Address)>, WireFault>
+        requires { 65507 ≤ length buffer.old }
+        ensures within { IfOk result (λ read. IfSome read (λ datagram. datagram.0 ≤ length buffer.new)) }
+        ensures event { (events : List Event) → self.old.failures ≡ counted events
+            → self.new.failures ≡ counted (events ++ read_event local.now buffer.new result ∷ []) }
+        ensures called { self.new ≡ record (called_once self.old self.new.doors) { failures = self.new.failures } }
+        ensures used { OnOk result (IsUsed local.now self.new.calls self.new.doors) }
+    {
         match self.received(local, buffer) {
             Ok(read) => Ok(read),
             Err(_) => Err(self.fail()),
         }
+    }
+
+    fn turn_ended(&mut self)
+        ensures kept { (events : List Event) → self.old.failures ≡ counted events → self.new.failures ≡ counted events }
+        ensures turned { self.new ≡ turned self.old }
+    {
+        close_unused(&mut self.doors, self.turn);
+        self.turn = self.calls;
     }
 
     fn failures(&self) -> u64 {

@@ -36,6 +36,12 @@ pub trait Wire {
         ensures event { (events : List Event) → went self.old events
             → went self.new (events ++ read_event local.now buffer.new result ∷ []) };
 
+    /// A turn of the caller is over. A wire that keeps sockets closes those that whole turns no longer used; others do nothing.
+    /// It is no call that failed or that datagrams went by, so the list of calls stays.
+    fn turn_ended(&mut self)
+        ensures { (events : List Event) → went self.old events → went self.new events }
+    {}
+
     /// How many calls failed so far, or the greatest `u64` where there are more.
     fn failures(&self) -> u64
         ensures { (events : List Event) → went self.now events → result ≡ counted events };
