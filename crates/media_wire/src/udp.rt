@@ -25,8 +25,9 @@ struct Door {
 }
 
 /// The sockets of the system, for datagrams of the User Datagram Protocol. One is opened for an address where it is first sent
-/// from or read at, and kept; where one can't be opened the call fails, and the next one tries again. There is room for so many
-/// at once as [`Udp::new`] is told: another one takes the place of that which was not used for the longest.
+/// from or read at; where one can't be opened the call fails, and the next one there tries again. It is closed at the end of a
+/// turn that did not use it, and with the wire. There is room for so many at once as [`Udp::new`] is told: another one takes the
+/// place of that which was not used for the longest. After `new` no call takes memory.
 #[derive(Drop)]
 pub struct Udp<N: Net> {
     net: N,
@@ -94,7 +95,7 @@ fn close_oldest(doors: &mut Vec<Door>) {
         }
     }
     if oldest < doors.len() {
-        let _ = doors.swap_remove(oldest);
+        let _ = doors.remove(oldest);
     }
 }
 
@@ -172,13 +173,13 @@ fn received(socket: &UdpSocket, buffer: &mut [u8]) -> Result<Option<(usize, Addr
 }
 
 impl<N: Net + Drop> Udp<N> {
-    /// No socket, and room for so many at once.
+    /// No socket, and room for so many at once, at least one.
     pub fn new(alloc: Global, net: N, places: usize) -> Result<Udp<N>, AllocError>
         ensures { IfOk result (λ udp. udp ≡ new_sockets places) }
     {
         Ok(Udp {
             net,
-            doors: Vec::with_capacity(alloc, places)?,
+            doors: Vec::with_capacity(alloc, places.max(1))?,
             places,
             calls: 0,
             turn: 0,
