@@ -4,3 +4,4 @@ pub mod Orders
 pub mod Places
 pub mod Sources
 pub mod Trying
+pub mod Uses

@@ -5,3 +5,4 @@ pub mod Letters
 pub mod Networks
 pub mod Sockets
 pub mod Trials
+pub mod Turns

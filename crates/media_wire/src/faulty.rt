@@ -100,6 +100,15 @@ impl<W: Wire> Wire for Faulty<W> {
         }
     }
 
+    fn turn_ended(&mut self)
+        ensures kept { (events : List Event) → Tries W.went self.old.wire self.old.failures events
+            → Tries W.went self.new.wire self.new.failures events }
+        ensures own { (events : List Event) → W.went self.old.wire events → W.went self.new.wire events }
+        ensures rest { self.new ≡ record self.old { wire = self.new.wire } }
+    {
+        self.wire.turn_ended();
+    }
+
     fn failures(&self) -> u64 {
         self.failures
     }

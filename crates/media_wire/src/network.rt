@@ -174,6 +174,11 @@ impl Wire for Network {
         }
     }
 
+    fn turn_ended(&mut self)
+        ensures same { self.new ≡ self.old }
+        ensures kept { (events : List Event) → Goes self.old events → Goes self.new events }
+    {}
+
     fn failures(&self) -> u64 {
         self.failures
     }

@@ -1,5 +1,6 @@
-ghost use Rattle.media_wire.specs.Events.{counted};
-ghost use Rattle.std.specs.Prelude.{◌≡◌, ◌+◌, ◌-◌, ◌^◌, IfOk, min};
+ghost use Rattle.media_wire.specs.Events.{Event, counted};
+ghost use Rattle.media_wire.specs.Turns.{are_whole, one_ended};
+ghost use Rattle.std.specs.Prelude.{◌≡◌, ◌+◌, ◌-◌, ◌^◌, List, IfOk, if◌then◌else◌, length, min, replicate};
 
 use crate::wire::{Wire, WireFault};
 use channel_uri::Address;
@@ -7,12 +8,66 @@ use std::alloc::{AllocError, Global};
 use std::marker::Model;
 use std::sync::{Arc, Mutex, Wait};
 
+// The wire that is shared, and how many turns each of those that share it has ended since the wire's own turn last ended.
+#[derive(Drop)]
+struct Common<W> {
+    wire: W,
+    turns: Vec<u8>,
+}
+
+fn count_turn(turns: &mut [u8], place: usize)
+    ensures { turns.new ≡ one_ended turns.old place }
+{
+    if place < turns.len() {
+        turns[place] = turns[place].saturating_add(1);
+    }
+}
+
+fn are_whole(turns: &[u8]) -> bool
+    ensures { result ≡ are_whole turns.now }
+{
+    turns.iter().all(|count| *count > 1)
+}
+
+// One more turn ended. Whether each has made a whole turn by now; then they are counted anew.
+fn is_round_over(turns: &mut [u8], place: usize) -> bool
+    ensures over { result ≡ are_whole (one_ended turns.old place) }
+    ensures turns { turns.new ≡ (if result then replicate (length turns.old) 0 else one_ended turns.old place) }
+{
+    count_turn(turns, place);
+    if !are_whole(turns) {
+        return false;
+    }
+    turns.fill(0);
+    true
+}
+
+impl<W: Wire> Common<W> {
+    // The place of one more.
+    fn join(&mut self) -> Result<usize, AllocError> {
+        let place = self.turns.len();
+        self.turns.push(0)?;
+        Ok(place)
+    }
+
+    fn turn_ended(&mut self, place: usize) {
+        if is_round_over(&mut self.turns, place) {
+            self.wire.turn_ended();
+        }
+    }
+}
+
 /// A wire that several threads use: each has one of these, and a call takes the lock of the wire for its time. The failures of
 /// one are those of its own calls. What went over the wire that they share, no contract says.
+///
+/// Threads end their turns at different times. The turn of the wire itself ends once each that shares it has ended two turns
+/// since the wire's last: the second of them is a whole turn, so that what each of them uses in every turn was used. While one
+/// ends no turn, the wire's turn does not end.
 #[derive(Drop)]
 pub struct Shared<W, R> {
-    wire: Arc<Mutex<W>>,
+    common: Arc<Mutex<Common<W>>>,
     rt: R,
+    place: usize,
     failures: u64,
 }
 
@@ -24,14 +79,17 @@ impl<W, R> Model for Shared<W, R> {
     ghost view = { λ shared. shared.failures };
 }
 
-impl<W: Drop, R: Copy> Shared<W, R> {
+impl<W: Wire + Drop, R: Wait + Copy> Shared<W, R> {
     /// The first one of a wire.
     pub fn new(alloc: Global, rt: R, wire: W) -> Result<Shared<W, R>, AllocError>
         ensures { IfOk result (λ shared. shared ≡ 0) }
     {
+        let turns = vec![in alloc; 0u8; 1]?;
+        let common = Common { wire, turns };
         Ok(Shared {
-            wire: Arc::new(alloc, Mutex::new(wire))?,
+            common: Arc::new(alloc, Mutex::new(common))?,
             rt,
+            place: 0,
             failures: 0,
         })
     }
@@ -40,9 +98,12 @@ impl<W: Drop, R: Copy> Shared<W, R> {
     pub fn another(&self) -> Result<Shared<W, R>, AllocError>
         ensures { IfOk result (λ shared. shared ≡ 0) }
     {
+        let common = Arc::try_clone(&self.common)?;
+        let place = common.lock(&self.rt).join()?;
         Ok(Shared {
-            wire: Arc::try_clone(&self.wire)?,
+            common,
             rt: self.rt,
+            place,
             failures: 0,
         })
     }
@@ -59,7 +120,7 @@ impl<W: Wire + Drop, R: Wait + Copy> Wire for Shared<W, R> {
     ghost went = { λ failures events. failures ≡ counted events };
 
     fn send(&mut self, local: &Address, to: &Address, bytes: &[u8]) -> Result<(), WireFault> {
-        let sent = self.wire.lock(&self.rt).send(local, to, bytes);
+        let sent = self.common.lock(&self.rt).wire.send(local, to, bytes);
         match sent {
             Ok(()) => Ok(()),
             Err(_) => Err(self.fail()),
@@ -71,11 +132,18 @@ impl<W: Wire + Drop, R: Wait + Copy> Wire for Shared<W, R> {
         local: &Address,
         buffer: &mut [u8],
     ) -> Result<Option<(usize, Address)>, WireFault> {
-        let read = self.wire.lock(&self.rt).recv(local, buffer);
+        let read = self.common.lock(&self.rt).wire.recv(local, buffer);
         match read {
             Ok(read) => Ok(read),
             Err(_) => Err(self.fail()),
         }
+    }
+
+    fn turn_ended(&mut self)
+        ensures same { self.new ≡ self.old }
+        ensures kept { (events : List Event) → self.old ≡ counted events → self.new ≡ counted events }
+    {
+        self.common.lock(&self.rt).turn_ended(self.place);
     }
 
     fn failures(&self) -> u64 {

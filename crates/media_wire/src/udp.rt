@@ -1,10 +1,11 @@
-ghost use Rattle.media_wire.specs.Events.{counted};
-ghost use Rattle.media_wire.specs.Sockets.{failed_once, new_sockets};
 ghost use Rattle.media_wire.specs.Doors.{is_at};
+ghost use Rattle.media_wire.specs.Events.{Event, counted, read_event, sent_event};
+ghost use Rattle.media_wire.specs.Letters.{letter};
+ghost use Rattle.media_wire.specs.Sockets.{IsUsed, called_once, failed_once, is_used_after, new_sockets, turned};
 ghost use Rattle.std.specs.List.{position};
 ghost use Rattle.std.specs.Net.Addr.{ipv4_octets};
 ghost use Rattle.std.specs.Net.Socket.{socket_ip, socket_port, v4_ip, v4_port};
-ghost use Rattle.std.specs.Prelude.{◌≡◌, ◌<◌, ◌≤◌, IfOk, IfSome, Some, length, vec_len};
+ghost use Rattle.std.specs.Prelude.{◌≡◌, ◌<◌, ◌≤◌, ◌++◌, ◌∷◌, [], List, IfOk, IfSome, OnOk, OnSome, Some, filter, length, true, vec_len};
 ghost use Rattle.std.specs.declared.net.ip_addr.IpAddr.TheVariants.{V4};
 ghost use Rattle.std.specs.declared.net.ipv4_addr.Ipv4Addr.{Ipv4Addr};
 
@@ -24,14 +25,16 @@ struct Door {
 }
 
 /// The sockets of the system, for datagrams of the User Datagram Protocol. One is opened for an address where it is first sent
-/// from or read at, and kept; where one can't be opened the call fails, and the next one tries again. There is room for so many
-/// at once as [`Udp::new`] is told: another one takes the place of that which was not used for the longest.
+/// from or read at; where one can't be opened the call fails, and the next one there tries again. It is closed at the end of a
+/// turn that did not use it, and with the wire. There is room for so many at once as [`Udp::new`] is told: another one takes the
+/// place of that which was not used for the longest. After `new` no call takes memory.
 #[derive(Drop)]
 pub struct Udp<N: Net> {
     net: N,
     doors: Vec<Door>,
     places: usize,
     calls: u64,
+    turn: u64,
     failures: u64,
 }
 
@@ -40,7 +43,7 @@ impl<N: Net> Model for Udp<N> {
 
     ghost Value = { Sockets };
 
-    ghost view = { λ udp. record { places = udp.places; failures = udp.failures } };
+    ghost view = { λ udp. record { places = udp.places; doors = udp.doors.items; calls = udp.calls; turn = udp.turn; failures = udp.failures } };
 }
 
 fn socket_address(address: &Address) -> SocketAddrV4
@@ -92,7 +95,26 @@ fn close_oldest(doors: &mut Vec<Door>) {
         }
     }
     if oldest < doors.len() {
-        let _ = doors.swap_remove(oldest);
+        let _ = doors.remove(oldest);
+    }
+}
+
+// Those that were used after this call stay.
+fn close_unused(doors: &mut Vec<Door>, call: u64)
+    ensures { doors.new.items ≡ filter (is_used_after call) doors.old.items }
+{
+    doors.retain(|door| door.used > call);
+}
+
+// Where one more stands.
+fn added(doors: &mut Vec<Door>, door: Door) -> Option<usize>
+    ensures within { IfSome result (λ place. place < vec_len doors.new) }
+    ensures added { OnSome result (doors.new.items ≡ doors.old.items ++ door ∷ []) }
+{
+    let place = doors.len();
+    match doors.push(door) {
+        Ok(()) => Some(place),
+        Err(_) => None,
     }
 }
 
@@ -104,7 +126,8 @@ fn entered<N: Net>(
     call: u64,
     local: &Address,
 ) -> Option<usize>
-    ensures { IfSome result (λ place. place < vec_len doors.new) }
+    ensures within { IfSome result (λ place. place < vec_len doors.new) }
+    ensures used { OnSome result (IsUsed local.now call doors.new.items) }
 {
     if let Some(place) = place_of(doors, local) {
         doors[place].used = call;
@@ -114,16 +137,12 @@ fn entered<N: Net>(
     if doors.len() >= places {
         close_oldest(doors);
     }
-    let place = doors.len();
     let door = Door {
         local: *local,
         used: call,
         socket,
     };
-    match doors.push(door) {
-        Ok(()) => Some(place),
-        Err(_) => None,
-    }
+    added(doors, door)
 }
 
 // Whether all of it was sent.
@@ -154,15 +173,16 @@ fn received(socket: &UdpSocket, buffer: &mut [u8]) -> Result<Option<(usize, Addr
 }
 
 impl<N: Net + Drop> Udp<N> {
-    /// No socket, and room for so many at once.
+    /// No socket, and room for so many at once, at least one.
     pub fn new(alloc: Global, net: N, places: usize) -> Result<Udp<N>, AllocError>
         ensures { IfOk result (λ udp. udp ≡ new_sockets places) }
     {
         Ok(Udp {
             net,
-            doors: Vec::with_capacity(alloc, places)?,
+            doors: Vec::with_capacity(alloc, places.max(1))?,
             places,
             calls: 0,
+            turn: 0,
             failures: 0,
         })
     }
@@ -176,7 +196,8 @@ impl<N: Net + Drop> Udp<N> {
 
     // Whether a datagram was sent.
     fn is_sent(&mut self, local: &Address, to: &Address, bytes: &[u8]) -> bool
-        ensures { self.new ≡ self.old }
+        ensures called { self.new ≡ called_once self.old self.new.doors }
+        ensures used { result ≡ true → IsUsed local.now self.new.calls self.new.doors }
     {
         self.calls = self.calls.saturating_add(1);
         match entered(&self.net, &mut self.doors, self.places, self.calls, local) {
@@ -191,7 +212,8 @@ impl<N: Net + Drop> Udp<N> {
         local: &Address,
         buffer: &mut [u8],
     ) -> Result<Option<(usize, Address)>, WireFault>
-        ensures same { self.new ≡ self.old }
+        ensures called { self.new ≡ called_once self.old self.new.doors }
+        ensures used { OnOk result (IsUsed local.now self.new.calls self.new.doors) }
         ensures within { IfOk result (λ read. IfSome read (λ datagram. datagram.0 ≤ length buffer.new)) }
     {
         self.calls = self.calls.saturating_add(1);
@@ -205,7 +227,12 @@ impl<N: Net + Drop> Udp<N> {
 impl<N: Net + Drop> Wire for Udp<N> {
     ghost went = { λ sockets events. sockets.failures ≡ counted events };
 
-    fn send(&mut self, local: &Address, to: &Address, bytes: &[u8]) -> Result<(), WireFault> {
+    fn send(&mut self, local: &Address, to: &Address, bytes: &[u8]) -> Result<(), WireFault>
+        ensures event { (events : List Event) → self.old.failures ≡ counted events
+            → self.new.failures ≡ counted (events ++ sent_event (letter local.now to.now bytes.now) result ∷ []) }
+        ensures called { self.new ≡ record (called_once self.old self.new.doors) { failures = self.new.failures } }
+        ensures used { OnOk result (IsUsed local.now self.new.calls self.new.doors) }
+    {
         if self.is_sent(local, to, bytes) {
             Ok(())
         } else {
@@ -217,11 +244,26 @@ impl<N: Net + Drop> Wire for Udp<N> {
         &mut self,
         local: &Address,
         buffer: &mut [u8],
-    ) -> Result<Option<(usize, Address)>, WireFault> {
+    ) -> Result<Option<(usize, Address)>, WireFault>
+        requires { 65507 ≤ length buffer.old }
+        ensures within { IfOk result (λ read. IfSome read (λ datagram. datagram.0 ≤ length buffer.new)) }
+        ensures event { (events : List Event) → self.old.failures ≡ counted events
+            → self.new.failures ≡ counted (events ++ read_event local.now buffer.new result ∷ []) }
+        ensures called { self.new ≡ record (called_once self.old self.new.doors) { failures = self.new.failures } }
+        ensures used { OnOk result (IsUsed local.now self.new.calls self.new.doors) }
+    {
         match self.received(local, buffer) {
             Ok(read) => Ok(read),
             Err(_) => Err(self.fail()),
         }
+    }
+
+    fn turn_ended(&mut self)
+        ensures kept { (events : List Event) → self.old.failures ≡ counted events → self.new.failures ≡ counted events }
+        ensures turned { self.new ≡ turned self.old }
+    {
+        close_unused(&mut self.doors, self.turn);
+        self.turn = self.calls;
     }
 
     fn failures(&self) -> u64 {

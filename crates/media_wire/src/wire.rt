@@ -36,6 +36,12 @@ pub trait Wire {
         ensures event { (events : List Event) → went self.old events
             → went self.new (events ++ read_event local.now buffer.new result ∷ []) };
 
+    /// A turn of the caller is over, which is to be told once at the end of each. A wire that keeps sockets closes those that were
+    /// not used since the turn before ended; others do nothing. Datagrams neither come nor go by it, and it can't fail.
+    fn turn_ended(&mut self)
+        ensures { (events : List Event) → went self.old events → went self.new events }
+    {}
+
     /// How many calls failed so far, or the greatest `u64` where there are more.
     fn failures(&self) -> u64
         ensures { (events : List Event) → went self.now events → result ≡ counted events };

@@ -5,7 +5,8 @@ use media_wire::{Faulty, LONGEST, Network, Wire};
 use std::alloc::Global;
 use std::test::Fail;
 
-/// How many of six calls fail, by turns a datagram that is sent and a read: as many as the wire counts, or 7.
+/// How many of six calls fail, by turns a datagram that is sent and a read: as many as the wire counts, or 7. A turn that ends is
+/// none of these calls.
 fn failing<W: Wire>(wire: &mut W, buffer: &mut [u8]) -> u64
     requires { 65507 ≤ length buffer.old }
 {
@@ -18,6 +19,7 @@ fn failing<W: Wire>(wire: &mut W, buffer: &mut [u8]) -> u64
         if wire.recv(&there, buffer).is_err() {
             failed = failed.saturating_add(1);
         }
+        wire.turn_ended();
     }
     if wire.failures() == failed { failed } else { 7 }
 }

@@ -71,3 +71,34 @@ fn a_letter_too_long(rt: HostRuntime) -> Result<(), Fail> {
     assert_eq!(rt; network.len(), 1);
     Ok(())
 }
+
+/// Whether a datagram is sent, and on its way so often; where memory was refused, whether that was a failure that changed
+/// nothing else, and the next try is sent.
+fn is_sent_at_last(network: &mut Network, often: usize) -> bool {
+    for _ in 0..2 {
+        let (before, failed) = (network.len(), network.failures());
+        match network.send(&at(1), &at(2), b"abc") {
+            Ok(()) => {
+                return network.len() == before.saturating_add(often)
+                    && network.failures() == failed;
+            }
+            Err(WireFault) => {
+                if network.len() != before || network.failures() != failed.saturating_add(1) {
+                    return false;
+                }
+            }
+        }
+    }
+    false
+}
+
+// With memory each is sent at once; in a run in which one growth is refused, at the second try.
+#[test]
+fn sent_or_a_failure(rt: HostRuntime) -> Result<(), Fail> {
+    let fates = vec![in rt.alloc(); Fate::IsRepeated, Fate::Overtakes, Fate::IsRepeated]?;
+    let mut network = Network::with_fates(rt.alloc(), fates);
+    for often in [2, 1, 2, 1, 1, 1, 1] {
+        assert!(rt; is_sent_at_last(&mut network, often));
+    }
+    Ok(())
+}

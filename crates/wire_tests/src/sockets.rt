@@ -1,8 +1,9 @@
 ghost use Rattle.std.specs.Prelude.{◌≤◌, length};
 
 use crate::reading::{at, awaited, comes, is_faulty, is_silent};
+use channel_uri::Address;
 use frame_codec::{Datagram, Flags, Packet, StatusMessage, write_sm};
-use media_wire::{LONGEST, Udp, Wire, WireFault};
+use media_wire::{LONGEST, Shared, Udp, Wire, WireFault};
 use std::net::Net;
 use std::process;
 use std::test::Fail;
@@ -139,5 +140,83 @@ fn room_for_two_sockets(rt: HostRuntime) -> Result<(), Fail> {
     let mut other = Udp::new(rt.alloc(), rt, 2)?;
     let port = first_port(process::id(rt.process())).wrapping_add(5);
     assert!(rt; makes_room(&mut wire, &mut other, port, &mut buffer));
+    Ok(())
+}
+
+/// Whether a socket that is read in each turn stays open, and one that a whole turn did not use is closed.
+fn closes_at_a_turn<W: Wire, V: Wire>(
+    wire: &mut W,
+    other: &mut V,
+    port: u16,
+    buffer: &mut [u8],
+) -> bool
+    requires { 65507 ≤ length buffer.old }
+{
+    let (kept, left) = (at(port), at(port.wrapping_add(1)));
+    let first = is_silent(wire, &kept, buffer) && is_silent(wire, &left, buffer);
+    wire.turn_ended();
+    let second = other.send(&left, &kept, b"a").is_err() && comes_in_turns(wire, &kept, buffer);
+    first
+        && second
+        && wire.failures() == 0
+        && is_faulty(other, &kept, buffer)
+        && is_silent(other, &left, buffer)
+        && other.failures() == 2
+}
+
+/// Whether what one sends to itself in a turn is there to read in the turn after the next.
+fn comes_in_turns<W: Wire>(wire: &mut W, kept: &Address, buffer: &mut [u8]) -> bool
+    requires { 65507 ≤ length buffer.old }
+{
+    let sent = wire.send(kept, kept, b"b").is_ok();
+    wire.turn_ended();
+    let again = wire.send(kept, kept, b"c").is_ok();
+    wire.turn_ended();
+    sent && again && comes(wire, kept, kept, b"b", buffer) && comes(wire, kept, kept, b"c", buffer)
+}
+
+#[test]
+fn closed_after_a_turn_without_use(rt: HostRuntime) -> Result<(), Fail> {
+    let mut buffer = vec![in rt.alloc(); 0u8; LONGEST]?;
+    let mut wire = Udp::new(rt.alloc(), rt, 4)?;
+    let mut other = Udp::new(rt.alloc(), rt, 4)?;
+    let port = first_port(process::id(rt.process())).wrapping_add(2);
+    assert!(rt; closes_at_a_turn(&mut wire, &mut other, port, &mut buffer));
+    Ok(())
+}
+
+/// Whether what one of two that share sockets uses stays open while the other ends turns, and is closed once both have made
+/// turns without it.
+fn closes_for_both<W: Wire, V: Wire>(
+    one: &mut W,
+    two: &mut W,
+    other: &mut V,
+    port: u16,
+    buffer: &mut [u8],
+) -> bool
+    requires { 65507 ≤ length buffer.old }
+{
+    let here = at(port);
+    let opened = is_silent(one, &here, buffer);
+    for _ in 0..5 {
+        two.turn_ended();
+    }
+    let stays = is_faulty(other, &here, buffer);
+    for _ in 0..4 {
+        one.turn_ended();
+        two.turn_ended();
+    }
+    opened && stays && is_silent(other, &here, buffer)
+}
+
+#[test]
+fn closed_once_both_have_turned(rt: HostRuntime) -> Result<(), Fail> {
+    let mut buffer = vec![in rt.alloc(); 0u8; LONGEST]?;
+    let sockets = Udp::new(rt.alloc(), rt, 4)?;
+    let mut one = Shared::new(rt.alloc(), rt, sockets)?;
+    let mut two = one.another()?;
+    let mut other = Udp::new(rt.alloc(), rt, 4)?;
+    let port = first_port(process::id(rt.process())).wrapping_add(4);
+    assert!(rt; closes_for_both(&mut one, &mut two, &mut other, port, &mut buffer));
     Ok(())
 }
