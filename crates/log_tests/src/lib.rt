@@ -9,6 +9,8 @@ mod cases;
 #[cfg(test)]
 mod churning;
 #[cfg(test)]
+mod copies;
+#[cfg(test)]
 mod datagrams;
 #[cfg(test)]
 mod filling;
