@@ -1,3 +1,4 @@
 pub mod MoveCounts
+pub mod Places
 pub mod SlotLemmas
 pub mod WholeCounts

@@ -1,8 +1,10 @@
--- What is counted: each message that a log took, once. Own rules.
-use Rattle.std.specs.Prelude.{◌≡◌, ℕ, ◌+◌, ◌⊎◌}
+-- What is counted: each message that a log took, once; and what lies behind the lock of a slot with its share of the ledger.
+-- Own rules.
+use Rattle.std.specs.Prelude.{◌≡◌, ℕ, ◌+◌, ◌⊎◌, Bool, true, None, if◌then◌else◌}
 use Rattle.driver_steps.specs.declared.answer.Answer.{Answer}
 use Rattle.driver_steps.specs.declared.answer.Answer.TheVariants.{Offered as OfferedAs}
 use Rattle.driver_steps.specs.declared.answer.Offered.TheVariants.{At}
+use Rattle.log_slots.specs.Slots.{SlotLog, messages_in}
 
 -- how many messages a log took that gave this answer: only a position says that it took one
 abbrev pub taken_by : Answer → ℕ
@@ -14,3 +16,27 @@ abbrev pub Adds : Type 0 → ℕ → ℕ → ℕ → ℕ → ℕ → Type 0
 Adds full count client_old client_new slot_old slot_new =
     ((client_new ≡ client_old + count) × (slot_new ≡ slot_old + count))
     ⊎ (full × (client_new ≡ client_old) × (slot_new ≡ slot_old))
+
+-- the log; how many messages the logs took that were closed in the slot; how many its share of the ledger counts; whether that
+-- is all of them; and whether the driver has ended
+pub record SlotCount : Type 0 where
+  pub kept : SlotLog
+  pub closed : ℕ
+  pub counted : ℕ
+  pub exact : Bool
+  pub settled : Bool
+
+-- The share counts the messages of the log that is open and of those that were closed, while all were counted. Once the driver
+-- has ended no log is open.
+pub record IsCounted (slot : SlotCount) : Type 0 where
+  pub counts : slot.exact ≡ true → slot.counted ≡ messages_in slot.kept.log + slot.closed
+  pub rests : slot.settled ≡ true → slot.kept.log ≡ None
+
+-- the driver has ended: the log is let go, and the share is out, with all that it counts
+abbrev pub settled_of : SlotCount → SlotCount
+settled_of slot = if slot.settled then slot else record slot {
+  kept = record slot.kept { log = None };
+  closed = 0;
+  counted = 0;
+  settled = true;
+}

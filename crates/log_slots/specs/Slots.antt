@@ -3,7 +3,8 @@ use Rattle.std.specs.Prelude.{◌≡◌, ℕ, ℤ, ◌==◌, ◌&&◌, Bool, tru
 use Rattle.std.specs.Ordering.{int_eq}
 use Rattle.any_log.specs.Held.{Made, for_publication, for_stream, is_silent_held, made_held, messages_held, place_held, reach_held, rejoined_held}
 use Rattle.driver_steps.specs.declared.answer.Answer.{Answer}
-use Rattle.driver_steps.specs.Decided.{Decides}
+use Rattle.driver_steps.specs.declared.packets.PacketRequest.{PacketRequest}
+use Rattle.driver_steps.specs.Decided.{Decides, decision_for}
 use Rattle.driver_steps.specs.Held.{HeldLog, LiesAsBefore}
 use Rattle.driver_steps.specs.Memory.{Gives}
 use Rattle.driver_steps.specs.Moves.{Does, Move, WholeLog}
@@ -86,6 +87,18 @@ abbrev pub Moves : (WholeLog → Move) → Answer → Option HeldLog → Option 
 Moves move absent None new answer = (new ≡ None) × (answer ≡ absent)
 Moves move absent (Some held) new answer = MovesOpen move held new answer
 
+-- that is decided of the log that is open; nothing, where none is
+abbrev pub DecidesIn : (WholeLog → Option Decision) → Option HeldLog → Option Decision → Type 0
+DecidesIn decide None decision = decision ≡ None
+DecidesIn decide (Some held) decision = Decides decide held decision
+
+-- a log is open, and something is given of it
+abbrev pub GivesIn : (WholeLog → Move) → Option HeldLog → Type 0
+GivesIn move None = ⊥
+GivesIn move (Some held) = Gives move held
+
+-- ---- a datagram
+
 -- the frames of a datagram are of that session and stream; any other names what it is for by itself
 abbrev pub is_of : ℤ → ℤ → Content → Bool
 is_of session stream (frames []) = false
@@ -105,12 +118,30 @@ HearsIn is_for move (Some held) new answer = HearsIf is_for move held new answer
 abbrev pub Hears : Content → (WholeLog → Move) → SlotLog → Option HeldLog → Answer → Type 0
 Hears content move slot new answer = HearsIn (is_of slot.session slot.stream content) move slot.log new answer
 
--- that is decided of the log that is open; nothing, where none is
-abbrev pub DecidesIn : (WholeLog → Option Decision) → Option HeldLog → Option Decision → Type 0
-DecidesIn decide None decision = decision ≡ None
-DecidesIn decide (Some held) decision = Decides decide held decision
+-- of a NAK the request says what was decided; the log of another source has nothing to do with it
+abbrev pub packet_decision : PacketRequest → WholeLog → Option Decision
+packet_decision request = decision_for request.source (λ log. request.decision)
 
--- a log is open, and something is given of it
-abbrev pub GivesIn : (WholeLog → Move) → Option HeldLog → Type 0
-GivesIn move None = ⊥
-GivesIn move (Some held) = Gives move held
+-- nothing is decided of a datagram that is not of the log's session and stream
+abbrev pub DecidesIf : Bool → (WholeLog → Option Decision) → HeldLog → Option Decision → Type 0
+DecidesIf true decide held decision = Decides decide held decision
+DecidesIf false decide held decision = decision ≡ None
+
+abbrev pub DecidesHeardIn : Bool → (WholeLog → Option Decision) → Option HeldLog → Option Decision → Type 0
+DecidesHeardIn is_for decide None decision = decision ≡ None
+DecidesHeardIn is_for decide (Some held) decision = DecidesIf is_for decide held decision
+
+abbrev pub DecidesHeard : Content → (WholeLog → Option Decision) → SlotLog → Option Decision → Type 0
+DecidesHeard content decide slot decision = DecidesHeardIn (is_of slot.session slot.stream content) decide slot.log decision
+
+-- nothing is given of it
+abbrev pub GivesIf : Bool → (WholeLog → Move) → HeldLog → Type 0
+GivesIf true move held = Gives move held
+GivesIf false move held = ⊥
+
+abbrev pub GivesHeardIn : Bool → (WholeLog → Move) → Option HeldLog → Type 0
+GivesHeardIn is_for move None = ⊥
+GivesHeardIn is_for move (Some held) = GivesIf is_for move held
+
+abbrev pub GivesHeard : Content → (WholeLog → Move) → SlotLog → Type 0
+GivesHeard content move slot = GivesHeardIn (is_of slot.session slot.stream content) move slot.log

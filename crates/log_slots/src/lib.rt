@@ -6,6 +6,7 @@
 #![tactic(auto)]
 
 mod log_slot;
+mod memory;
 mod naming;
 mod opening;
 mod region;
@@ -14,8 +15,9 @@ mod slot;
 mod totals;
 
 pub use log_slot::LogSlot;
+pub use memory::{ImageMemory, LogMemory, memory_for};
 pub use naming::{Naming, OfClients, OfSlots};
-pub use opening::{ImageMemory, LogMemory, memory_for, open_log};
+pub use opening::open_log;
 pub use region::Region;
 pub use settling::settle_all;
 pub use slot::Slot;

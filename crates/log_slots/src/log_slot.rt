@@ -1,4 +1,5 @@
 ghost use Rattle.any_log.specs.Held.{made_held, place_held};
+ghost use Rattle.any_log.specs.Whole.{HasWhole};
 ghost use Rattle.driver_steps.specs.declared.answer.Answer.TheVariants.{Gone, Offered as OfferedAs};
 ghost use Rattle.driver_steps.specs.declared.answer.Offered.TheVariants.{Closed};
 ghost use Rattle.driver_steps.specs.Decided.{decision_for, offer_decision, poll_decision};
@@ -9,8 +10,8 @@ ghost use Rattle.driver_steps.specs.Reporting.{image_move};
 ghost use Rattle.driver_steps.specs.Sending.{send_move};
 ghost use Rattle.frame_codec.specs.Datagram.{content};
 ghost use Rattle.log_slots.specs.Counting.{taken_by};
-ghost use Rattle.log_slots.specs.Slots.{DecidesIn, GivesIn, Hears, IsMadeFor, Moves, is_of, is_silent_in, messages_in, reach_in, log_of, with_readers, without_log};
-ghost use Rattle.std.specs.Prelude.{◌≡◌, ◌+◌, ◌≤◌, length, None, Some, IfErr, IfOk, IfSome, OnErr, OnOk};
+ghost use Rattle.log_slots.specs.Slots.{DecidesHeard, DecidesIn, GivesHeard, GivesIn, Hears, IsMadeFor, IsSlot, Moves, is_of, is_silent_in, log_of, messages_in, packet_decision, reach_in, with_readers, without_log};
+ghost use Rattle.std.specs.Prelude.{◌≡◌, ◌≢◌, ◌+◌, ◌≤◌, length, None, Some, IfErr, IfOk, IfSome, OnErr, OnOk};
 
 use crate::naming::Naming;
 use driver_core::{Address, Astray, View};
@@ -97,7 +98,7 @@ fn is_of(packet: &Packet<'_>, session: i32, stream: i32) -> bool
 impl<N: Naming> LogSlot<N> {
     /// A slot in which no log was opened yet.
     pub fn new() -> LogSlot<N>
-        ensures { result.log ≡ None }
+        ensures { (result.source ≡ 0) × (result.log ≡ None) }
     {
         LogSlot {
             source: 0,
@@ -105,6 +106,17 @@ impl<N: Naming> LogSlot<N> {
             stream: 0,
             log: None,
             of: PhantomData,
+        }
+    }
+
+    /// What holds whenever the lock is free: a log that is open has the slot's number, is made for its session and stream, lies
+    /// in the region that `N` names, and stands for a whole log.
+    pub fn holds(&self)
+        ensures own { IsSlot N.home self.now.source self.now.session self.now.stream self.now.log }
+        ensures whole { IfSome self.now.log (λ held. HasWhole held.log) }
+    {
+        if let Some(log) = &self.log {
+            log.has_whole();
         }
     }
 
@@ -116,6 +128,7 @@ impl<N: Naming> LogSlot<N> {
         requires home { (place_held log.log).home ≡ N.home }
         requires made { IsMadeFor session stream (made_held log.log) }
         ensures opened { OnOk result ((self.old.log ≡ None) × (self.new ≡ record { source = log.source; session = session; stream = stream; log = Some log })) }
+        ensures full { OnErr result (self.old.log ≢ None) }
         ensures err { IfErr result (λ back. (back ≡ log) × (self.new ≡ self.old)) }
     {
         if self.log.is_some() {
@@ -207,7 +220,7 @@ impl<N: Naming> LogSlot<N> {
         requires { A.is_right asker.old (V.shows view.now) }
         ensures moved { Moves (offer_move (V.shows view.now) now client registration message.now) (OfferedAs Closed) self.old.log self.new.log result.answer }
         ensures decides { DecidesIn (offer_decision (V.shows view.now) client registration) self.old.log result.decision }
-        ensures source { self.new.source ≡ self.old.source }
+        ensures same { self.new ≡ record self.old { log = self.new.log } }
         ensures messages { messages_in self.new.log ≡ messages_in self.old.log + taken_by result.answer }
         ensures right { A.is_right asker.new (V.shows view.now) }
     {
@@ -232,7 +245,7 @@ impl<N: Naming> LogSlot<N> {
         requires { A.is_right asker.old (V.shows view.now) }
         ensures moved { IfOk result (λ told. Moves (for_source source (poll_move (V.shows view.now) client subscription limit) Gone) Gone self.old.log self.new.log told.answer) }
         ensures decides { IfOk result (λ told. DecidesIn (decision_for source (poll_decision (V.shows view.now) client subscription)) self.old.log told.decision) }
-        ensures source { self.new.source ≡ self.old.source }
+        ensures same { self.new ≡ record self.old { log = self.new.log } }
         ensures messages { messages_in self.new.log ≡ messages_in self.old.log }
         ensures right { A.is_right asker.new (V.shows view.now) }
         ensures err { OnErr result (self.new ≡ self.old) }
@@ -245,8 +258,14 @@ impl<N: Naming> LogSlot<N> {
         poll_step(view, log, asker, alloc, client, subscription, source, limit)
     }
 
-    /// A datagram comes for the log of a source, as [`packet_step`] says. Frames that are not of the session and the stream of
-    /// the log that is open are not heard.
+    /// A datagram comes for the log of a source, as [`packet_step`] says: data, a heartbeat, a NAK or a status message. Frames
+    /// that are not of the session and the stream of the log that is open are not heard.
+    ///
+    /// What was decided is what the request says, where the log of its source is open; else nothing.
+    ///
+    /// # Errors
+    /// Nothing is changed where there is no memory for what the log gives: a word for each frame of data, or the datagrams that
+    /// go out on a NAK. Any other datagram takes none.
     pub fn packet(
         &mut self,
         alloc: Global,
@@ -257,9 +276,11 @@ impl<N: Naming> LogSlot<N> {
     ) -> Result<Told, AllocError>
         requires { IsSoundContent (content packet) }
         ensures moved { IfOk result (λ told. Hears (content packet.entry) (packet_move now from.now request.now (content packet.entry)) self.old self.new.log told.answer) }
-        ensures source { self.new.source ≡ self.old.source }
+        ensures decides { IfOk result (λ told. DecidesHeard (content packet.entry) (packet_decision request.now) self.old told.decision) }
+        ensures same { self.new ≡ record self.old { log = self.new.log } }
         ensures messages { messages_in self.new.log ≡ messages_in self.old.log }
         ensures err { OnErr result (self.new ≡ self.old) }
+        ensures without_memory { OnErr result (GivesHeard (content packet.entry) (packet_move now from.now request.now (content packet.entry)) self.old) }
     {
         let Some(log) = &mut self.log else {
             return Ok(dropped());
@@ -280,7 +301,7 @@ impl<N: Naming> LogSlot<N> {
         source: u64,
     ) -> Result<Answer, AllocError>
         ensures moved { IfOk result (λ answer. Moves (for_source source (send_move (V.shows view.now) now) Gone) Gone self.old.log self.new.log answer) }
-        ensures source { self.new.source ≡ self.old.source }
+        ensures same { self.new ≡ record self.old { log = self.new.log } }
         ensures messages { messages_in self.new.log ≡ messages_in self.old.log }
         ensures err { OnErr result (self.new ≡ self.old) }
         ensures without_memory { OnErr result (GivesIn (for_source source (send_move (V.shows view.now) now) Gone) self.old.log) }
@@ -301,7 +322,7 @@ impl<N: Naming> LogSlot<N> {
         source: u64,
     ) -> Result<Answer, AllocError>
         ensures moved { IfOk result (λ answer. Moves (for_source source (image_move (V.shows view.now) now) Gone) Gone self.old.log self.new.log answer) }
-        ensures source { self.new.source ≡ self.old.source }
+        ensures same { self.new ≡ record self.old { log = self.new.log } }
         ensures messages { messages_in self.new.log ≡ messages_in self.old.log }
         ensures err { OnErr result (self.new ≡ self.old) }
         ensures without_memory { OnErr result (GivesIn (for_source source (image_move (V.shows view.now) now) Gone) self.old.log) }

@@ -1,10 +1,12 @@
 ghost use Rattle.log_arena.specs.Homes.{Home};
 ghost use Rattle.std.specs.Prelude.{ℕ};
+ghost use denote.RawPtr.{null_ptr};
 
-use std::marker::PhantomData;
+use std::marker::{Brand, PhantomData};
 use std::sync::ledger::Ledger;
 
-/// Names the parts of one driver, so that what belongs to another one has another type.
+/// Names the parts of one driver, so that what belongs to another one has another type: this one parameter says which region
+/// its logs lie in, and which two ledgers count their messages.
 pub trait Naming {
     /// The region of memory in which its logs lie.
     ghost home: { Home };
@@ -40,4 +42,17 @@ impl<N: Naming> Ledger for OfSlots<N> {
     ghost name = { N.slot_ledger };
 
     ghost parts = { N.slot_parts };
+}
+
+/// Whoever makes the parts of a driver picks here what they are, where a function over `N` is called.
+impl Naming for Brand {
+    ghost home = { record { base = null_ptr; pages = 0 } };
+
+    ghost client_ledger = { 0 };
+
+    ghost client_parts = { 0 };
+
+    ghost slot_ledger = { 0 };
+
+    ghost slot_parts = { 0 };
 }

@@ -4,54 +4,23 @@ ghost use Rattle.any_log.specs.Held.{for_stream};
 ghost use Rattle.any_log.specs.Whole.{rebuilt};
 ghost use Rattle.driver_core.specs.Soundness.{AreSizes, BeginsSoundly};
 ghost use Rattle.driver_steps.specs.Idents.{begins_of, heard_at, made_by, stream_ident};
+ghost use Rattle.driver_steps.specs.Opening.{IsRoomFor};
 ghost use Rattle.image_log.specs.Rebuilt.{opened as image_opened};
-ghost use Rattle.log_arena.specs.Lease.{lease_bytes, lease_home, lease_len};
-ghost use Rattle.log_slots.specs.Opening.{OpensAs};
-ghost use Rattle.std.specs.Prelude.{◌≡◌, ◌*◌, ◌%◌, ◌<◌, ◌^◌, ℕ, true, replicate, IfSome};
+ghost use Rattle.log_arena.specs.Lease.{lease_bytes, lease_home, lease_len, lease_place};
+ghost use Rattle.log_arena.specs.Pages.{IsLeastPlace, marked};
+ghost use Rattle.log_slots.specs.Opening.{OpensAs, room_of};
+ghost use Rattle.std.specs.Prelude.{◌≡◌, ◌*◌, ◌/◌, ◌%◌, ◌<◌, ◌^◌, ℕ, true, replicate, IfNone, IfSome, IsSome, OnSome};
+ghost use Rattle.stream_registry.specs.LogPages.{log_pages};
 ghost use Rattle.stream_registry.specs.Origins.{is_published};
 
+use crate::memory::{ImageMemory, LogMemory};
 use crate::naming::Naming;
 use crate::region::Region;
-use driver_core::{Event, Settings};
+use driver_core::Settings;
 use driver_steps::{OpenLog, ident_of, stream_ident};
-use image_log::ImageRoom;
 use log_arena::Lease;
-use std::alloc::{AllocError, Global};
 use stream_registry::{Origin, Source};
 use term_log::LogRoom;
-
-/// The memory for the log of an image, and how long its terms are to be.
-#[derive(Drop)]
-pub struct ImageMemory {
-    room: ImageRoom,
-    term_length: u32,
-    pub ghost fits: { room ≡ 3 * term_length },
-}
-
-/// The memory that the log takes which an event opens.
-#[derive(Drop)]
-pub enum LogMemory {
-    /// That of a publication.
-    Publication(LogRoom),
-    /// That of an image.
-    Image(ImageMemory),
-}
-
-/// The memory for an image whose terms are so long.
-fn image_memory(alloc: Global, term_length: u32) -> Result<ImageMemory, AllocError> {
-    let room = ImageRoom::new(alloc, 3 * term_length as usize)?;
-    Ok(ImageMemory { room, term_length })
-}
-
-/// The memory for the log that the event may open: a SETUP brings an image, and any other event a publication.
-pub fn memory_for(alloc: Global, event: &Event) -> Result<LogMemory, AllocError> {
-    if let Event::Setup { setup, .. } = event {
-        if let Some(join) = setup.join() {
-            return Ok(LogMemory::Image(image_memory(alloc, join.term_length)?));
-        }
-    }
-    Ok(LogMemory::Publication(LogRoom::new(alloc)?))
-}
 
 /// Opens the log of a publication.
 fn open_publication<N: Naming>(
@@ -65,6 +34,7 @@ fn open_publication<N: Naming>(
     requires home { lease_home lease ≡ N.home }
     requires long { lease_len lease ≡ 3 * row.now.measures.term_length }
     requires zeros { lease_bytes lease ≡ replicate (3 * row.now.measures.term_length) 0 }
+    requires place { lease_place lease / 4096 ≡ row.now.place }
     ensures { (now : ℕ) → OpensAs N.home settings now row.now result }
 {
     OpenLog::of_publication(room, lease, row.number, ident_of(settings, row), settings)
@@ -82,12 +52,13 @@ fn open_image<N: Naming>(
 ) -> OpenLog
     requires kind { made_by settings row.now row.now.origin ≡ for_stream (stream_ident row.now initial_term) }
     requires begins { begins_of settings now row.now ≡ rebuilt (heard_at now (image_opened (stream_ident row.now initial_term) join)) }
-    requires memory { memory.term_length ≡ row.now.measures.term_length }
+    requires memory { memory ≡ row.now.measures.term_length }
     requires sizes { AreSizes row.now.measures }
     requires join { (join % 32 ≡ 0) × (join < row.now.measures.term_length * 2 ^ 31) }
     requires home { lease_home lease ≡ N.home }
     requires long { lease_len lease ≡ 3 * row.now.measures.term_length }
     requires zeros { lease_bytes lease ≡ replicate (3 * row.now.measures.term_length) 0 }
+    requires place { lease_place lease / 4096 ≡ row.now.place }
     ensures { OpensAs N.home settings now row.now result }
 {
     let ImageMemory {
@@ -98,8 +69,9 @@ fn open_image<N: Naming>(
     OpenLog::of_image(room, lease, row.number, ident, join, now, settings)
 }
 
-/// Opens the log of a live source, at the place that its row names, in memory that was taken before. None where there is no
-/// room at that place, or the memory is that of another log: then nothing is open.
+/// Opens the log of a live source, at the place that its row names, in memory that was taken before.
+///
+/// None where that place is not the least one that has room, or the memory is that of another log: nothing is changed then.
 pub fn open_log<N: Naming>(
     region: &mut Region<N>,
     memory: LogMemory,
@@ -109,13 +81,12 @@ pub fn open_log<N: Naming>(
 ) -> Option<OpenLog>
     requires sizes { AreSizes row.now.measures }
     requires begins { BeginsSoundly row.now }
-    ensures { IfSome result (λ held. OpensAs N.home settings now row.now held) }
+    ensures opens { IfSome result (λ held. OpensAs N.home settings now row.now held) }
+    ensures taken { OnSome result (region.new ≡ marked true row.now.place (log_pages row.now) region.old) }
+    ensures can { IsLeastPlace region.old (log_pages row.now) row.now.place → IsRoomFor (room_of memory) row.now row.now.origin → IsSome result }
+    ensures none { IfNone result (region.new ≡ region.old) }
 {
-    let lease = region.lease(3 * row.measures.term_length as usize).ok()?;
-    if lease.place() as u64 / 4096 != row.place {
-        region.give(lease);
-        return None;
-    }
+    let lease = region.lease_at(3 * row.measures.term_length as usize, row.place)?;
     match (row.origin, memory) {
         (Origin::Published { .. }, LogMemory::Publication(room)) => {
             Some(open_publication::<N>(room, lease, row, settings))

@@ -1,4 +1,5 @@
 ghost use Rattle.any_log.specs.Held.{made_held, messages_held, place_held};
+ghost use Rattle.any_log.specs.Whole.{HasWhole};
 ghost use Rattle.driver_steps.specs.declared.answer.Answer.TheVariants.{Gone, Offered as OfferedAs};
 ghost use Rattle.driver_steps.specs.declared.answer.Offered.TheVariants.{Closed};
 ghost use Rattle.driver_steps.specs.Decided.{decision_for, offer_decision, poll_decision};
@@ -6,9 +7,9 @@ ghost use Rattle.driver_steps.specs.Moves.{for_source, offer_move, poll_move};
 ghost use Rattle.driver_steps.specs.Packets.{IsSoundContent, packet_move};
 ghost use Rattle.driver_steps.specs.Sending.{send_move};
 ghost use Rattle.frame_codec.specs.Datagram.{content};
-ghost use Rattle.log_slots.specs.Counting.{Adds, taken_by};
-ghost use Rattle.log_slots.specs.Slots.{DecidesIn, GivesIn, Hears, IsMadeFor, Moves, log_of, messages_in, reach_in, with_readers, without_log};
-ghost use Rattle.std.specs.Prelude.{◌≡◌, ◌+◌, ◌<◌, ◌≤◌, ◌^◌, length, None, Some, false, true, IfErr, IfOk, IfSome, MatchBool, OnErr, OnOk};
+ghost use Rattle.log_slots.specs.Counting.{Adds, IsCounted, settled_of, taken_by};
+ghost use Rattle.log_slots.specs.Slots.{DecidesHeard, DecidesIn, GivesHeard, GivesIn, Hears, IsMadeFor, IsSlot, Moves, log_of, messages_in, packet_decision, reach_in, with_readers, without_log};
+ghost use Rattle.std.specs.Prelude.{◌≡◌, ◌≢◌, ◌+◌, ◌<◌, ◌≤◌, ◌⊎◌, length, None, Some, false, true, IfErr, IfNone, IfOk, IfSome, MatchBool, OnErr, OnOk};
 
 use crate::log_slot::{LogSlot, closed};
 use crate::naming::{Naming, OfClients, OfSlots};
@@ -17,25 +18,39 @@ use driver_core::{Address, View};
 use driver_steps::{Answer, Asks, Offered, OpenLog, PacketRequest, Told};
 use frame_codec::Packet;
 use std::alloc::{AllocError, Global};
+use std::marker::Model;
 use std::mem;
 use std::sync::ledger::Share;
 
 /// A slot for the log of a publication, with its share of the ledger of what logs took: the messages of the log that is open
 /// and those of the logs that were closed in it.
+///
+/// Contracts see the log as [`LogSlot`] shows it, and the numbers as a `SlotCount`.
 #[derive(Drop)]
 pub struct Slot<N: Naming> {
     kept: LogSlot<N>,
     /// How many messages the logs took that were closed here.
     closed: u64,
-    /// Whether all of them were counted: once the total is at its greatest value no more are.
+    /// Whether all messages were counted: once the total is at its greatest value no more are.
     exact: bool,
     /// Whether the driver has ended, and the share was taken out: no log is open then, nor opens any more.
     settled: bool,
     share: Share<OfSlots<N>>,
-    pub ghost counted: { exact ≡ true → share.amount ≡ messages_in kept.log + closed },
-    pub ghost has_its_part: { settled ≡ false → share.parts ≡ 1 },
-    pub ghost rests: { settled ≡ true → kept.log ≡ None },
-    pub ghost fits: { share.amount < 2 ^ 64 },
+}
+
+impl<N: Naming> Model for Slot<N> {
+    ghost use Rattle.log_slots.specs.Counting.{SlotCount};
+    ghost use Rattle.log_slots.specs.Slots.{messages_in};
+    ghost use Rattle.std.specs.Prelude.{◌≡◌, ◌+◌, ◌<◌, ◌^◌, true, false, None};
+
+    ghost Value = { SlotCount };
+
+    ghost view = { λ slot. record { kept = slot.kept; closed = slot.closed; counted = slot.share.amount; exact = slot.exact; settled = slot.settled } };
+
+    ghost invariant = { λ slot. (slot.exact ≡ true → slot.share.amount ≡ messages_in slot.kept.log + slot.closed)
+        × (slot.settled ≡ false → slot.share.parts ≡ 1)
+        × (slot.settled ≡ true → slot.kept.log ≡ None)
+        × (slot.share.amount < 2 ^ 64) };
 }
 
 /// Whether the answer says that a log took a message.
@@ -49,6 +64,9 @@ impl<N: Naming> Slot<N> {
     /// A slot in which no log was opened yet.
     pub fn new(share: Share<OfSlots<N>>) -> Slot<N>
         requires { (share.parts ≡ 1) × (share.amount ≡ 0) }
+        ensures kept { (result.kept.source ≡ 0) × (result.kept.log ≡ None) }
+        ensures counted { (result.closed ≡ 0) × (result.counted ≡ 0) }
+        ensures begins { (result.exact ≡ true) × (result.settled ≡ false) }
     {
         Slot {
             kept: LogSlot::new(),
@@ -59,8 +77,18 @@ impl<N: Naming> Slot<N> {
         }
     }
 
+    /// What holds whenever the lock is free: what [`LogSlot::holds`] says, and that the share counts the messages of the log
+    /// that is open and of those that were closed here, while all were counted.
+    pub fn holds(&self)
+        ensures own { IsSlot N.home self.now.kept.source self.now.kept.session self.now.kept.stream self.now.kept.log }
+        ensures whole { IfSome self.now.kept.log (λ held. HasWhole held.log) }
+        ensures counts { IsCounted self.now }
+    {
+        self.kept.holds();
+    }
+
     /// A client offers a message, as [`LogSlot::offer`] says. A message that the log took is counted, by the client's share
-    /// and by the slot's.
+    /// and by the slot's, unless the total is at its greatest value.
     pub fn offer<V: View, A: Asks, K: Counts<N>>(
         &mut self,
         counter: &mut K,
@@ -76,9 +104,10 @@ impl<N: Naming> Slot<N> {
         requires right { A.is_right asker.old (V.shows view.now) }
         ensures moved { Moves (offer_move (V.shows view.now) now client registration message.now) (OfferedAs Closed) self.old.kept.log self.new.kept.log result.answer }
         ensures decides { DecidesIn (offer_decision (V.shows view.now) client registration) self.old.kept.log result.decision }
-        ensures source { self.new.kept.source ≡ self.old.kept.source }
         ensures parts { mine.new.parts ≡ mine.old.parts }
-        ensures counted { Adds (K.is_full counter.new) (taken_by result.answer) mine.old.amount mine.new.amount self.old.share.amount self.new.share.amount }
+        ensures counted { Adds (K.is_full counter.new) (taken_by result.answer) mine.old.amount mine.new.amount self.old.counted self.new.counted }
+        ensures exact { (self.new.exact ≡ self.old.exact) ⊎ K.is_full counter.new }
+        ensures same { self.new ≡ record self.old { kept = record self.old.kept { log = self.new.kept.log }; counted = self.new.counted; exact = self.new.exact } }
         ensures right { A.is_right asker.new (V.shows view.now) }
     {
         if self.settled {
@@ -112,9 +141,9 @@ impl<N: Naming> Slot<N> {
         requires { A.is_right asker.old (V.shows view.now) }
         ensures moved { IfOk result (λ told. Moves (for_source source (poll_move (V.shows view.now) client subscription limit) Gone) Gone self.old.kept.log self.new.kept.log told.answer) }
         ensures decides { IfOk result (λ told. DecidesIn (decision_for source (poll_decision (V.shows view.now) client subscription)) self.old.kept.log told.decision) }
-        ensures source { self.new.kept.source ≡ self.old.kept.source }
+        ensures same { self.new ≡ record self.old { kept = record self.old.kept { log = self.new.kept.log } } }
         ensures right { A.is_right asker.new (V.shows view.now) }
-        ensures err { OnErr result (self.new.kept ≡ self.old.kept) }
+        ensures err { OnErr result (self.new ≡ self.old) }
         ensures without_memory { OnErr result (GivesIn (for_source source (poll_move (V.shows view.now) client subscription limit) Gone) self.old.kept.log) }
     {
         self.kept
@@ -130,8 +159,8 @@ impl<N: Naming> Slot<N> {
         source: u64,
     ) -> Result<Answer, AllocError>
         ensures moved { IfOk result (λ answer. Moves (for_source source (send_move (V.shows view.now) now) Gone) Gone self.old.kept.log self.new.kept.log answer) }
-        ensures source { self.new.kept.source ≡ self.old.kept.source }
-        ensures err { OnErr result (self.new.kept ≡ self.old.kept) }
+        ensures same { self.new ≡ record self.old { kept = record self.old.kept { log = self.new.kept.log } } }
+        ensures err { OnErr result (self.new ≡ self.old) }
         ensures without_memory { OnErr result (GivesIn (for_source source (send_move (V.shows view.now) now) Gone) self.old.kept.log) }
     {
         self.kept.send(view, alloc, now, source)
@@ -145,8 +174,10 @@ impl<N: Naming> Slot<N> {
         requires home { (place_held log.log).home ≡ N.home }
         requires made { IsMadeFor session stream (made_held log.log) }
         requires fresh { messages_held log.log ≡ 0 }
-        ensures opened { OnOk result ((self.old.kept.log ≡ None) × (self.new.kept ≡ record { source = log.source; session = session; stream = stream; log = Some log })) }
-        ensures err { IfErr result (λ back. (back ≡ log) × (self.new.kept ≡ self.old.kept)) }
+        ensures free { OnOk result ((self.old.settled ≡ false) × (self.old.kept.log ≡ None)) }
+        ensures opened { OnOk result (self.new ≡ record self.old { kept = record { source = log.source; session = session; stream = stream; log = Some log } }) }
+        ensures full { OnErr result ((self.old.settled ≡ true) ⊎ (self.old.kept.log ≢ None)) }
+        ensures err { IfErr result (λ back. (back ≡ log) × (self.new ≡ self.old)) }
     {
         if self.settled {
             return Err(log);
@@ -154,10 +185,12 @@ impl<N: Naming> Slot<N> {
         self.kept.open(log, session, stream)
     }
 
-    /// The log of that source closes, if it is open here: it is handed out, with its lease.
+    /// The log of that source closes, if it is open here: it is handed out, with its lease. Its messages are among those of
+    /// closed logs from now on.
     pub fn close(&mut self, source: u64) -> Option<OpenLog>
         ensures taken { result ≡ log_of source self.old.kept }
-        ensures left { self.new.kept ≡ without_log source self.old.kept }
+        ensures left { self.new ≡ record self.old { kept = without_log source self.old.kept; closed = self.new.closed } }
+        ensures closed { self.old.exact ≡ true → self.new.closed ≡ self.old.closed + messages_in (log_of source self.old.kept) }
         ensures home { IfSome result (λ held. (place_held held.log).home ≡ N.home) }
     {
         let log = self.kept.close(source)?;
@@ -176,7 +209,7 @@ impl<N: Naming> Slot<N> {
     pub fn rejoin(&mut self, source: u64, subscriptions: &[u64]) -> Option<u64>
         requires { length subscriptions.now ≤ 512 }
         ensures position { result ≡ reach_in source self.old.kept }
-        ensures left { self.new.kept ≡ with_readers source subscriptions.now self.old.kept }
+        ensures left { self.new ≡ record self.old { kept = with_readers source subscriptions.now self.old.kept } }
     {
         self.kept.rejoin(source, subscriptions)
     }
@@ -192,25 +225,28 @@ impl<N: Naming> Slot<N> {
     ) -> Result<Told, AllocError>
         requires { IsSoundContent (content packet) }
         ensures moved { IfOk result (λ told. Hears (content packet.entry) (packet_move now from.now request.now (content packet.entry)) self.old.kept self.new.kept.log told.answer) }
-        ensures source { self.new.kept.source ≡ self.old.kept.source }
-        ensures err { OnErr result (self.new.kept ≡ self.old.kept) }
+        ensures decides { IfOk result (λ told. DecidesHeard (content packet.entry) (packet_decision request.now) self.old.kept told.decision) }
+        ensures same { self.new ≡ record self.old { kept = record self.old.kept { log = self.new.kept.log } } }
+        ensures err { OnErr result (self.new ≡ self.old) }
+        ensures without_memory { OnErr result (GivesHeard (content packet.entry) (packet_move now from.now request.now (content packet.entry)) self.old.kept) }
     {
         self.kept.packet(alloc, now, from, packet, request)
     }
 
-    /// The driver ends: the share is taken out, and the log, if one is open, is let go. A second time there is no share.
+    /// The driver ends: the share is taken out, and the log, if one is open, is let go. A second time there is no share, and
+    /// nothing is changed.
     pub fn settle(&mut self) -> Option<Share<OfSlots<N>>>
-        ensures part { IfSome result (λ share. share.parts ≡ 1) }
-        ensures amount { IfSome result (λ share. share.amount ≡ self.old.share.amount) }
-        ensures left { self.new.kept ≡ record self.old.kept { log = None } }
+        ensures share { IfSome result (λ share. (self.old.settled ≡ false) × (share.parts ≡ 1) × (share.amount ≡ self.old.counted)) }
+        ensures none { IfNone result (self.old.settled ≡ true) }
+        ensures left { self.new ≡ settled_of self.old }
     {
-        self.kept.take();
         if self.settled {
             return None;
         }
+        self.kept.take();
         let empty = self.share.empty();
         let share = mem::replace(&mut self.share, empty);
-        self.exact = false;
+        self.closed = 0;
         self.settled = true;
         Some(share)
     }
