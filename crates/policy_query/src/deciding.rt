@@ -92,9 +92,9 @@ fn text_in(bytes: &[u8]) -> Option<&str>
     }
 }
 
-/// The policy that the bytes of a file are.
+/// The policy that the bytes of a file are, or the first fault of the file.
 #[tactic(auto, unfolding(crate::specs::Deciding::policy_in))]
-fn policy_in(alloc: Global, bytes: &[u8], names: &Names) -> Result<Policy, PolicyFault>
+pub fn policy_in(alloc: Global, bytes: &[u8], names: &Names) -> Result<Policy, PolicyFault>
     ensures { GivesPolicy (λ policy. policy) result (policy_in names.now bytes.now) }
 {
     match text_in(bytes) {

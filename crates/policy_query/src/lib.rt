@@ -3,4 +3,4 @@
 
 mod deciding;
 
-pub use deciding::{Checked, DecideFault, check, decide, principals};
+pub use deciding::{Checked, DecideFault, check, decide, policy_in, principals};
