@@ -41,7 +41,9 @@ use Rattle.two_drivers.proofs.PairLemmas.{pair_read}
 use Rattle.two_drivers.proofs.PromiseLemmas.{named_second, reads_of}
 use Rattle.two_worlds.specs.Drivers.{Opening}
 use Rattle.two_worlds.specs.Sent.{IsFitLog, IsPart}
-use Rattle.two_worlds.specs.Worlds.{AreAnswersOfBoth, AtEach, IsAnswerToBoth, ReadsThere, TwoEnds, WorldStep, after_both, after_second, comes, end_of_both, first_takes, opening_both, second_takes, step_of_second}
+use Rattle.two_worlds.specs.declared.world_step.WorldStep.{WorldStep}
+use Rattle.two_worlds.specs.declared.world_step.WorldStep.TheVariants.{Deliver, First, Second}
+use Rattle.two_worlds.specs.Worlds.{AreAnswersOfBoth, AtEach, IsAnswerToBoth, ReadsThere, TwoEnds, after_both, after_second, end_of_both, opening_both, step_of_second}
 use Rattle.two_worlds.proofs.DriversLemmas.{Holds, reached_follows}
 use Rattle.two_worlds.proofs.GivenLemmas.{answers_push, end_push}
 use Rattle.two_worlds.proofs.SentLemmas.{IsAsked, IsOverUdp, OverUdp, WellLog, opening_well, step_sends, step_well}
@@ -259,13 +261,13 @@ none_next : (e : RunEnd) → AreNext e []
 none_next e = tt
 
 world_next : (e : TwoEnds) (step : WorldStep) (answer : Answer) → IsAnswerToBoth e step answer → IsNext e.first.driver (after_both e step answer).first.driver
-world_next e (first_takes reading) answer answered =
+world_next e (First reading) answer answered =
     elim (world_went e.first reading answer answered) [
       | stayed same silent ↦ same_end same
       | went r like seen told leaves ↦ one_step r answer told leaves
     ]
-world_next e (second_takes reading) answer answered = same_end (second_same e answer (step_of_second e (second_takes reading)))
-world_next e (comes sent now view) answer answered = same_end (second_same e answer (step_of_second e (comes sent now view)))
+world_next e (Second reading) answer answered = same_end (second_same e answer (step_of_second e (Second reading)))
+world_next e (Deliver sent now view) answer answered = same_end (second_same e answer (step_of_second e (Deliver sent now view)))
 
 worlds_next : (e : TwoEnds) (steps : List WorldStep) (answers : List Answer) (more : List RunEnd) → AreAnswersOfBoth e steps answers →
     AreNext (end_of_both e steps answers).first.driver more → AreNext e.first.driver (firsts_after e steps answers ++ more)
@@ -345,9 +347,9 @@ second_world opening e answer None end = end
 second_world opening e answer (Some reading) end = end
 
 both_world : (opening : Opening) (e : TwoEnds) (step : WorldStep) (answer : Answer) → IsWorldEnd opening e.first → IsWorldEnd opening (after_both e step answer).first
-both_world opening e (first_takes reading) answer end = world_end_after opening e.first reading answer end
-both_world opening e (second_takes reading) answer end = second_world opening e answer (step_of_second e (second_takes reading)) end
-both_world opening e (comes sent now view) answer end = second_world opening e answer (step_of_second e (comes sent now view)) end
+both_world opening e (First reading) answer end = world_end_after opening e.first reading answer end
+both_world opening e (Second reading) answer end = second_world opening e answer (step_of_second e (Second reading)) end
+both_world opening e (Deliver sent now view) answer end = second_world opening e answer (step_of_second e (Deliver sent now view)) end
 
 -- whichever registry its actor looks at
 taken_parts : (k : ℕ) (events : List (Event × Inputs)) → events ≡ take k events ++ drop k events
@@ -374,13 +376,13 @@ asked_seen opening i all e o follows over end (an_older k is) =
 step_good : (opening : Opening) (i : Ident) (all : List Frame) (e : TwoEnds) (step : WorldStep) (answer : Answer) → AreSettings opening.settings →
     IsEnd opening e.first.driver → IsWorldEnd opening e.first → All (IsOverUdp i all) e.first.driver.logs → IsAnswerToBoth e step answer →
     SendsGood i all step answer
-step_good opening i all e (first_takes reading) answer sound end world over answered =
+step_good opening i all e (First reading) answer sound end world over answered =
     went_sends i all e.first reading answer (world_went e.first reading answer answered)
     (λ r seen told.
     step_sends i all e.first.driver r answer told end.well over
     (asked_seen opening i all e.first r.older (end_follows opening e.first.driver sound end) over world seen))
-step_good opening i all e (second_takes reading) answer sound end world over answered = tt
-step_good opening i all e (comes sent now view) answer sound end world over answered = tt
+step_good opening i all e (Second reading) answer sound end world over answered = tt
+step_good opening i all e (Deliver sent now view) answer sound end world over answered = tt
 
 abbrev OverAll : Ident → List Frame → RunEnd → Type 0
 OverAll i all e = All (IsOverUdp i all) e.logs

@@ -16,7 +16,8 @@ use Rattle.term_log.specs.declared.ident.Ident.{Ident}
 use Rattle.term_log.specs.Ident.{is_udp}
 use Rattle.term_log.specs.Whole.{Whole}
 use Rattle.two_worlds.specs.Drivers.{Opening}
-use Rattle.two_worlds.specs.Worlds.{AreAnswersOfBoth, AtEach, TwoEnds, WorldStep, after_both, end_of_both, opening_both, polled_of_all}
+use Rattle.two_worlds.specs.declared.world_step.WorldStep.{WorldStep}
+use Rattle.two_worlds.specs.Worlds.{AreAnswersOfBoth, AtEach, TwoEnds, after_both, end_of_both, opening_both, polled_of_all}
 
 -- ---- a publication by its number
 
