@@ -1,9 +1,8 @@
--- The datagram of a number, among some and those that come later.
-use Rattle.std.proofs.Common.{◌≡◌, ℕ, zero, suc, Bool, true, false, cond, List, [], ◌∷◌, ◌++◌, Option, Some, None, refl, sym, ap, ◌∙◌, append_assoc}
+-- What the first sent by then, as answers come.
+use Rattle.std.proofs.Common.{◌≡◌, List, [], ◌∷◌, ◌++◌, length, sym, ap, ◌∙◌, append_assoc}
 use Rattle.std.proofs.lemmas.List.{append-nil}
 use Rattle.driver_steps.specs.declared.answer.Answer.{Answer}
-use Rattle.two_worlds.specs.Drivers.{numbered}
-use Rattle.two_worlds.specs.Sent.{Datagram, sent_by}
+use Rattle.two_worlds.specs.Sent.{Datagram}
 use Rattle.two_worlds.specs.Worlds.{sent_of, sent_of_all}
 use Rattle.two_worlds.specs.declared.world_step.WorldStep.{WorldStep}
 

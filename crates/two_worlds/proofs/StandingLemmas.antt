@@ -1,17 +1,19 @@
 -- What is served of each of two worlds is served of both.
-use Rattle.std.proofs.Common.{◌≡◌, ℕ, List, [], ◌∷◌, ◌++◌, Option, Some, None, refl, sym, ap, ap₂, ◌∙◌, subst}
+use Rattle.std.proofs.Common.{◌≡◌, ℕ, Bool, true, if◌then◌else◌, List, [], ◌∷◌, ◌++◌, length, Option, Some, None, refl, sym, ap, ap₂, ◌∙◌, subst}
 use Rattle.channel_uri.specs.declared.address.Address.{Address}
 use Rattle.driver_steps.specs.declared.answer.Answer.{Answer}
 use Rattle.driver_steps.specs.declared.answer.Answer.TheVariants.{BadStep}
+use Rattle.driver_steps.specs.declared.step.Step.TheVariants.{Packet}
 use Rattle.driver_world.specs.declared.reading.Reading.{Reading}
 use Rattle.driver_world.specs.Standing.{Held, Serves}
-use Rattle.two_worlds.specs.Drivers.{numbered}
+use Rattle.two_worlds.specs.Drivers.{is_quiet, numbered}
 use Rattle.two_worlds.specs.Sent.{Datagram, sent_by}
 use Rattle.two_worlds.specs.Standing.{AnswerBoth, HeldBoth, RunBoth, ServesBoth, StandForEnds, held_step}
 use Rattle.two_worlds.specs.Memory.{HasMemoryOfSecond, HaveMemoryOfBoth}
 use Rattle.two_worlds.specs.declared.world_step.WorldStep.{WorldStep}
 use Rattle.two_worlds.specs.declared.world_step.WorldStep.TheVariants.{Deliver, First, Second}
-use Rattle.two_worlds.specs.Worlds.{AreAnswersOfBoth, IsAnswerOfSecond, TwoEnds, after_both, after_second, coming, end_of_both, step_of_second}
+use Rattle.two_worlds.specs.Worlds.{AreAnswersOfBoth, IsAnswerOfSecond, TwoEnds, after_both, after_second, coming, end_of_both, sent_of, sent_of_all, step_of_second}
+use Rattle.two_worlds.proofs.NumberedLemmas.{sent_push}
 
 -- a step of the first
 pub first_serves : (old : HeldBoth) (new : Held) (reading : Reading) (answer : Answer) → Serves old.first new reading answer →
@@ -59,6 +61,22 @@ second_serves old new (Deliver sent now view) reading answer is served = record 
   without_memory = λ e stands.
       second_memory old new reading answer e (step_of_second e (Deliver sent now view)) (step_held old e (Deliver sent now view) stands ∙ is) served stands;
 }
+
+-- its own, if nothing comes by it
+pub own_serves : (old : HeldBoth) (new : Held) (reading : Reading) (answer : Answer) → is_quiet reading.step ≡ true →
+    Serves old.second new reading answer → ServesBoth old (record old { second = new }) (Second reading) answer
+own_serves old new reading answer quiet served =
+    second_serves old new (Second reading) reading answer (ap (λ (b : Bool). if b then Some reading else None) quiet) served
+
+-- by the datagram that was found
+pub come_serves : (old : HeldBoth) (new : Held) (sent now : ℕ) (view : Option ℕ) (datagram : Datagram) (answer : Answer) →
+    Some datagram ≡ numbered sent old.sent →
+    Serves old.second new (record { view = view; step = Packet now datagram.to old.first.driver.registry.settings.send_address datagram.bytes }) answer →
+    ServesBoth old (record old { second = new }) (Deliver sent now view) answer
+come_serves old new sent now view datagram answer found served =
+    second_serves old new (Deliver sent now view)
+    (record { view = view; step = Packet now datagram.to old.first.driver.registry.settings.send_address datagram.bytes }) answer
+    (ap (coming old.first.driver.registry.settings.send_address now view) (sym found)) served
 
 none_on : (old : HeldBoth) (e : TwoEnds) (o : Option Reading) → o ≡ None → StandForEnds old e →
     IsAnswerOfSecond e o BadStep × StandForEnds old (after_second e o BadStep)
@@ -132,3 +150,13 @@ answer_both old new steps answers ran = record {
   on = λ e stands. (let both = ran.on e stands in both.0);
   without_memory = ran.without_memory;
 }
+
+-- the answer of one more step, of worlds that keep nothing of what was sent but the answers
+pub both_pushed : (old middle new : HeldBoth) (steps : List WorldStep) (step : WorldStep) (answers : List Answer) (answer : Answer) →
+    length steps ≡ length answers → RunBoth old (record middle { sent = sent_of_all steps answers }) steps answers →
+    ServesBoth (record middle { sent = sent_of_all steps answers }) (record new { sent = sent_of_all steps answers ++ sent_of step answer }) step answer →
+    RunBoth old (record new { sent = sent_of_all (steps ++ step ∷ []) (answers ++ answer ∷ []) }) (steps ++ step ∷ []) (answers ++ answer ∷ [])
+both_pushed old middle new steps step answers answer same ran served =
+    rw (sent_push steps answers step answer same)
+    (both_more old (record middle { sent = sent_of_all steps answers }) (record new { sent = sent_of_all steps answers ++ sent_of step answer }) steps step
+    answers answer ran served)

@@ -371,18 +371,18 @@ unfolding opening_end
 both_opened i all first second = opening_holds i all first second
 
 -- where all that the first sends is good
-pub world_sends : (i : Ident) (all : List Frame) (first second : Opening) (before : List WorldStep) (earlier : List Answer) (steps : List WorldStep)
-    (answers : List Answer) (source subscription : ℕ) → 0 < i.term_length → AreSound i i.start all → AreSettings second.settings →
-    AreAnswersOfBoth (opening_both first second) before earlier → AreSentGood i all before earlier →
-    AreAnswersOfBoth (end_of_both (opening_both first second) before earlier) steps answers → AreSentGood i all steps answers →
-    AtEach (ReadsThere i source subscription) (end_of_both (opening_both first second) before earlier) steps answers →
+pub world_sends : (i : Ident) (all : List Frame) (second : Opening) (start : TwoEnds) (before : List WorldStep) (earlier : List Answer)
+    (steps : List WorldStep) (answers : List Answer) (source subscription : ℕ) → 0 < i.term_length → AreSound i i.start all →
+    AreSettings second.settings → Holds i all second (drivers_of start) → AreAnswersOfBoth start before earlier → AreSentGood i all before earlier →
+    AreAnswersOfBoth (end_of_both start before earlier) steps answers → AreSentGood i all steps answers →
+    AtEach (ReadsThere i source subscription) (end_of_both start before earlier) steps answers →
     IsRunOf i all (polled_of_all source subscription steps answers)
-world_sends i all first second before earlier steps answers source subscription some sound settings were was are sends there =
+world_sends i all second start before earlier steps answers source subscription some sound settings holds were was are sends there =
     let line : List Kept = line_of i i.start all in
     let is = line_is i i.start all sound in
-    let e : TwoEnds = end_of_both (opening_both first second) before earlier in
+    let e : TwoEnds = end_of_both start before earlier in
     let run = world_run i all second source subscription [] e steps answers some is settings
-    (run_held i all second (opening_both first second) before earlier some is settings (both_opened i all first second) was were) sends are there
+    (run_held i all second start before earlier some is settings holds was were) sends are there
     (none_given line (reads_first i source subscription e steps answers there).at) in
     lines_run i all run.at (polled_of_all source subscription steps answers) run.is
 
@@ -438,6 +438,6 @@ world_gives i all first second before earlier steps answers source subscription 
     let start : TwoEnds = opening_both first second in
     let e : TwoEnds = end_of_both start before earlier in
     let well : All WellLog start.first.driver.logs = (both_opened i all first second).well in
-    world_sends i all first second before earlier steps answers source subscription some sound settings were
+    world_sends i all second start before earlier steps answers source subscription some sound settings (both_opened i all first second) were
     (only_sent i all start before earlier well was were) are
     (only_sent i all e steps answers (run_well start before earlier well were) only are) there

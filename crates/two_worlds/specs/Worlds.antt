@@ -7,7 +7,8 @@ use Rattle.driver_steps.specs.declared.answer.Answer.{Answer}
 use Rattle.driver_steps.specs.declared.answer.Answer.TheVariants.{BadStep}
 use Rattle.driver_steps.specs.declared.step.Step.TheVariants.{Packet}
 use Rattle.driver_world.specs.declared.reading.Reading.{Reading}
-use Rattle.driver_world.specs.Ends.{RunEnd, opening_end, IsAnswer, after}
+use Rattle.driver_world.specs.Ends.{RunEnd, opening_end, AreAnswers, IsAnswer, after, end_of}
+use Rattle.driver_world.specs.Views.{newest_of}
 use Rattle.log_pairs.specs.Polling.{Fetched}
 use Rattle.mirrored_streams.specs.Line.{IsRunOf}
 use Rattle.term_log.specs.declared.ident.Ident.{Ident}
@@ -85,6 +86,22 @@ opening_both first second = record {
   second = opening_end second.settings second.policy second.peers;
   sent = [];
 }
+
+-- ---- where a run of both begins
+
+-- the end of a run of a world, from its opening, in which no event was taken
+pub record IsFresh (opening : Opening) (e : RunEnd) : Type 0 where
+  pub readings : List Reading
+  pub answers : List Answer
+  pub are : AreAnswers (opening_end opening.settings opening.policy opening.peers) readings answers
+  pub is : e ≡ end_of (opening_end opening.settings opening.policy opening.peers) readings answers
+  pub none : newest_of e.past ≡ 0
+
+-- of each of both, and nothing is sent yet
+pub record AreFresh (one other : Opening) (e : TwoEnds) : Type 0 where
+  pub first : IsFresh one e.first
+  pub second : IsFresh other e.second
+  pub sent : e.sent ≡ []
 
 -- ---- the promise
 

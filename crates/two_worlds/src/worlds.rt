@@ -128,7 +128,8 @@ impl TwoWorlds {
         let mut answers = Vec::with_capacity(alloc, steps.len())?;
         let mut both = self;
         for step in steps {
-            let answer = both.step(alloc, &steps[..answers.len()], answers.as_slice(), step);
+            let done = answers.as_slice();
+            let answer = both.step(alloc, &steps[..done.len()], done, step);
             match answers.push(answer) {
                 Ok(()) => {}
                 Err(_) => unreachable!(),

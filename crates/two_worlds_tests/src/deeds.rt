@@ -15,12 +15,16 @@ pub(crate) enum Deed {
     Command(&'static [u8]),
     /// Client 1 offers this message to its publication.
     Offer(&'static [u8]),
+    /// It offers this number, as two bytes, the lowest first.
+    Number(u16),
     /// The sender has a turn with the publication, which has number 1.
     Send,
     /// Client 1 polls the image, which has number 2, for at most ten fragments.
     Poll,
     /// These bytes come to port 40000, from port 50001.
     Packet(&'static [u8]),
+    /// A receiver at port 40123, the endpoint, lacks the frame of that number, of frames of 64 bytes from offset 0 on.
+    Nak(u16),
 }
 
 /// A step of both worlds.
@@ -68,14 +72,23 @@ fn event(alloc: Global, now: u64, bytes: &[u8]) -> Result<Step, AllocError> {
     }))
 }
 
-fn packet(alloc: Global, now: u64, bytes: &[u8]) -> Result<Step, AllocError> {
+fn packet(alloc: Global, now: u64, from: u16, bytes: &[u8]) -> Result<Step, AllocError> {
     let bytes = Bytes::new(alloc, bytes)?;
     Ok(Step::Packet {
         now,
         local: local(40_000),
-        from: local(50_001),
+        from: local(from),
         bytes,
     })
+}
+
+/// A NAK of session 1, stream 10, term 0.
+fn nak(alloc: Global, now: u64, number: u16) -> Result<Step, AllocError> {
+    let [a, b, c, d] = u32::from(number).wrapping_mul(64).to_le_bytes();
+    let bytes = [
+        28, 0, 0, 0, 0, 0, 2, 0, 1, 0, 0, 0, 10, 0, 0, 0, 0, 0, 0, 0, a, b, c, d, 64, 0, 0, 0,
+    ];
+    packet(alloc, now, 40_123, bytes.as_slice())
 }
 
 fn offer(alloc: Global, now: u64, message: &[u8]) -> Result<Step, AllocError> {
@@ -93,6 +106,7 @@ fn step(alloc: Global, now: u64, deed: Deed) -> Result<Step, AllocError> {
         Deed::Attach => Ok(Step::Conductor(Event::Attach { now, principal: 1 })),
         Deed::Command(bytes) => event(alloc, now, bytes),
         Deed::Offer(message) => offer(alloc, now, message),
+        Deed::Number(number) => offer(alloc, now, number.to_le_bytes().as_slice()),
         Deed::Send => Ok(Step::Send { now, source: 1 }),
         Deed::Poll => Ok(Step::Poll {
             now,
@@ -101,7 +115,8 @@ fn step(alloc: Global, now: u64, deed: Deed) -> Result<Step, AllocError> {
             source: 2,
             limit: 10,
         }),
-        Deed::Packet(bytes) => packet(alloc, now, bytes),
+        Deed::Packet(bytes) => packet(alloc, now, 50_001, bytes),
+        Deed::Nak(number) => nak(alloc, now, number),
     }
 }
 
