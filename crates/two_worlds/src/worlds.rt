@@ -1,8 +1,9 @@
 //! Two worlds, of which the second is given what the first sent.
 
 ghost use Rattle.driver_world.specs.Views.{newest_of};
-ghost use Rattle.std.specs.Prelude.{◌≡◌, ◌++◌, [], length, IfOk};
+ghost use Rattle.std.specs.Prelude.{◌≡◌, ◌++◌, [], List, length, IfOk};
 ghost use Rattle.two_worlds.specs.Drivers.{is_quiet};
+ghost use Rattle.two_worlds.specs.Sent.{Datagram};
 ghost use Rattle.two_worlds.specs.Standing.{AnswerBoth, ServesBoth};
 ghost use Rattle.two_worlds.specs.Worlds.{sent_of, sent_of_all};
 ghost use Rattle.two_worlds.specs.declared.world_step.WorldStep.TheVariants.{Deliver, Second};
@@ -54,15 +55,9 @@ impl TwoWorlds {
         TwoWorlds { first, second }
     }
 
-    /// The second takes a step, if nothing comes by it.
-    fn second_takes(
-        &mut self,
-        alloc: Global,
-        steps: &[WorldStep],
-        answers: &[Answer],
-        reading: &Reading,
-    ) -> Answer
-        ensures { ServesBoth (record self.old { sent = sent_of_all steps.now answers.now }) (record self.new { sent = sent_of_all steps.now answers.now }) (Second reading.now) result }
+    /// The second takes a step, if nothing comes by it. Nothing is sent by it.
+    fn second_takes(&mut self, alloc: Global, reading: &Reading) -> Answer
+        ensures { (sent : List Datagram) → ServesBoth (record self.old { sent = sent }) (record self.new { sent = sent }) (Second reading.now) result }
     {
         if !is_quiet(&reading.step) {
             return Answer::BadStep;
@@ -92,7 +87,7 @@ impl TwoWorlds {
         }
     }
 
-    /// Takes one step, behind steps with these answers.
+    /// Takes one step, after steps with these answers.
     fn step(
         &mut self,
         alloc: Global,
@@ -105,7 +100,7 @@ impl TwoWorlds {
     {
         match step {
             WorldStep::First(reading) => self.first.step(alloc, reading),
-            WorldStep::Second(reading) => self.second_takes(alloc, steps, answers, reading),
+            WorldStep::Second(reading) => self.second_takes(alloc, reading),
             WorldStep::Deliver { sent, now, view } => {
                 self.deliver(alloc, steps, answers, *sent, *now, *view)
             }

@@ -10,7 +10,7 @@ returns-in-First c =
     c.step.result c.step.ensures)
 
 pub returns-in-Second : goal.returns-in-Second
-returns-in-Second c = rw (c.in-Second.is, append-nil (sent_of_all c.args.steps.now c.args.answers.now)) c.second_takes.ensures
+returns-in-Second c = rw (c.in-Second.is, append-nil (sent_of_all c.args.steps.now c.args.answers.now)) (c.second_takes.ensures (sent_of_all c.args.steps.now c.args.answers.now))
 
 pub returns-in-Deliver : goal.returns-in-Deliver
 returns-in-Deliver c = rw (c.in-Deliver.is, append-nil (sent_of_all c.args.steps.now c.args.answers.now)) c.deliver.ensures
