@@ -142,6 +142,13 @@ impl World {
         self.driver.holes()
     }
 
+    /// What its driver is set to.
+    pub fn settings(&self) -> Settings
+        ensures { result ≡ self.now.driver.registry.settings }
+    {
+        self.driver.registry().settings()
+    }
+
     /// The number of the newest registry. The opened one is 0, and each event that was taken makes one more.
     pub fn newest(&self) -> u64
         ensures { result ≡ newest_of self.now.past }
