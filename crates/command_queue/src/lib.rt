@@ -10,6 +10,7 @@
 //! try again while other threads are in the way.
 #![tactic(auto)]
 
+mod known;
 mod laws;
 mod letter;
 mod making;
@@ -17,8 +18,9 @@ mod rule;
 mod sender;
 mod taker;
 
+pub use known::{Facts, Known};
 pub use laws::a_lone_sender_fills_the_queue;
-pub use letter::{Ended, Letter, Refused};
+pub use letter::{Letter, Refused, SentBy};
 pub use making::make;
 pub use sender::Sender;
 pub use taker::Taker;
