@@ -1,12 +1,8 @@
 -- A turn goes on by one event more.
 use Rattle.std.proofs.Common.{◌≡◌, ℕ, ◌+◌, ◌≤◌, List, [], ◌∷◌, ◌++◌, append_assoc, append-nil, length, refl, sym, ap, subst, inr, ◌∙◌}
 use Rattle.std.proofs.lemmas.List.{map-append}
-use Rattle.atomic_table.specs.Seated.{TableId}
-use Rattle.crossbeam_queue.specs.Passes.{Pass}
 use Rattle.command_queue.specs.Facts.{Fits}
-use Rattle.command_queue.specs.Known.{IsKnown, Tells, facts_of}
 use Rattle.command_queue.specs.declared.known.Facts.{Facts}
-use Rattle.command_queue.specs.declared.rule.View.{View}
 use Rattle.command_queue.specs.declared.letter.Letter.{Letter}
 use Rattle.command_queue.specs.Taken.{Taken}
 use Rattle.media_agents.specs.Turns.{made, missed, Served, Takes, Turned, TakesAll, events_of}
@@ -96,11 +92,7 @@ module _ {E : Type 0} where
     pub size : length letters ≡ count
     pub few : misses ≤ count
 
-  -- what is known stays so
-  pub tells_still : (queue queue' : TableId) (facts facts' : Facts E) (known : Pass (Letter E) (View E)) → queue' ≡ queue → facts' ≡ facts
-      → Tells queue' facts' known → Tells queue facts known
-  tells_still queue queue' facts facts' known same is tells = ((tells.0.0 ∙ same, tells.0.1), tells.1 ∙ is)
-
+  -- the taker's queue stays
   pub still_there : (old now : Taken E) (before after : List E) (misses count : ℕ) → Going old now before after misses count → now.queue ≡ old.queue
   still_there old now before after misses count going = ap (λ (t : Taken E). t.queue) going.takes.taker
 
