@@ -1,8 +1,9 @@
 -- The events of a sender among letters, and what holds of each of a list.
-use Rattle.std.proofs.Common.{◌≡◌, ◌≢◌, ◌⊎◌, ◌<◌, ◌≤◌, ◌==◌, if◌then◌else◌, ℕ, Bool, zero, suc, true, false, List, [], ◌∷◌, ◌++◌, length, All, sym, refl, ap, ◌∙◌, inl, inr, ⊎_elim, append-nil, eq-eqb, ne_eqb, arith}
-use Rattle.std.proofs.lemmas.List.Elements.{All-append}
+use Rattle.std.proofs.Common.{◌≡◌, ◌≢◌, ◌⊎◌, ◌<◌, ◌≤◌, ◌==◌, if◌then◌else◌, ℕ, Bool, zero, suc, true, false, List, [], ◌∷◌, ◌++◌, length, set, All, sym, refl, ap, ◌∙◌, subst, inl, inr, ⊎_elim, append-nil, eq-eqb, ne_eqb, arith}
+use Rattle.std.proofs.lemmas.List.Elements.{All-append, All-nil}
 use mathlib.Core.Option.{some, some-injective, some-ne-none}
 use lib.ListN.{get_elem?}
+use Rattle.crossbeam_queue.proofs.Lists.{at_set}
 use Rattle.command_queue.specs.Letters.{of}
 use Rattle.command_queue.specs.declared.letter.Letter.{Letter}
 
@@ -26,6 +27,48 @@ module _ {X : Type 0} where
   at_end [] a b (suc j) e = absurd (some-ne-none b (sym e))
   at_end (x ∷ xs) a b zero e = inl e
   at_end (x ∷ xs) a b (suc j) e = ⊎_elim (λ is. inl is) (λ is. inr (ap suc is.0, is.1)) (at_end xs a b j e)
+
+  pub all_left : (P : X → Type 0) (xs ys : List X) → All P (xs ++ ys) → All P xs
+  all_left P [] ys all = All-nil P
+  all_left P (x ∷ xs) ys all = more P x xs (all 0 x (omega arith)) (all_left P xs ys (λ k d lt. all (suc k) d (omega (arith, lt))))
+
+  -- what holds at each place of a list, holds still where one element is changed, or one added at the end
+  pub one_set : (P : ℕ → X → Type 0) (l : List X) (i : ℕ) (w : X) → P i w → ((j : ℕ) (u : X) → j ≢ i → get_elem? l j ≡ some u → P j u)
+      → (j : ℕ) (u : X) → get_elem? (set l i w) j ≡ some u → P j u
+  one_set P l i w new old j u e =
+      ⊎_elim
+      (λ is. subst (λ (k : ℕ). P k u) (sym is.0) (subst (P i) is.1 new))
+      (λ was. old j u was.0 was.1)
+      (at_set l i j w u e)
+
+  pub one_end : (P : ℕ → X → Type 0) (l : List X) (b : X) → P (length l) b → ((j : ℕ) (u : X) → get_elem? l j ≡ some u → P j u)
+      → (j : ℕ) (u : X) → get_elem? (l ++ b ∷ []) j ≡ some u → P j u
+  one_end P l b new old j u e =
+      ⊎_elim
+      (λ was. old j u was)
+      (λ is. subst (λ (k : ℕ). P k u) (sym is.0) (subst (P (length l)) is.1 new))
+      (at_end l b u j e)
+
+  -- the same of each two places
+  pub two_set : (Q : ℕ → X → ℕ → X → Type 0) (l : List X) (i : ℕ) (w : X) → Q i w i w
+      → ((k : ℕ) (y : X) → k ≢ i → get_elem? l k ≡ some y → Q i w k y × Q k y i w)
+      → ((j : ℕ) (u : X) (k : ℕ) (y : X) → get_elem? l j ≡ some u → get_elem? l k ≡ some y → Q j u k y)
+      → (j : ℕ) (u : X) (k : ℕ) (y : X) → get_elem? (set l i w) j ≡ some u → get_elem? (set l i w) k ≡ some y → Q j u k y
+  two_set Q l i w new each old j u k y e e' =
+      one_set (λ (n : ℕ) (x : X). Q n x k y) l i w
+      (one_set (λ (n : ℕ) (x : X). Q i w n x) l i w new (λ n x other at. (each n x other at).0) k y e')
+      (λ n x other at. one_set (λ (n' : ℕ) (x' : X). Q n x n' x') l i w (each n x other at).1 (λ n' x' other' at'. old n x n' x' at at') k y e')
+      j u e
+
+  pub two_end : (Q : ℕ → X → ℕ → X → Type 0) (l : List X) (b : X) → Q (length l) b (length l) b
+      → ((k : ℕ) (y : X) → get_elem? l k ≡ some y → Q (length l) b k y × Q k y (length l) b)
+      → ((j : ℕ) (u : X) (k : ℕ) (y : X) → get_elem? l j ≡ some u → get_elem? l k ≡ some y → Q j u k y)
+      → (j : ℕ) (u : X) (k : ℕ) (y : X) → get_elem? (l ++ b ∷ []) j ≡ some u → get_elem? (l ++ b ∷ []) k ≡ some y → Q j u k y
+  two_end Q l b new each old j u k y e e' =
+      one_end (λ (n : ℕ) (x : X). Q n x k y) l b
+      (one_end (λ (n : ℕ) (x : X). Q (length l) b n x) l b new (λ n x at. (each n x at).0) k y e')
+      (λ n x at. one_end (λ (n' : ℕ) (x' : X). Q n x n' x') l b (each n x at).1 (λ n' x' at'. old n x n' x' at at') k y e')
+      j u e
 
 module _ {E : Type 0} where
   chosen : (b : Bool) (event : E) (xs ys all : List E) → all ≡ xs ++ ys → (if b then event ∷ all else all) ≡ (if b then event ∷ xs else xs) ++ ys

@@ -1,3 +1,5 @@
+pub mod Facts
+pub mod Known
 pub mod Letters
 pub mod Sent
 pub mod Taken

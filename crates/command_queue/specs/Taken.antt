@@ -1,18 +1,16 @@
 -- What contracts see of a taker.
 use Rattle.std.specs.Prelude.{ℕ, List, [], ◌∷◌, ◌++◌}
 use Rattle.atomic_table.specs.Seated.{TableId}
-use Rattle.command_queue.specs.declared.letter.Ended.{Ended}
 use Rattle.command_queue.specs.declared.letter.Letter.{Letter}
 
--- its queue, what it took, in order, and what the senders sent that have ended
+-- its queue, and what it took, in order
 pub record Taken (E : Type 0) : Type 0 where
   pub queue : TableId
   pub taken : List (Letter E)
-  pub ended : List (Ended E)
 
 -- one that has taken nothing
 abbrev pub new_taker : {E : Type 0} → TableId → Taken E
-new_taker queue = record { queue = queue; taken = []; ended = [] }
+new_taker queue = record { queue = queue; taken = [] }
 
 -- it takes an event of this sender
 abbrev pub takes : {E : Type 0} → Taken E → ℕ → E → Taken E

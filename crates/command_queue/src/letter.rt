@@ -9,9 +9,9 @@ pub struct Letter<E> {
     pub event: E,
 }
 
-/// What a sender sent that has ended. Contracts alone speak of it.
+/// What a sender sent. Contracts alone speak of it.
 #[derive(Drop)]
-pub struct Ended<E> {
+pub struct SentBy<E> {
     /// The sender's number, counted from 0.
     pub number: u64,
     /// Its events, in their order.

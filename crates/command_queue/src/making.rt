@@ -14,7 +14,7 @@ use std::sync::Arc;
 
 // An empty queue, for so many senders.
 fn counted<E: Drop>(alloc: Global, passes: usize) -> Result<(Queue<E>, QueuePass<E>), AllocError>
-    ensures { IfOk result (λ made. IsPassOf made.0 made.1 × (ruled_capacity made.0 ≡ 1024) × (view made.1 ≡ taking passes 0 [] [])) }
+    ensures { IfOk result (λ made. IsPassOf made.0 made.1 × (ruled_capacity made.0 ≡ 1024) × (view made.1 ≡ taking passes 0)) }
 {
     let (queue, mut pass) = Queue::ruled(alloc, EVENTS)?;
     for _made in 0..passes {
@@ -30,7 +30,7 @@ fn hired<E: Drop>(
     number: u64,
 ) -> Result<Sender<E>, AllocError>
     requires queue { IsPassOf (arc_value queue.now) pass.old × (ruled_capacity (arc_value queue.now) ≡ 1024) }
-    requires role { view pass.old ≡ taking (view pass.old).total number [] [] }
+    requires role { view pass.old ≡ taking (view pass.old).total number }
     requires few { number < (view pass.old).total }
     ensures queue { IsSamePass pass.old pass.new }
     ensures role { OnOk result (view pass.new ≡ hiring (view pass.old)) }

@@ -1,8 +1,10 @@
-ghost use Rattle.command_queue.specs.Letters.{WasFull};
+ghost use Rattle.command_queue.specs.Facts.{WasFull, at_least, in_all};
+ghost use Rattle.command_queue.specs.Known.{IsKnown, Tells, facts_of};
 ghost use Rattle.std.specs.Prelude.{◌≡◌, ◌++◌, ◌∷◌, [], MatchResult, OnErr};
 
+use crate::known::Known;
 use crate::letter::{Letter, Refused};
-use crate::rule::{Queue, QueuePass, Sends};
+use crate::rule::{Copies, Ends, Hears, Queue, QueuePass, Sends, TellsSent};
 use std::marker::Model;
 use std::sync::{Arc, Wait};
 
@@ -15,10 +17,9 @@ pub struct Sender<E> {
 }
 
 impl<E> Model for Sender<E> {
-    ghost use Rattle.std.specs.Prelude.{◌≡◌};
+    ghost use Rattle.std.specs.Prelude.{◌≡◌, true};
     ghost use Rattle.std.specs.Arc.{arc_value};
     ghost use Rattle.command_queue.specs.Sent.{Sent};
-    ghost use Rattle.command_queue.specs.Views.{sending};
     ghost use Rattle.crossbeam_queue.specs.Passes.{IsPassOf, ruled_capacity};
 
     ghost Value = { Sent E };
@@ -26,17 +27,26 @@ impl<E> Model for Sender<E> {
     ghost view = { λ sender. record { queue = sender.pass.table_id; total = sender.pass.me.0.client.total; number = sender.number; sent = sender.pass.me.0.client.sent } };
 
     ghost invariant = { λ sender. IsPassOf (arc_value sender.queue) sender.pass × (ruled_capacity (arc_value sender.queue) ≡ 1024)
-        × (sender.pass.me.0.client ≡ sending sender.pass.me.0.client.total sender.number sender.pass.me.0.client.sent) };
+        × (sender.pass.me.0.client.sends ≡ true) × (sender.pass.me.0.client.number ≡ sender.number) };
 }
 
 impl<E: Drop> Sender<E> {
     /// Puts an event at the back of the queue. `Refused` hands it back, only where the queue held 1,024 events at one
-    /// moment of the call; nothing was sent then. It takes no memory.
-    pub fn push<R: Wait>(&mut self, rt: &R, event: E) -> Result<(), Refused<E>>
+    /// moment of the call, which fits what is known; nothing was sent then. It takes no memory.
+    pub fn push<R: Wait>(
+        &mut self,
+        rt: &R,
+        known: &mut Known<E>,
+        event: E,
+    ) -> Result<(), Refused<E>>
+        requires known { IsKnown self.old.queue known.old }
+        ensures known { Tells self.old.queue (facts_of known.old) known.new }
         ensures sent { MatchResult result (λ _. self.new ≡ record self.old { sent = self.old.sent ++ event ∷ [] })
             (λ refused. (refused.0 ≡ event) × (self.new ≡ self.old)) }
-        ensures full { OnErr result (WasFull self.old.total self.old.number self.old.sent) }
+        ensures full { OnErr result (WasFull self.old.total self.old.number self.old.sent (facts_of known.old)) }
     {
+        let told = self.queue.another::<Copies>(known);
+        self.queue.absorb::<Hears>(&mut self.pass, told);
         let letter = Letter {
             from: self.number,
             event,
@@ -45,5 +55,25 @@ impl<E: Drop> Sender<E> {
             Ok(()) => Ok(()),
             Err(back) => Err(Refused(back.event)),
         }
+    }
+
+    /// What this sender sent so far, for whoever is to know of it.
+    pub fn note(&mut self) -> Known<E>
+        ensures same { self.new ≡ self.old }
+        ensures known { Tells self.old.queue (at_least self.old.number self.old.sent) result }
+    {
+        self.queue.another::<TellsSent>(&mut self.pass)
+    }
+
+    /// Ends this sender. What it sent in all.
+    pub fn end(self) -> Known<E>
+        ensures { Tells self.queue (in_all self.number self.sent) result }
+    {
+        let Self {
+            queue,
+            mut pass,
+            number: _,
+        } = self;
+        queue.another::<Ends>(&mut pass)
     }
 }

@@ -1,7 +1,13 @@
-use command_queue::{EVENTS, Refused, Sender, Taker, a_lone_sender_fills_the_queue, make};
+ghost use Rattle.command_queue.specs.Facts.{Fits};
+ghost use Rattle.command_queue.specs.Known.{IsKnown, facts_of};
+ghost use Rattle.std.specs.Bool.{OnTrue};
+ghost use Rattle.std.specs.Prelude.{◌≡◌, []};
+
+use command_queue::{EVENTS, Known, Refused, Sender, Taker, a_lone_sender_fills_the_queue, make};
 use std::alloc::Global;
+use std::snapshot::Snapshot;
 use std::sync::Wait;
-use std::thread::{self, JoinHandle, Threads};
+use std::thread::{self, JoinHandle, Promise, Threads};
 
 /// An event: who sent it, and as which of its events, counted from 0.
 #[derive(Clone, Copy, Debug, PartialEq, Eq, Drop)]
@@ -10,8 +16,56 @@ struct Sent {
     number: u32,
 }
 
+/// A sender, with what it knows of its queue.
+#[derive(Drop)]
+struct Sends {
+    sender: Sender<Sent>,
+    known: Known<Sent>,
+    ghost ours: { IsKnown sender.queue known },
+}
+
+impl Sends {
+    fn of(sender: Sender<Sent>) -> Sends
+        ensures { result.sender.queue ≡ sender.queue }
+    {
+        let mut sender = sender;
+        let known = sender.note();
+        Sends { sender, known }
+    }
+
+    fn push(&mut self, rt: &impl Wait, event: Sent) -> Result<(), Refused<Sent>>
+        ensures { self.new.sender.queue ≡ self.old.sender.queue }
+    {
+        self.sender.push(rt, &mut self.known, event)
+    }
+}
+
+/// A taker, with what it knows of its queue.
+#[derive(Drop)]
+struct Takes {
+    taker: Taker<Sent>,
+    known: Known<Sent>,
+    ghost ours: { IsKnown taker.queue known },
+}
+
+impl Takes {
+    fn of(taker: Taker<Sent>) -> Takes
+        ensures { result.taker.queue ≡ taker.queue }
+    {
+        let mut taker = taker;
+        let known = taker.note();
+        Takes { taker, known }
+    }
+
+    fn pop(&mut self, rt: &impl Wait) -> Option<Sent>
+        ensures { self.new.taker.queue ≡ self.old.taker.queue }
+    {
+        self.taker.pop(rt, &mut self.known)
+    }
+}
+
 /// Whether 1,024 pushes into an untaken queue succeed, and the next one hands its event back.
-fn fills(rt: &impl Wait, sender: &mut Sender<Sent>) -> bool {
+fn fills(rt: &impl Wait, sender: &mut Sends) -> bool {
     let mut pushed = true;
     for number in 0..EVENTS as u32 {
         pushed &= sender.push(rt, Sent { by: 0, number }).is_ok();
@@ -24,7 +78,7 @@ fn fills(rt: &impl Wait, sender: &mut Sender<Sent>) -> bool {
 }
 
 /// Whether the taker is given the events of the sender up to this number, in order, and then none.
-fn empties(rt: &impl Wait, taker: &mut Taker<Sent>, by: u32, count: u32) -> bool {
+fn empties(rt: &impl Wait, taker: &mut Takes, by: u32, count: u32) -> bool {
     let mut taken = true;
     for number in 0..count {
         taken &= taker.pop(rt) == Some(Sent { by, number });
@@ -33,7 +87,7 @@ fn empties(rt: &impl Wait, taker: &mut Taker<Sent>, by: u32, count: u32) -> bool
 }
 
 /// Whether a full queue takes no event, and one that is taken makes room for one.
-fn is_full(rt: &impl Wait, sender: &mut Sender<Sent>, taker: &mut Taker<Sent>) -> bool {
+fn is_full(rt: &impl Wait, sender: &mut Sends, taker: &mut Takes) -> bool {
     let filled = taker.pop(rt).is_none() & fills(rt, sender);
     let first = taker.pop(rt) == Some(Sent { by: 0, number: 0 });
     let one = Sent {
@@ -49,7 +103,7 @@ fn is_full(rt: &impl Wait, sender: &mut Sender<Sent>, taker: &mut Taker<Sent>) -
 }
 
 /// Whether a queue is filled and emptied more than once.
-fn goes_round(rt: &impl Wait, sender: &mut Sender<Sent>, taker: &mut Taker<Sent>) -> bool {
+fn goes_round(rt: &impl Wait, sender: &mut Sends, taker: &mut Takes) -> bool {
     let mut same = true;
     for _ in 0..3 {
         same &= fills(rt, sender) & empties(rt, taker, 0, EVENTS as u32);
@@ -61,11 +115,12 @@ fn goes_round(rt: &impl Wait, sender: &mut Sender<Sent>, taker: &mut Taker<Sent>
 fn goes(
     rt: &impl Wait,
     senders: &mut Vec<Sender<Sent>>,
-    taker: &mut Taker<Sent>,
+    taker: &mut Takes,
     round: bool,
 ) -> bool {
     match senders.pop() {
-        Some(mut sender) => {
+        Some(sender) => {
+            let mut sender = Sends::of(sender);
             if round {
                 goes_round(rt, &mut sender, taker)
             } else {
@@ -79,7 +134,7 @@ fn goes(
 /// Whether a new queue goes so; false without memory.
 fn is_shown(rt: &impl Wait, alloc: Global, round: bool) -> bool {
     match make(alloc, 1) {
-        Ok((mut senders, mut taker)) => goes(rt, &mut senders, &mut taker, round),
+        Ok((mut senders, taker)) => goes(rt, &mut senders, &mut Takes::of(taker), round),
         Err(_) => false,
     }
 }
@@ -91,7 +146,7 @@ fn full_queue(rt: HostRuntime) {
 }
 
 /// Sends the event, again for as long as the queue is full.
-fn send(rt: &impl Wait, sender: &mut Sender<Sent>, event: Sent) {
+fn send(rt: &impl Wait, sender: &mut Sends, event: Sent) {
     let mut event = event;
     for _ in rt.forever() {
         match sender.push(rt, event) {
@@ -103,7 +158,7 @@ fn send(rt: &impl Wait, sender: &mut Sender<Sent>, event: Sent) {
 }
 
 /// Sends so many events by each of two senders, in turn.
-fn send_both(rt: &impl Wait, mut pair: (Sender<Sent>, Sender<Sent>), by: u32, count: u32) {
+fn send_both(rt: &impl Wait, mut pair: (Sends, Sends), by: u32, count: u32) {
     let second = by.wrapping_add(1);
     for number in 0..count {
         send(rt, &mut pair.0, Sent { by, number });
@@ -112,7 +167,7 @@ fn send_both(rt: &impl Wait, mut pair: (Sender<Sent>, Sender<Sent>), by: u32, co
 }
 
 /// Takes so many events of each of four senders. Whether each sender's came in its order, each once, and then none.
-fn take_all(rt: &impl Wait, taker: &mut Taker<Sent>, count: u32) -> bool {
+fn take_all(rt: &impl Wait, taker: &mut Takes, count: u32) -> bool {
     let mut next = [0u32; 4];
     let mut left = count.wrapping_mul(4);
     let mut in_order = true;
@@ -137,10 +192,10 @@ fn take_all(rt: &impl Wait, taker: &mut Taker<Sent>, count: u32) -> bool {
 }
 
 /// The last two of these senders.
-fn two(senders: &mut Vec<Sender<Sent>>) -> Option<(Sender<Sent>, Sender<Sent>)> {
+fn two(senders: &mut Vec<Sender<Sent>>) -> Option<(Sends, Sends)> {
     let second = senders.pop()?;
     let first = senders.pop()?;
-    Some((first, second))
+    Some((Sends::of(first), Sends::of(second)))
 }
 
 /// How many events each of the four senders sends.
@@ -164,7 +219,7 @@ fn start<R: Threads + Wait + Copy + Send + 'static>(
 fn four_send<R: Threads + Wait + Copy + Send + 'static>(
     rt: &R,
     senders: &mut Vec<Sender<Sent>>,
-    taker: &mut Taker<Sent>,
+    taker: &mut Takes,
 ) -> bool {
     match (start(rt, senders, 2), start(rt, senders, 0)) {
         (Some(one), Some(other)) => {
@@ -179,7 +234,7 @@ fn four_send<R: Threads + Wait + Copy + Send + 'static>(
 
 fn is_in_order<R: Threads + Wait + Copy + Send + 'static>(rt: &R, alloc: Global) -> bool {
     match make(alloc, 4) {
-        Ok((mut senders, mut taker)) => four_send(rt, &mut senders, &mut taker),
+        Ok((mut senders, taker)) => four_send(rt, &mut senders, &mut Takes::of(taker)),
         Err(_) => false,
     }
 }
@@ -187,4 +242,76 @@ fn is_in_order<R: Threads + Wait + Copy + Send + 'static>(rt: &R, alloc: Global)
 #[test]
 fn four_senders_in_two_threads(rt: HostRuntime) {
     assert!(rt; is_in_order(&rt, rt.alloc()));
+}
+
+/// How many events the sender sends whose end the taker hears of.
+const NOTED: u32 = 1000;
+
+/// Sends so many events, which find room in a queue of their own, and ends.
+fn send_and_end(rt: &impl Wait, sends: Sends) -> Known<Sent>
+    ensures { IsKnown sends.sender.queue result }
+{
+    let mut sends = sends;
+    for number in 0..NOTED {
+        let _ = sends.push(rt, Sent { by: 0, number });
+    }
+    sends.sender.end()
+}
+
+/// That what a thread hands back is known of the queue of this sender.
+#[derive(Drop)]
+struct OfItsQueue(Snapshot<Sends>);
+
+impl Promise<Known<Sent>> for OfItsQueue {
+    ghost kept_by = { λ promise known. IsKnown promise.0.value.sender.queue known };
+}
+
+/// Whether these events are there, in order, and then none: then all that is known to have been sent was taken.
+fn takes_rest(rt: &impl Wait, taker: &mut Taker<Sent>, known: &mut Known<Sent>) -> bool
+    requires { IsKnown taker.old.queue known.old }
+    ensures { OnTrue result (Fits taker.new.taken [] (facts_of known.old)) }
+{
+    let mut in_order = true;
+    let mut next = 0u32;
+    for _taken in 0..2000 {
+        let Some(event) = taker.pop(rt, known) else {
+            return in_order && next == NOTED;
+        };
+        in_order &= event == Sent { by: 0, number: next };
+        next = next.wrapping_add(1);
+    }
+    false
+}
+
+/// Whether the taker takes, once it has heard of it, all that another thread sent.
+fn hears<R: Threads + Wait + Copy + Send + 'static>(
+    rt: &R,
+    sender: Sender<Sent>,
+    taker: Taker<Sent>,
+) -> bool
+    requires { sender.queue ≡ taker.queue }
+{
+    let handle = *rt;
+    let mut taker = taker;
+    let sends = Sends::of(sender);
+    let promise = OfItsQueue(Snapshot::of(&sends));
+    match thread::spawn_with(rt, promise, move || send_and_end(&handle, sends)) {
+        Ok(thread) => takes_rest(rt, &mut taker, &mut thread.join(rt)),
+        Err(_) => false,
+    }
+}
+
+fn is_heard<R: Threads + Wait + Copy + Send + 'static>(rt: &R, alloc: Global) -> bool {
+    match make(alloc, 1) {
+        Ok((mut senders, taker)) => match senders.pop() {
+            Some(sender) => hears(rt, sender, taker),
+            None => false,
+        },
+        Err(_) => false,
+    }
+}
+
+#[test]
+fn a_note_from_another_thread(rt: HostRuntime) {
+    assert!(rt; is_heard(&rt, rt.alloc()));
 }

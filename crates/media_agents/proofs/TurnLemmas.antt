@@ -1,6 +1,8 @@
 -- A turn goes on by one event more.
-use Rattle.std.proofs.Common.{◌≡◌, ℕ, ◌+◌, ◌≤◌, List, [], ◌∷◌, ◌++◌, append_assoc, append-nil, length, refl, sym, ap, subst, ◌∙◌}
+use Rattle.std.proofs.Common.{◌≡◌, ℕ, ◌+◌, ◌≤◌, List, [], ◌∷◌, ◌++◌, append_assoc, append-nil, length, refl, sym, ap, subst, inr, ◌∙◌}
 use Rattle.std.proofs.lemmas.List.{map-append}
+use Rattle.command_queue.specs.Facts.{Fits}
+use Rattle.command_queue.specs.declared.known.Facts.{Facts}
 use Rattle.command_queue.specs.declared.letter.Letter.{Letter}
 use Rattle.command_queue.specs.Taken.{Taken}
 use Rattle.media_agents.specs.Turns.{made, missed, Served, Takes, Turned, TakesAll, events_of}
@@ -61,9 +63,9 @@ module _ {E : Type 0} where
   }
 
   -- and then the tick
-  pub turned_made : (old new : Taken E) (tick : E) (before there after : List E) (misses : ℕ) → TakesAll old new before there misses →
-      after ≡ there ++ tick ∷ [] → Turned old new tick before after misses
-  turned_made old new tick before there after misses all is = record {
+  pub turned_made : (old new : Taken E) (facts : Facts E) (tick : E) (before there after : List E) (misses : ℕ) → TakesAll old new facts before there misses →
+      after ≡ there ++ tick ∷ [] → Turned old new facts tick before after misses
+  turned_made old new facts tick before there after misses all is = record {
     letters = all.letters;
     taker = all.takes.taker;
     enough = all.enough;
@@ -72,9 +74,9 @@ module _ {E : Type 0} where
     served = served_made (events_of all.letters) all.takes.entries misses tick all.takes.served;
   }
 
-  pub turned_missed : (old new : Taken E) (tick : E) (before there after : List E) (misses : ℕ) → TakesAll old new before there misses →
-      after ≡ there → Turned old new tick before after (misses + 1)
-  turned_missed old new tick before there after misses all is = record {
+  pub turned_missed : (old new : Taken E) (facts : Facts E) (tick : E) (before there after : List E) (misses : ℕ) → TakesAll old new facts before there misses →
+      after ≡ there → Turned old new facts tick before after (misses + 1)
+  turned_missed old new facts tick before there after misses all is = record {
     letters = all.letters;
     taker = all.takes.taker;
     enough = all.enough;
@@ -89,3 +91,16 @@ module _ {E : Type 0} where
     pub takes : Takes old now letters before after misses
     pub size : length letters ≡ count
     pub few : misses ≤ count
+
+  -- the taker's queue stays
+  pub still_there : (old now : Taken E) (before after : List E) (misses count : ℕ) → Going old now before after misses count → now.queue ≡ old.queue
+  still_there old now before after misses count going = ap (λ (t : Taken E). t.queue) going.takes.taker
+
+  -- the queue was empty
+  pub all_taken : (old now : Taken E) (before after : List E) (misses count : ℕ) (facts facts' : Facts E) → Going old now before after misses count
+      → facts' ≡ facts → Fits now.taken [] facts' → TakesAll old now facts before after misses
+  all_taken old now before after misses count facts facts' going is fits = record {
+    letters = going.letters;
+    takes = going.takes;
+    enough = inr (subst (λ (f : Facts E). Fits (old.taken ++ going.letters) [] f) is (subst (λ (t : Taken E). Fits t.taken [] facts') going.takes.taker fits));
+  }

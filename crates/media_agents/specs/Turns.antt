@@ -1,7 +1,8 @@
 -- A turn of the conductor: which events it took, and which entries it made of them. Own rules.
 use Rattle.std.specs.Prelude.{◌≡◌, ℕ, ◌+◌, ◌⊎◌, List, [], ◌∷◌, ◌++◌, length, map}
+use Rattle.command_queue.specs.declared.known.Facts.{Facts}
 use Rattle.command_queue.specs.declared.letter.Letter.{Letter}
-use Rattle.command_queue.specs.Letters.{AreWhole}
+use Rattle.command_queue.specs.Facts.{Fits}
 use Rattle.command_queue.specs.Taken.{Taken}
 
 module _ {E : Type 0} where
@@ -18,9 +19,9 @@ module _ {E : Type 0} where
   abbrev pub events_of : List (Letter E) → List E
   events_of letters = map (λ letter. letter.event) letters
 
-  -- 1,024 events were taken, or all up to a moment at which the queue was empty
-  abbrev pub Enough : Taken E → List (Letter E) → Type 0
-  Enough old letters = (length letters ≡ 1024) ⊎ AreWhole (old.taken ++ letters) old.ended
+  -- 1,024 events were taken, or all up to a moment at which the queue was empty, which fits what is known of it
+  abbrev pub Enough : Taken E → List (Letter E) → Facts E → Type 0
+  Enough old letters facts = (length letters ≡ 1024) ⊎ Fits (old.taken ++ letters) [] facts
 
   -- these events were taken, and entries made of them, but for so many
   pub record Takes (old new : Taken E) (letters : List (Letter E)) (before after : List E) (misses : ℕ) : Type 0 where
@@ -30,16 +31,16 @@ module _ {E : Type 0} where
     pub served : Served (events_of letters) entries misses
 
   -- so were all that a turn takes
-  pub record TakesAll (old new : Taken E) (before after : List E) (misses : ℕ) : Type 0 where
+  pub record TakesAll (old new : Taken E) (facts : Facts E) (before after : List E) (misses : ℕ) : Type 0 where
     pub letters : List (Letter E)
     pub takes : Takes old new letters before after misses
-    pub enough : Enough old letters
+    pub enough : Enough old letters facts
 
   -- The events that a turn took from the queue, and then its tick, are in the history, in order, but for as many as it says.
-  pub record Turned (old new : Taken E) (tick : E) (before after : List E) (misses : ℕ) : Type 0 where
+  pub record Turned (old new : Taken E) (facts : Facts E) (tick : E) (before after : List E) (misses : ℕ) : Type 0 where
     pub letters : List (Letter E)
     pub taker : new ≡ record old { taken = old.taken ++ letters }
-    pub enough : Enough old letters
+    pub enough : Enough old letters facts
     pub entries : List E
     pub history : after ≡ before ++ entries
     pub served : Served (events_of letters ++ tick ∷ []) entries misses

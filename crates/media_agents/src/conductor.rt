@@ -2,6 +2,7 @@ ghost use Rattle.driver_core.specs.Conduct.{outcome_of, state_after};
 ghost use Rattle.driver_core.specs.declared.event.Event.TheVariants.{Tick};
 ghost use Rattle.driver_core.specs.Soundness.{AreSizes, BeginsSoundly, IsSound};
 ghost use Rattle.media_agents.specs.Histories.{events_in, registry_of};
+ghost use Rattle.command_queue.specs.Known.{IsKnown, Tells, facts_of};
 ghost use Rattle.media_agents.specs.Turns.{Turned};
 ghost use Rattle.std.specs.Prelude.{◌≡◌, ◌+◌, ◌<◌, ◌^◌, ◌++◌, ◌∷◌, [], length, IfOk, IfSome, OnErr, OnOk};
 
@@ -12,7 +13,7 @@ use crate::publishes::Publishes;
 use crate::slots::{LogAt, Slots};
 use crate::turning::{Conducts, turn};
 use byte_strings::Items;
-use command_queue::Taker;
+use command_queue::{Known, Taker};
 use driver_core::{End, Entry, Event, Inputs, Registry};
 use log_slots::{LogMemory, Naming, Region, memory_for, open_log};
 use rows::Rows;
@@ -312,11 +313,19 @@ impl<N: Naming, C: Receipts, P: Publishes<C>, B: Boxes<C>> Conductor<N, C, P, B>
         self.publisher.number()
     }
 
-    /// A turn: how many of the events that it took were refused memory.
-    pub fn turn<R: Wait>(&mut self, rt: &R, taker: &mut Taker<Event>, now: u64) -> u32
-        ensures { Turned taker.old taker.new (Tick now) (events_in self.old.entries) (events_in self.new.entries) result }
+    /// A turn, with what is known of the queue: how many of the events that it took were refused memory.
+    pub fn turn<R: Wait>(
+        &mut self,
+        rt: &R,
+        taker: &mut Taker<Event>,
+        known: &mut Known<Event>,
+        now: u64,
+    ) -> u32
+        requires known { IsKnown taker.old.queue known.old }
+        ensures known { Tells taker.old.queue (facts_of known.old) known.new }
+        ensures turned { Turned taker.old taker.new (facts_of known.old) (Tick now) (events_in self.old.entries) (events_in self.new.entries) result }
     {
-        turn(rt, taker, self, Event::Tick { now })
+        turn(rt, taker, known, self, Event::Tick { now })
     }
 }
 

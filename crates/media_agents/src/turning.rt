@@ -1,7 +1,8 @@
 ghost use Rattle.std.specs.Prelude.{◌≡◌, ◌++◌, ◌∷◌, [], List, MatchBool, ◌≤◌};
+ghost use Rattle.command_queue.specs.Known.{IsKnown, Tells, facts_of};
 ghost use Rattle.media_agents.specs.Turns.{TakesAll, Turned};
 
-use command_queue::Taker;
+use command_queue::{Known, Taker};
 use std::sync::Wait;
 
 /// How many events a turn takes at most.
@@ -17,18 +18,21 @@ pub trait Conducts<E> {
         ensures { MatchBool result (history self.new ≡ history self.old ++ event ∷ []) (history self.new ≡ history self.old) };
 }
 
-/// Takes the events that lie in the queue.
+/// Takes the events that lie in the queue. What is known of the queue decides nothing: whatever it is, the answers fit it.
 fn take_all<E: Drop, C: Conducts<E>, R: Wait>(
     rt: &R,
     taker: &mut Taker<E>,
+    known: &mut Known<E>,
     conductor: &mut C,
 ) -> u32
-    ensures all { TakesAll taker.old taker.new (C.history conductor.old) (C.history conductor.new) result }
+    requires known { IsKnown taker.old.queue known.old }
+    ensures known { Tells taker.old.queue (facts_of known.old) known.new }
+    ensures all { TakesAll taker.old taker.new (facts_of known.old) (C.history conductor.old) (C.history conductor.new) result }
     ensures few { result ≤ 1024 }
 {
     let mut misses = 0;
     for _taken in 0..MOST {
-        let Some(event) = taker.pop(rt) else {
+        let Some(event) = taker.pop(rt, known) else {
             return misses;
         };
         if !conductor.conduct(rt, event) {
@@ -42,12 +46,15 @@ fn take_all<E: Drop, C: Conducts<E>, R: Wait>(
 pub fn turn<E: Drop, C: Conducts<E>, R: Wait>(
     rt: &R,
     taker: &mut Taker<E>,
+    known: &mut Known<E>,
     conductor: &mut C,
     tick: E,
 ) -> u32
-    ensures { Turned taker.old taker.new tick (C.history conductor.old) (C.history conductor.new) result }
+    requires known { IsKnown taker.old.queue known.old }
+    ensures known { Tells taker.old.queue (facts_of known.old) known.new }
+    ensures turned { Turned taker.old taker.new (facts_of known.old) tick (C.history conductor.old) (C.history conductor.new) result }
 {
-    let misses = take_all(rt, taker, conductor);
+    let misses = take_all(rt, taker, known, conductor);
     if conductor.conduct(rt, tick) {
         misses
     } else {

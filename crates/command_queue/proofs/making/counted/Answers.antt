@@ -9,4 +9,4 @@ ruled-requires-clause-rule g c = begins
 pub another-requires-clause-rule : goal.another-requires-clause-rule
 another-requires-clause-rule g c =
     let role = c.loop-made.invariant.2 in
-    counts _ _ (ap (λ (view : View g.row.E.Denot). view.takes) role) (ap (λ (view : View g.row.E.Denot). view.made) role)
+    counts _ _ (ap (λ (view : View g.row.E.Denot). view.takes) role) (ap (λ (view : View g.row.E.Denot). view.sends) role) (ap (λ (view : View g.row.E.Denot). view.made) role)
