@@ -57,6 +57,7 @@ use Rattle.driver_core.proofs.CacheLemmas.{found_in}
 use Rattle.driver_core.proofs.EventCases.{attach_cases, reload_cases, set_up_cases, target_cases, target_heard}
 use Rattle.driver_core.proofs.RuleCases.{add_counter_cases, publish_cases, remove_cases, subscribe_cases, terminate_cases}
 use Rattle.driver_core.proofs.VerdictLemmas.{by_policy}
+use Rattle.driver_laws.proofs.ActLemmas.{is_listed}
 use Rattle.driver_laws.proofs.DenialLemmas.{asked_before}
 use Rattle.driver_laws.proofs.DroppingLemmas.{all_weaker, first_there, later_there}
 use Rattle.driver_laws.proofs.RenewalLemmas.{all_append}
@@ -102,7 +103,8 @@ module _ (s : State) (now handle : ℕ) (bytes : List ℕ) where
       correlation = correlation;
       question = question_by client act channel stream;
       event_is = refl;
-      asks = asked_before s now handle bytes correlation (question_by client act channel stream) asks;
+      asks = is_listed s handle bytes correlation (question_by client act channel stream)
+          (asked_before s now handle bytes correlation (question_by client act channel stream) asks);
       decision_is = refl;
       by = by_policy s (question_by client act channel stream);
     },

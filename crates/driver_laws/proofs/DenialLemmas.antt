@@ -58,6 +58,7 @@ use Rattle.frame_codec.specs.Join.{join_of}
 use Rattle.driver_core.proofs.EventCases.{target_heard, Cases, attach_cases, command_cases, reload_cases}
 use Rattle.driver_core.proofs.RuleCases.{IsPlain}
 use Rattle.driver_core.proofs.VerdictLemmas.{by_policy}
+use Rattle.driver_laws.proofs.ActLemmas.{is_listed}
 use Rattle.driver_laws.proofs.DenialTextLemmas.{epoch_of, denial_words, denial_is_named}
 use Rattle.driver_laws.proofs.SettingUpLemmas.{denied_is, denied_to}
 use Rattle.driver_laws.proofs.SubscribingLemmas.{asks_before, found_number}
@@ -248,7 +249,7 @@ denied_on s now handle bytes correlation question asked denies = record {
   bytes = bytes;
   question = question;
   event_is = refl;
-  asks = asked;
+  asks = is_listed s handle bytes correlation question asked;
   verdict_is = refl;
   by = by_policy s question;
   denies = denies;

@@ -1,4 +1,6 @@
+pub mod ActLemmas
 pub mod ApartLemmas
+pub mod AttachingLemmas
 pub mod ClientComingLemmas
 pub mod ClosedLogLemmas
 pub mod ClosingLemmas
@@ -6,8 +8,10 @@ pub mod DecisionLemmas
 pub mod DenialLemmas
 pub mod DenialTextLemmas
 pub mod DestinationLemmas
+pub mod DestinationOnlyLemmas
 pub mod DroppingLemmas
 pub mod EveryLemmas
+pub mod FrameLemmas
 pub mod GoingLemmas
 pub mod GoneLemmas
 pub mod GrantLemmas
@@ -24,6 +28,7 @@ pub mod NamedLemmas
 pub mod NewNumberLemmas
 pub mod NumberLemmas
 pub mod OlderLemmas
+pub mod OlderLookLemmas
 pub mod OlderNakLemmas
 pub mod OlderSendLemmas
 pub mod OwnerLemmas
@@ -38,9 +43,12 @@ pub mod RemovedExactlyLemmas
 pub mod RenewalLemmas
 pub mod RisingLemmas
 pub mod RoomLemmas
+pub mod RuleLemmas
 pub mod SettingCauseLemmas
 pub mod SettingUpLemmas
 pub mod StayingLemmas
 pub mod SubscribingLemmas
 pub mod SubscribingOnlyLemmas
 pub mod UniqueImageLemmas
+pub mod UniquePublicationLemmas
+pub mod WorldLemmas

@@ -60,11 +60,11 @@ use Rattle.driver_laws.proofs.PairCountLemmas.{HasNoMorePairs, pairs_attached, p
 
 -- ---- the lists
 
-record IsWithin (s : State) : Type 0 where
-  clients : length s.clients.rows ≤ 64
-  streams : StreamsAreWithin s.streams
-  counters : length s.counters ≤ 1024
-  pairs : length (pairs_of s) ≤ 4096
+pub record IsWithin (s : State) : Type 0 where
+  pub clients : length s.clients.rows ≤ 64
+  pub streams : StreamsAreWithin s.streams
+  pub counters : length s.counters ≤ 1024
+  pub pairs : length (pairs_of s) ≤ 4096
 
 one_more : {A : Type 0} (rows : List A) (row : A) (limit : ℕ) → length rows < limit → length (rows ++ row ∷ []) ≤ limit
 one_more rows row limit few =
@@ -390,7 +390,7 @@ draft_within s (Setup now local from setup) inputs owned within =
     set_up_cases DraftWithin before local from setup (λ fault. answer_within before _ moved)
     (λ join place is set. image_within before _ place set moved)
 
-event_within : (s : State) (event : Event) (inputs : Inputs) → HaveTheirClients s → IsWithin s →
+pub event_within : (s : State) (event : Event) (inputs : Inputs) → HaveTheirClients s → IsWithin s →
     IsWithin (state_after s event inputs)
 unfolding conduct renewed dropping
 event_within s event inputs owned within =
@@ -398,7 +398,7 @@ event_within s event inputs owned within =
 
 -- ---- every registry
 
-opened_within : (settings : Settings) (policy : Rules) (peers : List Peer) → IsWithin (opened settings policy peers)
+pub opened_within : (settings : Settings) (policy : Rules) (peers : List Peer) → IsWithin (opened settings policy peers)
 unfolding opened pairs_of pairs_on
 opened_within settings policy peers = record {
   clients = omega arith;

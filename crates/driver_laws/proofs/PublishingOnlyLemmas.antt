@@ -102,7 +102,7 @@ settled_was_live streams registrations now log has =
 
 -- ---- a registration that comes, and its log
 
-asks_before : (s : State) (now handle : ℕ) (bytes : List ℕ) (request : PublicationRequest) →
+pub asks_before : (s : State) (now handle : ℕ) (bytes : List ℕ) (request : PublicationRequest) →
     AsksToPublish (at_moment s now) handle bytes request → AsksToPublish s handle bytes request
 unfolding at_moment
 asks_before s now handle bytes request asks = record {
@@ -111,7 +111,7 @@ asks_before s now handle bytes request asks = record {
   takes_channel = asks.takes_channel;
 }
 
-registered_by : (s : State) (now handle : ℕ) (bytes : List ℕ) (request : PublicationRequest) (adding : Adding) →
+unfoldable pub registered_by : (s : State) (now handle : ℕ) (bytes : List ℕ) (request : PublicationRequest) (adding : Adding) →
     AsksToPublish s handle bytes request → IsAllowed s request → adding_of s.streams (wanted_by request) ≡ Ok adding →
     has_room_for_publication s handle (wanted_by request) adding ≡ true → has_place s (wanted_by request) adding ≡ true →
     IsRegisteredBy s (Command now handle bytes) (

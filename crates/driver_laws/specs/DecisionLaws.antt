@@ -7,9 +7,9 @@ use Rattle.driver_core.specs.declared.event.Event.TheVariants.{Command}
 use Rattle.driver_core.specs.declared.event.Inputs.{Inputs}
 use Rattle.driver_core.specs.Conduct.{conduct}
 use Rattle.driver_core.specs.Renewal.{image_decision}
-use Rattle.driver_core.specs.Requests.{IsAsked}
 use Rattle.driver_core.specs.State.{State}
 use Rattle.driver_core.specs.Verdicts.{IsByPolicy}
+use Rattle.driver_laws.specs.Acts.{IsListed, image_question}
 use Rattle.driver_laws.specs.Events.{AfterAnyEvents}
 use Rattle.driver_laws.specs.GrantLaws.{decided_on}
 use Rattle.client_registry.specs.Clients.{principal_at}
@@ -17,7 +17,6 @@ use Rattle.policy_core.specs.declared.decision.Decision.{Decision}
 use Rattle.policy_core.specs.Question.{Question}
 use Rattle.stream_registry.specs.declared.pairs.Pair.{Pair}
 use Rattle.stream_registry.specs.declared.row.Subscription.{Subscription}
-use Rattle.stream_registry.specs.Pairs.{image_question}
 
 -- the event is a request of which the policy is asked that question, and the decision is the policy's on it
 pub record IsOnRequest (s : State) (event : Event) (decision : Decision) : Type 0 where
@@ -27,7 +26,7 @@ pub record IsOnRequest (s : State) (event : Event) (decision : Decision) : Type 
   pub correlation : ℕ
   pub question : Question
   pub event_is : event ≡ Command moment handle bytes
-  pub asks : IsAsked s handle bytes correlation question
+  pub asks : IsListed s handle bytes correlation question
   pub decision_is : decision ≡ decided_on s question
   pub by : IsByPolicy s question decision.verdict
 

@@ -17,10 +17,10 @@ use Rattle.driver_core.specs.declared.setup_fault.SetupFault.{SetupFault}
 use Rattle.driver_core.specs.declared.setup_fault.SetupFault.TheVariants as fault
 use Rattle.driver_core.specs.Conduct.{outcome_of}
 use Rattle.driver_core.specs.Replies.{refusal_text}
-use Rattle.driver_core.specs.Requests.{IsAsked}
 use Rattle.driver_core.specs.SettingUp.{wanted_by}
 use Rattle.driver_core.specs.State.{State}
 use Rattle.driver_core.specs.Verdicts.{IsByPolicy, verdict_on}
+use Rattle.driver_laws.specs.Acts.{IsListed}
 use Rattle.driver_laws.specs.Events.{AfterAnyEvents}
 use Rattle.driver_laws.specs.SettingLaws.{IsDeniedToAll}
 use Rattle.channel_uri.specs.declared.address.Address.{Address}
@@ -44,7 +44,7 @@ pub record IsDeniedOn (s : State) (event : Event) (client correlation : ℕ) (ve
   pub bytes : List ℕ
   pub question : Question
   pub event_is : event ≡ Command moment client bytes
-  pub asks : IsAsked s client bytes correlation question
+  pub asks : IsListed s client bytes correlation question
   pub verdict_is : verdict ≡ verdict_on s question
   pub by : IsByPolicy s question verdict
   pub denies : verdict.allow ≡ false

@@ -1,5 +1,5 @@
 -- Over every list of events: destinations are named as the policy in force says, each of a live publication.
-use Rattle.std.specs.Prelude.{◌≡◌, ℕ, ◌<◌, ◌≤◌, true, false, List, [], ◌∷◌, Contains, length, ◌⊎◌}
+use Rattle.std.specs.Prelude.{◌≡◌, ℕ, ◌+◌, ◌<◌, ◌≤◌, ℤ, true, false, List, [], ◌∷◌, Contains, length, Some, ◌⊎◌}
 use Rattle.driver_core.specs.Change.{Change}
 use Rattle.driver_core.specs.declared.event.Event.{Event}
 use Rattle.driver_core.specs.declared.event.Event.TheVariants.{Command}
@@ -7,16 +7,23 @@ use Rattle.driver_core.specs.declared.event.Inputs.{Inputs}
 use Rattle.driver_core.specs.declared.refusal.Refusal.TheVariants.{Conflict, Denied, Full}
 use Rattle.driver_core.specs.declared.replies.Reply.TheVariants.{OperationSuccess}
 use Rattle.driver_core.specs.Commands.{heard}
-use Rattle.driver_core.specs.Conduct.{conduct, state_of}
-use Rattle.driver_core.specs.Requests.{AsksToDirect, DestinationRequest, destination_question}
+use Rattle.driver_core.specs.Conduct.{conduct, state_after, state_of}
+use Rattle.driver_core.specs.Requests.{AsksToDirect, DestinationRequest, PublicationRequest}
 use Rattle.driver_core.specs.State.{State, at_moment}
 use Rattle.driver_core.specs.Verdicts.{IsByPolicy, verdict_on}
+use Rattle.driver_laws.specs.Acts.{destination_question}
 use Rattle.driver_laws.specs.Events.{AfterAnyEvents}
 use Rattle.driver_laws.specs.GrantLaws.{IsRefusedOn, decided_on}
+use Rattle.driver_laws.specs.PublishingLaws.{IsRegisteredBy}
+use Rattle.channel_uri.specs.declared.address.Address.{Address}
+use Rattle.channel_uri.specs.Address.{address_of}
+use Rattle.channel_uri.specs.Place.{AtEndpoint, spot_of}
 use Rattle.destinations.specs.declared.destination.Destination.{Destination}
 use Rattle.destinations.specs.Destinations.{DestinationList, added, has, has_room}
 use Rattle.destinations.specs.Laws.{IsOrderly}
+use Rattle.stream_registry.specs.declared.row.Registration.{Registration}
 use Rattle.stream_registry.specs.declared.row.Source.{Source}
+use Rattle.stream_registry.specs.declared.wanted.Adding.TheVariants.{Make}
 use Rattle.stream_registry.specs.Origins.{is_published}
 
 -- ---- granted exactly
@@ -103,3 +110,65 @@ pub record AreLawful (s : State) : Type 0 where
 
 abbrev pub DestinationsAreOfLivePublications : Type 0
 DestinationsAreOfLivePublications = AfterAnyEvents AreLawful
+
+-- ---- granted only
+
+-- the row under the next number of destinations
+abbrev pub row_next : State → ℕ → Address → ℕ → Destination
+row_next s source address principal = record {
+  number = s.destinations.last + 1;
+  source = source;
+  address = address;
+  principal = principal;
+}
+
+-- The event is a request to direct a publication of the client's own there, which the policy in force allows, while its
+-- destinations are named by hand, the address is new and there is room; the row is for the principal for whom that client acts.
+pub record IsNamedBy (s : State) (event : Event) (destination : Destination) : Type 0 where
+  pub moment : ℕ
+  pub handle : ℕ
+  pub bytes : List ℕ
+  pub request : DestinationRequest
+  pub event_is : event ≡ Command moment handle bytes
+  pub asks : AsksToDirect s handle bytes request
+  pub by : IsByPolicy s (destination_question request) (verdict_on s (destination_question request))
+  pub allowed : IsAllowed s request
+  pub by_hand : request.target.manual ≡ true
+  pub new : has s.destinations.rows request.target.source request.target.address ≡ false
+  pub room : has_room s.destinations request.target.source ≡ true
+  pub made_is :
+      destination ≡ row_next s request.target.source request.target.address request.client.principal
+
+-- the channel names that one address
+pub record IsEndpoint (request : PublicationRequest) (address : Address) : Type 0 where
+  pub text : List ℕ
+  pub spot_is : spot_of request.channel ≡ Some (AtEndpoint text)
+  pub address_is : address_of text ≡ Some address
+
+-- The event is a request for a publication that is granted, and makes a log for an endpoint: the row is the one destination of
+-- that log, for the principal of the client that asks, who is the first to be registered with it.
+pub record IsSoleBy (s : State) (event : Event) (destination : Destination) : Type 0 where
+  pub registration : Registration
+  pub registered : IsRegisteredBy s event registration
+  pub session : ℤ
+  pub makes : registered.adding ≡ Make session
+  pub address : Address
+  pub endpoint : IsEndpoint registered.request address
+  pub made_is : destination ≡ row_next s (s.last_number + 1) address registered.request.client.principal
+
+-- a destination behind an event was there before it, or is named by it, or is the one of a log that it makes
+abbrev pub DestinationsAreGrantedOnly : Type 0
+DestinationsAreGrantedOnly =
+    AfterAnyEvents (λ s.
+    (event : Event) (inputs : Inputs) (destination : Destination) →
+    Contains (state_after s event inputs).destinations.rows destination →
+    Contains s.destinations.rows destination ⊎ (IsNamedBy s event destination ⊎ IsSoleBy s event destination))
+
+-- and a log that an event makes for an endpoint has that one destination
+abbrev pub EndpointsAreSentTo : Type 0
+EndpointsAreSentTo =
+    AfterAnyEvents (λ s.
+    (event : Event) (inputs : Inputs) (registration : Registration) (registered : IsRegisteredBy s event registration)
+    (session : ℤ) (address : Address) → registered.adding ≡ Make session → IsEndpoint registered.request address →
+    Contains (state_after s event inputs).destinations.rows
+    (row_next s (s.last_number + 1) address registered.request.client.principal))

@@ -10,9 +10,10 @@ use Rattle.driver_core.specs.declared.replies.Reply.TheVariants.{Error, Operatio
 use Rattle.driver_core.specs.Commands.{heard}
 use Rattle.driver_core.specs.Conduct.{conduct}
 use Rattle.driver_core.specs.Counting.{has_room_for_counter}
-use Rattle.driver_core.specs.Requests.{Asks, counter_question, termination_question}
+use Rattle.driver_core.specs.Requests.{Asks}
 use Rattle.driver_core.specs.State.{State, at_moment}
 use Rattle.driver_core.specs.Verdicts.{IsByPolicy, verdict_on}
+use Rattle.driver_laws.specs.Acts.{counter_question, termination_question}
 use Rattle.driver_laws.specs.Events.{AfterAnyEvents}
 use Rattle.driver_laws.specs.LeavingLaws.{IsTerminatedBy}
 use Rattle.client_registry.specs.declared.client.Client.{Client}

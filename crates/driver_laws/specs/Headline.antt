@@ -1,19 +1,24 @@
 -- What the driver promises: four sums of laws, over every list of events, every run of a driver, and every run of a world.
 -- Own rules.
+use Rattle.driver_laws.specs.ActLaws.{RulesAskAsListed}
+use Rattle.driver_laws.specs.AttachingLaws.{ClientsComeExactly, ClientsComeOnly}
 use Rattle.driver_laws.specs.ClosingLaws.{LogsCloseExactly, LogsCloseOnly}
 use Rattle.driver_laws.specs.DenialLaws.{DenialsAreNamed}
 use Rattle.driver_laws.specs.DecisionLaws.{DecisionsAreByThePolicyInForce}
-use Rattle.driver_laws.specs.DestinationLaws.{DestinationsAreGrantedExactly}
+use Rattle.driver_laws.specs.DestinationLaws.{DestinationsAreGrantedExactly, DestinationsAreGrantedOnly, EndpointsAreSentTo}
+use Rattle.driver_laws.specs.FrameLaws.{FramesAreWhatWasPut}
 use Rattle.driver_laws.specs.GrantLaws.{CountersAndTerminationsAreGrantedOnly, CountersAreGrantedExactly, TerminationsAreGrantedExactly}
 use Rattle.driver_laws.specs.ImageLaws.{ImagesAreGrantedExactly}
 use Rattle.driver_laws.specs.ListingLaws.{CountersAreShownExactly}
 use Rattle.driver_laws.specs.NumberLaws.{NumbersAreNeverDrawnAgain}
-use Rattle.driver_laws.specs.OlderLaws.{NaksByAnyRegistryAreGrantedExactly, OffersByAnyRegistryAreGrantedExactly, PollsByAnyRegistryAreGrantedExactly, SendsByAnyRegistryAreGrantedExactly}
+use Rattle.driver_laws.specs.OlderLaws.{LooksByAnyRegistryAreShownExactly, NaksByAnyRegistryAreGrantedExactly, OffersByAnyRegistryAreGrantedExactly, PollsByAnyRegistryAreGrantedExactly, SendsByAnyRegistryAreGrantedExactly}
 use Rattle.driver_laws.specs.PublishingLaws.{ImagesComeBySetups, PublicationsAreGrantedExactly, PublicationsAreGrantedOnly}
 use Rattle.driver_laws.specs.ReloadLaws.{NewestPolicyIsInForce, ReloadsCloseExactly as ReloadedExactly}
 use Rattle.driver_laws.specs.SettingLaws.{SetupsAreGrantedExactly}
 use Rattle.driver_laws.specs.SoundnessLaws.{RegistriesAreSound}
 use Rattle.driver_laws.specs.SubscribingLaws.{SubscriptionsAreGrantedExactly, SubscriptionsAreGrantedOnly}
+use Rattle.driver_laws.specs.UniquePublicationLaws.{PublicationsAreUnique}
+use Rattle.driver_laws.specs.WorldLaws.{RunsAreTheDriversOwn, StepsGoByTheirRegistry, WorldsAreGrantedExactly, WorldsAreServedFromTheLiveLog}
 use Rattle.driver_steps.specs.Laws.{LogsFollowTheRegistry, OffersAreGrantedExactly, PollsAreGrantedExactly, BytesComeFromTheLiveLog, RunsTakeEvents}
 use Rattle.driver_steps.specs.CarryingLaws.{PayloadsComeFromTheirPublisher}
 use Rattle.driver_steps.specs.ResendLaws.{ResendsComeFromTheLiveLog}
@@ -21,17 +26,21 @@ use Rattle.driver_steps.specs.SendLaws.{SendsAreGrantedExactly}
 use Rattle.driver_world.specs.Laws.{RunsAreOfTheDriver}
 use Rattle.driver_world.specs.ViewLaws.{RegistriesWereNewest}
 
--- Each registry of a run is what its events left, and the run of a world is one of a driver: so what is said of all lists of
--- events, and of all runs of a driver, holds of every registry and every end of a world.
+-- Each registry of a run is what its events left, and the run of a world is one of a driver, whose steps are its own, each by the
+-- registry that it names: so what is said of all lists of events, and of all runs of a driver, holds of every registry and every
+-- end of a world.
 pub record HoldOfWorlds : Type 0 where
   pub registries : RunsTakeEvents
   pub newest : RegistriesWereNewest
   pub runs : RunsAreOfTheDriver
+  pub own : RunsAreTheDriversOwn
+  pub steps : StepsGoByTheirRegistry
 
 -- What is asked by a step, not by an event: a look at a counter, an offer, a poll, a datagram to a destination, a NAK. Each law says
 -- when it is granted, and by which verdict it is denied.
 pub record StepsAreDecided : Type 0 where
   pub shown : CountersAreShownExactly
+  pub shown_by_any : LooksByAnyRegistryAreShownExactly
   pub offers : OffersAreGrantedExactly
   pub offers_by_any : OffersByAnyRegistryAreGrantedExactly
   pub polls : PollsAreGrantedExactly
@@ -41,13 +50,18 @@ pub record StepsAreDecided : Type 0 where
   pub resends : ResendsComeFromTheLiveLog
   pub resends_by_any : NaksByAnyRegistryAreGrantedExactly
 
--- granted only and exactly where the first matching rule of the policy in force allows it
+-- granted only and exactly where the first matching rule of the policy in force allows it; what each rule asks is what the table
+-- of acts says
 pub record GrantedExactly : Type 0 where
   pub subscriptions : SubscriptionsAreGrantedExactly
   pub subscriptions_only : SubscriptionsAreGrantedOnly
   pub publications : PublicationsAreGrantedExactly
   pub publications_only : PublicationsAreGrantedOnly
   pub destinations : DestinationsAreGrantedExactly
+  pub destinations_only : DestinationsAreGrantedOnly
+  pub endpoints : EndpointsAreSentTo
+  pub clients : ClientsComeExactly
+  pub clients_only : ClientsComeOnly
   pub counters : CountersAreGrantedExactly
   pub terminations : TerminationsAreGrantedExactly
   pub counters_and_terminations_only : CountersAndTerminationsAreGrantedOnly
@@ -55,6 +69,8 @@ pub record GrantedExactly : Type 0 where
   pub setups : SetupsAreGrantedExactly
   pub images_only : ImagesComeBySetups
   pub steps : StepsAreDecided
+  pub acts : RulesAskAsListed
+  pub in_worlds : WorldsAreGrantedExactly
   pub worlds : HoldOfWorlds
 
 -- each denial names that rule, or the default
@@ -62,6 +78,7 @@ pub record DenialsNameTheirRule : Type 0 where
   pub denials : DenialsAreNamed
   pub decisions : DecisionsAreByThePolicyInForce
   pub steps : StepsAreDecided
+  pub acts : RulesAskAsListed
   pub worlds : HoldOfWorlds
 
 -- a policy that is put in force closes the images that are no longer allowed, and no others
@@ -78,7 +95,10 @@ pub record BytesComeOnlyFromTheLiveLog : Type 0 where
   pub polled : BytesComeFromTheLiveLog
   pub payloads : PayloadsComeFromTheirPublisher
   pub resent : ResendsComeFromTheLiveLog
+  pub frames : FramesAreWhatWasPut
   pub follow : LogsFollowTheRegistry
   pub sound : RegistriesAreSound
   pub numbers : NumbersAreNeverDrawnAgain
+  pub unique : PublicationsAreUnique
+  pub in_worlds : WorldsAreServedFromTheLiveLog
   pub worlds : HoldOfWorlds

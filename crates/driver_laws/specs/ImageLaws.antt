@@ -8,13 +8,14 @@ use Rattle.driver_core.specs.Renewal.{gone_from, come_to}
 use Rattle.driver_core.specs.State.{State}
 use Rattle.driver_core.specs.Unread.{are_all_read}
 use Rattle.driver_core.specs.Verdicts.{IsByPolicy, verdict_on}
+use Rattle.driver_laws.specs.Acts.{image_question}
 use Rattle.driver_laws.specs.Events.{AfterAnyEvents}
 use Rattle.client_registry.specs.Clients.{principal_at}
 use Rattle.log_readers.specs.Unread.{is_kept}
 use Rattle.stream_registry.specs.declared.pairs.Pair.{Pair}
 use Rattle.stream_registry.specs.declared.row.Source.{Source}
 use Rattle.stream_registry.specs.declared.row.Subscription.{Subscription}
-use Rattle.stream_registry.specs.Pairs.{fits, image_question, pair_of}
+use Rattle.stream_registry.specs.Pairs.{fits, pair_of}
 
 -- a live log and a subscription that fit, where the policy in force allows the image to the subscription's client, by the
 -- first rule that matches or the default

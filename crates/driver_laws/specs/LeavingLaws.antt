@@ -5,9 +5,10 @@ use Rattle.driver_core.specs.declared.event.Event.{Event}
 use Rattle.driver_core.specs.declared.event.Event.TheVariants.{Command, Tick}
 use Rattle.driver_core.specs.declared.event.Inputs.{Inputs}
 use Rattle.driver_core.specs.Conduct.{state_after}
-use Rattle.driver_core.specs.Requests.{Asks, termination_question}
+use Rattle.driver_core.specs.Requests.{Asks}
 use Rattle.driver_core.specs.State.{State}
 use Rattle.driver_core.specs.Verdicts.{verdict_on}
+use Rattle.driver_laws.specs.Acts.{termination_question}
 use Rattle.driver_laws.specs.Events.{AfterAnyEvents}
 use Rattle.client_registry.specs.declared.client.Client.{Client}
 use Rattle.client_registry.specs.Clients.{expired_of}

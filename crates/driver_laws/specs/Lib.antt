@@ -1,9 +1,13 @@
+pub mod ActLaws
+pub mod Acts
+pub mod AttachingLaws
 pub mod ClosingLaws
 pub mod CounterLaws
 pub mod DecisionLaws
 pub mod DenialLaws
 pub mod DestinationLaws
 pub mod Events
+pub mod FrameLaws
 pub mod GrantLaws
 pub mod Headline
 pub mod ImageLaws
@@ -20,5 +24,8 @@ pub mod ReloadLaws
 pub mod RemovalLaws
 pub mod SettingLaws
 pub mod SoundnessLaws
+pub mod StepActs
 pub mod SubscribingLaws
 pub mod UniqueImageLaws
+pub mod UniquePublicationLaws
+pub mod WorldLaws

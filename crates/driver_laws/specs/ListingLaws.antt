@@ -5,16 +5,17 @@ use Rattle.driver_core.specs.declared.listing.Listed.TheVariants as listed_as
 use Rattle.driver_core.specs.declared.listing.Shown.{Shown}
 use Rattle.driver_core.specs.declared.listing.Shown.TheVariants as shown_as
 use Rattle.driver_core.specs.LeftOut.{left_out as left_out_of, with_denials}
-use Rattle.driver_core.specs.Listing.{list, row_of, shows_source, source_question, source_row, uses_of, value, with_rows}
+use Rattle.driver_core.specs.Listing.{list, row_of, shows_source, source_row, uses_of, value, with_rows}
 use Rattle.driver_core.specs.Renewal.{source_at}
 use Rattle.driver_core.specs.State.{State}
 use Rattle.driver_core.specs.Verdicts.{IsByPolicy, verdict_on}
+use Rattle.driver_laws.specs.Acts.{asked, look, look_at_log}
 use Rattle.driver_laws.specs.DenialLaws.{denial_text}
 use Rattle.driver_laws.specs.Events.{AfterAnyEvents}
 use Rattle.client_registry.specs.declared.client.Client.{Client}
 use Rattle.client_registry.specs.Clients.{client_at}
 use Rattle.counters.specs.declared.counter.Counter.{Counter}
-use Rattle.counters.specs.Counters.{counter_at, question_for}
+use Rattle.counters.specs.Counters.{counter_at}
 use Rattle.policy_core.specs.declared.act.Act.TheVariants.{List as SeeCounter}
 use Rattle.policy_core.specs.declared.decision.Decision.{Decision}
 use Rattle.policy_core.specs.Question.{Question}
@@ -23,7 +24,7 @@ use Rattle.stream_registry.specs.declared.row.Source.{Source}
 
 -- what the policy is asked before the client is shown the counter
 abbrev pub look_question : Client → Counter → Question
-look_question client counter = question_for client.principal counter
+look_question client counter = asked (look client.principal counter)
 
 -- the policy in force shows it
 abbrev pub is_shown_to : State → Client → Counter → Bool
@@ -31,7 +32,7 @@ is_shown_to s client counter = (verdict_on s (look_question client counter)).all
 
 -- what it is asked before the client is shown the log
 abbrev pub source_look : Client → Source → Question
-source_look client source = source_question client.principal source
+source_look client source = asked (look_at_log client.principal source)
 
 -- what the policy in force decides on showing the client the counter
 abbrev pub look_decision : State → Client → Counter → Decision

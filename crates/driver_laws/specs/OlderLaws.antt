@@ -1,11 +1,13 @@
--- Offers, polls, turns of the sender and NAKs by any registry that a run went through, on the logs that are open at its end. Own rules.
+-- Offers, polls, turns of the sender, NAKs and looks at counters by any registry that a run went through, on the logs that are
+-- open at its end. Own rules.
 use Rattle.any_log.specs.Asking.{reply_by}
 use Rattle.channel_uri.specs.declared.address.Address.{Address}
 use Rattle.destinations.specs.declared.destination.Destination.{Destination}
 use Rattle.destinations.specs.Destinations.{of}
 use Rattle.driver_core.specs.declared.send_request.Outlet.{Outlet}
 use Rattle.driver_core.specs.SendRequests.{is_sent, outlet_of, sending_of}
-use Rattle.driver_steps.specs.SendLaws.{OutletIsDecided}
+use Rattle.driver_laws.specs.ListingLaws.{LooksExactly}
+use Rattle.driver_laws.specs.StepActs.{OutletIsDecidedBy, offer_question, offer_verdict, poll_question, poll_verdict, resend_question, resend_verdict}
 use Rattle.driver_steps.specs.Sending.{pace_of}
 use Rattle.publication_sender.specs.Cutting.{cut_of, datagram_of}
 use Rattle.stream_registry.specs.declared.row.Source.{Source}
@@ -16,6 +18,7 @@ use Rattle.any_log.specs.Whole.{position_in, whole}
 use Rattle.driver_core.specs.declared.peer.Peer.{Peer}
 use Rattle.driver_core.specs.declared.settings.Settings.{Settings}
 use Rattle.driver_core.specs.Conduct.{state_of}
+use Rattle.driver_core.specs.Listing.{list, value}
 use Rattle.driver_core.specs.LogRequests.{has_pair, registration_at}
 use Rattle.driver_core.specs.Renewal.{source_at, subscription_at}
 use Rattle.driver_core.specs.Soundness.{AreSettings}
@@ -24,9 +27,10 @@ use Rattle.driver_core.specs.Verdicts.{IsByPolicy}
 use Rattle.driver_steps.specs.declared.answer.Answer.{Answer}
 use Rattle.driver_steps.specs.declared.answer.Answer.TheVariants.{Offered as OfferedAs, Denied, Dropped, Gone as IsGone, Idle, Resent, Sent}
 use Rattle.driver_steps.specs.declared.answer.Offered.TheVariants.{Closed, TooLong, NotConnected}
-use Rattle.driver_steps.specs.declared.step.Step.TheVariants.{Offer, Packet, Poll, Send}
+use Rattle.driver_steps.specs.declared.step.Step.TheVariants.{List as Lists, Offer, Packet, Poll, Send, Value}
+use Rattle.driver_steps.specs.Answers.{answer_listed, answer_shown}
 use Rattle.driver_steps.specs.Ends.{RunEnd, Moved, log_at, opening_end, with_log}
-use Rattle.driver_steps.specs.Laws.{AsksToOffer, AsksToPoll, OfferRequest, PollRequest, given_by_log, offer_question, offer_verdict, poll_question, poll_verdict, stays, taken_by_log, taken_from}
+use Rattle.driver_steps.specs.Laws.{AsksToOffer, AsksToPoll, OfferRequest, PollRequest, given_by_log, stays, taken_by_log, taken_from}
 use Rattle.driver_steps.specs.Moves.{WholeLog}
 use Rattle.driver_steps.specs.Runs.{Reading, AreAnswers, end_of}
 use Rattle.driver_steps.specs.Seen.{moved_seen}
@@ -35,7 +39,6 @@ use Rattle.driver_core.specs.PublicationRequests.{publication_at}
 use Rattle.driver_steps.specs.declared.cause.Cause.TheVariants.{Astray, Denied as DeniedFor}
 use Rattle.driver_steps.specs.Hearing.{answer_asked}
 use Rattle.driver_steps.specs.Receiving.{unheard}
-use Rattle.driver_steps.specs.ResendLaws.{resend_question, resend_verdict}
 use Rattle.frame_codec.specs.declared.nak.Nak.{Nak}
 use Rattle.frame_codec.specs.Datagram.{nak, packet_of}
 use Rattle.policy_core.specs.RuleList.{Rules}
@@ -137,7 +140,7 @@ pub record SendIsDecidedBy (s : State) (e : RunEnd) (now : ℕ) (publication : S
   pub outlets : List Outlet
   pub are : outlets ≡ map (outlet_of s publication) (of s.destinations.rows publication.number)
   pub decided :
-      (destination : Destination) → OutletIsDecided s publication destination (outlet_of s publication destination)
+      (destination : Destination) → OutletIsDecidedBy s publication destination (outlet_of s publication destination)
   pub idle :
       datagram_of (pace_of s.settings) now (is_some (lingering_since publication)) frames ≡ None → what ≡ stays e Idle
   pub sent :
@@ -203,3 +206,16 @@ pub record NaksAreDecidedBy (s : State) (e : RunEnd) : Type 0 where
 
 abbrev pub NaksByAnyRegistryAreGrantedExactly : Type 0
 NaksByAnyRegistryAreGrantedExactly = AtEachRegistry NaksAreDecidedBy
+
+-- ---- a look at counters
+
+-- A client of that registry is listed exactly what its policy shows, and told a value exactly where it shows that one, else by
+-- what it is denied; nothing is changed.
+pub record LooksAreDecidedBy (s : State) (e : RunEnd) : Type 0 where
+  pub lists : (now handle : ℕ) → moved_seen s e (Lists now handle) ≡ stays e (answer_listed (list s handle))
+  pub values :
+      (now handle number : ℕ) → moved_seen s e (Value now handle number) ≡ stays e (answer_shown (value s handle number))
+  pub exactly : (handle : ℕ) → LooksExactly s handle
+
+abbrev pub LooksByAnyRegistryAreShownExactly : Type 0
+LooksByAnyRegistryAreShownExactly = AtEachRegistry LooksAreDecidedBy

@@ -12,10 +12,11 @@ use Rattle.driver_core.specs.Commands.{heard}
 use Rattle.driver_core.specs.Conduct.{conduct, state_after}
 use Rattle.driver_core.specs.Publishing.{has_place, has_room_for_publication, opening_of, place_of_new, ready_for, refused_by_streams, session_of, with_directed_publication}
 use Rattle.driver_core.specs.Renewal.{images_told, images_decided}
-use Rattle.driver_core.specs.Requests.{PublicationRequest, AsksToPublish, publication_question, wanted_by}
+use Rattle.driver_core.specs.Requests.{PublicationRequest, AsksToPublish, wanted_by}
 use Rattle.driver_core.specs.SettingUp.{new_image, setting_of, wanted_by as image_wanted_by}
 use Rattle.driver_core.specs.State.{State, at_moment}
 use Rattle.driver_core.specs.Verdicts.{IsByPolicy, verdict_on}
+use Rattle.driver_laws.specs.Acts.{publication_question}
 use Rattle.driver_laws.specs.ClosingLaws.{IsSameLog}
 use Rattle.driver_laws.specs.Events.{AfterAnyEvents}
 use Rattle.driver_laws.specs.GrantLaws.{IsRefusedOn, decided_on}

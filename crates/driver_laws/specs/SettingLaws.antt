@@ -12,6 +12,7 @@ use Rattle.driver_core.specs.Renewal.{images_decided, images_told}
 use Rattle.driver_core.specs.SettingUp.{new_image, setting_of, wanted_by, with_image}
 use Rattle.driver_core.specs.State.{State, at_moment}
 use Rattle.driver_core.specs.Verdicts.{IsByPolicy, verdict_on}
+use Rattle.driver_laws.specs.Acts.{image_question}
 use Rattle.driver_laws.specs.Events.{AfterAnyEvents}
 use Rattle.driver_laws.specs.LimitLaws.{IsLeft}
 use Rattle.channel_uri.specs.declared.address.Address.{Address}
@@ -27,7 +28,7 @@ use Rattle.stream_registry.specs.Images.{is_image_at}
 use Rattle.stream_registry.specs.LogPages.{pages_of}
 use Rattle.stream_registry.specs.Origins.{is_remote}
 use Rattle.stream_registry.specs.PageLaws.{IsVacant}
-use Rattle.stream_registry.specs.Pairs.{fits, image_question}
+use Rattle.stream_registry.specs.Pairs.{fits}
 
 -- ---- what may hold of a SETUP
 

@@ -12,10 +12,11 @@ use Rattle.driver_core.specs.declared.replies.Reply.TheVariants.{Error, Subscrip
 use Rattle.driver_core.specs.Commands.{heard}
 use Rattle.driver_core.specs.Conduct.{conduct}
 use Rattle.driver_core.specs.Renewal.{images_told, images_decided, renewed}
-use Rattle.driver_core.specs.Requests.{SubscriptionRequest, AsksToSubscribe, question_of}
+use Rattle.driver_core.specs.Requests.{SubscriptionRequest, AsksToSubscribe}
 use Rattle.driver_core.specs.State.{State, at_moment}
 use Rattle.driver_core.specs.Subscribing.{act_of, subscribed, has_room_for_subscription}
 use Rattle.driver_core.specs.Verdicts.{IsByPolicy, verdict_on}
+use Rattle.driver_laws.specs.Acts.{subscription_question}
 use Rattle.driver_laws.specs.Events.{AfterAnyEvents}
 use Rattle.policy_core.specs.declared.decision.Decision.{Decision}
 use Rattle.stream_registry.specs.declared.row.Subscription.{Subscription}
@@ -29,7 +30,7 @@ decision_on s request = record {
   act = act_of request.channel;
   subject = 0;
   stream = request.fields.stream;
-  verdict = verdict_on s (question_of request);
+  verdict = verdict_on s (subscription_question request);
 }
 
 -- the subscription that is asked for, under the next number
@@ -74,13 +75,13 @@ has_room_for_request s handle request = has_room_for_subscription s handle reque
 
 -- the verdict decides, which is the first matching rule's or the default's, and then the room
 pub record IsDecidedExactly (s : State) (now handle : ℕ) (inputs : Inputs) (request : SubscriptionRequest) (change : Change) : Type 0 where
-  pub by : IsByPolicy s (question_of request) (verdict_on s (question_of request))
+  pub by : IsByPolicy s (subscription_question request) (verdict_on s (subscription_question request))
   pub granted :
-      (verdict_on s (question_of request)).allow ≡ true → has_room_for_request s handle request ≡ true → IsGranted s now handle inputs request change
+      (verdict_on s (subscription_question request)).allow ≡ true → has_room_for_request s handle request ≡ true → IsGranted s now handle inputs request change
   pub full :
-      (verdict_on s (question_of request)).allow ≡ true → has_room_for_request s handle request ≡ false → IsRefused s now handle request Full change
+      (verdict_on s (subscription_question request)).allow ≡ true → has_room_for_request s handle request ≡ false → IsRefused s now handle request Full change
   pub denied :
-      (verdict_on s (question_of request)).allow ≡ false → IsRefused s now handle request (Denied (verdict_on s (question_of request))) change
+      (verdict_on s (subscription_question request)).allow ≡ false → IsRefused s now handle request (Denied (verdict_on s (subscription_question request))) change
 
 abbrev pub SubscriptionsAreGrantedExactly : Type 0
 SubscriptionsAreGrantedExactly =
@@ -98,8 +99,8 @@ pub record IsMadeBy (s : State) (event : Event) (correlation : ℕ) (made : Subs
   pub request : SubscriptionRequest
   pub event_is : event ≡ Command moment made.client bytes
   pub asks : AsksToSubscribe s made.client bytes request
-  pub by : IsByPolicy s (question_of request) (verdict_on s (question_of request))
-  pub allowed : (verdict_on s (question_of request)).allow ≡ true
+  pub by : IsByPolicy s (subscription_question request) (verdict_on s (subscription_question request))
+  pub allowed : (verdict_on s (subscription_question request)).allow ≡ true
   pub room : has_room_for_request s made.client request ≡ true
   pub correlation_is : correlation ≡ request.correlation
   pub made_is : made ≡ subscription_for s made.client request

@@ -2,17 +2,25 @@
 //! (`driver_laws`), on every run of a driver (`driver_steps`) and on every run of a world (`driver_world`), whose registries
 //! are what their events make of the opened one, and whose steps are those of a driver.
 
-ghost use Rattle.driver_laws.specs.OlderLaws.{NaksByAnyRegistryAreGrantedExactly, OffersByAnyRegistryAreGrantedExactly, PollsByAnyRegistryAreGrantedExactly, SendsByAnyRegistryAreGrantedExactly};
-ghost use Rattle.driver_laws.specs.Headline.{BytesComeOnlyFromTheLiveLog, DenialsNameTheirRule, GrantedExactly, ReloadsCloseExactly, StepsAreDecided};
+ghost use Rattle.driver_laws.specs.FrameLaws.{FramesAreWhatWasPut};
+ghost use Rattle.driver_laws.specs.OlderLaws.{LooksByAnyRegistryAreShownExactly, NaksByAnyRegistryAreGrantedExactly, OffersByAnyRegistryAreGrantedExactly, PollsByAnyRegistryAreGrantedExactly, SendsByAnyRegistryAreGrantedExactly};
+ghost use Rattle.driver_laws.specs.Headline.{BytesComeOnlyFromTheLiveLog, DenialsNameTheirRule, GrantedExactly, HoldOfWorlds, ReloadsCloseExactly, StepsAreDecided};
 
+use crate::acts::rules_ask_as_listed;
+use crate::worlds::{
+    runs_are_the_drivers_own, steps_go_by_their_registry, worlds_are_granted_exactly,
+    worlds_are_served_from_the_live_log,
+};
 use crate::{
-    counters_and_terminations_are_granted_only, counters_are_granted_exactly,
-    counters_are_shown_exactly, decisions_are_by_the_policy_in_force, denials_are_named,
-    destinations_are_granted_exactly, images_are_granted_exactly, images_come_by_setups,
-    logs_close_exactly, logs_close_only, newest_policy_is_in_force, numbers_are_never_drawn_again,
-    publications_are_granted_exactly, publications_are_granted_only, registries_are_sound,
-    reloads_close_exactly, setups_are_granted_exactly, subscriptions_are_granted_exactly,
-    subscriptions_are_granted_only, terminations_are_granted_exactly,
+    clients_come_exactly, clients_come_only, counters_and_terminations_are_granted_only,
+    counters_are_granted_exactly, counters_are_shown_exactly, decisions_are_by_the_policy_in_force,
+    denials_are_named, destinations_are_granted_exactly, destinations_are_granted_only,
+    endpoints_are_sent_to, images_are_granted_exactly, images_come_by_setups, logs_close_exactly,
+    logs_close_only, newest_policy_is_in_force, numbers_are_never_drawn_again,
+    publications_are_granted_exactly, publications_are_granted_only, publications_are_unique,
+    registries_are_sound, reloads_close_exactly, setups_are_granted_exactly,
+    subscriptions_are_granted_exactly, subscriptions_are_granted_only,
+    terminations_are_granted_exactly,
 };
 use driver_steps::{
     bytes_come_from_the_live_log, logs_follow_the_registry, offers_are_granted_exactly,
@@ -24,7 +32,8 @@ use driver_world::{registries_were_newest, runs_are_of_the_driver};
 /// A well-formed request is granted only and exactly where the first matching rule of the policy in force at its step, or
 /// else the default, allows its principal: a subscription, a publication, a destination, a counter, the end of the driver, an
 /// image, an offer, a poll, a datagram to a destination, frames that are sent again, a look at a counter. The laws on offers,
-/// polls, datagrams and frames that are sent again are on steps by any registry that the run went through.
+/// polls, datagrams, frames that are sent again and looks are on steps by any registry that the run went through. Destinations
+/// and clients come only so.
 pub fn granted_exactly()
     ensures { GrantedExactly }
 {
@@ -33,6 +42,10 @@ pub fn granted_exactly()
     publications_are_granted_exactly();
     publications_are_granted_only();
     destinations_are_granted_exactly();
+    destinations_are_granted_only();
+    endpoints_are_sent_to();
+    clients_come_exactly();
+    clients_come_only();
     counters_are_granted_exactly();
     terminations_are_granted_exactly();
     counters_and_terminations_are_granted_only();
@@ -40,9 +53,21 @@ pub fn granted_exactly()
     setups_are_granted_exactly();
     images_are_granted_exactly();
     steps_are_decided();
+    rules_ask_as_listed();
+    worlds_are_granted_exactly();
+    worlds_follow();
+}
+
+/// Each registry of a run is what its events left, and a run of a world is one of the driver, whose steps are its own: so what is
+/// said of all lists of events, and of all runs of a driver, holds of worlds.
+pub fn worlds_follow()
+    ensures { HoldOfWorlds }
+{
     runs_take_events();
-    runs_are_of_the_driver();
     registries_were_newest();
+    runs_are_of_the_driver();
+    runs_are_the_drivers_own();
+    steps_go_by_their_registry();
 }
 
 /// What is asked by a step, not by an event, is granted or denied by the verdict of the registry by which the step goes: a look
@@ -51,6 +76,7 @@ pub fn steps_are_decided()
     ensures { StepsAreDecided }
 {
     counters_are_shown_exactly();
+    looks_by_any_registry_are_shown_exactly();
     offers_are_granted_exactly();
     offers_by_any_registry_are_granted_exactly();
     polls_are_granted_exactly();
@@ -91,6 +117,19 @@ pub fn naks_by_any_registry_are_granted_exactly()
     ensures { NaksByAnyRegistryAreGrantedExactly }
 {}
 
+/// A look at counters by any registry that the run went through is told exactly what that registry's policy shows the client:
+/// the first rule of it that matches, or the default. Nothing is changed.
+pub fn looks_by_any_registry_are_shown_exactly()
+    ensures { LooksByAnyRegistryAreShownExactly }
+{}
+
+/// At the end of every run the frames of each live log of a publication are what was put into it, in that order, each once:
+/// the frames of the message of each offer that was allowed by the registry by which it went and answered a position, and a pad
+/// over the rest of the term for each that was answered that the term turned. A new log so has none.
+pub fn frames_are_what_was_put()
+    ensures { FramesAreWhatWasPut }
+{}
+
 /// Each denial names the first rule that matches, or the default where none does, and the number of the policy.
 pub fn denials_name_their_rule()
     ensures { DenialsNameTheirRule }
@@ -98,9 +137,8 @@ pub fn denials_name_their_rule()
     denials_are_named();
     decisions_are_by_the_policy_in_force();
     steps_are_decided();
-    runs_take_events();
-    registries_were_newest();
-    runs_are_of_the_driver();
+    rules_ask_as_listed();
+    worlds_follow();
 }
 
 /// A policy that is put in force closes exactly the images that it no longer allows, and their logs; one that is refused
@@ -113,24 +151,23 @@ pub fn a_reload_closes_exactly()
     logs_close_exactly();
     logs_close_only();
     logs_follow_the_registry();
-    runs_take_events();
-    registries_were_newest();
-    runs_are_of_the_driver();
+    worlds_follow();
 }
 
 /// Bytes are polled and sent again only from the live log that holds them, which shares no page with another; each was put
 /// there by an offer that was allowed, or came from the log's publisher. No number is drawn again, so a log that an older
-/// registry names is the same log, or closed.
+/// registry names is the same log, or closed; and no two live publications share medium, stream and session.
 pub fn bytes_come_only_from_the_live_log()
     ensures { BytesComeOnlyFromTheLiveLog }
 {
     bytes_come_from_the_live_log();
     payloads_come_from_their_publisher();
     resends_come_from_the_live_log();
+    frames_are_what_was_put();
     logs_follow_the_registry();
     registries_are_sound();
     numbers_are_never_drawn_again();
-    runs_take_events();
-    runs_are_of_the_driver();
-    registries_were_newest();
+    publications_are_unique();
+    worlds_are_served_from_the_live_log();
+    worlds_follow();
 }

@@ -1,15 +1,18 @@
 //! What a driver promises: the four sentences of [`headline`], and the laws of which they are made, on the registry over
-//! every list of events. Each function does nothing, and its clause is the law. The laws speak of `outcome_of` and
+//! every list of events, and on [`worlds`]. The laws cite one table of [`acts`]. Each function does nothing, and its clause is the law. The laws speak of `outcome_of` and
 //! `state_after`, which `Registry::step` meets, and of words that this crate's `specs/` define by them.
 #![tactic(auto)]
 
+pub mod acts;
 pub mod headline;
+pub mod worlds;
 
+ghost use Rattle.driver_laws.specs.AttachingLaws.{ClientsComeExactly, ClientsComeOnly};
 ghost use Rattle.driver_laws.specs.ClosingLaws.{ClosedLogsWereThere, LogsCloseExactly, LogsCloseOnly};
 ghost use Rattle.driver_laws.specs.CounterLaws.{CountersAreRemovedExactly, CountersAreRemovedOnly, CountersAreSetExactly, CountersAreSetOnly};
 ghost use Rattle.driver_laws.specs.DecisionLaws.{DecisionsAreByThePolicyInForce};
 ghost use Rattle.driver_laws.specs.DenialLaws.{DenialsAreNamed};
-ghost use Rattle.driver_laws.specs.DestinationLaws.{DestinationsAreGrantedExactly, DestinationsAreOfLivePublications};
+ghost use Rattle.driver_laws.specs.DestinationLaws.{DestinationsAreGrantedExactly, DestinationsAreGrantedOnly, DestinationsAreOfLivePublications, EndpointsAreSentTo};
 ghost use Rattle.driver_laws.specs.GrantLaws.{CountersAreGrantedExactly, TerminationsAreGrantedExactly, CountersAndTerminationsAreGrantedOnly};
 ghost use Rattle.driver_laws.specs.ImageLaws.{ImagesAreGrantedExactly, ImagesAreRead, NoImageIsUnread};
 ghost use Rattle.driver_laws.specs.ImageTellingLaws.{ImagesAreToldExactly};
@@ -26,6 +29,7 @@ ghost use Rattle.driver_laws.specs.SettingLaws.{SetupsAreGrantedExactly};
 ghost use Rattle.driver_laws.specs.SoundnessLaws.{RegistriesAreSound};
 ghost use Rattle.driver_laws.specs.SubscribingLaws.{SubscriptionsAreGrantedExactly, SubscriptionsAreGrantedOnly};
 ghost use Rattle.driver_laws.specs.UniqueImageLaws.{ImagesAreUnique};
+ghost use Rattle.driver_laws.specs.UniquePublicationLaws.{PublicationsAreUnique};
 
 /// A client's well-formed request for a subscription is granted where the first rule that matches allows it, or where
 /// none matches and the default does, and there is room; else it is refused, by the verdict or as full.
@@ -86,6 +90,12 @@ pub fn images_are_unique()
     ensures { ImagesAreUnique }
 {}
 
+/// In every registry no two live publications, in use or lingering, share medium, stream and session; so a search by session and
+/// stream for one over datagrams finds the only one.
+pub fn publications_are_unique()
+    ensures { PublicationsAreUnique }
+{}
+
 /// Of all replies to an event one for each pair that came, and no other, tells the subscription's client of an image that is
 /// available; and one for each pair that went, whose subscription did not, and no other, of one that is not.
 pub fn images_are_told_exactly()
@@ -134,6 +144,18 @@ pub fn decisions_are_by_the_policy_in_force()
 /// not there yet, and there is room; else nothing is added, and it is refused by the first of these that fails.
 pub fn destinations_are_granted_exactly()
     ensures { DestinationsAreGrantedExactly }
+{}
+
+/// A destination comes only by such a request of a client that the policy in force allows, for that client's principal, or as
+/// the one destination of a publication for an endpoint that is granted and makes its log, for the principal of the client that
+/// asks for it.
+pub fn destinations_are_granted_only()
+    ensures { DestinationsAreGrantedOnly }
+{}
+
+/// A log that is made for an endpoint has that one destination behind the event, for the principal of the client that asks.
+pub fn endpoints_are_sent_to()
+    ensures { EndpointsAreSentTo }
 {}
 
 /// In every registry each destination is of a live publication, their numbers rise up to the one that was drawn last, a
@@ -187,6 +209,17 @@ pub fn counters_are_set_exactly()
 /// A counter has the value that it had before an event, or the one to which its own client set it, unless it is new.
 pub fn counters_are_set_only()
     ensures { CountersAreSetOnly }
+{}
+
+/// A client comes, under the next id, for the principal that the event names and at its moment, exactly where the driver was not
+/// stopped and there is room; else nobody comes, as the driver was stopped or is full, and all stays but the moment.
+pub fn clients_come_exactly()
+    ensures { ClientsComeExactly }
+{}
+
+/// A client comes only so: each other that is there behind an event was there before, under its id and for its principal.
+pub fn clients_come_only()
+    ensures { ClientsComeOnly }
 {}
 
 /// A client is not there after a tick at which nothing was heard of it for longer than the liveness, after its own request
