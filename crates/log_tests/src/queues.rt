@@ -112,12 +112,7 @@ fn goes_round(rt: &impl Wait, sender: &mut Sends, taker: &mut Takes) -> bool {
 }
 
 /// Whether a queue with a lone sender is full, or goes round.
-fn goes(
-    rt: &impl Wait,
-    senders: &mut Vec<Sender<Sent>>,
-    taker: &mut Takes,
-    round: bool,
-) -> bool {
+fn goes(rt: &impl Wait, senders: &mut Vec<Sender<Sent>>, taker: &mut Takes, round: bool) -> bool {
     match senders.pop() {
         Some(sender) => {
             let mut sender = Sends::of(sender);
@@ -277,7 +272,11 @@ fn takes_rest(rt: &impl Wait, taker: &mut Taker<Sent>, known: &mut Known<Sent>) 
         let Some(event) = taker.pop(rt, known) else {
             return in_order && next == NOTED;
         };
-        in_order &= event == Sent { by: 0, number: next };
+        in_order &= event
+            == Sent {
+                by: 0,
+                number: next,
+            };
         next = next.wrapping_add(1);
     }
     false

@@ -13,16 +13,22 @@ loop-taken-preserved g c =
     let history = g.C.Conducts.history in
     let more : length (so.letters ++ letter ∷ []) ≡ c.loop-taken._taken + 1 = omega (arith, length-append so.letters (letter ∷ []), so.size) in
     elim c.if-not-conduct.branch [
-      | then-not-conduct w ↦ rw w.misses-is (record {
-        letters = so.letters ++ letter ∷ [];
-        takes = takes_missed c.args.taker.now c.loop-taken.taker c.pop.new.self so.letters letter (history c.args.conductor.now) (history c.loop-taken.conductor) (history c.conduct.new.self) c.loop-taken.misses so.takes c.in-Some.ensures.taken.1 w.if-not-conduct.ensures;
-        size = more;
-        few = omega (arith, so.few);
-      }, ((c.pop.ensures.known.0.0 ∙ same, c.pop.ensures.known.0.1), c.pop.ensures.known.1 ∙ c.loop-taken.invariant.1.1))
-      | else-not-conduct w ↦ rw w.misses-is (record {
-        letters = so.letters ++ letter ∷ [];
-        takes = takes_made c.args.taker.now c.loop-taken.taker c.pop.new.self so.letters letter (history c.args.conductor.now) (history c.loop-taken.conductor) (history c.conduct.new.self) c.loop-taken.misses so.takes c.in-Some.ensures.taken.1 w.if-not-conduct.ensures;
-        size = more;
-        few = omega (arith, so.few);
-      }, ((c.pop.ensures.known.0.0 ∙ same, c.pop.ensures.known.0.1), c.pop.ensures.known.1 ∙ c.loop-taken.invariant.1.1))
+      | then-not-conduct w ↦ rw w.misses-is (
+        record {
+          letters = so.letters ++ letter ∷ [];
+          takes = takes_missed c.args.taker.now c.loop-taken.taker c.pop.new.self so.letters letter (history c.args.conductor.now) (history c.loop-taken.conductor) (history c.conduct.new.self) c.loop-taken.misses so.takes c.in-Some.ensures.taken.1 w.if-not-conduct.ensures;
+          size = more;
+          few = omega (arith, so.few);
+        },
+        ((c.pop.ensures.known.0.0 ∙ same, c.pop.ensures.known.0.1), c.pop.ensures.known.1 ∙ c.loop-taken.invariant.1.1),
+      )
+      | else-not-conduct w ↦ rw w.misses-is (
+        record {
+          letters = so.letters ++ letter ∷ [];
+          takes = takes_made c.args.taker.now c.loop-taken.taker c.pop.new.self so.letters letter (history c.args.conductor.now) (history c.loop-taken.conductor) (history c.conduct.new.self) c.loop-taken.misses so.takes c.in-Some.ensures.taken.1 w.if-not-conduct.ensures;
+          size = more;
+          few = omega (arith, so.few);
+        },
+        ((c.pop.ensures.known.0.0 ∙ same, c.pop.ensures.known.0.1), c.pop.ensures.known.1 ∙ c.loop-taken.invariant.1.1),
+      )
     ]
