@@ -1,5 +1,4 @@
 use Rattle.std.proofs.Common.{rules, ◌≡◌, ℕ, ◌*◌, ◌/◌, ◌∙◌, ◌<◌, true, false, ap₂, refl, arith}
-use Rattle.log_arena.specs.Lease.{lease_len, lease_place}
 use Rattle.log_arena.specs.Pages.{IsLeastPlace, marked}
 use Rattle.log_slots.proofs.Places.{least_given_back}
 use Rattle.log_slots.proofs.opening.open_log.Goals as goal
