@@ -1,5 +1,5 @@
 -- No call but an offer changes how many messages a log has taken, whatever the log stands for.
-use Rattle.std.proofs.Common.{◌≡◌, ℕ, ◌+◌, Bool, true, false, List, [], ◌∷◌, ◌++◌, Option, Some, None, refl, ap, ◌∙◌, arith}
+use Rattle.std.proofs.Common.{◌≡◌, ℕ, Bool, true, false, List, Option, Some, None, refl, ap}
 use Rattle.std.specs.Prelude.{if◌then◌else◌}
 use Rattle.any_log.specs.Asking.{after_status}
 use Rattle.any_log.specs.Reporting.{after_report}

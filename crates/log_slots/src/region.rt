@@ -62,6 +62,7 @@ impl<N: Naming> Region<N> {
         requires { (0 < len) × (len % 4096 ≡ 0) }
         ensures home { IfSome result (λ lease. lease_home lease ≡ N.home) }
         ensures place { IfSome result (λ lease. lease_place lease / 4096 ≡ page) }
+        ensures least { OnSome result (IsLeastPlace self.old (len / 4096) page) }
         ensures long { IfSome result (λ lease. lease_len lease ≡ len) }
         ensures zeros { IfSome result (λ lease. lease_bytes lease ≡ replicate len 0) }
         ensures taken { OnSome result (self.new ≡ marked true page (len / 4096) self.old) }
