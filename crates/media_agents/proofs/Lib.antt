@@ -1,3 +1,5 @@
-pub mod CacheLemmas
+pub mod FindingLemmas
+pub mod LookLemmas
 pub mod RowLemmas
+pub mod TrafficLemmas
 pub mod TurnLemmas

@@ -1,12 +1,13 @@
 -- A row of a registry whose logs are sound.
-use Rattle.std.proofs.Common.{◌≡◌, ℕ, suc, arith, ◌==◌, Bool, true, false, cond, List, [], ◌∷◌, find, All, Option, Some, None, IfSome, Bor, subst, sym, ap, ◌∙◌, refl, ◌++◌}
+use Rattle.std.proofs.Common.{◌≡◌, ℕ, suc, arith, ◌==◌, Bool, true, false, cond, List, [], ◌∷◌, find, All, Option, Some, None, Result, Ok, Err, IfOk, IfSome, IsSome, Bor, subst, sym, ap, ◌∙◌, refl, ◌++◌}
 use Rattle.std.specs.Option.{option_copied}
 use Rattle.driver_core.specs.Conduct.{state_after}
 use Rattle.driver_core.specs.declared.entry.Entry.{Entry}
 use Rattle.driver_core.specs.Renewal.{source_at}
 use Rattle.driver_core.specs.Soundness.{AreSizes, BeginsSoundly, IsSound}
 use Rattle.driver_core.specs.State.{State}
-use Rattle.media_agents.specs.Histories.{Conducting, registry_after, registry_of}
+use Rattle.logbook.specs.Pages.{Book}
+use Rattle.published_registry.specs.Histories.{History, history_in, registry_after, registry_of}
 use Rattle.stream_registry.specs.declared.row.Source.{Source}
 
 found_by : (P : Source → Type 0) (b : Bool) (first row : Source) (rest : Option Source) → P first → (rest ≡ Some row → P row) →
@@ -34,13 +35,27 @@ one_more : (s : State) (entries : List Entry) (entry : Entry) →
 one_more s [] entry = refl
 one_more s (first ∷ entries) entry = one_more (state_after s first.event first.inputs) entries entry
 
--- the registry behind one entry more is sound, where its event leaves it so
-pub sound_more : (conducting before : Conducting) (opening : State) (entries : List Entry) (entry : Entry) → before ≡ conducting →
-    IsSound (state_after (registry_of conducting) entry.event entry.inputs) → opening ≡ before.opening →
-    entries ≡ before.entries ++ entry ∷ [] → IsSound (registry_after opening entries)
-sound_more conducting before opening entries entry same sound is more =
-    let here : IsSound (state_after (registry_of before) entry.event entry.inputs) =
-    subst (λ (c : Conducting). IsSound (state_after (registry_of c) entry.event entry.inputs)) (sym same) sound in
-    let all : registry_after opening entries ≡ state_after (registry_of before) entry.event entry.inputs =
-    ap (λ (s : State). registry_after s entries) is ∙ ap (λ (es : List Entry). registry_after before.opening es) more ∙ one_more before.opening before.entries entry in
-    subst IsSound (sym all) here
+-- the registry after one entry more is sound, where its event leaves it so
+pub sound_more : (before after : History) (entry : Entry) → after ≡ record before { entries = before.entries ++ entry ∷ [] } →
+    IsSound (state_after (registry_of before) entry.event entry.inputs) → IsSound (registry_of after)
+sound_more before after entry is sound =
+    subst IsSound (sym (ap registry_of is ∙ one_more before.opening before.entries entry)) sound
+
+-- what a conductor's works are once its publisher has one entry more
+pub works_go_on : (book : Book) (now : History) (inside after : Option History) (publisher more : History) (entry : Entry) →
+    history_in inside ≡ now → inside ≡ Some publisher → after ≡ Some more → more ≡ record publisher { entries = publisher.entries ++ entry ∷ [] } →
+    (history_in inside).book ≡ book → IsSound (state_after (registry_of now) entry.event entry.inputs) →
+    IsSome after × ((history_in after).book ≡ book) × IsSound (registry_of (history_in after))
+works_go_on book now inside after publisher more entry view there here is ours sound =
+    let same : publisher ≡ now = sym (ap history_in there) ∙ view in
+    let mine : publisher.book ≡ book = ap (λ (h : History). h.book) same ∙ sym (ap (λ (h : History). h.book) view) ∙ ours in
+    subst (λ (o : Option History). IsSome o × ((history_in o).book ≡ book) × IsSound (registry_of (history_in o))) (sym here) (
+      refl,
+      ap (λ (h : History). h.book) is ∙ mine,
+      sound_more publisher more entry is (subst (λ (h : History). IsSound (state_after (registry_of h) entry.event entry.inputs)) (sym same) sound),
+    )
+
+-- what is said of each success holds where there is one
+pub ok_holds : {T E : Type 0} (A : Type 0) (r : Result T E) (x : T) → IfOk r (λ _. A) → r ≡ Ok x → A
+ok_holds A (Ok y) x all is = all
+ok_holds A (Err e) x all is = absurd (cc is)

@@ -4,6 +4,19 @@ use Rattle.command_queue.specs.declared.known.Facts.{Facts}
 use Rattle.command_queue.specs.declared.letter.Letter.{Letter}
 use Rattle.command_queue.specs.Facts.{Fits}
 use Rattle.command_queue.specs.Taken.{Taken}
+use Rattle.driver_core.specs.declared.entry.Entry.{Entry}
+use Rattle.driver_core.specs.declared.event.Event.{Event}
+use Rattle.published_registry.specs.Histories.{History}
+
+-- the events of the entries, in order
+abbrev pub events_in : List Entry → List Event
+events_in entries = map (λ entry. entry.event) entries
+
+-- what a conductor took out of the queue, what is known of that, and the history of its registry
+pub record Conducting : Type 0 where
+  pub taker : Taken Event
+  pub known : Facts Event
+  pub history : History
 
 module _ {E : Type 0} where
   -- an entry was made of the event, or none, as one of so many that were refused memory

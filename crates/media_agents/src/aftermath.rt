@@ -4,13 +4,15 @@ ghost use Rattle.std.specs.Prelude.{◌≡◌, IfOk};
 
 use crate::slots::LogAt;
 use byte_strings::Items;
-use driver_core::{Message, Outcome, Registry};
+use driver_core::{Message, Outcome, Registry, Response};
 use std::alloc::{AllocError, Global};
 use stream_registry::{LogPlace, Pair};
 
 /// What is left to do.
 #[derive(Drop)]
 pub(crate) struct Aftermath {
+    /// What the event itself is answered.
+    pub(crate) response: Response,
     pub(crate) opens: Option<LogPlace>,
     pub(crate) closes: Items<LogAt>,
     pub(crate) gone: Items<Pair>,
@@ -42,6 +44,7 @@ impl Aftermath {
         ensures { IfOk result (λ aftermath. aftermath.replies ≡ outcome.now.replies) }
     {
         Ok(Aftermath {
+            response: outcome.response,
             opens: outcome.opens,
             closes: closing(alloc, registry, outcome.closes.as_slice())?,
             gone: Items::from(Vec::from_slice(alloc, outcome.gone.as_slice())?),

@@ -2,17 +2,39 @@
 #![tactic(auto)]
 
 mod aftermath;
-mod caching;
+mod clock;
 mod conductor;
-mod delivering;
+mod desk;
+mod finding;
+mod following;
+mod gate;
+mod hearing;
+mod listing;
+mod mail;
+mod naming;
 mod pairing;
-mod publishes;
+mod planning;
+mod posting;
+mod reading;
+mod receiving;
+mod rings;
+mod sending;
+mod silence;
 mod slots;
+mod telling;
 mod turning;
+mod works;
 
-pub use caching::cached_verdicts_stay_right_later;
+pub use clock::Clock;
 pub use conductor::Conductor;
-pub use delivering::{Boxes, Receipts, deliver};
-pub use publishes::Publishes;
+pub use desk::{Answered, Desk};
+pub use gate::{Agent, Backoff, Gate, Turn};
+pub use mail::{ClientReply, Mail};
+pub use naming::DriverNaming;
+pub use posting::EventSender;
+pub use receiving::ReceiverAgent;
+pub use rings::{Ring, Rings};
+pub use sending::SenderAgent;
 pub use slots::{LogAt, Slots};
 pub use turning::{Conducts, turn};
+pub use works::Works;

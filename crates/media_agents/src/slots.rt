@@ -51,6 +51,14 @@ impl<N: Naming> Slots<N> {
         }
     }
 
+    /// Whether it is the log of an image that is open, whose publisher was not heard for longer than `limit` nanoseconds.
+    pub fn is_silent<R: Wait>(&self, rt: &R, at: LogAt, now: u64, limit: u64) -> bool {
+        match self.images.get(at.slot as usize) {
+            Some(slot) => slot.lock(rt).is_silent(at.source, now, limit),
+            None => false,
+        }
+    }
+
     /// The log closes.
     pub fn close<R: Wait>(&self, rt: &R, at: LogAt) -> Option<OpenLog>
         ensures { IfSome result (λ held. (place_held held.log).home ≡ N.home) }

@@ -1,0 +1,124 @@
+-- Lists of logs and addresses, row by row.
+use Rattle.std.proofs.Common.{◌≡◌, ◌+◌, ◌<◌, ◌≤◌, ◌⊎◌, ℕ, Bool, true, false, List, [], ◌∷◌, ◌++◌, All, Option, Some, None, ap, append_assoc, arith, cond, filter, get_or, inl, inr, length, map, refl, rules, subst, sym, take, ◌∙◌, length-append}
+use Rattle.std.proofs.lemmas.List.{append-nil, length-take, length-take-le, map-append, take-append-le, take_all, take_more}
+use Rattle.std.proofs.lemmas.Bool.{cases_lt}
+use Rattle.std.proofs.lemmas.List.Elements.{All-append, All-cons, All-head, All-nil, All-tail, Contains-append_left, Contains-append_right, filter-append, filter_map-append}
+use Rattle.std.specs.Prelude.{Contains, filter_map}
+use Rattle.channel_uri.specs.declared.address.Address.{Address}
+use Rattle.media_agents.specs.Finding.{Adds, AddsIf, AreNamed, endpoint_in, log_at, named_by}
+use Rattle.media_agents.specs.declared.slots.LogAt.{LogAt}
+use Rattle.stream_registry.specs.declared.row.Source.{Source}
+use Rattle.stream_registry.specs.declared.row.Subscription.{Subscription}
+
+-- ---- logs
+
+-- so many, and more of them, cut off again
+pub take_again : (n : ℕ) (xs ys : List LogAt) → take n (take n xs ++ ys) ≡ take n (xs ++ ys)
+take_again n xs ys = by (cases_lt (length xs) n)
+  where
+    by : (length xs < n) ⊎ (n ≤ length xs) → take n (take n xs ++ ys) ≡ take n (xs ++ ys)
+    by (inl short) = ap (λ (all : List LogAt). take n (all ++ ys)) (take_all n xs (omega arith))
+    by (inr long) =
+        let some : length (take n xs) ≡ n = length-take-le n xs long in
+        take-append-le n (take n xs) ys (omega (arith, some))
+        ∙ take_all n (take n xs) (omega (arith, some))
+        ∙ sym (take-append-le n xs ys long)
+
+pub full : (n : ℕ) (xs ys : List LogAt) → length xs ≤ n → n ≤ length xs → xs ≡ take n (xs ++ ys)
+full n xs ys few most = sym (take-append-le n xs ys most ∙ take_all n xs few)
+
+pub has_room : (n : ℕ) (xs : List LogAt) (x : LogAt) → length xs < n → xs ++ x ∷ [] ≡ take n (xs ++ x ∷ [])
+has_room n xs x room = sym (take_all n (xs ++ x ∷ []) (omega (arith, length-append xs (x ∷ []))))
+
+joins : (p : Source → Bool) (n : ℕ) (before : List LogAt) (one : Source) (b : Bool) → p one ≡ b
+    → cond b (take n (take n before ++ log_at one ∷ [])) (take n before) ≡ take n (before ++ map log_at (filter p (one ∷ [])))
+joins p n before one true is =
+    take_again n before (log_at one ∷ [])
+    ∙ ap (λ (b : Bool). take n (before ++ map log_at (cond b (one ∷ []) []))) (sym is)
+joins p n before one false is =
+    ap (take n) (sym (append-nil before))
+    ∙ ap (λ (b : Bool). take n (before ++ map log_at (cond b (one ∷ []) []))) (sym is)
+
+-- one row more
+pub list_more : (p : Source → Bool) (n : ℕ) (rows : List Source) (at : ℕ) (one : Source) (old new : List LogAt) → at < length rows
+    → one ≡ get_or rows at one
+    → old ≡ take n (map log_at (filter p (take at rows)))
+    → new ≡ cond (p one) (take n (old ++ log_at one ∷ [])) old
+    → new ≡ take n (map log_at (filter p (take (at + 1) rows)))
+list_more p n rows at one old new within is before added =
+    let rest : List LogAt = map log_at (filter p (take at rows)) in
+    let whole : map log_at (filter p (take (at + 1) rows)) ≡ rest ++ map log_at (filter p (one ∷ [])) =
+    ap (λ (rows : List Source). map log_at (filter p rows)) (take_more rows at one within)
+    ∙ ap (λ (last : Source). map log_at (filter p (take at rows ++ last ∷ []))) (sym is)
+    ∙ ap (map log_at) (filter-append p (take at rows) (one ∷ []))
+    ∙ map-append log_at (filter p (take at rows)) (filter p (one ∷ [])) in
+    added
+    ∙ ap (λ (old : List LogAt). cond (p one) (take n (old ++ log_at one ∷ [])) old) before
+    ∙ joins p n rest one (p one) refl
+    ∙ ap (take n) (sym whole)
+
+-- ---- addresses
+
+all_weaken : (P Q : Address → Type 0) (xs : List Address) → ((x : Address) → P x → Q x) → All P xs → All Q xs
+all_weaken P Q [] is all = All-nil Q
+all_weaken P Q (x ∷ xs) is all = All-cons Q x xs (is x (All-head P x xs all)) (all_weaken P Q xs is (All-tail P x xs all))
+
+one : (P : Address → Type 0) (x : Address) → P x → All P (x ∷ [])
+one P x is = All-cons P x [] is (All-nil P)
+
+last_is_there : (xs : List Address) (x : Address) → Contains (xs ++ x ∷ []) x
+last_is_there xs x = Contains-append_right xs (x ∷ []) x (search rules)
+
+-- one more is named, and it joins them
+pub named_more : (named old new : List Address) (address : Address) → AreNamed named old → Adds old address new → AreNamed (named ++ address ∷ []) new
+named_more named old new address before (inl same) =
+    subst (AreNamed (named ++ address ∷ [])) (sym same.0) record {
+      each = all_weaken (Contains named) (Contains (named ++ address ∷ [])) old (λ x. Contains-append_left named (address ∷ []) x) before.each;
+      all = all_of before.all same.1;
+    }
+  where
+    all_of : All (Contains old) named ⊎ (length old ≡ 512) → Contains old address ⊎ (length old ≡ 512)
+        → All (Contains old) (named ++ address ∷ []) ⊎ (length old ≡ 512)
+    all_of (inl all) (inl there) = inl (All-append (Contains old) named (address ∷ []) all (one (Contains old) address there))
+    all_of (inl all) (inr most) = inr most
+    all_of (inr most) there = inr most
+named_more named old new address before (inr joined) =
+    subst (AreNamed (named ++ address ∷ [])) (sym joined.0) record {
+      each = All-append (Contains (named ++ address ∷ [])) old (address ∷ [])
+          (all_weaken (Contains named) (Contains (named ++ address ∷ [])) old (λ x. Contains-append_left named (address ∷ []) x) before.each)
+          (one (Contains (named ++ address ∷ [])) address (last_is_there named address));
+      all = all_of before.all;
+    }
+  where
+    all_of : All (Contains old) named ⊎ (length old ≡ 512)
+        → All (Contains (old ++ address ∷ [])) (named ++ address ∷ []) ⊎ (length (old ++ address ∷ []) ≡ 512)
+    all_of (inl all) = inl (All-append (Contains (old ++ address ∷ [])) named (address ∷ [])
+        (all_weaken (Contains old) (Contains (old ++ address ∷ [])) named (λ x. Contains-append_left old (address ∷ []) x) all)
+        (one (Contains (old ++ address ∷ [])) address (last_is_there old address)))
+    all_of (inr most) = absurd (omega (arith, joined.1))
+
+named_if : (named old new : List Address) (found : Option Address) (subscription : Subscription) → endpoint_in subscription ≡ found
+    → AreNamed named old → AddsIf found old new → AreNamed (named ++ named_by (subscription ∷ [])) new
+named_if named old new None subscription is before same =
+    let none : named_by (subscription ∷ []) ≡ [] = rw is refl in
+    subst (λ (more : List Address). AreNamed (named ++ more) new) (sym none)
+    (subst (λ (all : List Address). AreNamed all new) (sym (append-nil named)) (subst (AreNamed named) (sym same) before))
+named_if named old new (Some address) subscription is before adds =
+    let some : named_by (subscription ∷ []) ≡ address ∷ [] = rw is refl in
+    subst (λ (more : List Address). AreNamed (named ++ more) new) (sym some) (named_more named old new address before adds)
+
+-- one subscription more
+pub endpoints_more : (subscriptions : List Subscription) (at : ℕ) (one : Subscription) (old new : List Address) → at < length subscriptions
+    → one ≡ get_or subscriptions at one
+    → AreNamed (named_by (take at subscriptions)) old → AddsIf (endpoint_in one) old new
+    → AreNamed (named_by (take (at + 1) subscriptions)) new
+endpoints_more subscriptions at one old new within is before adds =
+    let whole : named_by (take (at + 1) subscriptions) ≡ named_by (take at subscriptions) ++ named_by (one ∷ []) =
+    ap named_by (take_more subscriptions at one within)
+    ∙ ap (λ (last : Subscription). named_by (take at subscriptions ++ last ∷ [])) (sym is)
+    ∙ filter_map-append endpoint_in (take at subscriptions) (one ∷ []) in
+    subst (λ (named : List Address). AreNamed named new) (sym whole)
+    (named_if (named_by (take at subscriptions)) old new (endpoint_in one) one refl before adds)
+
+pub none_named : AreNamed [] []
+none_named = record { each = All-nil (Contains []); all = inl (All-nil (Contains [])) }

@@ -1,0 +1,319 @@
+-- What a turn does to the wire, call by call.
+use Rattle.std.proofs.Common.{◌≡◌, ℕ, ◌+◌, ◌<◌, Bool, true, false, List, [], ◌∷◌, ◌++◌, ◌⊎◌, inl, inr, refl, sym, ap, subst, ◌∙◌, append_assoc, add-zero, add_assoc, add_comm, arith, get_or, length, take, filter, map, All, cond, rules}
+use Rattle.std.proofs.lemmas.List.{append-nil, map-append, take_more}
+use Rattle.std.proofs.lemmas.List.Elements.{All-append, All-cons, All-head, All-map, All-nil, All-tail, Contains-append_right, filter-append}
+use Rattle.channel_uri.specs.declared.address.Address.{Address}
+use Rattle.command_queue.specs.Sent.{Sent}
+use Rattle.driver_core.specs.declared.event.Event.{Event as Happening}
+use Rattle.driver_core.specs.declared.event.Event.TheVariants.{Setup as SetUp}
+use Rattle.driver_core.specs.declared.send_request.Outlet.{Outlet}
+use Rattle.driver_steps.specs.declared.answer.Answer.{Answer}
+use Rattle.driver_steps.specs.declared.answer.Answer.TheVariants.{Reported, Resent, Sent as Cut}
+use Rattle.frame_codec.specs.declared.setup.Setup.{Setup}
+use Rattle.media_wire.specs.Events.{Event, failed, nothing, read, sent, sent_event}
+use Rattle.media_wire.specs.Letters.{letter}
+use Rattle.media_wire.specs.declared.letter.Letter.{Letter}
+use Rattle.media_wire.specs.declared.wire.WireFault.{WireFault}
+use Rattle.std.specs.Prelude.{◌≤◌, Contains, None, Result, Ok, Err, Some}
+use Rattle.media_agents.specs.Traffic.{AreSentFrom, AreTried, Ends, GoesOn, IsAt, IsReadAt, IsReading, IsSentFrom, IsSetUp, IsTried, ReadsEach, ReadsOut, Receives, Sends, SetsUp, is_allowed, letters_of, letters_out, letters_to, reads}
+
+-- what was done first, and what was done then
+pub goes_on : (First Then Whole : List Event → Type 0) (old between new : List Event → Type 0)
+    → ((a b : List Event) → First a → Then b → Whole (a ++ b))
+    → GoesOn First old between → GoesOn Then between new → GoesOn Whole old new
+goes_on First Then Whole old between new join first then = λ events went.
+    let one = first events went in
+    let two = then (events ++ one.0) one.2 in
+    (one.0 ++ two.0, join one.0 two.0 one.1 two.1, subst new (append_assoc events one.0 two.0) two.2)
+
+-- nothing was done
+pub stays : (Whole : List Event → Type 0) (old : List Event → Type 0) → Whole [] → GoesOn Whole old old
+stays Whole old none = λ events went. ([], none, subst old (sym (append-nil events)) went)
+
+-- one call was made
+pub calls : (Whole : List Event → Type 0) (old new : List Event → Type 0) (event : Event) → Whole (event ∷ [])
+    → ((events : List Event) → old events → new (events ++ event ∷ [])) → GoesOn Whole old new
+calls Whole old new event is step = λ events went. (event ∷ [], is, step events went)
+
+-- what was done is also that
+pub goes_on_as : (First Whole : List Event → Type 0) (old new : List Event → Type 0)
+    → ((a : List Event) → First a → Whole a) → GoesOn First old new → GoesOn Whole old new
+goes_on_as First Whole old new is first = λ events went.
+    let one = first events went in (one.0, is one.0 one.1, one.2)
+
+-- ---- what is sent
+
+pub tried_append : (first then : List Letter) (a b : List Event) → AreTried first a → AreTried then b → AreTried (first ++ then) (a ++ b)
+tried_append [] then [] b one two = two
+tried_append [] then (event ∷ a) b one two = absurd one
+tried_append (it ∷ first) then [] b one two = absurd one
+tried_append (it ∷ first) then (event ∷ a) b one two = (one.0, tried_append first then a b one.1 two)
+
+pub is_tried : (it : Letter) (result : Result Unit WireFault) → IsTried it (sent_event it result)
+is_tried it (Ok done) = inl refl
+is_tried it (Err fault) = inr refl
+
+-- one more goes out
+pub sends_more : (before after : List Letter) (it : Letter) (result : Result Unit WireFault) (old between new : List Event → Type 0)
+    → after ≡ before ++ it ∷ []
+    → GoesOn (AreTried before) old between
+    → ((events : List Event) → between events → new (events ++ sent_event it result ∷ []))
+    → GoesOn (AreTried after) old new
+sends_more before after it result old between new is first step =
+    goes_on (AreTried before) (AreTried (it ∷ [])) (AreTried after) old between new
+    (λ a b one two. subst (λ (all : List Letter). AreTried all (a ++ b)) (sym is) (tried_append before (it ∷ []) a b one two))
+    first
+    (calls (AreTried (it ∷ [])) between new (sent_event it result) (is_tried it result, tt) step)
+
+-- one more of so many
+pub more_to : (local to : Address) (datagrams : List (List ℕ)) (at : ℕ) (one : List ℕ) → at < length datagrams → one ≡ get_or datagrams at one
+    → letters_to local to (take (at + 1) datagrams) ≡ letters_to local to (take at datagrams) ++ letter local to one ∷ []
+more_to local to datagrams at one within is =
+    ap (map (letter local to)) (take_more datagrams at one within)
+    ∙ map-append (letter local to) (take at datagrams) (get_or datagrams at one ∷ [])
+    ∙ ap (λ (last : List ℕ). letters_to local to (take at datagrams) ++ letter local to last ∷ []) (sym is)
+
+-- ---- reading
+
+pub reads-append : (a b : List Event) → reads (a ++ b) ≡ reads a + reads b
+reads-append [] b = omega arith
+reads-append (sent it ∷ a) b = reads-append a b
+reads-append (read it ∷ a) b = let before = reads-append a b in omega arith
+reads-append (nothing address ∷ a) b = reads-append a b
+reads-append (failed ∷ a) b = reads-append a b
+
+-- what holds of each is another thing too
+pub all_as : (P Q : Event → Type 0) (events : List Event) → ((event : Event) → P event → Q event) → All P events → All Q events
+all_as P Q [] is all = All-nil Q
+all_as P Q (event ∷ events) is all =
+    All-cons Q event events (is event (All-head P event events all)) (all_as P Q events is (All-tail P event events all))
+
+pub none_read : (local : Address) (events : List Event) → AreSentFrom local events → reads events ≡ 0
+none_read local [] all = refl
+none_read local (sent it ∷ events) all = none_read local events (All-tail (IsSentFrom local) (sent it) events all)
+none_read local (read it ∷ events) all = absurd (All-head (IsSentFrom local) (read it) events all)
+none_read local (nothing address ∷ events) all = absurd (All-head (IsSentFrom local) (nothing address) events all)
+none_read local (failed ∷ events) all = none_read local events (All-tail (IsSentFrom local) failed events all)
+
+pub sent_is_at : (local : Address) (event : Event) → IsSentFrom local event → IsAt local event
+sent_is_at local (sent it) is = is
+sent_is_at local (read it) is = absurd is
+sent_is_at local (nothing address) is = absurd is
+sent_is_at local failed is = tt
+
+pub read_is_at : (local : Address) (event : Event) → IsReadAt local event → IsAt local event
+read_is_at local (sent it) is = absurd is
+read_is_at local (read it) is = is
+read_is_at local (nothing address) is = is
+read_is_at local failed is = tt
+
+-- calls of that kind, by which so many datagrams were read
+abbrev pub Counts : (Event → Type 0) → ℕ → List Event → Type 0
+Counts Is count events = All Is events × (reads events ≡ count)
+
+-- one more is read
+pub reads_one : (Is : Event → Type 0) (local : Address) (count : ℕ) (datagram : ℕ × Address) (old between new : List Event → Type 0)
+    → ((event : Event) → IsReadAt local event → Is event)
+    → GoesOn (Counts Is count) old between → GoesOn (IsReading local (Some datagram)) between new
+    → GoesOn (Counts Is (count + 1)) old new
+reads_one Is local count datagram old between new is =
+    goes_on (Counts Is count) (IsReading local (Some datagram)) (Counts Is (count + 1)) old between new (λ a b one two.
+    let came : Event = read (letter datagram.1 local (take datagram.0 two.0)) in
+    let last : All Is (came ∷ []) = All-cons Is came [] (is came refl) (All-nil Is) in
+    let all : All Is (a ++ came ∷ []) = All-append Is a (came ∷ []) one.0 last in
+    let count_is : reads (a ++ came ∷ []) ≡ reads a + 1 = reads-append a (came ∷ []) in
+    subst (λ (b : List Event). Counts Is (count + 1) (a ++ b)) (sym two.1) (all, cc))
+
+-- some are sent
+pub sends_on : (Is : Event → Type 0) (local : Address) (count : ℕ) (old between new : List Event → Type 0)
+    → ((event : Event) → IsSentFrom local event → Is event)
+    → GoesOn (Counts Is count) old between → GoesOn (AreSentFrom local) between new → GoesOn (Counts Is count) old new
+sends_on Is local count old between new is =
+    goes_on (Counts Is count) (AreSentFrom local) (Counts Is count) old between new (λ a b one two.
+    let none : reads b ≡ 0 = none_read local b two in
+    let count_is : reads (a ++ b) ≡ reads a + reads b = reads-append a b in
+    (All-append Is a b one.0 (all_as (IsSentFrom local) Is b is two), omega (arith, one.1)))
+
+-- none is there any more, or the read failed
+pub reads_none : (Is : Event → Type 0) (local : Address) (count : ℕ) (old between new : List Event → Type 0)
+    → ((event : Event) → IsReadAt local event → Is event) → count ≤ 1024
+    → GoesOn (Counts Is count) old between → GoesOn (IsReading local None) between new
+    → GoesOn (ReadsOut Is local) old new
+reads_none Is local count old between new is few =
+    goes_on (Counts Is count) (IsReading local None) (ReadsOut Is local) old between new (λ a b one two. elim two [
+      | inl nothing_is ↦ subst (λ (b : List Event). ReadsOut Is local (a ++ b)) (sym nothing_is) (ends a (nothing local) one (is (nothing local) refl) refl (inl (at_end a (nothing local))))
+      | inr failed_is ↦ subst (λ (b : List Event). ReadsOut Is local (a ++ b)) (sym failed_is) (ends a failed one (is failed tt) refl (inr (at_end a failed)))
+    ])
+  where
+    at_end : (a : List Event) (event : Event) → Contains (a ++ event ∷ []) event
+    at_end a event = Contains-append_right a (event ∷ []) event (search rules)
+
+    ends : (a : List Event) (event : Event) → Counts Is count a → Is event → reads (event ∷ []) ≡ 0
+        → Contains (a ++ event ∷ []) (nothing local) ⊎ Contains (a ++ event ∷ []) failed → ReadsOut Is local (a ++ event ∷ [])
+    ends a event one here none end =
+        let count_is : reads (a ++ event ∷ []) ≡ reads a + reads (event ∷ []) = reads-append a (event ∷ []) in
+        record { all = All-append Is a (event ∷ []) one.0 (All-cons Is event [] here (All-nil Is)); few = omega (arith, one.1); ends = inr end }
+
+-- as many as a turn reads
+pub reads_most : (Is : Event → Type 0) (local : Address) (count : ℕ) (old new : List Event → Type 0) → count ≡ 1024
+    → GoesOn (Counts Is count) old new → GoesOn (ReadsOut Is local) old new
+reads_most Is local count old new most =
+    goes_on_as (Counts Is count) (ReadsOut Is local) old new (λ a one.
+    record { all = one.0; few = omega (arith, one.1); ends = inl (one.1 ∙ most) })
+
+-- none was read yet
+pub counts_none : (Is : Event → Type 0) (old : List Event → Type 0) → GoesOn (Counts Is 0) old old
+counts_none Is old = stays (Counts Is 0) old (All-nil Is, refl)
+
+-- ---- at each of some addresses
+
+pub each_more : (before : List Address) (local : Address) (a b : List Event) → ReadsEach before a → ReadsOut (IsReadAt local) local b
+    → ReadsEach (before ++ local ∷ []) (a ++ b)
+each_more [] local a b none out = (b, [], ap (λ (a : List Event). a ++ b) none ∙ sym (append-nil b), out, refl)
+each_more (address ∷ before) local a b each out =
+    (each.0, each.1 ++ b, ap (λ (a : List Event). a ++ b) each.2 ∙ append_assoc each.0 each.1 b, each.3, each_more before local each.1 b each.4 out)
+
+pub each_on : (endpoints : List Address) (at : ℕ) (one : Address) (old between new : List Event → Type 0) → at < length endpoints
+    → GoesOn (ReadsEach (take at endpoints)) old between
+    → GoesOn (ReadsOut (IsReadAt (get_or endpoints at one)) (get_or endpoints at one)) between new
+    → GoesOn (ReadsEach (take (at + 1) endpoints)) old new
+each_on endpoints at one old between new within first then =
+    goes_on (ReadsEach (take at endpoints)) (ReadsOut (IsReadAt (get_or endpoints at one)) (get_or endpoints at one)) (ReadsEach (take (at + 1) endpoints)) old between new
+    (λ a b each out. subst (λ (all : List Address). ReadsEach all (a ++ b)) (sym (take_more endpoints at one within))
+    (each_more (take at endpoints) (get_or endpoints at one) a b each out))
+    first then
+
+pub each_none : (old : List Event → Type 0) → GoesOn (ReadsEach []) old old
+each_none old = stays (ReadsEach []) old refl
+
+-- ---- one send
+
+pub sent_one : (local to : Address) (bytes : List ℕ) (result : Result Unit WireFault) → AreSentFrom local (sent_event (letter local to bytes) result ∷ [])
+sent_one local to bytes (Ok done) = All-cons (IsSentFrom local) (sent (letter local to bytes)) [] refl (All-nil (IsSentFrom local))
+sent_one local to bytes (Err fault) = All-cons (IsSentFrom local) failed [] tt (All-nil (IsSentFrom local))
+
+-- what holds of each thing holds of all
+pub all_hold : {X : Type 0} (P : X → Type 0) (xs : List X) → ((x : X) → P x) → All P xs
+all_hold P [] is = All-nil P
+all_hold P (x ∷ xs) is = All-cons P x xs (is x) (all_hold P xs is)
+
+-- so many go out, and then more
+letters_out-append : (local : Address) (bytes : List ℕ) (a b : List Outlet) → letters_out local bytes (a ++ b) ≡ letters_out local bytes a ++ letters_out local bytes b
+letters_out-append local bytes a b =
+    ap (map (λ (outlet : Outlet). letter local outlet.to bytes)) (filter-append is_allowed a b)
+    ∙ map-append (λ (outlet : Outlet). letter local outlet.to bytes) (filter is_allowed a) (filter is_allowed b)
+
+pub out_more : (local : Address) (bytes : List ℕ) (outlets : List Outlet) (at : ℕ) (one : Outlet) (old between new : List Event → Type 0) → at < length outlets
+    → GoesOn (AreTried (letters_out local bytes (take at outlets))) old between
+    → GoesOn (AreTried (letters_out local bytes (get_or outlets at one ∷ []))) between new
+    → GoesOn (AreTried (letters_out local bytes (take (at + 1) outlets))) old new
+out_more local bytes outlets at one old between new within =
+    let before = letters_out local bytes (take at outlets) in
+    let last = letters_out local bytes (get_or outlets at one ∷ []) in
+    let whole : letters_out local bytes (take (at + 1) outlets) ≡ before ++ last =
+    ap (letters_out local bytes) (take_more outlets at one within) ∙ letters_out-append local bytes (take at outlets) (get_or outlets at one ∷ []) in
+    goes_on (AreTried before) (AreTried last) (AreTried (letters_out local bytes (take (at + 1) outlets))) old between new
+    (λ a b one two. subst (λ (all : List Letter). AreTried all (a ++ b)) (sym whole) (tried_append before last a b one two))
+
+pub tried_none : (old : List Event → Type 0) → GoesOn (AreTried []) old old
+tried_none old = stays (AreTried []) old tt
+
+-- it goes there, if it may
+out_is : (local : Address) (bytes : List ℕ) (outlet : Outlet) (b : Bool) → is_allowed outlet ≡ b
+    → letters_out local bytes (outlet ∷ []) ≡ map (λ (outlet : Outlet). letter local outlet.to bytes) (cond b (outlet ∷ []) [])
+out_is local bytes outlet b is = ap (λ (b : Bool). map (λ (outlet : Outlet). letter local outlet.to bytes) (cond b (outlet ∷ []) [])) is
+
+pub goes_if : (local : Address) (bytes : List ℕ) (outlet : Outlet) (result : Result Unit WireFault) (old new : List Event → Type 0)
+    → outlet.decision.verdict.allow ≡ true
+    → ((events : List Event) → old events → new (events ++ sent_event (letter local outlet.to bytes) result ∷ []))
+    → GoesOn (AreTried (letters_out local bytes (outlet ∷ []))) old new
+goes_if local bytes outlet result old new allowed step =
+    subst (λ (all : List Letter). GoesOn (AreTried all) old new) (sym (out_is local bytes outlet true allowed))
+    (calls (AreTried (letter local outlet.to bytes ∷ [])) old new (sent_event (letter local outlet.to bytes) result)
+    (is_tried (letter local outlet.to bytes) result, tt) step)
+
+pub withheld_if : (local : Address) (bytes : List ℕ) (outlet : Outlet) (old : List Event → Type 0)
+    → outlet.decision.verdict.allow ≡ false → GoesOn (AreTried (letters_out local bytes (outlet ∷ []))) old old
+withheld_if local bytes outlet old withheld =
+    subst (λ (all : List Letter). GoesOn (AreTried all) old old) (sym (out_is local bytes outlet false withheld)) (tried_none old)
+
+-- what is sent is sent from there
+abbrev AreBy : Address → List Letter → Type 0
+AreBy local letters = All (λ (it : Letter). it.from ≡ local) letters
+
+pub letters_from : (local : Address) (answer : Answer) → AreBy local (letters_of local answer)
+letters_from local (Cut bytes outlets) =
+    All-map (λ (it : Letter). it.from ≡ local) (λ (outlet : Outlet). letter local outlet.to bytes) (filter is_allowed outlets)
+    (all_hold (λ (outlet : Outlet). local ≡ local) (filter is_allowed outlets) (λ outlet. refl))
+letters_from local (Resent to datagrams) =
+    All-map (λ (it : Letter). it.from ≡ local) (letter local to) datagrams (all_hold (λ (bytes : List ℕ). local ≡ local) datagrams (λ bytes. refl))
+letters_from local (Reported to datagrams) =
+    All-map (λ (it : Letter). it.from ≡ local) (letter local to) datagrams (all_hold (λ (bytes : List ℕ). local ≡ local) datagrams (λ bytes. refl))
+letters_from local answer = All-nil (λ (it : Letter). it.from ≡ local)
+
+tried_is_from : (local : Address) (it : Letter) (event : Event) → it.from ≡ local → IsTried it event → IsSentFrom local event
+tried_is_from local it event is (inl is_sent) = subst (IsSentFrom local) (sym is_sent) is
+tried_is_from local it event is (inr is_failed) = subst (IsSentFrom local) (sym is_failed) tt
+
+pub tried_are_from : (local : Address) (letters : List Letter) (events : List Event) → AreBy local letters → AreTried letters events → AreSentFrom local events
+tried_are_from local [] [] all tried = All-nil (IsSentFrom local)
+tried_are_from local [] (event ∷ events) all tried = absurd tried
+tried_are_from local (it ∷ letters) [] all tried = absurd tried
+tried_are_from local (it ∷ letters) (event ∷ events) all tried =
+    All-cons (IsSentFrom local) event events
+    (tried_is_from local it event (All-head (λ (it : Letter). it.from ≡ local) it letters all) tried.0)
+    (tried_are_from local letters events (All-tail (λ (it : Letter). it.from ≡ local) it letters all) tried.1)
+
+-- what an answer tells to send is sent from there
+pub told_from : (local : Address) (answer : Answer) (old new : List Event → Type 0)
+    → GoesOn (AreTried (letters_of local answer)) old new → GoesOn (AreSentFrom local) old new
+told_from local answer old new =
+    goes_on_as (AreTried (letters_of local answer)) (AreSentFrom local) old new
+    (λ events tried. tried_are_from local (letters_of local answer) events (letters_from local answer) tried)
+
+-- sending goes on
+pub sends_more_from : (local : Address) (old between new : List Event → Type 0)
+    → GoesOn (AreSentFrom local) old between → GoesOn (AreSentFrom local) between new → GoesOn (AreSentFrom local) old new
+sends_more_from local old between new =
+    goes_on (AreSentFrom local) (AreSentFrom local) (AreSentFrom local) old between new (λ a b one two. All-append (IsSentFrom local) a b one two)
+
+pub sends_none : (local : Address) (old : List Event → Type 0) → GoesOn (AreSentFrom local) old old
+sends_none local old = stays (AreSentFrom local) old (All-nil (IsSentFrom local))
+
+-- a turn's end is no call
+pub turn_ends : (Whole : List Event → Type 0) (old between new : List Event → Type 0)
+    → GoesOn Whole old between → ((events : List Event) → between events → new events) → GoesOn Whole old new
+turn_ends Whole old between new first end = λ events went.
+    let one = first events went in (one.0, one.1, end (events ++ one.0) one.2)
+
+-- a turn of the sender, and of the receiver
+pub turn_sends : (local : Address) (old between new : List Event → Type 0)
+    → GoesOn (ReadsOut (IsAt local) local) old between → GoesOn (AreSentFrom local) between new → GoesOn (Sends local) old new
+turn_sends local old between new =
+    goes_on (ReadsOut (IsAt local) local) (AreSentFrom local) (Sends local) old between new (λ a b one two.
+    record { heard = a; told = b; order = refl; reads_out = one; sends = two })
+
+pub turn_receives : (local : Address) (endpoints : List Address) (old between new : List Event → Type 0)
+    → GoesOn (ReadsEach endpoints) old between → GoesOn (AreSentFrom local) between new → GoesOn (Receives local endpoints) old new
+turn_receives local endpoints old between new =
+    goes_on (ReadsEach endpoints) (AreSentFrom local) (Receives local endpoints) old between new (λ a b one two.
+    record { heard = a; told = b; order = refl; reads_each = one; sends = two })
+
+-- ---- SETUPs
+
+pub sets_up_none : (now : ℕ) (queue : Sent Happening) → SetsUp now queue queue
+sets_up_none now queue =
+    ([], All-nil (IsSetUp now), ap (λ (sent : List Happening). record queue { sent = sent }) (sym (append-nil queue.sent)))
+
+pub sets_up_one : (now : ℕ) (old new : Sent Happening) (local from : Address) (setup : Setup)
+    → new ≡ record old { sent = old.sent ++ SetUp now local from setup ∷ [] } → SetsUp now old new
+sets_up_one now old new local from setup is =
+    (SetUp now local from setup ∷ [], All-cons (IsSetUp now) (SetUp now local from setup) [] (local, from, setup, refl) (All-nil (IsSetUp now)), is)
+
+pub sets_up_more : (now : ℕ) (old between new : Sent Happening) → SetsUp now old between → SetsUp now between new → SetsUp now old new
+sets_up_more now old between new one two = (
+  one.0 ++ two.0,
+  All-append (IsSetUp now) one.0 two.0 one.1 two.1,
+  two.2 ∙ ap (λ (queue : Sent Happening). record queue { sent = queue.sent ++ two.0 }) one.2
+      ∙ ap (λ (sent : List Happening). record old { sent = sent }) (append_assoc old.sent one.0 two.0),
+)

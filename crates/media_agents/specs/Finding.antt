@@ -1,0 +1,48 @@
+-- Where the logs of a registry are, and where its subscriptions take datagrams. Own rules.
+use Rattle.std.specs.Prelude.{◌≡◌, ◌<◌, ◌⊎◌, List, Option, Some, None, ◌++◌, ◌∷◌, [], All, Contains, filter, filter_map, length, map, take}
+use Rattle.channel_uri.specs.declared.address.Address.{Address}
+use Rattle.driver_core.specs.Directing.{target_address}
+use Rattle.driver_core.specs.SendRequests.{is_sent}
+use Rattle.driver_core.specs.State.{State}
+use Rattle.media_agents.specs.declared.slots.LogAt.{LogAt}
+use Rattle.stream_registry.specs.Origins.{is_published, is_remote}
+use Rattle.stream_registry.specs.declared.row.Source.{Source}
+use Rattle.stream_registry.specs.declared.row.Subscription.{Subscription}
+
+-- where the log of a row is
+abbrev pub log_at : Source → LogAt
+log_at row = record { source = row.number; published = is_published row; slot = row.slot }
+
+-- where the logs of publications over datagrams are, in the order of their numbers, 256 at most
+abbrev pub publications_of : State → List LogAt
+publications_of s = take 256 (map log_at (filter is_sent s.streams.sources))
+
+-- where those of images are, 512 at most
+abbrev pub images_of : State → List LogAt
+images_of s = take 512 (map log_at (filter is_remote s.streams.sources))
+
+-- where a subscription takes datagrams: a spy takes none
+abbrev pub endpoint_in : Subscription → Option Address
+endpoint_in subscription = target_address subscription.channel
+
+abbrev pub named_by : List Subscription → List Address
+named_by subscriptions = filter_map endpoint_in subscriptions
+
+-- an address joined others, if it was not among them and there was room for it
+abbrev pub Adds : List Address → Address → List Address → Type 0
+Adds old address new =
+    ((new ≡ old) × (Contains old address ⊎ (length old ≡ 512))) ⊎ ((new ≡ old ++ address ∷ []) × (length old < 512))
+
+-- so it did, if there is one
+abbrev pub AddsIf : Option Address → List Address → List Address → Type 0
+AddsIf None old new = new ≡ old
+AddsIf (Some address) old new = Adds old address new
+
+-- each is one of those that are named, and all of them are there, or 512
+pub record AreNamed (named endpoints : List Address) : Type 0 where
+  pub each : All (Contains named) endpoints
+  pub all : All (Contains endpoints) named ⊎ (length endpoints ≡ 512)
+
+-- these are where the subscriptions of a registry take datagrams
+abbrev pub AreEndpoints : State → List Address → Type 0
+AreEndpoints s endpoints = AreNamed (named_by s.streams.subscriptions) endpoints

@@ -1,0 +1,126 @@
+//! Where the logs are that an agent's steps are for. A look that is taken for this alone decides nothing.
+
+ghost use Rattle.media_agents.specs.Finding.{AreEndpoints, images_of, publications_of};
+ghost use Rattle.published_registry.specs.Histories.{IsContinuedBy, registry_of};
+ghost use Rattle.std.specs.Prelude.{◌≡◌, ◌⊎◌, []};
+
+use crate::listing::{list_endpoints, list_images, list_publications, log_at};
+use crate::slots::LogAt;
+use channel_uri::Address;
+use driver_core::{Registry, View};
+use frame_codec::{Packet, TermPlace};
+use published_registry::Pass;
+use rows::Rows;
+
+/// The image of the stream of a frame.
+fn image_of(
+    registry: &Registry,
+    local: &Address,
+    from: &Address,
+    place: &TermPlace,
+) -> Option<u64> {
+    registry
+        .image_for(local, from, place.session_id, place.stream_id)
+        .ok()
+}
+
+/// The number of the log that a datagram is for, by the registry.
+fn source_of(
+    registry: &Registry,
+    local: &Address,
+    from: &Address,
+    packet: &Packet<'_>,
+) -> Option<u64> {
+    match packet {
+        Packet::Data(frames) => {
+            let mut left = *frames;
+            let frame = left.next()?;
+            image_of(registry, local, from, &frame.header.place)
+        }
+        Packet::Beat(header) => image_of(registry, local, from, &header.place),
+        Packet::Nak(nak) => registry.publication_for(nak.session_id, nak.stream_id),
+        Packet::Sm(message) => registry.publication_for(message.session_id, message.stream_id),
+        Packet::Setup(_) => None,
+    }
+}
+
+/// Where the log is that a datagram is for, by the registry.
+fn log_of(
+    registry: &Registry,
+    local: &Address,
+    from: &Address,
+    packet: &Packet<'_>,
+) -> Option<LogAt> {
+    let source = source_of(registry, local, from, packet)?;
+    let row = registry.source(source)?;
+    Some(log_at(row))
+}
+
+/// Where the log is that a datagram is for which came to the address `local`, from the address `from`, by a look.
+pub(crate) fn find(
+    pass: Pass,
+    local: &Address,
+    from: &Address,
+    packet: &Packet<'_>,
+) -> (Pass, Option<LogAt>)
+    ensures { IsContinuedBy pass result.0 }
+{
+    match pass.enter() {
+        Ok(look) => {
+            let at = log_of(look.registry(), local, from, packet);
+            (look.leave(), at)
+        }
+        Err(pass) => (pass, None),
+    }
+}
+
+/// The logs of publications over datagrams of a look, by their numbers. There are none where there is no look.
+pub(crate) fn find_publications(pass: Pass, logs: &mut Rows<LogAt, 256>) -> Pass
+    ensures known { IsContinuedBy pass result }
+    ensures listed { (logs.new ≡ publications_of (registry_of result)) ⊎ (logs.new ≡ []) }
+{
+    match pass.enter() {
+        Ok(look) => {
+            list_publications(look.registry(), logs);
+            look.leave()
+        }
+        Err(pass) => {
+            logs.clear();
+            pass
+        }
+    }
+}
+
+/// The logs of images of a look, by their numbers. There are none where there is no look.
+pub(crate) fn find_images(pass: Pass, logs: &mut Rows<LogAt, 512>) -> Pass
+    ensures known { IsContinuedBy pass result }
+    ensures listed { (logs.new ≡ images_of (registry_of result)) ⊎ (logs.new ≡ []) }
+{
+    match pass.enter() {
+        Ok(look) => {
+            list_images(look.registry(), logs);
+            look.leave()
+        }
+        Err(pass) => {
+            logs.clear();
+            pass
+        }
+    }
+}
+
+/// Where the subscriptions of a look take datagrams. There are none where there is no look.
+pub(crate) fn find_endpoints(pass: Pass, endpoints: &mut Rows<Address, 512>) -> Pass
+    ensures known { IsContinuedBy pass result }
+    ensures listed { AreEndpoints (registry_of result) endpoints.new ⊎ (endpoints.new ≡ []) }
+{
+    match pass.enter() {
+        Ok(look) => {
+            list_endpoints(look.registry(), endpoints);
+            look.leave()
+        }
+        Err(pass) => {
+            endpoints.clear();
+            pass
+        }
+    }
+}

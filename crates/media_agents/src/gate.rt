@@ -1,0 +1,111 @@
+//! What each turn of an agent passes before it does anything.
+
+ghost use Rattle.media_agents.specs.Passing.{next_turn};
+ghost use Rattle.std.specs.Prelude.{◌≡◌};
+
+use std::time::{Clock, Duration};
+use std::{hint, thread};
+
+/// One of the agents that run a driver.
+#[derive(Clone, Copy, Debug, PartialEq, Eq)]
+pub enum Agent {
+    /// It takes events: commands, policies, SETUPs and ticks.
+    Conductor,
+    /// It sends, and sends again on NAKs.
+    Sender,
+    /// It takes the datagrams of images.
+    Receiver,
+}
+
+/// A turn of an agent that is about to begin.
+#[derive(Clone, Copy, Debug, PartialEq, Eq)]
+pub struct Turn {
+    /// How many turns of the agent there were before; the greatest `u64` stands for more.
+    pub number: u64,
+    /// How many of the last ones, one after another, had nothing to do; the greatest `u64` stands for more.
+    pub idle: u64,
+}
+
+impl Turn {
+    /// The first turn of an agent.
+    pub fn first() -> Turn
+        ensures { result ≡ record { number = 0; idle = 0 } }
+    {
+        Turn { number: 0, idle: 0 }
+    }
+
+    /// The turn after this one, in which there was something to do, or not.
+    pub fn next(&self, worked: bool) -> Turn
+        ensures { result ≡ next_turn worked self.now }
+    {
+        Turn {
+            number: self.number.saturating_add(1),
+            idle: if worked {
+                0
+            } else {
+                self.idle.saturating_add(1)
+            },
+        }
+    }
+}
+
+/// What each turn of an agent passes before it does anything. It may hold the agent up: an agent is served by no other thread
+/// meanwhile.
+pub trait Gate {
+    /// The agent may begin the turn once this returns.
+    fn pass(&self, agent: Agent, turn: Turn);
+}
+
+/// How many idle turns an agent spins, before it yields.
+const SPINS: u64 = 10;
+
+/// How many idle turns an agent spins and yields, before it sleeps.
+const YIELDS: u64 = 15;
+
+/// How long an agent sleeps the first time, in nanoseconds. Each further idle turn doubles it.
+const SHORTEST: u64 = 1_000;
+
+/// How long an agent sleeps at most, in nanoseconds.
+const LONGEST: u64 = 1_000_000;
+
+/// How long an agent sleeps after so many idle turns, in nanoseconds; none where it spins or yields.
+fn pause(idle: u64) -> u64 {
+    if idle < YIELDS {
+        return 0;
+    }
+    let doubled = idle - YIELDS;
+    if doubled < 10 {
+        (SHORTEST << doubled).min(LONGEST)
+    } else {
+        LONGEST
+    }
+}
+
+/// The gate of a driver that runs: an agent that has something to do goes on at once. One that has nothing to do spins at
+/// first, then yields to other threads, and then sleeps, twice as long each time, up to a millisecond.
+#[derive(Clone, Copy, Debug)]
+pub struct Backoff<C> {
+    clock: C,
+}
+
+impl<C> Backoff<C> {
+    /// An agent sleeps by this clock.
+    pub fn new(clock: C) -> Backoff<C> {
+        Backoff { clock }
+    }
+}
+
+impl<C: Clock> Gate for Backoff<C> {
+    fn pass(&self, _agent: Agent, turn: Turn) {
+        if turn.idle == 0 {
+            return;
+        }
+        if turn.idle < SPINS {
+            hint::spin_loop();
+        } else if turn.idle < YIELDS {
+            thread::yield_now();
+        } else {
+            thread::sleep(&self.clock, Duration::from_nanos(pause(turn.idle)));
+        }
+    }
+}

@@ -1,0 +1,121 @@
+//! Where the logs of a registry are, and where its subscriptions take datagrams.
+
+ghost use Rattle.driver_core.specs.SendRequests.{is_sent};
+ghost use Rattle.media_agents.specs.Finding.{Adds, AddsIf, AreEndpoints, endpoint_in, images_of, log_at, publications_of};
+ghost use Rattle.std.specs.Prelude.{◌≡◌, ◌++◌, ◌∷◌, [], Contains, IsTrue, if◌then◌else◌, take};
+ghost use Rattle.stream_registry.specs.Origins.{is_remote};
+
+use crate::slots::LogAt;
+use channel_uri::{Address, Media};
+use driver_core::Registry;
+use rows::Rows;
+use stream_registry::{Source, Subscription};
+
+/// Where the log of a row is.
+pub(crate) fn log_at(row: &Source) -> LogAt
+    ensures { result ≡ log_at row.now }
+{
+    LogAt {
+        source: row.number,
+        published: row.is_published(),
+        slot: row.slot,
+    }
+}
+
+/// Puts a log behind the others, where there is room.
+fn add<const N: usize>(logs: &mut Rows<LogAt, N>, at: LogAt)
+    ensures { logs.new ≡ take N (logs.old ++ at ∷ []) }
+{
+    if logs.len() >= N {
+        return;
+    }
+    logs.push(at);
+}
+
+/// The log of a row joins the others, if it is that of a publication over datagrams.
+fn add_publication(row: &Source, logs: &mut Rows<LogAt, 256>)
+    ensures { logs.new ≡ (if is_sent row.now then take 256 (logs.old ++ log_at row.now ∷ []) else logs.old) }
+{
+    if row.is_published() && row.channel.media() == Media::Udp {
+        add(logs, log_at(row));
+    }
+}
+
+/// The log of a row joins the others, if it is that of an image.
+fn add_image(row: &Source, logs: &mut Rows<LogAt, 512>)
+    ensures { logs.new ≡ (if is_remote row.now then take 512 (logs.old ++ log_at row.now ∷ []) else logs.old) }
+{
+    if !row.is_published() {
+        add(logs, log_at(row));
+    }
+}
+
+/// The logs of publications over datagrams, by their numbers.
+pub(crate) fn list_publications(registry: &Registry, logs: &mut Rows<LogAt, 256>)
+    ensures { logs.new ≡ publications_of registry.now }
+{
+    logs.clear();
+    for row in registry.sources() {
+        add_publication(row, logs);
+    }
+}
+
+/// The logs of images, by their numbers.
+pub(crate) fn list_images(registry: &Registry, logs: &mut Rows<LogAt, 512>)
+    ensures { logs.new ≡ images_of registry.now }
+{
+    logs.clear();
+    for row in registry.sources() {
+        add_image(row, logs);
+    }
+}
+
+/// Where a subscription takes datagrams. A spy takes none: it reads the publication itself.
+#[tactic(auto, unfolding(driver_core::specs::Directing::target_address))]
+fn endpoint_of(subscription: &Subscription) -> Option<Address>
+    ensures { result ≡ endpoint_in subscription.now }
+{
+    let channel = &subscription.channel;
+    if !channel.is_spy() && channel.media() == Media::Udp {
+        channel.endpoint()
+    } else {
+        None
+    }
+}
+
+/// Whether the address is among these.
+fn is_among(endpoints: &[Address], endpoint: &Address) -> bool
+    ensures { IsTrue result → Contains endpoints.now endpoint.now }
+{
+    endpoints.contains(endpoint)
+}
+
+/// An address joins the others, if it is not among them yet and there is room for it.
+fn add_endpoint(endpoints: &mut Rows<Address, 512>, endpoint: Address)
+    ensures { Adds endpoints.old endpoint endpoints.new }
+{
+    if is_among(endpoints.as_slice(), &endpoint) || endpoints.len() >= 512 {
+        return;
+    }
+    endpoints.push(endpoint);
+}
+
+/// Where a subscription takes datagrams joins the others.
+fn add_endpoint_of(subscription: &Subscription, endpoints: &mut Rows<Address, 512>)
+    ensures { AddsIf (endpoint_in subscription.now) endpoints.old endpoints.new }
+{
+    match endpoint_of(subscription) {
+        Some(endpoint) => add_endpoint(endpoints, endpoint),
+        None => {}
+    }
+}
+
+/// Where subscriptions take datagrams, each address once.
+pub(crate) fn list_endpoints(registry: &Registry, endpoints: &mut Rows<Address, 512>)
+    ensures { AreEndpoints registry.now endpoints.new }
+{
+    endpoints.clear();
+    for subscription in registry.subscriptions() {
+        add_endpoint_of(subscription, endpoints);
+    }
+}

@@ -1,0 +1,135 @@
+//! An event is planned on the newest registry, with what the logs say.
+
+ghost use Rattle.driver_core.specs.Conduct.{outcome_of, state_after};
+ghost use Rattle.driver_core.specs.Soundness.{IsSound};
+ghost use Rattle.published_registry.specs.Histories.{IsPlannedOn};
+ghost use Rattle.std.specs.Prelude.{◌≡◌, IfOk};
+
+use crate::aftermath::Aftermath;
+use crate::pairing::join;
+use crate::silence::silent_of;
+use crate::slots::Slots;
+use byte_strings::Items;
+use driver_core::{End, Entry, Event, Inputs, Registry};
+use log_slots::{LogMemory, Naming, memory_for};
+use rows::Rows;
+use std::alloc::{AllocError, Global};
+use std::sync::Wait;
+use stream_registry::Pair;
+
+/// An entry that is ready to be committed, with the memory for the log that it opens, and what is left to do then.
+#[derive(Drop)]
+pub(crate) struct Planned {
+    pub(crate) entry: Entry,
+    pub(crate) memory: LogMemory,
+    pub(crate) aftermath: Aftermath,
+}
+
+/// Plans the event, where the logs reach that far and these images are silent.
+fn plan_at(
+    alloc: Global,
+    registry: &Registry,
+    event: &Event,
+    silent: &[u64],
+    ends: Items<End>,
+) -> Result<Entry, AllocError>
+    ensures planned { IfOk result (λ entry. IsPlannedOn registry.now entry) }
+    ensures sound { IfOk result (λ entry. IsSound registry.now → IsSound (state_after registry.now entry.event entry.inputs)) }
+    ensures event_is { IfOk result (λ entry. entry.event ≡ event.now) }
+{
+    let inputs = Inputs {
+        silent: Items::from(Vec::from_slice(alloc, silent)?),
+        ends,
+    };
+    let planned = registry.plan(alloc, event, &inputs);
+    drop(inputs);
+    planned
+}
+
+/// With the memory for the log that the entry may open, and with what is left to do then.
+fn make_ready(
+    alloc: Global,
+    registry: &Registry,
+    entry: Entry,
+    memory: LogMemory,
+) -> Result<Planned, AllocError>
+    ensures entry { IfOk result (λ planned. planned.entry ≡ entry) }
+    ensures replies { IfOk result (λ planned. planned.aftermath.replies ≡ entry.outcome.replies) }
+{
+    let aftermath = Aftermath::of(alloc, registry, &entry.outcome)?;
+    Ok(Planned {
+        entry,
+        memory,
+        aftermath,
+    })
+}
+
+/// Plans the event, where the logs reach that far and these images are silent, and takes all memory that it will want.
+fn plan_with(
+    alloc: Global,
+    registry: &Registry,
+    event: &Event,
+    silent: &[u64],
+    ends: Items<End>,
+) -> Result<Planned, AllocError>
+    ensures planned { IfOk result (λ ready. IsPlannedOn registry.now ready.entry) }
+    ensures sound { IfOk result (λ ready. IsSound registry.now → IsSound (state_after registry.now ready.entry.event ready.entry.inputs)) }
+    ensures event_is { IfOk result (λ ready. ready.entry.event ≡ event.now) }
+    ensures replies { IfOk result (λ ready. ready.aftermath.replies ≡ ready.entry.outcome.replies) }
+{
+    let entry = plan_at(alloc, registry, event, silent, ends)?;
+    let memory = memory_for(alloc, event)?;
+    make_ready(alloc, registry, entry, memory)
+}
+
+/// The pairs that come with an entry.
+fn pairs_of(alloc: Global, entry: &Entry) -> Result<Items<Pair>, AllocError> {
+    let pairs = Vec::from_slice(alloc, entry.outcome.come.as_slice())?;
+    Ok(Items::from(pairs))
+}
+
+/// What an event is planned with: which images are silent, and which pairs would come.
+#[derive(Drop)]
+pub(crate) struct Foreseen {
+    pub(crate) silent: Items<u64>,
+    pub(crate) come: Items<Pair>,
+}
+
+/// Asks the logs which images are silent, and plans the event without knowing how far logs reach, to see which pairs would come.
+pub(crate) fn foresee<N: Naming, R: Wait>(
+    rt: &R,
+    alloc: Global,
+    slots: &Slots<N>,
+    registry: &Registry,
+    event: &Event,
+) -> Result<Foreseen, AllocError> {
+    let silent = silent_of(rt, alloc, slots, registry, event)?;
+    let draft = plan_at(alloc, registry, event, silent.as_slice(), Items::new(alloc))?;
+    let come = pairs_of(alloc, &draft);
+    drop(draft);
+    Ok(Foreseen {
+        silent,
+        come: come?,
+    })
+}
+
+/// The pairs that come are joined to their logs, each behind its lock, and the event is planned with how far these logs reach
+/// then. So a reply names the position at which its pair really begins, although clients go on offering.
+pub(crate) fn plan_joined<N: Naming, R: Wait>(
+    rt: &R,
+    alloc: Global,
+    slots: &Slots<N>,
+    registry: &Registry,
+    room: &mut Rows<u64, 512>,
+    event: &Event,
+    foreseen: &Foreseen,
+) -> Result<Planned, AllocError>
+    requires { IsSound registry.now }
+    ensures planned { IfOk result (λ ready. IsPlannedOn registry.now ready.entry) }
+    ensures sound { IfOk result (λ ready. IsSound (state_after registry.now ready.entry.event ready.entry.inputs)) }
+    ensures event_is { IfOk result (λ ready. ready.entry.event ≡ event.now) }
+    ensures replies { IfOk result (λ ready. ready.aftermath.replies ≡ ready.entry.outcome.replies) }
+{
+    let ends = join(rt, alloc, slots, registry, room, foreseen.come.as_slice())?;
+    plan_with(alloc, registry, event, foreseen.silent.as_slice(), ends)
+}

@@ -1,0 +1,53 @@
+//! Who pushes events into a driver's queue.
+
+ghost use Rattle.command_queue.specs.declared.known.Facts.{Facts};
+ghost use Rattle.command_queue.specs.Facts.{WasFull};
+ghost use Rattle.driver_core.specs.declared.event.Event.{Event as Happening};
+ghost use Rattle.std.specs.Prelude.{◌≡◌, ◌++◌, ◌∷◌, [], MatchResult, OnErr};
+
+use command_queue::{Known, Refused, Sender};
+use driver_core::Event;
+use std::marker::Model;
+use std::sync::Wait;
+
+/// A sender of events, with what is known of their queue: whatever that is, the queue's answers fit it. It may go to another
+/// thread.
+#[derive(Drop)]
+pub struct EventSender {
+    sender: Sender<Event>,
+    known: Known<Event>,
+}
+
+impl Model for EventSender {
+    ghost use Rattle.command_queue.specs.Known.{IsKnown};
+    ghost use Rattle.command_queue.specs.Sent.{Sent};
+    ghost use Rattle.driver_core.specs.declared.event.Event.{Event as Happening};
+
+    ghost Value = { Sent Happening };
+
+    ghost view = { λ post. post.sender };
+
+    ghost invariant = { λ post. IsKnown post.sender.queue post.known };
+}
+
+impl EventSender {
+    /// Events go by this sender of the queue.
+    pub fn new(sender: Sender<Event>) -> EventSender
+        ensures { result ≡ sender }
+    {
+        let mut sender = sender;
+        let known = sender.note();
+        EventSender { sender, known }
+    }
+
+    /// Puts an event at the back of the queue. `Refused` hands it back, only where the queue held 1,024 events at one moment
+    /// of the call; nothing was sent then. It takes no memory.
+    pub fn push<R: Wait>(&mut self, rt: &R, event: Event) -> Result<(), Refused<Event>>
+        ensures sent { MatchResult result (λ _. self.new ≡ record self.old { sent = self.old.sent ++ event ∷ [] })
+            (λ refused. (refused.0 ≡ event) × (self.new ≡ self.old)) }
+        ensures full { OnErr result ((facts : Facts Happening) × WasFull self.old.total self.old.number self.old.sent facts) }
+    {
+        let EventSender { sender, known } = self;
+        sender.push(rt, known, event)
+    }
+}

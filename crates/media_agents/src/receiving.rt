@@ -1,0 +1,274 @@
+//! The receiver's turns.
+
+ghost use Rattle.media_agents.specs.Agents.{ReceivesBy};
+ghost use Rattle.media_agents.specs.Passing.{next_turn};
+ghost use Rattle.media_agents.specs.Traffic.{AreSentFrom, GoesOn, IsReadAt, ReadsEach, ReadsOut, SetsUp};
+ghost use Rattle.published_registry.specs.Histories.{IsContinuedBy};
+ghost use Rattle.std.specs.Prelude.{◌≡◌, Bool, IfOk};
+
+use crate::finding::{find_endpoints, find_images};
+use crate::gate::{Agent, Gate, Turn};
+use crate::hearing::hear_as_receiver;
+use crate::posting::EventSender;
+use crate::reading::{MOST, Room};
+use crate::slots::{LogAt, Slots};
+use crate::telling::tell;
+use channel_uri::Address;
+use driver_core::Event;
+use driver_steps::Answer;
+use log_slots::{LogSlot, Naming};
+use media_wire::Wire;
+use published_registry::Pass;
+use rows::Rows;
+use std::alloc::{AllocError, Global};
+use std::marker::Model;
+use std::sync::{Arc, Mutex, Wait};
+
+/// Reads the datagrams at an address where subscriptions take them: until none is there, a read fails, or 1,024 are read.
+/// Whether there was one.
+fn hear_all<N: Naming, R: Wait, W: Wire>(
+    rt: &R,
+    slots: &Slots<N>,
+    pass: Pass,
+    wire: &mut W,
+    queue: &mut EventSender,
+    room: &mut Room,
+    alloc: Global,
+    now: u64,
+    local: &Address,
+) -> (Pass, bool)
+    ensures known { IsContinuedBy pass result.0 }
+    ensures wire { GoesOn (ReadsOut (IsReadAt local.now) local.now) (W.went wire.old) (W.went wire.new) }
+    ensures queue { SetsUp now queue.old queue.new }
+{
+    let mut pass = pass;
+    for count in 0..MOST {
+        match room.next(wire, local) {
+            Some(read) => {
+                let bytes = room.datagram(read.0);
+                pass = hear_as_receiver(rt, slots, pass, queue, alloc, now, local, &read.1, bytes);
+            }
+            None => return (pass, count > 0),
+        }
+    }
+    (pass, true)
+}
+
+/// The same at each of these addresses.
+fn hear_each<N: Naming, R: Wait, W: Wire>(
+    rt: &R,
+    slots: &Slots<N>,
+    pass: Pass,
+    wire: &mut W,
+    queue: &mut EventSender,
+    room: &mut Room,
+    alloc: Global,
+    now: u64,
+    endpoints: &[Address],
+) -> (Pass, bool)
+    ensures known { IsContinuedBy pass result.0 }
+    ensures wire { GoesOn (ReadsEach endpoints.now) (W.went wire.old) (W.went wire.new) }
+    ensures queue { SetsUp now queue.old queue.new }
+{
+    let mut pass = pass;
+    let mut worked = false;
+    for endpoint in endpoints {
+        let (next, heard) = hear_all(rt, slots, pass, wire, queue, room, alloc, now, endpoint);
+        pass = next;
+        worked = worked || heard;
+    }
+    (pass, worked)
+}
+
+/// One hold of an image's lock, with one look within it: what its publisher is due to be told. `None` where there is no look
+/// or no memory.
+fn report<N: Naming, R: Wait>(
+    rt: &R,
+    slot: &Mutex<LogSlot<N>>,
+    pass: Pass,
+    alloc: Global,
+    now: u64,
+    source: u64,
+) -> (Pass, Option<Answer>)
+    ensures { IsContinuedBy pass result.0 }
+{
+    let mut slot = slot.lock(rt);
+    match pass.enter() {
+        Ok(look) => {
+            let answer = slot.image(&look, alloc, now, source);
+            (look.leave(), answer.ok())
+        }
+        Err(pass) => (pass, None),
+    }
+}
+
+/// Whether the answer tells to send anything.
+fn is_due(answer: &Answer) -> bool {
+    match answer {
+        Answer::Reported { datagrams, .. } => !datagrams.is_empty(),
+        _ => false,
+    }
+}
+
+/// One step on one image: what is due goes out, from the address `local`, once the log's lock is let go. Whether anything was
+/// due.
+fn report_one<N: Naming, R: Wait, W: Wire>(
+    rt: &R,
+    slots: &Slots<N>,
+    pass: Pass,
+    wire: &mut W,
+    alloc: Global,
+    now: u64,
+    local: &Address,
+    at: LogAt,
+) -> (Pass, bool)
+    ensures known { IsContinuedBy pass result.0 }
+    ensures wire { GoesOn (AreSentFrom local.now) (W.went wire.old) (W.went wire.new) }
+{
+    let Some(slot) = slots.images.get(at.slot as usize) else {
+        return (pass, false);
+    };
+    let (pass, answer) = report(rt, slot, pass, alloc, now, at.source);
+    match answer {
+        Some(answer) => {
+            tell(wire, local, &answer);
+            (pass, is_due(&answer))
+        }
+        None => (pass, false),
+    }
+}
+
+/// One step on each of these images, in their order. Whether anything was due.
+fn report_each<N: Naming, R: Wait, W: Wire>(
+    rt: &R,
+    slots: &Slots<N>,
+    pass: Pass,
+    wire: &mut W,
+    alloc: Global,
+    now: u64,
+    local: &Address,
+    logs: &[LogAt],
+) -> (Pass, bool)
+    ensures known { IsContinuedBy pass result.0 }
+    ensures wire { GoesOn (AreSentFrom local.now) (W.went wire.old) (W.went wire.new) }
+{
+    let mut pass = pass;
+    let mut worked = false;
+    for at in logs {
+        let (next, due) = report_one(rt, slots, pass, wire, alloc, now, local, *at);
+        pass = next;
+        worked = worked || due;
+    }
+    (pass, worked)
+}
+
+/// The receiver: it takes the datagrams of images, and tells their publishers what came.
+#[derive(Drop)]
+pub struct ReceiverAgent<N: Naming, G: Gate> {
+    slots: Arc<Slots<N>>,
+    gate: Arc<G>,
+    /// It is taken out for as long as a turn lasts.
+    pass: Option<Pass>,
+    queue: EventSender,
+    /// The address from which all datagrams are sent.
+    local: Address,
+    room: Room,
+    /// Where the turn reads.
+    endpoints: Rows<Address, 512>,
+    /// The logs of the turn.
+    logs: Rows<LogAt, 512>,
+    alloc: Global,
+    turn: Turn,
+}
+
+impl<N: Naming, G: Gate> Model for ReceiverAgent<N, G> {
+    ghost use Rattle.media_agents.specs.Agents.{Receiving};
+    ghost use Rattle.published_registry.specs.Histories.{history_in};
+    ghost use Rattle.std.specs.Prelude.{IsSome};
+
+    ghost Value = { Receiving };
+
+    ghost view = { λ agent. record { local = agent.local; known = history_in agent.pass; turn = agent.turn; queue = agent.queue } };
+
+    ghost invariant = { λ agent. IsSome agent.pass };
+}
+
+impl<N: Naming, G: Gate + Drop> ReceiverAgent<N, G> {
+    /// A receiver before its first turn, which sends from the address `local`.
+    pub fn new(
+        alloc: Global,
+        slots: Arc<Slots<N>>,
+        gate: Arc<G>,
+        pass: Pass,
+        queue: EventSender,
+        local: Address,
+    ) -> Result<ReceiverAgent<N, G>, AllocError>
+        ensures { IfOk result (λ agent. agent ≡ record { local = local; known = pass; turn = record { number = 0; idle = 0 }; queue = queue }) }
+    {
+        Ok(ReceiverAgent {
+            slots,
+            gate,
+            pass: Some(pass),
+            queue,
+            local,
+            room: Room::new(alloc)?,
+            endpoints: Rows::new(alloc)?,
+            logs: Rows::new(alloc)?,
+            alloc,
+            turn: Turn::first(),
+        })
+    }
+
+    /// A turn, at the moment `now` in nanoseconds, once the gate lets it pass. At each address where subscriptions of a look
+    /// take datagrams those that came are read, 1,024 at most: data and heartbeats are steps on their image, and a SETUP is
+    /// pushed as an event, or lost where the queue is full. Then each image of a look has one step, in the order of their
+    /// numbers. Each step is one hold of the log's lock, with one look within it; what it tells to send goes out, from the
+    /// address `local`, once the lock is let go, and a send that fails is a datagram lost.
+    pub fn turn<R: Wait, W: Wire>(&mut self, rt: &R, wire: &mut W, now: u64)
+        ensures known { IsContinuedBy self.old.known self.new.known }
+        ensures local { self.new.local ≡ self.old.local }
+        ensures turn { (worked : Bool) × (self.new.turn ≡ next_turn worked self.old.turn) }
+        ensures queue { SetsUp now self.old.queue self.new.queue }
+        ensures wire { ReceivesBy self.old.local self.old.known self.new.known (W.went wire.old) (W.went wire.new) }
+    {
+        self.gate.pass(Agent::Receiver, self.turn);
+        let Some(pass) = self.pass.take() else {
+            unreachable!()
+        };
+        let pass = find_endpoints(pass, &mut self.endpoints);
+        let endpoints = self.endpoints.as_slice();
+        let (pass, heard) = hear_each(
+            rt,
+            &self.slots,
+            pass,
+            wire,
+            &mut self.queue,
+            &mut self.room,
+            self.alloc,
+            now,
+            endpoints,
+        );
+        let pass = find_images(pass, &mut self.logs);
+        let logs = self.logs.as_slice();
+        let (pass, due) = report_each(
+            rt,
+            &self.slots,
+            pass,
+            wire,
+            self.alloc,
+            now,
+            &self.local,
+            logs,
+        );
+        wire.turn_ended();
+        self.pass = Some(pass);
+        self.turn = self.turn.next(heard || due);
+    }
+
+    /// The turn that is next.
+    pub fn upcoming(&self) -> Turn
+        ensures { result ≡ self.now.turn }
+    {
+        self.turn
+    }
+}

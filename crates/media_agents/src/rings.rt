@@ -1,0 +1,96 @@
+//! The rings by which clients get their replies.
+
+ghost use Rattle.media_agents.specs.Mails.{IsReplyOf, Posts};
+ghost use Rattle.std.specs.Prelude.{◌≡◌, []};
+
+use crate::mail::{ClientReply, Mail};
+use crate::naming::DriverNaming;
+use published_registry::Receipt;
+use rtrb::Producer;
+use std::alloc::Global;
+use std::marker::Model;
+
+/// The conductor's end of a ring: it puts replies in, and the client takes them out.
+#[derive(Drop)]
+pub struct Ring<N: DriverNaming> {
+    /// Whose ring it is: that client's id, or 0.
+    client: u64,
+    /// How many of its replies were dropped, since the ring was full.
+    lost: u64,
+    mails: Producer<Mail<N>, Global>,
+}
+
+impl<N: DriverNaming> Model for Ring<N> {
+    ghost use Rattle.media_agents.specs.Mails.{RingState};
+    ghost use Rattle.rtrb.specs.Ring.{sent};
+
+    ghost Value = { RingState };
+
+    ghost view = { λ ring. record { client = ring.client; lost = ring.lost; sent = sent ring.mails } };
+}
+
+impl<N: DriverNaming> Ring<N> {
+    /// A ring that is no client's yet.
+    pub fn new(mails: Producer<Mail<N>, Global>) -> Ring<N>
+        ensures { (result.client ≡ 0) × (result.lost ≡ 0) }
+    {
+        Ring {
+            client: 0,
+            lost: 0,
+            mails,
+        }
+    }
+
+    /// From now on it is that client's, of whose replies none was dropped.
+    fn assign(&mut self, client: u64)
+        ensures { self.new ≡ record self.old { client = client; lost = 0 } }
+    {
+        self.client = client;
+        self.lost = 0;
+    }
+
+    /// Puts a reply into the ring. One that finds it full is dropped and counted. It takes no memory.
+    fn post(&mut self, receipt: &Receipt, reply: ClientReply)
+        requires ours { receipt.now.book ≡ N.book }
+        requires held { IsReplyOf receipt.now self.old.client reply }
+        ensures { Posts receipt.now reply self.old self.new }
+    {
+        let mail = Mail::new(self.client, self.lost, receipt.again(), reply);
+        if self.mails.push(mail).is_err() {
+            self.lost = self.lost.saturating_add(1);
+        }
+    }
+}
+
+/// The rings of a driver's clients.
+#[derive(Drop)]
+pub struct Rings<N: DriverNaming> {
+    rings: Vec<Ring<N>>,
+}
+
+impl<N: DriverNaming> Rings<N> {
+    /// These rings, numbered from 0.
+    pub fn new(rings: Vec<Ring<N>>) -> Rings<N> {
+        Rings { rings }
+    }
+
+    /// The ring of that number is that client's from now on.
+    pub(crate) fn assign(&mut self, ring: u16, client: u64) {
+        if let Some(ring) = self.rings.get_mut(ring as usize) {
+            ring.assign(client);
+        }
+    }
+
+    /// A reply goes into the ring of its client. Where the client has none, nobody is there to take it. It takes no memory.
+    pub(crate) fn post(&mut self, receipt: &Receipt, client: u64, reply: ClientReply)
+        requires ours { receipt.now.book ≡ N.book }
+        requires held { IsReplyOf receipt.now client reply }
+    {
+        for ring in &mut self.rings {
+            if ring.client == client {
+                ring.post(receipt, reply);
+                return;
+            }
+        }
+    }
+}

@@ -1,0 +1,223 @@
+//! The sender's turns.
+
+ghost use Rattle.media_agents.specs.Passing.{next_turn};
+ghost use Rattle.media_agents.specs.Traffic.{AreSentFrom, GoesOn, IsAt, ReadsOut, Sends};
+ghost use Rattle.published_registry.specs.Histories.{IsContinuedBy};
+ghost use Rattle.std.specs.Prelude.{◌≡◌, Bool, IfOk};
+
+use crate::finding::find_publications;
+use crate::gate::{Agent, Gate, Turn};
+use crate::hearing::hear_as_sender;
+use crate::reading::{MOST, Room};
+use crate::slots::{LogAt, Slots};
+use crate::telling::tell;
+use channel_uri::Address;
+use driver_steps::Answer;
+use log_slots::{Naming, Slot};
+use media_wire::Wire;
+use published_registry::Pass;
+use rows::Rows;
+use std::alloc::{AllocError, Global};
+use std::marker::Model;
+use std::sync::{Arc, Mutex, Wait};
+
+/// Reads the datagrams at the address that the sender sends from: until none is there, a read fails, or 1,024 are read.
+/// Whether there was one.
+fn hear_all<N: Naming, R: Wait, W: Wire>(
+    rt: &R,
+    slots: &Slots<N>,
+    pass: Pass,
+    wire: &mut W,
+    room: &mut Room,
+    alloc: Global,
+    now: u64,
+    local: &Address,
+) -> (Pass, bool)
+    ensures known { IsContinuedBy pass result.0 }
+    ensures wire { GoesOn (ReadsOut (IsAt local.now) local.now) (W.went wire.old) (W.went wire.new) }
+{
+    let mut pass = pass;
+    for count in 0..MOST {
+        match room.next(wire, local) {
+            Some(read) => {
+                let bytes = room.datagram(read.0);
+                pass = hear_as_sender(rt, slots, pass, wire, alloc, now, local, &read.1, bytes);
+            }
+            None => return (pass, count > 0),
+        }
+    }
+    (pass, true)
+}
+
+/// One hold of a publication's lock, with one look within it: a datagram is cut from its log, if one is due. `None` where
+/// there is no look or no memory.
+fn cut<N: Naming, R: Wait>(
+    rt: &R,
+    slot: &Mutex<Slot<N>>,
+    pass: Pass,
+    alloc: Global,
+    now: u64,
+    source: u64,
+) -> (Pass, Option<Answer>)
+    ensures { IsContinuedBy pass result.0 }
+{
+    let mut slot = slot.lock(rt);
+    match pass.enter() {
+        Ok(look) => {
+            let answer = slot.send(&look, alloc, now, source);
+            (look.leave(), answer.ok())
+        }
+        Err(pass) => (pass, None),
+    }
+}
+
+/// One step on one log: what is due goes out once the log's lock is let go. Whether anything was due.
+fn send_one<N: Naming, R: Wait, W: Wire>(
+    rt: &R,
+    slots: &Slots<N>,
+    pass: Pass,
+    wire: &mut W,
+    alloc: Global,
+    now: u64,
+    local: &Address,
+    at: LogAt,
+) -> (Pass, bool)
+    ensures known { IsContinuedBy pass result.0 }
+    ensures wire { GoesOn (AreSentFrom local.now) (W.went wire.old) (W.went wire.new) }
+{
+    let Some(slot) = slots.publications.get(at.slot as usize) else {
+        return (pass, false);
+    };
+    let (pass, answer) = cut(rt, slot, pass, alloc, now, at.source);
+    match answer {
+        Some(answer) => {
+            tell(wire, local, &answer);
+            (pass, matches!(answer, Answer::Sent { .. }))
+        }
+        None => (pass, false),
+    }
+}
+
+/// One step on each of these logs, in their order. Whether anything was due.
+fn send_each<N: Naming, R: Wait, W: Wire>(
+    rt: &R,
+    slots: &Slots<N>,
+    pass: Pass,
+    wire: &mut W,
+    alloc: Global,
+    now: u64,
+    local: &Address,
+    logs: &[LogAt],
+) -> (Pass, bool)
+    ensures known { IsContinuedBy pass result.0 }
+    ensures wire { GoesOn (AreSentFrom local.now) (W.went wire.old) (W.went wire.new) }
+{
+    let mut pass = pass;
+    let mut worked = false;
+    for at in logs {
+        let (next, sent) = send_one(rt, slots, pass, wire, alloc, now, local, *at);
+        pass = next;
+        worked = worked || sent;
+    }
+    (pass, worked)
+}
+
+/// The sender: it sends what publications have, and sends again what NAKs ask for.
+#[derive(Drop)]
+pub struct SenderAgent<N: Naming, G: Gate> {
+    slots: Arc<Slots<N>>,
+    gate: Arc<G>,
+    /// It is taken out for as long as a turn lasts.
+    pass: Option<Pass>,
+    /// The address from which all datagrams are sent.
+    local: Address,
+    room: Room,
+    /// The logs of the turn.
+    logs: Rows<LogAt, 256>,
+    alloc: Global,
+    turn: Turn,
+}
+
+impl<N: Naming, G: Gate> Model for SenderAgent<N, G> {
+    ghost use Rattle.media_agents.specs.Agents.{Sending};
+    ghost use Rattle.published_registry.specs.Histories.{history_in};
+    ghost use Rattle.std.specs.Prelude.{IsSome};
+
+    ghost Value = { Sending };
+
+    ghost view = { λ agent. record { local = agent.local; known = history_in agent.pass; turn = agent.turn } };
+
+    ghost invariant = { λ agent. IsSome agent.pass };
+}
+
+impl<N: Naming, G: Gate + Drop> SenderAgent<N, G> {
+    /// A sender before its first turn, which sends from the address `local`.
+    pub fn new(
+        alloc: Global,
+        slots: Arc<Slots<N>>,
+        gate: Arc<G>,
+        pass: Pass,
+        local: Address,
+    ) -> Result<SenderAgent<N, G>, AllocError>
+        ensures { IfOk result (λ agent. agent ≡ record { local = local; known = pass; turn = record { number = 0; idle = 0 } }) }
+    {
+        Ok(SenderAgent {
+            slots,
+            gate,
+            pass: Some(pass),
+            local,
+            room: Room::new(alloc)?,
+            logs: Rows::new(alloc)?,
+            alloc,
+            turn: Turn::first(),
+        })
+    }
+
+    /// A turn, at the moment `now` in nanoseconds, once the gate lets it pass. The datagrams that came to the address that it
+    /// sends from are read, 1,024 at most: a NAK or a status message is a step on its publication. Then each publication over
+    /// datagrams of a look has one step, in the order of their numbers. Each step is one hold of the log's lock, with one look
+    /// within it; what it tells to send goes out once the lock is let go, and a send that fails is a datagram lost.
+    pub fn turn<R: Wait, W: Wire>(&mut self, rt: &R, wire: &mut W, now: u64)
+        ensures known { IsContinuedBy self.old.known self.new.known }
+        ensures local { self.new.local ≡ self.old.local }
+        ensures turn { (worked : Bool) × (self.new.turn ≡ next_turn worked self.old.turn) }
+        ensures wire { GoesOn (Sends self.old.local) (W.went wire.old) (W.went wire.new) }
+    {
+        self.gate.pass(Agent::Sender, self.turn);
+        let Some(pass) = self.pass.take() else {
+            unreachable!()
+        };
+        let (pass, heard) = hear_all(
+            rt,
+            &self.slots,
+            pass,
+            wire,
+            &mut self.room,
+            self.alloc,
+            now,
+            &self.local,
+        );
+        let pass = find_publications(pass, &mut self.logs);
+        let logs = self.logs.as_slice();
+        let (pass, sent) = send_each(
+            rt,
+            &self.slots,
+            pass,
+            wire,
+            self.alloc,
+            now,
+            &self.local,
+            logs,
+        );
+        wire.turn_ended();
+        self.pass = Some(pass);
+        self.turn = self.turn.next(heard || sent);
+    }
+
+    /// The turn that is next.
+    pub fn upcoming(&self) -> Turn
+        ensures { result ≡ self.now.turn }
+    {
+        self.turn
+    }
+}
