@@ -8,4 +8,4 @@ mod fates;
 #[cfg(test)]
 mod opening;
 #[cfg(test)]
-mod rows;
+mod table;
