@@ -3,7 +3,7 @@ ghost use Rattle.std.specs.Prelude.{◌≡◌};
 use crate::closing::next_log_is_not_served;
 use crate::images::image_goes;
 use crate::offering::two_threads;
-use crate::parts::parts;
+use crate::parts::make_parts;
 use crate::shares::shares_come_together;
 use log_arena::Arena;
 use log_slots::Naming;
@@ -36,7 +36,7 @@ fn goes<N: Naming + Send + Sync + 'static, R: Threads + Wait + Sync>(
     requires clients { (clients.name ≡ N.client_ledger) × (clients.parts ≡ N.client_parts) × (clients.parts ≡ 2) }
     requires slots { (slots.name ≡ N.slot_ledger) × (slots.parts ≡ N.slot_parts) × (slots.parts ≡ 2) }
 {
-    let Ok(parts) = parts::<N>(alloc, arena, clients, slots) else {
+    let Ok(parts) = make_parts::<N>(alloc, arena, clients, slots) else {
         return false;
     };
     match case {

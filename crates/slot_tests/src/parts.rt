@@ -51,7 +51,7 @@ fn two_hands<N: Naming>(share: Share<OfClients<N>>) -> (Hand<N>, Hand<N>)
 }
 
 /// The parts that `N` names, in which nothing was taken yet.
-pub(crate) fn parts<N: Naming>(
+pub(crate) fn make_parts<N: Naming>(
     alloc: Global,
     arena: Arena,
     clients: Blank,
