@@ -57,14 +57,19 @@ impl<N: DriverNaming, G: Gate + Drop> Conductor<N, G> {
         ensures { Turned self.old.taker self.new.taker self.old.known (Tick now) (events_in self.old.history.entries) (events_in self.new.history.entries) result }
     {
         self.gate.pass(Agent::Conductor, self.turn);
-        self.turn = self.turn.next(false);
         let Conductor {
             taker,
             known,
             works,
-            ..
+            gate: _,
+            turn: upcoming,
         } = self;
-        turn(rt, taker, known, works, Event::Tick { now })
+        let before = works.number();
+        let misses = turn(rt, taker, known, works, Event::Tick { now });
+        // The tick is one entry: there was something to do where there are more, or an event was refused memory.
+        let worked = misses > 0 || works.number().saturating_sub(before) > 1;
+        *upcoming = upcoming.next(worked);
+        misses
     }
 
     /// Ends the driver: each log closes, and nobody gets a look at the registry any more.

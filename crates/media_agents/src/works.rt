@@ -126,6 +126,13 @@ impl<N: DriverNaming> Works<N> {
         }
     }
 
+    /// How many entries there are.
+    pub(crate) fn number(&self) -> u64
+        ensures { result ≡ length self.now.entries }
+    {
+        self.publisher().number()
+    }
+
     /// Once an entry is shown, the logs follow, and its replies go out.
     fn finish<R: Wait>(&mut self, rt: &R, receipt: &Receipt, aftermath: &Aftermath)
         requires ours { receipt.now.book ≡ N.book }
@@ -314,7 +321,7 @@ impl<N: DriverNaming> Conducts<Event> for Works<N> {
     ghost history = { λ works. events_in works.entries };
 
     fn conduct<R: Wait>(&mut self, rt: &R, event: Event) -> bool {
-        if self.publisher().number() == u64::MAX {
+        if self.number() == u64::MAX {
             return false;
         }
         match self.take(rt, &event) {
