@@ -1,6 +1,6 @@
 -- All frames of a publication, which are those that its log had when it was last there; and the promise, of two worlds. Own
 -- rules.
-use Rattle.std.specs.Prelude.{◌≡◌, ℕ, true, List, [], ◌∷◌, ◌++◌, length, All, FitsSigned, Option, Some, None}
+use Rattle.std.specs.Prelude.{◌≡◌, ℕ, true, List, [], ◌∷◌, ◌++◌, All, FitsSigned, Option, Some, None}
 use Rattle.std.specs.Int.{w32}
 use Rattle.any_log.specs.Whole.{AnyWhole, whole, rebuilt}
 use Rattle.driver_core.specs.LogRequests.{has_pair}
@@ -16,9 +16,7 @@ use Rattle.term_log.specs.declared.ident.Ident.{Ident}
 use Rattle.term_log.specs.Ident.{is_udp}
 use Rattle.term_log.specs.Whole.{Whole}
 use Rattle.two_worlds.specs.Drivers.{Opening}
-use Rattle.two_worlds.specs.Standing.{AnswerBoth, HeldBoth, StandForEnds}
-use Rattle.two_worlds.specs.declared.world_step.WorldStep.{WorldStep}
-use Rattle.two_worlds.specs.Worlds.{AreAnswersOfBoth, AreFresh, AtEach, TwoEnds, after_both, end_of_both, polled_of_all}
+use Rattle.two_worlds.specs.Worlds.{AreAnswersOfBoth, AtEach, TwoEnds, WorldStep, after_both, end_of_both, opening_both, polled_of_all}
 
 -- ---- a publication by its number
 
@@ -90,29 +88,17 @@ pub record IsPair (i : Ident) (source subscription : ℕ) (e : RunEnd) : Type 0 
 abbrev pub HasPair : Ident → ℕ → ℕ → TwoEnds → Type 0
 HasPair i source subscription e = IsPair i source subscription e.second.driver
 
--- Two worlds in which no event was taken yet, and a publication of the first, where no other one over datagrams has its session
--- and stream: whatever was lost, came twice or in another order, and whatever either policy does, what the polls of one pair of
--- the second give of an image of that session and stream, from the pair's coming to its going, are the payloads, flags and
--- positions of a contiguous run of the frames that were appended to the publication, pads left out.
+-- Two worlds, and a publication of the first, where no other one over datagrams has its session and stream: whatever was lost,
+-- came twice or in another order, and whatever either policy does, what the polls of one pair of the second give of an image of
+-- that session and stream, from the pair's coming to its going, are the payloads, flags and positions of a contiguous run of the
+-- frames that were appended to the publication, pads left out.
 abbrev pub SecondGivesARunOfThePublication : Type 0
 SecondGivesARunOfThePublication =
-    (first second : Opening) (start : TwoEnds) (before : List WorldStep) (earlier : List Answer) (steps : List WorldStep)
-    (answers : List Answer) (publication source subscription : ℕ) (last : Whole) → AreSettings first.settings →
-    AreSettings second.settings → AreFresh first second start → AreAnswersOfBoth start before earlier →
-    AreAnswersOfBoth (end_of_both start before earlier) steps answers →
-    last_seen publication (firsts_in start before earlier steps answers) ≡ Some last →
-    All (AreSole last.ident publication) (firsts_in start before earlier steps answers) →
-    AtEach (HasPair last.ident source subscription) (end_of_both start before earlier) steps answers →
-    IsRunOf last.ident last.frames (polled_of_all source subscription steps answers)
-
--- The same of what `TwoWorlds::run` answers: `held` are both worlds as they are handed to it, `start` any ends that they stand for.
-abbrev pub RunGivesARunOfThePublication : Type 0
-RunGivesARunOfThePublication =
-    (first second : Opening) (held : HeldBoth) (start : TwoEnds) (before : List WorldStep) (earlier : List Answer)
-    (steps : List WorldStep) (answers : List Answer) (publication source subscription : ℕ) (last : Whole) →
-    AreSettings first.settings → AreSettings second.settings → AreFresh first second start → StandForEnds held start →
-    AnswerBoth held (before ++ steps) (earlier ++ answers) → length before ≡ length earlier →
-    last_seen publication (firsts_in start before earlier steps answers) ≡ Some last →
-    All (AreSole last.ident publication) (firsts_in start before earlier steps answers) →
-    AtEach (HasPair last.ident source subscription) (end_of_both start before earlier) steps answers →
+    (first second : Opening) (before : List WorldStep) (earlier : List Answer) (steps : List WorldStep) (answers : List Answer)
+    (publication source subscription : ℕ) (last : Whole) → AreSettings first.settings → AreSettings second.settings →
+    AreAnswersOfBoth (opening_both first second) before earlier →
+    AreAnswersOfBoth (end_of_both (opening_both first second) before earlier) steps answers →
+    last_seen publication (firsts_in (opening_both first second) before earlier steps answers) ≡ Some last →
+    All (AreSole last.ident publication) (firsts_in (opening_both first second) before earlier steps answers) →
+    AtEach (HasPair last.ident source subscription) (end_of_both (opening_both first second) before earlier) steps answers →
     IsRunOf last.ident last.frames (polled_of_all source subscription steps answers)

@@ -1,6 +1,5 @@
 pub mod DriversLemmas
 pub mod GivenLemmas
-pub mod NumberedLemmas
 pub mod PollingLemmas
 pub mod RowLemmas
 pub mod SentLemmas

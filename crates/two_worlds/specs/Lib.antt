@@ -1,6 +1,5 @@
 pub mod Drivers
 pub mod Given
-pub mod Memory
 pub mod Polling
 pub mod Sent
 pub mod Standing

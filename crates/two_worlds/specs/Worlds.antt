@@ -1,14 +1,13 @@
 -- Two worlds, of which the second is given datagrams that the first sent: any of them, in any order, as often as may be. Own
 -- rules.
-use Rattle.std.specs.Prelude.{◌≡◌, ℕ, ◌<◌, List, [], ◌∷◌, ◌++◌, All, Option, Some, None, Result, Ok, Err, if◌then◌else◌}
+use Rattle.std.specs.Prelude.{◌≡◌, ℕ, ◌<◌, List, [], ◌∷◌, ◌++◌, All, Option, Some, None, if◌then◌else◌}
 use Rattle.channel_uri.specs.declared.address.Address.{Address}
 use Rattle.driver_core.specs.Soundness.{AreSettings}
 use Rattle.driver_steps.specs.declared.answer.Answer.{Answer}
 use Rattle.driver_steps.specs.declared.answer.Answer.TheVariants.{BadStep}
 use Rattle.driver_steps.specs.declared.step.Step.TheVariants.{Packet}
 use Rattle.driver_world.specs.declared.reading.Reading.{Reading}
-use Rattle.driver_world.specs.Ends.{RunEnd, opening_end, AreAnswers, IsAnswer, after, end_of}
-use Rattle.driver_world.specs.Views.{newest_of}
+use Rattle.driver_world.specs.Ends.{RunEnd, opening_end, IsAnswer, after}
 use Rattle.log_pairs.specs.Polling.{Fetched}
 use Rattle.mirrored_streams.specs.Line.{IsRunOf}
 use Rattle.term_log.specs.declared.ident.Ident.{Ident}
@@ -16,8 +15,13 @@ use Rattle.term_log.specs.Frames.{Frame, IsRun as AreSound}
 use Rattle.two_worlds.specs.Drivers.{Opening, is_quiet, numbered}
 use Rattle.two_worlds.specs.Polling.{Reads, polled_by}
 use Rattle.two_worlds.specs.Sent.{Datagram, IsOnlyLog, sent_by}
-use Rattle.two_worlds.specs.declared.world_step.WorldStep.{WorldStep}
-use Rattle.two_worlds.specs.declared.world_step.WorldStep.TheVariants.{Deliver, First, Second}
+
+-- a step of the first, a step of the second, or the delivery to the second of the datagram of that number, counted from 0,
+-- among those that the first sent so far, at a moment, by the registry of that number
+pub data WorldStep : Type 0 where
+  first_takes : Reading → WorldStep
+  second_takes : Reading → WorldStep
+  comes : ℕ → ℕ → Option ℕ → WorldStep
 
 pub record TwoEnds : Type 0 where
   pub first : RunEnd
@@ -31,9 +35,9 @@ coming from now view (Some datagram) = Some (record { view = view; step = Packet
 
 -- the step that the second takes: none by which anything comes, but for what the first sent
 abbrev pub step_of_second : TwoEnds → WorldStep → Option Reading
-step_of_second e (First reading) = None
-step_of_second e (Second reading) = if is_quiet reading.step then Some reading else None
-step_of_second e (Deliver sent now view) = coming e.first.driver.registry.settings.send_address now view (numbered sent e.sent)
+step_of_second e (first_takes reading) = None
+step_of_second e (second_takes reading) = if is_quiet reading.step then Some reading else None
+step_of_second e (comes sent now view) = coming e.first.driver.registry.settings.send_address now view (numbered sent e.sent)
 
 abbrev pub IsAnswerOfSecond : TwoEnds → Option Reading → Answer → Type 0
 IsAnswerOfSecond e None answer = answer ≡ BadStep
@@ -44,27 +48,12 @@ after_second e None answer = e
 after_second e (Some reading) answer = record e { second = after e.second reading answer }
 
 abbrev pub IsAnswerToBoth : TwoEnds → WorldStep → Answer → Type 0
-IsAnswerToBoth e (First reading) answer = IsAnswer e.first reading answer
+IsAnswerToBoth e (first_takes reading) answer = IsAnswer e.first reading answer
 IsAnswerToBoth e step answer = IsAnswerOfSecond e (step_of_second e step) answer
 
 abbrev pub after_both : TwoEnds → WorldStep → Answer → TwoEnds
-after_both e (First reading) answer = record e { first = after e.first reading answer; sent = e.sent ++ sent_by answer }
+after_both e (first_takes reading) answer = record e { first = after e.first reading answer; sent = e.sent ++ sent_by answer }
 after_both e step answer = after_second e (step_of_second e step) answer
-
--- what the first sends by a step, and by a list of them, in order
-abbrev pub sent_of : WorldStep → Answer → List Datagram
-sent_of (First reading) answer = sent_by answer
-sent_of step answer = []
-
-abbrev pub sent_of_all : List WorldStep → List Answer → List Datagram
-sent_of_all [] answers = []
-sent_of_all (step ∷ steps) [] = []
-sent_of_all (step ∷ steps) (answer ∷ answers) = sent_of step answer ++ sent_of_all steps answers
-
--- a datagram that was found, or the one of that number among those that are sent later
-abbrev pub found_or : Result Datagram ℕ → List Datagram → Option Datagram
-found_or (Ok datagram) later = Some datagram
-found_or (Err left) later = numbered left later
 
 -- the answers of a list of steps, each given where the ones before it left off; and where they leave off
 abbrev pub AreAnswersOfBoth : TwoEnds → List WorldStep → List Answer → Type 0
@@ -87,22 +76,6 @@ opening_both first second = record {
   sent = [];
 }
 
--- ---- where a run of both begins
-
--- the end of a run of a world, from its opening, in which no event was taken
-pub record IsFresh (opening : Opening) (e : RunEnd) : Type 0 where
-  pub readings : List Reading
-  pub answers : List Answer
-  pub are : AreAnswers (opening_end opening.settings opening.policy opening.peers) readings answers
-  pub is : e ≡ end_of (opening_end opening.settings opening.policy opening.peers) readings answers
-  pub none : newest_of e.past ≡ 0
-
--- of each of both, and nothing is sent yet
-pub record AreFresh (one other : Opening) (e : TwoEnds) : Type 0 where
-  pub first : IsFresh one e.first
-  pub second : IsFresh other e.second
-  pub sent : e.sent ≡ []
-
 -- ---- the promise
 
 -- at each end of a run
@@ -121,7 +94,7 @@ ReadsThere i source subscription e = Reads i source subscription e.second.driver
 
 -- what the second's polls give of a pair
 abbrev pub polled_of : ℕ → ℕ → WorldStep → Answer → List Fetched
-polled_of source subscription (Second reading) answer = polled_by source subscription reading.step answer
+polled_of source subscription (second_takes reading) answer = polled_by source subscription reading.step answer
 polled_of source subscription step answer = []
 
 abbrev pub polled_of_all : ℕ → ℕ → List WorldStep → List Answer → List Fetched
