@@ -2,6 +2,7 @@
 
 ghost use Rattle.media_driver.specs.Attaching.{AttachFails, Attaches};
 ghost use Rattle.media_driver.specs.declared.faults.AttachFault.TheVariants.{Full as IsFull};
+ghost use mathlib.Core.List.{IsPrefix};
 ghost use Rattle.std.specs.Prelude.{◌≡◌, ◌+◌, ◌-◌, ◌≤◌, ◌<◌, IfErr, IfOk, IsErrOf};
 
 use crate::asking::ask;
@@ -38,6 +39,7 @@ impl<N: DriverNaming, R: Threads + Wait, C: Clock + Copy> Driver<N, R, C> {
         requires room { self.old.out < 64 }
         requires ours { receipt.now.book ≡ N.book }
         ensures client { (result.number ≡ number) × (result.correlation ≡ 0) × (result.counted ≡ 0) }
+        ensures learned { IsPrefix receipt.now.entries result.known.entries }
         ensures out { self.new ≡ record self.old { out = self.old.out + 1 } }
     {
         let FreeSeat { place, seat } = self.kept.seats.take();
