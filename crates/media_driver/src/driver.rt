@@ -40,7 +40,7 @@ impl<N: DriverNaming, R: Threads + Wait, C: Clock> Model for Driver<N, R, C> {
 
     ghost view = { λ driver. record { out = driver.out; counted = driver.kept.ledgers.clients.amount; queue = driver.kept.queue } };
 
-    ghost invariant = { λ driver. (driver.kept.ledgers.clients.parts + driver.out ≡ 64) × (N.client_parts ≡ 64) × (driver.kept.seats + driver.out ≡ 64) };
+    ghost invariant = { λ driver. (driver.kept.ledgers.clients.parts + driver.out ≡ 65) × (N.client_parts ≡ 65) × (driver.kept.seats + driver.out ≡ 64) };
 }
 
 /// The conductor, before its first turn.
@@ -145,7 +145,7 @@ impl<
         requires ours { publisher.book ≡ N.book }
         requires sound { IsSound (registry_of publisher) }
         requires home { prepared.desks.arena.home ≡ N.home }
-        requires shares { (N.client_parts ≡ 64) × (prepared.kept.ledgers.clients.parts ≡ 64) × (prepared.kept.ledgers.clients.amount ≡ 0) }
+        requires shares { (N.client_parts ≡ 65) × (prepared.kept.ledgers.clients.parts ≡ 65) × (prepared.kept.ledgers.clients.amount ≡ 0) }
         requires queue { prepared.kept.queue.sent ≡ [] }
         requires seats { prepared.kept.seats ≡ 64 }
         ensures { IfOk result (λ driver. (driver.out ≡ 0) × (driver.counted ≡ 0) × (driver.queue.sent ≡ [])) }

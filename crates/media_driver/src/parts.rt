@@ -4,13 +4,13 @@ ghost use Rattle.driver_core.specs.Soundness.{AreSettings};
 ghost use Rattle.driver_core.specs.State.{opened};
 ghost use Rattle.media_driver.specs.Parts.{AreFresh};
 ghost use Rattle.published_registry.specs.Histories.{registry_of};
-ghost use Rattle.std.specs.Prelude.{◌≡◌, ◌<◌, ◌≤◌, ◌++◌, ◌∷◌, [], All, IfOk, length};
+ghost use Rattle.std.specs.Prelude.{◌≡◌, ◌+◌, ◌<◌, ◌≤◌, [], All, IfOk, length};
 
 use crate::faults::MakeFault;
 use command_queue::{Sender, Taker};
 use driver_core::{Event, Peer, Registry, Settings};
 use log_arena::Arena;
-use media_agents::EventSender;
+use media_agents::{DriverNaming, EventSender};
 use policy_core::Policy;
 use published_registry::{Pass, Publisher};
 use std::alloc::{AllocError, Global};
@@ -59,7 +59,8 @@ pub(crate) struct Hands {
     pub(crate) senders: Vec<Sender<Event>>,
 }
 
-/// The ledgers of messages, before they are opened.
+/// The ledgers of messages, before they are opened: a part for each client and one for the driver, which keeps what clients
+/// counted that came back; and a part for each slot.
 #[derive(Drop)]
 pub(crate) struct Blanks {
     pub(crate) clients: Blank,
@@ -87,14 +88,17 @@ impl Model for Parts {
     ghost invariant = { λ parts. IsSound (registry_of parts.publisher)
         × AreFresh parts.publisher.book parts.pieces.hands.passes.items parts.pieces.hands.senders.items
         × (length parts.pieces.hands.passes.items ≡ 66) × (length parts.pieces.hands.senders.items ≡ 66)
-        × (parts.pieces.blanks.clients.parts ≡ 64) × (parts.pieces.blanks.slots.parts ≡ 256) };
+        × (parts.pieces.blanks.clients.parts ≡ 65) × (parts.pieces.blanks.slots.parts ≡ 256) };
 }
 
 impl Hands {
     /// A pass that was not given yet.
-    pub(crate) fn pass(&mut self) -> Pass
-        requires { 0 < length self.old.passes.items }
-        ensures passes { self.old.passes.items ≡ self.new.passes.items ++ result ∷ [] }
+    pub(crate) fn pass<N: DriverNaming>(&mut self) -> Pass
+        requires fresh { AreFresh N.book self.old.passes.items self.old.senders.items }
+        requires passes { 0 < length self.old.passes.items }
+        ensures ours { result.book ≡ N.book }
+        ensures fresh { AreFresh N.book self.new.passes.items self.new.senders.items }
+        ensures passes { length self.new.passes.items + 1 ≡ length self.old.passes.items }
         ensures senders { self.new.senders ≡ self.old.senders }
     {
         match self.passes.pop() {
@@ -104,9 +108,12 @@ impl Hands {
     }
 
     /// An end of the queue that was not given yet.
-    pub(crate) fn sender(&mut self) -> EventSender
-        requires { 0 < length self.old.senders.items }
-        ensures senders { self.old.senders.items ≡ self.new.senders.items ++ result ∷ [] }
+    pub(crate) fn sender<N: DriverNaming>(&mut self) -> EventSender
+        requires fresh { AreFresh N.book self.old.passes.items self.old.senders.items }
+        requires senders { 0 < length self.old.senders.items }
+        ensures unsent { result.sent ≡ [] }
+        ensures fresh { AreFresh N.book self.new.passes.items self.new.senders.items }
+        ensures senders { length self.new.senders.items + 1 ≡ length self.old.senders.items }
         ensures passes { self.new.passes ≡ self.old.passes }
     {
         match self.senders.pop() {
@@ -119,6 +126,8 @@ impl Hands {
 /// The region for the logs, and the queue.
 fn make_store(alloc: Global, settings: Settings) -> Result<(Store, Vec<Sender<Event>>), AllocError>
     requires { AreSettings settings }
+    ensures unsent { IfOk result (λ made. All (λ sender. sender.sent ≡ []) made.1.items) }
+    ensures senders { IfOk result (λ made. length made.1.items ≡ 66) }
 {
     let arena = Arena::new(alloc, settings.arena_pages as usize)?;
     let (senders, taker) = command_queue::make(alloc, CLIENTS as usize + 2)?;
@@ -139,7 +148,7 @@ impl Parts {
     ) -> Result<Parts, MakeFault>
         requires { AreSettings settings }
         ensures opening { IfOk result (λ parts. parts.opening ≡ opened settings policy peers.now) }
-        ensures parts { IfOk result (λ parts. (parts.client_parts ≡ 64) × (parts.slot_parts ≡ 256)) }
+        ensures parts { IfOk result (λ parts. (parts.client_parts ≡ 65) × (parts.slot_parts ≡ 256)) }
     {
         let registry = Registry::new(alloc, settings, policy, peers)?;
         let (store, senders) = make_store(alloc, settings)?;
@@ -151,7 +160,7 @@ impl Parts {
                     store,
                     hands: Hands { passes, senders },
                     blanks: Blanks {
-                        clients: Blank::new(CLIENTS as u64),
+                        clients: Blank::new(CLIENTS as u64 + 1),
                         slots: Blank::new(PUBLICATIONS as u64),
                     },
                 },

@@ -60,7 +60,7 @@ fn make_sender<N: DriverNaming, G: Gate + Drop, W: Wire + Drop>(
 {
     let slots = Arc::try_clone(&common.slots)?;
     let gate = Arc::try_clone(gate)?;
-    let agent = SenderAgent::new(alloc, slots, gate, hands.pass(), local)?;
+    let agent = SenderAgent::new(alloc, slots, gate, hands.pass::<N>(), local)?;
     Ok(Ready {
         turns: Sending { agent, wire },
         stop: Arc::try_clone(&common.stop)?,
@@ -85,7 +85,14 @@ fn make_receiver<N: DriverNaming, G: Gate + Drop, W: Wire + Drop>(
 {
     let slots = Arc::try_clone(&common.slots)?;
     let gate = Arc::try_clone(gate)?;
-    let agent = ReceiverAgent::new(alloc, slots, gate, hands.pass(), hands.sender(), local)?;
+    let agent = ReceiverAgent::new(
+        alloc,
+        slots,
+        gate,
+        hands.pass::<N>(),
+        hands.sender::<N>(),
+        local,
+    )?;
     Ok(Ready {
         turns: Receiving { agent, wire },
         stop: Arc::try_clone(&common.stop)?,
@@ -144,7 +151,7 @@ fn keep<N: DriverNaming>(
     ensures seats { IfOk result (λ made. made.0.seats ≡ 64) }
 {
     let mut hands = hands;
-    let queue = hands.sender();
+    let queue = hands.sender::<N>();
     let (rings, seats) = make_seats(alloc, &mut hands)?;
     let Base { common, ledgers } = base;
     let kept = Kept {

@@ -99,8 +99,8 @@ fn make_seat<N: DriverNaming>(
     ensures senders { IfOk result (λ _. length hands.new.senders.items + 1 ≡ length hands.old.senders.items) }
 {
     let cache = Cache::new(alloc)?;
-    let pass = hands.pass();
-    let queue = hands.sender();
+    let pass = hands.pass::<N>();
+    let queue = hands.sender::<N>();
     Ok(Seat {
         pass,
         queue,

@@ -12,6 +12,14 @@ use std::sync::Wait;
 use std::sync::ledger::Share;
 use std::thread::Threads;
 
+/// The share of a client that is let go.
+fn share_of<N: DriverNaming, C: Clock + Drop>(client: Client<N, C>) -> Share<OfClients<N>>
+    ensures { (result.parts ≡ 1) × (result.amount ≡ client.counted) }
+{
+    let Client { share, .. } = client;
+    share
+}
+
 /// The shares of these clients join another one.
 fn settle_clients<N: DriverNaming, C: Clock + Drop>(
     clients: Vec<Client<N, C>>,
@@ -23,8 +31,7 @@ fn settle_clients<N: DriverNaming, C: Clock + Drop>(
     ensures amount { all.new.amount ≡ all.old.amount + sum_by (λ client. client.counted) clients.items }
 {
     for client in clients {
-        let Client { share, .. } = client;
-        all.merge(share);
+        all.merge(share_of(client));
     }
 }
 
