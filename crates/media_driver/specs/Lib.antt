@@ -1,0 +1,5 @@
+pub mod Attaching
+pub mod Clients
+pub mod Parts
+pub mod Reloading
+pub mod Steps
