@@ -2,11 +2,10 @@
 
 ghost use Rattle.driver_core.specs.Cached.{AreCached};
 ghost use Rattle.driver_steps.specs.declared.answer.Answer.TheVariants.{Gone};
-ghost use Rattle.driver_steps.specs.Moves.{for_source, poll_move};
 ghost use Rattle.media_driver.specs.Clients.{Looks};
-ghost use Rattle.media_driver.specs.Steps.{IsPoll, IsStep, poll_answer};
+ghost use Rattle.media_driver.specs.Steps.{IsGiving, IsPoll, IsStep, MayLack, poll_answer, poll_of};
 ghost use Rattle.published_registry.specs.Histories.{IsContinuedBy, registry_of};
-ghost use Rattle.std.specs.Prelude.{◌≡◌, Err, None, IfErr, IfOk, IfSome};
+ghost use Rattle.std.specs.Prelude.{◌≡◌, Err, None, IfErr, IfOk, IfSome, OnErr};
 
 use crate::client::Client;
 use crate::faults::PollFault;
@@ -50,10 +49,12 @@ fn poll_publication<N: DriverNaming, R: Wait>(
     requires right { AreCached (registry_of pass) cache.old }
     ensures known { IsContinuedBy pass result.0 }
     ensures right { AreCached (registry_of result.0) cache.new }
-    ensures step { IfSome result.1 (λ told. IfOk told (λ told. IsStep (for_source source (poll_move (registry_of result.0) client subscription limit)) Gone told.answer)) }
+    ensures step { IfSome result.1 (λ told. IfOk told (λ told. IsStep N.home (poll_of (registry_of result.0) client subscription source limit) Gone told.answer)) }
+    ensures memory { IfSome result.1 (λ told. OnErr told (IsGiving N.home (poll_of (registry_of result.0) client subscription source limit))) }
 {
     caches_stay_right_of_later_looks();
     let mut slot = slot.lock(rt);
+    slot.holds();
     match pass.enter() {
         Ok(look) => {
             let told = slot.poll(&look, cache, alloc, client, subscription, source, limit);
@@ -78,10 +79,12 @@ fn poll_image<N: DriverNaming, R: Wait>(
     requires right { AreCached (registry_of pass) cache.old }
     ensures known { IsContinuedBy pass result.0 }
     ensures right { AreCached (registry_of result.0) cache.new }
-    ensures step { IfSome result.1 (λ told. IfOk told (λ told. IsStep (for_source source (poll_move (registry_of result.0) client subscription limit)) Gone told.answer)) }
+    ensures step { IfSome result.1 (λ told. IfOk told (λ told. IsStep N.home (poll_of (registry_of result.0) client subscription source limit) Gone told.answer)) }
+    ensures memory { IfSome result.1 (λ told. OnErr told (IsGiving N.home (poll_of (registry_of result.0) client subscription source limit))) }
 {
     caches_stay_right_of_later_looks();
     let mut slot = slot.lock(rt);
+    slot.holds();
     match pass.enter() {
         Ok(look) => {
             let told = slot.poll(&look, cache, alloc, client, subscription, source, limit);
@@ -106,7 +109,8 @@ fn poll_once<N: DriverNaming, R: Wait>(
     requires right { AreCached (registry_of pass) cache.old }
     ensures known { IsContinuedBy pass result.0 }
     ensures right { AreCached (registry_of result.0) cache.new }
-    ensures step { IfSome result.1 (λ told. IfOk told (λ told. IsStep (for_source at.source (poll_move (registry_of result.0) client subscription limit)) Gone told.answer)) }
+    ensures step { IfSome result.1 (λ told. IfOk told (λ told. IsStep N.home (poll_of (registry_of result.0) client subscription at.source limit) Gone told.answer)) }
+    ensures memory { IfSome result.1 (λ told. OnErr told (IsGiving N.home (poll_of (registry_of result.0) client subscription at.source limit))) }
 {
     let place = at.slot as usize;
     if at.published {
@@ -181,7 +185,12 @@ impl<N: DriverNaming, C: Clock> Client<N, C> {
         }
     }
 
-    /// Polls the log of a source by a subscription of this client's: up to `limit` fragments from where it stands.
+    /// Polls the log of a source by a subscription of this client's: up to `limit` fragments from where it stands. It is one
+    /// look, if the client does not remember where that log is, and then one hold of the log's lock with one look within it.
+    ///
+    /// # Errors
+    /// The first that applies, by the registry of that look: `Gone`, `Denied`; `NoMemory`, only where there are fragments to
+    /// give; or `NoLook`, and then nothing is polled.
     pub fn poll<R: Wait>(
         &mut self,
         rt: &R,
@@ -190,7 +199,8 @@ impl<N: DriverNaming, C: Clock> Client<N, C> {
         limit: u32,
     ) -> Result<FragmentCopies, PollFault>
         ensures looks { Looks self.old self.new }
-        ensures step { IsPoll (registry_of self.new.known) self.old.number subscription source limit result }
+        ensures step { IsPoll N.home (registry_of self.new.known) self.old.number subscription source limit result }
+        ensures memory { IfErr result (λ fault. MayLack N.home (poll_of (registry_of self.new.known) self.old.number subscription source limit) fault) }
     {
         caches_stay_right_of_later_looks();
         let at = self.log_at(source)?;
