@@ -170,12 +170,10 @@ impl<N: DriverNaming, C: Clock> Client<N, C> {
             message,
         );
         self.pass = Some(pass);
-        match told {
-            Some(told) => {
-                self.moment = now;
-                position_of(&told)
-            }
-            None => Err(OfferFault::NoLook),
-        }
+        let Some(told) = told else {
+            return Err(OfferFault::NoLook);
+        };
+        self.moment = now;
+        position_of(&told)
     }
 }
