@@ -86,8 +86,9 @@ impl<N: DriverNaming, C: Clock> Client<N, C> {
         ensures { Learns receipt.now self.old self.new }
     {
         caches_stay_right_of_later_looks();
-        if let Some(pass) = &mut self.pass {
-            pass.learn(receipt);
-        }
+        let Some(pass) = &mut self.pass else {
+            unreachable!()
+        };
+        pass.learn(receipt);
     }
 }

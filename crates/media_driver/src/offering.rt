@@ -102,16 +102,20 @@ fn position_of(told: &Told) -> Result<u64, OfferFault>
     }
 }
 
+/// The log, with whose registration it is found.
+fn remembered(registration: u64, at: Option<LogAt>) -> Option<(u64, LogAt)> {
+    Some((registration, at?))
+}
+
 impl<N: DriverNaming, C: Clock> Client<N, C> {
-    /// Where the log of a registration is: it stays there for as long as the log is open.
-    fn log_of(&mut self, registration: u64) -> Result<LogAt, OfferFault>
-        ensures looks { Looks self.old self.new }
-        ensures fault { IfErr result (λ fault. offer_answer (Err fault) ≡ None) }
+    /// Where the log of a registration is: it stays there for as long as the log is open. `None` where there is no look.
+    fn log_of(&mut self, registration: u64) -> Option<Option<LogAt>>
+        ensures { Looks self.old self.new }
     {
         caches_stay_right_of_later_looks();
         if let Some((known, at)) = self.offered {
             if known == registration {
-                return Ok(at);
+                return Some(Some(at));
             }
         }
         let Some(pass) = self.pass.take() else {
@@ -119,14 +123,8 @@ impl<N: DriverNaming, C: Clock> Client<N, C> {
         };
         let (pass, found) = find(pass, self.number, registration);
         self.pass = Some(pass);
-        match found {
-            Some(Some(at)) => {
-                self.offered = Some((registration, at));
-                Ok(at)
-            }
-            Some(None) => Err(OfferFault::Closed),
-            None => Err(OfferFault::NoLook),
-        }
+        self.offered = remembered(registration, found.flatten());
+        found
     }
 
     /// Offers a message to the log of a publication of this client's, and gives the position after it. It is one look, if
@@ -149,7 +147,12 @@ impl<N: DriverNaming, C: Clock> Client<N, C> {
         ensures step { IsOffer N.home (registry_of self.new.known) self.new.moment self.old.number registration message.now result }
     {
         caches_stay_right_of_later_looks();
-        let at = self.log_of(registration)?;
+        let Some(found) = self.log_of(registration) else {
+            return Err(OfferFault::NoLook);
+        };
+        let Some(at) = found else {
+            return Err(OfferFault::Closed);
+        };
         let now = self.now();
         let Some(slot) = self.slots.publications.get(at.slot as usize) else {
             return Err(OfferFault::NoLook);

@@ -2,6 +2,8 @@
 
 ghost use Rattle.driver_core.specs.Cached.{AreCached};
 ghost use Rattle.driver_steps.specs.declared.answer.Answer.TheVariants.{Gone};
+ghost use Rattle.driver_steps.specs.Moves.{Move, WholeLog};
+ghost use Rattle.log_arena.specs.Homes.{Home};
 ghost use Rattle.media_driver.specs.Clients.{Looks};
 ghost use Rattle.media_driver.specs.Steps.{IsGiving, IsPoll, IsStep, MayLack, poll_answer, poll_of};
 ghost use Rattle.published_registry.specs.Histories.{IsContinuedBy, registry_of};
@@ -20,12 +22,16 @@ use std::sync::{Mutex, Wait};
 
 /// Where the log of a source is, by a look that decides nothing. `None` where there is no look.
 fn find(pass: Pass, source: u64) -> (Pass, Option<Option<LogAt>>)
-    ensures { IsContinuedBy pass result.0 }
+    ensures known { IsContinuedBy pass result.0 }
+    ensures source { IfSome result.1 (λ found. IfSome found (λ at. at.source ≡ source)) }
 {
     match pass.enter() {
         Ok(look) => {
             let at = match look.registry().source(source) {
-                Some(row) => Some(LogAt::of(row)),
+                Some(row) => Some(LogAt {
+                    source,
+                    ..LogAt::of(row)
+                }),
                 None => None,
             };
             (look.leave(), Some(at))
@@ -148,7 +154,8 @@ fn poll_once<N: DriverNaming, R: Wait>(
 
 /// What the answer of a step says.
 fn fragments_of(told: Told) -> Result<FragmentCopies, PollFault>
-    ensures { IfSome (poll_answer result) (λ answer. told.answer ≡ answer) }
+    ensures answer { IfSome (poll_answer result) (λ answer. told.answer ≡ answer) }
+    ensures memory { (home : Home) (move : WholeLog → Move) → IfErr result (λ fault. MayLack home move fault) }
 {
     match told.answer {
         Answer::Polled(fragments) => Ok(fragments),
@@ -158,16 +165,15 @@ fn fragments_of(told: Told) -> Result<FragmentCopies, PollFault>
 }
 
 impl<N: DriverNaming, C: Clock> Client<N, C> {
-    /// Where the log of a source is: it stays there for as long as the log is open.
-    fn log_at(&mut self, source: u64) -> Result<LogAt, PollFault>
+    /// Where the log of a source is: it stays there for as long as the log is open. `None` where there is no look.
+    fn log_at(&mut self, source: u64) -> Option<Option<LogAt>>
         ensures looks { Looks self.old self.new }
-        ensures source { IfOk result (λ at. at.source ≡ source) }
-        ensures fault { IfErr result (λ fault. poll_answer (Err fault) ≡ None) }
+        ensures source { IfSome result (λ found. IfSome found (λ at. at.source ≡ source)) }
     {
         caches_stay_right_of_later_looks();
         if let Some(at) = self.polled {
             if at.source == source {
-                return Ok(at);
+                return Some(Some(at));
             }
         }
         let Some(pass) = self.pass.take() else {
@@ -175,14 +181,8 @@ impl<N: DriverNaming, C: Clock> Client<N, C> {
         };
         let (pass, found) = find(pass, source);
         self.pass = Some(pass);
-        match found {
-            Some(Some(at)) => {
-                self.polled = Some(at);
-                Ok(at)
-            }
-            Some(None) => Err(PollFault::Gone),
-            None => Err(PollFault::NoLook),
-        }
+        self.polled = found.flatten();
+        found
     }
 
     /// Polls the log of a source by a subscription of this client's: up to `limit` fragments from where it stands. It is one
@@ -203,7 +203,12 @@ impl<N: DriverNaming, C: Clock> Client<N, C> {
         ensures memory { IfErr result (λ fault. MayLack N.home (poll_of (registry_of self.new.known) self.old.number subscription source limit) fault) }
     {
         caches_stay_right_of_later_looks();
-        let at = self.log_at(source)?;
+        let Some(found) = self.log_at(source) else {
+            return Err(PollFault::NoLook);
+        };
+        let Some(at) = found else {
+            return Err(PollFault::Gone);
+        };
         let Some(pass) = self.pass.take() else {
             unreachable!()
         };
@@ -219,10 +224,12 @@ impl<N: DriverNaming, C: Clock> Client<N, C> {
             limit,
         );
         self.pass = Some(pass);
-        match told {
-            Some(Ok(told)) => fragments_of(told),
-            Some(Err(_)) => Err(PollFault::NoMemory),
-            None => Err(PollFault::NoLook),
-        }
+        let Some(told) = told else {
+            return Err(PollFault::NoLook);
+        };
+        let Ok(told) = told else {
+            return Err(PollFault::NoMemory);
+        };
+        fragments_of(told)
     }
 }
