@@ -1,1 +1,3 @@
+pub mod MailLemmas
 pub mod OpeningLemmas
+pub mod PassLemmas

@@ -56,6 +56,7 @@ impl<N: DriverNaming, R: Threads + Wait, C: Clock + Copy> Driver<N, R, C> {
             number,
             place,
             correlation: 0,
+            moment: 0,
             pass: Some(pass),
             queue,
             mails,
