@@ -1,0 +1,93 @@
+//! A program with a driver of its own and clients of two owners: a gateway publishes prices, and a desk reads them until a
+//! policy says otherwise.
+#![tactic(auto)]
+
+ghost use Rattle.media_driver.specs.Parts.{AreNamed};
+
+mod sharing;
+
+use crate::sharing::{OPEN, policy, share};
+use driver_core::Settings;
+use media_driver::{Driver, DriverNaming, MachineClock, Parts};
+use media_wire::Udp;
+use std::marker::Brand;
+use std::net::Net;
+use std::process::ExitCode;
+use std::sync::Wait;
+use std::thread::Threads;
+use std::time;
+
+/// How many addresses the driver may read at once, with the one from which it sends.
+const SOCKETS: usize = 513;
+
+/// Starts the driver, lets its clients talk, and stops it. How many messages were taken is answered.
+fn serve<
+    N: DriverNaming + Send + Sync + 'static,
+    R: Threads
+        + Wait
+        + Net
+        + Print
+        + AllocGlobal
+        + time::Clock
+        + Copy
+        + Drop
+        + Send
+        + Sync
+        + 'static,
+>(rt: R, parts: Parts) -> Result<u64, &'static str>
+    requires { AreNamed N.home N.client_ledger N.client_parts N.slot_ledger N.slot_parts N.book parts }
+{
+    let Ok(wire) = Udp::new(rt.alloc(), rt, SOCKETS) else {
+        parts.end(&rt);
+        return Err("no memory");
+    };
+    let started: Result<Driver<N, R, MachineClock<R>>, _> = Driver::start(
+        rt,
+        rt.alloc(),
+        parts,
+        wire,
+        MachineClock::new(rt),
+    );
+    let Ok(mut driver) = started else {
+        return Err("no driver");
+    };
+    let mut clients = Vec::new(rt.alloc());
+    let shared = share(&rt, &mut driver, &mut clients);
+    let messages = driver.stop(clients);
+    shared?;
+    messages.ok_or("a client did not come back")
+}
+
+/// Makes the parts of the driver under the first policy, and serves.
+fn run<
+    R: Threads
+        + Wait
+        + Net
+        + Print
+        + AllocGlobal
+        + time::Clock
+        + Copy
+        + Drop
+        + Send
+        + Sync
+        + 'static,
+>(rt: R) -> Result<u64, &'static str> {
+    let policy = policy(rt.alloc(), OPEN)?;
+    match Parts::make(&rt, rt.alloc(), Settings::default(), policy, &[]) {
+        Ok(parts) => serve::<Brand, R>(rt, parts),
+        Err(_) => Err("no parts"),
+    }
+}
+
+fn main(rt: HostRuntime) -> ExitCode {
+    match run(rt) {
+        Ok(messages) => {
+            let _ = println!(rt; "messages: {messages}");
+            ExitCode::SUCCESS
+        }
+        Err(fault) => {
+            let _ = eprintln!(rt; "embedded_driver: {fault}");
+            ExitCode::FAILURE
+        }
+    }
+}

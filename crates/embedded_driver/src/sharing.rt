@@ -1,0 +1,126 @@
+//! What the two clients do.
+
+use driver_core::Reply;
+use media_driver::{Client, ClientReply, Clock, Driver, DriverNaming, PollFault};
+use policy_core::Policy;
+use std::alloc::Global;
+use std::sync::Wait;
+use std::thread;
+use std::thread::Threads;
+
+/// The first policy: p1 publishes, and p2 reads.
+pub(crate) const OPEN: &str = "
+version = 1
+default = \"deny\"
+[[rule]]
+name = \"the gateway publishes prices\"
+principal = \"p1\"
+act = [\"publish\", \"offer\"]
+channel = \"aeron:ipc\"
+stream = [1001, 1001]
+allow = true
+[[rule]]
+name = \"the desk reads them\"
+principal = \"p2\"
+act = [\"subscribe\", \"image\", \"receive\"]
+channel = \"aeron:ipc\"
+stream = [1001, 1001]
+allow = true
+";
+
+/// The second one: nobody receives.
+const SHUT: &str = "
+version = 1
+default = \"allow\"
+[[rule]]
+name = \"the market is closed\"
+principal = \"*\"
+act = \"receive\"
+channel = \"*\"
+allow = false
+";
+
+/// How often a reply or a message is looked for.
+const TRIES: u32 = 10_000_000;
+
+/// The policy that the text is, where principals are `nobody` and `p1` to `p63`.
+pub(crate) fn policy(alloc: Global, text: &str) -> Result<Policy, &'static str> {
+    let Ok(names) = policy_query::principals(alloc) else {
+        return Err("no memory");
+    };
+    policy_text::read(alloc, text, &names).map_err(|_| "no policy")
+}
+
+/// The registration that the next reply to the client gives.
+fn registration<N: DriverNaming, C: Clock>(client: &mut Client<N, C>) -> Result<u64, &'static str> {
+    for _ in 0..TRIES {
+        if let Some(mail) = client.next_mail() {
+            return match mail.reply() {
+                ClientReply::Of(
+                    Reply::SubscriptionReady { registration, .. }
+                    | Reply::PublicationReady { registration, .. },
+                ) => Ok(registration),
+                _ => Err("refused"),
+            };
+        }
+        thread::yield_now();
+    }
+    Err("no reply")
+}
+
+/// What the client's next poll answers: how many bytes came, or the verdict that denies it.
+fn polled<N: DriverNaming, C: Clock, R: Wait + Print>(
+    rt: &R,
+    client: &mut Client<N, C>,
+    subscription: u64,
+    source: u64,
+) -> Result<(), &'static str> {
+    match client.poll(rt, subscription, source, 10) {
+        Ok(fragments) => {
+            for fragment in fragments.iter() {
+                let Ok(text) = str::from_utf8(fragment.payload) else {
+                    return Err("no text");
+                };
+                println!(rt; "the desk reads: {text}").map_err(|_| "no output")?;
+            }
+            Ok(())
+        }
+        Err(PollFault::Denied(verdict)) => println!(rt; "the desk is {verdict}").map_err(
+            |_| "no output",
+        ),
+        Err(_) => Err("no poll"),
+    }
+}
+
+/// Two owners share the driver. Their clients come back in the list.
+pub(crate) fn share<
+    N: DriverNaming + Send + Sync + 'static,
+    R: Threads + Wait + Print + Copy + Drop + Send + Sync + 'static,
+    C: Clock + Copy + Drop + Send + 'static,
+>(
+    rt: &R,
+    driver: &mut Driver<N, R, C>,
+    clients: &mut Vec<Client<N, C>>,
+) -> Result<(), &'static str> {
+    let mut gateway = driver.client(1).map_err(|_| "no client")?;
+    let mut desk = driver.client(2).map_err(|_| "no client")?;
+    desk.add_subscription(rt, "aeron:ipc", 1001)
+        .map_err(|_| "not asked")?;
+    let subscription = registration(&mut desk)?;
+    gateway
+        .add_publication(rt, "aeron:ipc", 1001)
+        .map_err(|_| "not asked")?;
+    let publication = registration(&mut gateway)?;
+    gateway
+        .offer(rt, publication, b"bid 99")
+        .map_err(|_| "not taken")?;
+    polled(rt, &mut desk, subscription, publication)?;
+
+    let receipt = driver.reload(SHUT).map_err(|_| "no reload")?;
+    desk.learn(&receipt);
+    polled(rt, &mut desk, subscription, publication)?;
+
+    clients.push(gateway).map_err(|_| "no memory")?;
+    clients.push(desk).map_err(|_| "no memory")?;
+    Ok(())
+}
