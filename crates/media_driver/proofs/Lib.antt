@@ -1,1 +1,2 @@
+pub mod AttachLemmas
 pub mod OpeningLemmas
