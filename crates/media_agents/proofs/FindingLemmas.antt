@@ -1,13 +1,11 @@
 -- Lists of logs and addresses, row by row.
 use Rattle.std.proofs.Common.{◌≡◌, ◌+◌, ◌<◌, ◌≤◌, ◌⊎◌, ℕ, Bool, true, false, List, [], ◌∷◌, ◌++◌, All, Option, Some, None, ap, append_assoc, arith, cond, filter, get_or, inl, inr, length, map, refl, rules, subst, sym, take, ◌∙◌, length-append}
-use Rattle.std.proofs.lemmas.List.{append-nil, length-take, length-take-le, map-append, take-append-le, take_all, take_more}
+use Rattle.std.proofs.lemmas.List.{append-nil, length-take-le, map-append, take-append-le, take_all, take_more}
 use Rattle.std.proofs.lemmas.Bool.{cases_lt}
 use Rattle.std.proofs.lemmas.List.Elements.{All-append, All-cons, All-head, All-nil, All-tail, Contains-append_left, Contains-append_right, filter-append, filter_map-append}
-use Rattle.std.specs.Prelude.{Contains, filter_map}
+use Rattle.std.specs.Prelude.{Contains}
 use Rattle.channel_uri.specs.declared.address.Address.{Address}
-use Rattle.media_agents.specs.Finding.{Adds, AddsIf, AreNamed, endpoint_in, log_at, named_by}
-use Rattle.media_agents.specs.declared.slots.LogAt.{LogAt}
-use Rattle.stream_registry.specs.declared.row.Source.{Source}
+use Rattle.media_agents.specs.Finding.{Adds, AddsIf, AreNamed, endpoint_in, named_by}
 use Rattle.stream_registry.specs.declared.row.Subscription.{Subscription}
 
 -- ---- logs
