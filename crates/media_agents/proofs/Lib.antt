@@ -1,3 +1,4 @@
+pub mod AskingLemmas
 pub mod FindingLemmas
 pub mod LookLemmas
 pub mod RowLemmas

@@ -1,5 +1,5 @@
 -- What a turn does to the wire, call by call.
-use Rattle.std.proofs.Common.{◌≡◌, ℕ, ◌+◌, ◌<◌, Bool, true, false, List, [], ◌∷◌, ◌++◌, ◌⊎◌, inl, inr, refl, sym, ap, subst, ◌∙◌, append_assoc, add-zero, add_assoc, add_comm, arith, get_or, length, take, filter, map, All, cond, rules}
+use Rattle.std.proofs.Common.{◌≡◌, ℕ, ◌+◌, ◌<◌, Bool, true, false, List, [], ◌∷◌, ◌++◌, ◌⊎◌, inl, inr, refl, sym, ap, subst, ◌∙◌, append_assoc, arith, get_or, length, take, filter, map, All, cond, rules}
 use Rattle.std.proofs.lemmas.List.{append-nil, map-append, take_more}
 use Rattle.std.proofs.lemmas.List.Elements.{All-append, All-cons, All-head, All-map, All-nil, All-tail, Contains-append_right, filter-append}
 use Rattle.channel_uri.specs.declared.address.Address.{Address}
@@ -15,7 +15,7 @@ use Rattle.media_wire.specs.Letters.{letter}
 use Rattle.media_wire.specs.declared.letter.Letter.{Letter}
 use Rattle.media_wire.specs.declared.wire.WireFault.{WireFault}
 use Rattle.std.specs.Prelude.{◌≤◌, Contains, None, Result, Ok, Err, Some}
-use Rattle.media_agents.specs.Traffic.{AreSentFrom, AreTried, Ends, GoesOn, IsAt, IsReadAt, IsReading, IsSentFrom, IsSetUp, IsTried, ReadsEach, ReadsOut, Receives, Sends, SetsUp, is_allowed, letters_of, letters_out, letters_to, reads}
+use Rattle.media_agents.specs.Traffic.{AreSentFrom, AreTried, GoesOn, IsAt, IsReadAt, IsReading, IsSentFrom, IsSetUp, IsTried, ReadsEach, ReadsOut, Receives, Sends, SetsUp, is_allowed, letters_of, letters_out, letters_to, reads}
 
 -- what was done first, and what was done then
 pub goes_on : (First Then Whole : List Event → Type 0) (old between new : List Event → Type 0)

@@ -1,27 +1,30 @@
 -- A turn goes on by one event more.
-use Rattle.std.proofs.Common.{◌≡◌, ℕ, ◌+◌, ◌≤◌, List, [], ◌∷◌, ◌++◌, append_assoc, append-nil, length, refl, sym, ap, subst, inr, ◌∙◌}
+use Rattle.std.proofs.Common.{◌≡◌, ℕ, ◌+◌, ◌≤◌, ◌⊎◌, List, [], ◌∷◌, ◌++◌, append_assoc, append-nil, arith, length, refl, sym, ap, subst, inl, inr, ◌∙◌}
 use Rattle.std.proofs.lemmas.List.{map-append}
 use Rattle.command_queue.specs.Facts.{Fits}
 use Rattle.command_queue.specs.declared.known.Facts.{Facts}
 use Rattle.command_queue.specs.declared.letter.Letter.{Letter}
 use Rattle.command_queue.specs.Taken.{Taken}
-use Rattle.media_agents.specs.Turns.{made, missed, Served, Takes, Turned, TakesAll, events_of}
+use Rattle.media_agents.specs.Turns.{made, missed, Enough, HasRoom, IsAtLast, Served, Takes, Turned, TakesAll, events_of}
 
 module _ {E : Type 0} where
-  pub served_made : (events entries : List E) (misses : ℕ) (event : E) → Served events entries misses → Served (events ++ event ∷ []) (entries ++ event ∷ []) misses
-  served_made [] entries misses event served =
-      subst (λ (es : List E). Served (event ∷ []) (es ++ event ∷ []) misses) (sym served.0) (made [] refl (refl, served.1))
-  served_made (first ∷ events) entries misses event (made rest is served) =
-      made (rest ++ event ∷ []) (ap (λ (es : List E). es ++ event ∷ []) is) (served_made events rest misses event served)
-  served_made (first ∷ events) entries misses event (missed fewer is served) =
-      missed fewer is (served_made events entries fewer event served)
+  pub served_made : (events before there after : List E) (misses : ℕ) (event : E) → HasRoom there → after ≡ there ++ event ∷ [] →
+      Served events there before misses → Served (events ++ event ∷ []) after before misses
+  served_made [] before there after misses event room is served =
+      made (subst HasRoom served.0 room) (is ∙ ap (λ (es : List E). es ++ event ∷ []) served.0, served.1)
+  served_made (first ∷ events) before there after misses event room is (made free rest) =
+      made free (served_made events (before ++ first ∷ []) there after misses event room is rest)
+  served_made (first ∷ events) before there after misses event room is (missed free fewer so rest) =
+      missed free fewer so (served_made events before there after fewer event room is rest)
 
-  pub served_missed : (events entries : List E) (misses : ℕ) (event : E) → Served events entries misses → Served (events ++ event ∷ []) entries (misses + 1)
-  served_missed [] entries misses event served = missed misses refl served
-  served_missed (first ∷ events) entries misses event (made rest is served) =
-      made rest is (served_missed events rest misses event served)
-  served_missed (first ∷ events) entries misses event (missed fewer is served) =
-      missed (fewer + 1) (ap (λ n. n + 1) is) (served_missed events entries fewer event served)
+  pub served_missed : (events before there after : List E) (misses : ℕ) (event : E) → HasRoom there → after ≡ there →
+      Served events there before misses → Served (events ++ event ∷ []) after before (misses + 1)
+  served_missed [] before there after misses event room is served =
+      missed (subst HasRoom served.0 room) misses refl (is ∙ served.0, served.1)
+  served_missed (first ∷ events) before there after misses event room is (made free rest) =
+      made free (served_missed events (before ++ first ∷ []) there after misses event room is rest)
+  served_missed (first ∷ events) before there after misses event room is (missed free fewer so rest) =
+      missed free (fewer + 1) (ap (λ n. n + 1) so) (served_missed events before there after fewer event room is rest)
 
   events_more : (letters : List (Letter E)) (letter : Letter E) → events_of (letters ++ letter ∷ []) ≡ events_of letters ++ letter.event ∷ []
   events_more letters letter = map-append (λ (l : Letter E). l.event) letters (letter ∷ [])
@@ -35,54 +38,63 @@ module _ {E : Type 0} where
   pub takes_none : (old : Taken E) (before : List E) → Takes old old [] before before 0
   takes_none old before = record {
     taker = ap (λ (ls : List (Letter E)). let u : Taken E = record old { taken = ls } in u) (sym (append-nil old.taken));
-    entries = [];
-    history = sym (append-nil before);
     served = (refl, refl);
   }
 
   pub takes_made : (old now new : Taken E) (letters : List (Letter E)) (letter : Letter E) (before there after : List E) (misses : ℕ) →
-      Takes old now letters before there misses → new ≡ record now { taken = now.taken ++ letter ∷ [] } → after ≡ there ++ letter.event ∷ [] →
+      HasRoom there → Takes old now letters before there misses → new ≡ record now { taken = now.taken ++ letter ∷ [] } → after ≡ there ++ letter.event ∷ [] →
       Takes old new (letters ++ letter ∷ []) before after misses
-  takes_made old now new letters letter before there after misses takes next is = record {
+  takes_made old now new letters letter before there after misses room takes next is = record {
     taker = more_taken old now new letters letter takes.taker next;
-    entries = takes.entries ++ letter.event ∷ [];
-    history = is ∙ ap (λ (es : List E). es ++ letter.event ∷ []) takes.history ∙ append_assoc before takes.entries (letter.event ∷ []);
-    served = subst (λ (es : List E). Served es (takes.entries ++ letter.event ∷ []) misses) (sym (events_more letters letter))
-        (served_made (events_of letters) takes.entries misses letter.event takes.served);
+    served = subst (λ (es : List E). Served es after before misses) (sym (events_more letters letter))
+        (served_made (events_of letters) before there after misses letter.event room is takes.served);
   }
 
   pub takes_missed : (old now new : Taken E) (letters : List (Letter E)) (letter : Letter E) (before there after : List E) (misses : ℕ) →
-      Takes old now letters before there misses → new ≡ record now { taken = now.taken ++ letter ∷ [] } → after ≡ there →
+      HasRoom there → Takes old now letters before there misses → new ≡ record now { taken = now.taken ++ letter ∷ [] } → after ≡ there →
       Takes old new (letters ++ letter ∷ []) before after (misses + 1)
-  takes_missed old now new letters letter before there after misses takes next is = record {
+  takes_missed old now new letters letter before there after misses room takes next is = record {
     taker = more_taken old now new letters letter takes.taker next;
-    entries = takes.entries;
-    history = is ∙ takes.history;
-    served = subst (λ (es : List E). Served es takes.entries (misses + 1)) (sym (events_more letters letter))
-        (served_missed (events_of letters) takes.entries misses letter.event takes.served);
+    served = subst (λ (es : List E). Served es after before (misses + 1)) (sym (events_more letters letter))
+        (served_missed (events_of letters) before there after misses letter.event room is takes.served);
   }
+
+  ticked : (old : Taken E) (letters : List (Letter E)) (facts : Facts E) (tick : E) (before there after : List E) (misses : ℕ) → HasRoom there →
+      Enough old letters facts ⊎ IsAtLast there → Served (events_of letters ++ tick ∷ []) after before misses →
+      (Enough old letters facts × Served (events_of letters ++ tick ∷ []) after before misses)
+      ⊎ (IsAtLast after × Served (events_of letters) after before misses)
+  ticked old letters facts tick before there after misses room (inl enough) served = inl (enough, served)
+  ticked old letters facts tick before there after misses room (inr last) served = absurd (last_has_none there room last)
+    where
+      last_has_none : (history : List E) → HasRoom history → IsAtLast history → ⊥
+      last_has_none history free last = omega (arith, free, last)
 
   -- and then the tick
-  pub turned_made : (old new : Taken E) (facts : Facts E) (tick : E) (before there after : List E) (misses : ℕ) → TakesAll old new facts before there misses →
-      after ≡ there ++ tick ∷ [] → Turned old new facts tick before after misses
-  turned_made old new facts tick before there after misses all is = record {
+  pub turned_made : (old new : Taken E) (facts : Facts E) (tick : E) (before there after : List E) (misses : ℕ) → HasRoom there →
+      TakesAll old new facts before there misses → after ≡ there ++ tick ∷ [] → Turned old new facts tick before after misses
+  turned_made old new facts tick before there after misses room all is = record {
     letters = all.letters;
     taker = all.takes.taker;
-    enough = all.enough;
-    entries = all.takes.entries ++ tick ∷ [];
-    history = is ∙ ap (λ (es : List E). es ++ tick ∷ []) all.takes.history ∙ append_assoc before all.takes.entries (tick ∷ []);
-    served = served_made (events_of all.letters) all.takes.entries misses tick all.takes.served;
+    served = ticked old all.letters facts tick before there after misses room all.enough
+        (served_made (events_of all.letters) before there after misses tick room is all.takes.served);
   }
 
-  pub turned_missed : (old new : Taken E) (facts : Facts E) (tick : E) (before there after : List E) (misses : ℕ) → TakesAll old new facts before there misses →
-      after ≡ there → Turned old new facts tick before after (misses + 1)
-  turned_missed old new facts tick before there after misses all is = record {
+  pub turned_missed : (old new : Taken E) (facts : Facts E) (tick : E) (before there after : List E) (misses : ℕ) → HasRoom there →
+      TakesAll old new facts before there misses → after ≡ there → Turned old new facts tick before after (misses + 1)
+  turned_missed old new facts tick before there after misses room all is = record {
     letters = all.letters;
     taker = all.takes.taker;
-    enough = all.enough;
-    entries = all.takes.entries;
-    history = is ∙ all.takes.history;
-    served = served_missed (events_of all.letters) all.takes.entries misses tick all.takes.served;
+    served = ticked old all.letters facts tick before there after (misses + 1) room all.enough
+        (served_missed (events_of all.letters) before there after misses tick room is all.takes.served);
+  }
+
+  -- or the tick is left, since there is no number for it
+  pub turned_full : (old new : Taken E) (facts : Facts E) (tick : E) (before after : List E) (misses : ℕ) → IsAtLast after →
+      TakesAll old new facts before after misses → Turned old new facts tick before after misses
+  turned_full old new facts tick before after misses last all = record {
+    letters = all.letters;
+    taker = all.takes.taker;
+    served = inr (last, all.takes.served);
   }
 
   -- a turn as far as it went: so many events were taken
@@ -102,5 +114,14 @@ module _ {E : Type 0} where
   all_taken old now before after misses count facts facts' going is fits = record {
     letters = going.letters;
     takes = going.takes;
-    enough = inr (subst (λ (f : Facts E). Fits (old.taken ++ going.letters) [] f) is (subst (λ (t : Taken E). Fits t.taken [] facts') going.takes.taker fits));
+    enough = inl (inr (subst (λ (f : Facts E). Fits (old.taken ++ going.letters) [] f) is (subst (λ (t : Taken E). Fits t.taken [] facts') going.takes.taker fits)));
+  }
+
+  -- there is no number left
+  pub taken_to_last : (old now : Taken E) (before after : List E) (misses count : ℕ) (facts : Facts E) → Going old now before after misses count
+      → IsAtLast after → TakesAll old now facts before after misses
+  taken_to_last old now before after misses count facts going last = record {
+    letters = going.letters;
+    takes = going.takes;
+    enough = inr last;
   }

@@ -1,4 +1,6 @@
 pub mod Agents
+pub mod Asking
+pub mod Desks
 pub mod Finding
 pub mod Mails
 pub mod Passing

@@ -1,5 +1,5 @@
 -- A turn of the conductor: which events it took, and which entries it made of them. Own rules.
-use Rattle.std.specs.Prelude.{◌≡◌, ℕ, ◌+◌, ◌⊎◌, List, [], ◌∷◌, ◌++◌, length, map}
+use Rattle.std.specs.Prelude.{◌≡◌, ℕ, ◌+◌, ◌-◌, ◌<◌, ◌^◌, ◌⊎◌, List, [], ◌∷◌, ◌++◌, length, map}
 use Rattle.command_queue.specs.declared.known.Facts.{Facts}
 use Rattle.command_queue.specs.declared.letter.Letter.{Letter}
 use Rattle.command_queue.specs.Facts.{Fits}
@@ -19,15 +19,24 @@ pub record Conducting : Type 0 where
   pub history : History
 
 module _ {E : Type 0} where
-  -- an entry was made of the event, or none, as one of so many that were refused memory
-  pub data OneServed (event : E) (entries : List E) (misses : ℕ) (Rest : List E → ℕ → Type 0) : Type 0 where
-    made : (rest : List E) → entries ≡ event ∷ rest → Rest rest misses → OneServed event entries misses Rest
-    missed : (fewer : ℕ) → misses ≡ fewer + 1 → Rest entries fewer → OneServed event entries misses Rest
+  -- the history has a number left for one entry more
+  abbrev pub HasRoom : List E → Type 0
+  HasRoom history = length history + 1 < 2 ^ 64
 
-  -- of these events entries were made, each once and in order, but for so many that were refused memory
-  abbrev pub Served : List E → List E → ℕ → Type 0
-  Served [] entries misses = (entries ≡ []) × (misses ≡ 0)
-  Served (event ∷ events) entries misses = OneServed event entries misses (Served events)
+  -- the history is at the last number, and no entry comes any more
+  abbrev pub IsAtLast : List E → Type 0
+  IsAtLast history = length history ≡ 2 ^ 64 - 1
+
+  -- while the history had a number left an entry was made of the event, or none, as one of so many that were refused memory
+  pub data OneServed (event : E) (before : List E) (misses : ℕ) (Rest : List E → ℕ → Type 0) : Type 0 where
+    made : HasRoom before → Rest (before ++ event ∷ []) misses → OneServed event before misses Rest
+    missed : HasRoom before → (fewer : ℕ) → misses ≡ fewer + 1 → Rest before fewer → OneServed event before misses Rest
+
+  -- of these events entries were made, each once and in order, but for so many that were refused memory; none of these events
+  -- came once the history was at its last number
+  abbrev pub Served : List E → List E → List E → ℕ → Type 0
+  Served [] after before misses = (after ≡ before) × (misses ≡ 0)
+  Served (event ∷ events) after before misses = OneServed event before misses (Served events after)
 
   abbrev pub events_of : List (Letter E) → List E
   events_of letters = map (λ letter. letter.event) letters
@@ -39,21 +48,18 @@ module _ {E : Type 0} where
   -- these events were taken, and entries made of them, but for so many
   pub record Takes (old new : Taken E) (letters : List (Letter E)) (before after : List E) (misses : ℕ) : Type 0 where
     pub taker : new ≡ record old { taken = old.taken ++ letters }
-    pub entries : List E
-    pub history : after ≡ before ++ entries
-    pub served : Served (events_of letters) entries misses
+    pub served : Served (events_of letters) after before misses
 
-  -- so were all that a turn takes
+  -- so were all that a turn takes, or all that the history has numbers for
   pub record TakesAll (old new : Taken E) (facts : Facts E) (before after : List E) (misses : ℕ) : Type 0 where
     pub letters : List (Letter E)
     pub takes : Takes old new letters before after misses
-    pub enough : Enough old letters facts
+    pub enough : Enough old letters facts ⊎ IsAtLast after
 
-  -- The events that a turn took from the queue, and then its tick, are in the history, in order, but for as many as it says.
+  -- Events were taken from the queue. All that a turn takes and then its tick are in the history, in order, but for as many as
+  -- it says; or the history is at its last number, and neither an event nor the tick was taken any more.
   pub record Turned (old new : Taken E) (facts : Facts E) (tick : E) (before after : List E) (misses : ℕ) : Type 0 where
     pub letters : List (Letter E)
     pub taker : new ≡ record old { taken = old.taken ++ letters }
-    pub enough : Enough old letters facts
-    pub entries : List E
-    pub history : after ≡ before ++ entries
-    pub served : Served (events_of letters ++ tick ∷ []) entries misses
+    pub served : (Enough old letters facts × Served (events_of letters ++ tick ∷ []) after before misses)
+        ⊎ (IsAtLast after × Served (events_of letters) after before misses)

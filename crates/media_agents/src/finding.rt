@@ -4,7 +4,7 @@ ghost use Rattle.media_agents.specs.Finding.{AreEndpoints, images_of, publicatio
 ghost use Rattle.published_registry.specs.Histories.{IsContinuedBy, registry_of};
 ghost use Rattle.std.specs.Prelude.{◌≡◌, ◌⊎◌, []};
 
-use crate::listing::{list_endpoints, list_images, list_publications, log_at};
+use crate::listing::{list_endpoints, list_images, list_publications};
 use crate::slots::LogAt;
 use channel_uri::Address;
 use driver_core::{Registry, View};
@@ -53,7 +53,7 @@ fn log_of(
 ) -> Option<LogAt> {
     let source = source_of(registry, local, from, packet)?;
     let row = registry.source(source)?;
-    Some(log_at(row))
+    Some(LogAt::of(row))
 }
 
 /// Where the log is that a datagram is for which came to the address `local`, from the address `from`, by a look.

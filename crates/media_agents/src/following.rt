@@ -1,11 +1,12 @@
 //! The logs follow an entry: one may open before anybody is shown the registry that has it, pairs go and logs close after.
 
 ghost use Rattle.driver_core.specs.Soundness.{AreSizes, BeginsSoundly, IsSound};
-ghost use Rattle.std.specs.Prelude.{IfSome};
+ghost use Rattle.media_agents.specs.Asking.{IsClosed, IsRowClosed, Settles};
+ghost use Rattle.std.specs.Prelude.{All, IfSome};
 
 use crate::aftermath::Aftermath;
 use crate::pairing::settle;
-use crate::slots::{LogAt, Slots};
+use crate::slots::{LogAt, Logs, Slots};
 use driver_core::Registry;
 use log_slots::{LogMemory, Naming, Region, open_log};
 use rows::Rows;
@@ -66,43 +67,49 @@ pub(crate) fn open_next<N: Naming, R: Wait>(
 }
 
 /// The logs close: their pages are free again.
-fn close_all<N: Naming, R: Wait>(
+fn close_all<N: Naming, L: Logs<N>, R: Wait>(
     rt: &R,
     region: &mut Region<N>,
-    slots: &Slots<N>,
+    logs: &L,
     closes: &[LogAt],
-) {
+)
+    ensures { All (IsClosed (L.held logs.now)) closes.now }
+{
     for at in closes {
-        if let Some(log) = slots.close(rt, *at) {
+        if let Some(log) = logs.close(rt, *at) {
             region.close(log);
         }
     }
 }
 
 /// Once an entry is shown: the pairs go that it takes away, and then the logs close.
-pub(crate) fn follow<N: Naming, R: Wait>(
+pub(crate) fn follow<N: Naming, L: Logs<N>, R: Wait>(
     rt: &R,
     region: &mut Region<N>,
-    slots: &Slots<N>,
+    logs: &L,
     registry: &Registry,
     room: &mut Rows<u64, 512>,
     aftermath: &Aftermath,
 )
     requires { IsSound registry.now }
+    ensures gone { All (Settles (L.held logs.now) registry.now) aftermath.now.gone }
+    ensures closed { All (IsClosed (L.held logs.now)) aftermath.now.closes }
 {
-    settle(rt, slots, registry, room, aftermath.gone.as_slice());
-    close_all(rt, region, slots, aftermath.closes.as_slice());
+    settle(rt, logs, registry, room, aftermath.gone.as_slice());
+    close_all(rt, region, logs, aftermath.closes.as_slice());
 }
 
 /// Once the driver has ended: each log that the registry has closes.
-pub(crate) fn close_live<N: Naming, R: Wait>(
+pub(crate) fn close_live<N: Naming, L: Logs<N>, R: Wait>(
     rt: &R,
     region: &mut Region<N>,
-    slots: &Slots<N>,
+    logs: &L,
     registry: &Registry,
-) {
+)
+    ensures { All (IsRowClosed (L.held logs.now)) registry.now.streams.sources }
+{
     for row in registry.sources() {
-        if let Some(log) = slots.close(rt, LogAt::of(row)) {
+        if let Some(log) = logs.close(rt, LogAt::of(row)) {
             region.close(log);
         }
     }

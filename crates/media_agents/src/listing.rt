@@ -11,25 +11,14 @@ use driver_core::Registry;
 use rows::Rows;
 use stream_registry::{Source, Subscription};
 
-/// Where the log of a row is.
-pub(crate) fn log_at(row: &Source) -> LogAt
-    ensures { result ≡ log_at row.now }
+/// Puts one behind the others, where there is room.
+pub(crate) fn add<T: Drop, const N: usize>(rows: &mut Rows<T, N>, one: T)
+    ensures { rows.new ≡ take N (rows.old ++ one ∷ []) }
 {
-    LogAt {
-        source: row.number,
-        published: row.is_published(),
-        slot: row.slot,
-    }
-}
-
-/// Puts a log behind the others, where there is room.
-fn add<const N: usize>(logs: &mut Rows<LogAt, N>, at: LogAt)
-    ensures { logs.new ≡ take N (logs.old ++ at ∷ []) }
-{
-    if logs.len() >= N {
+    if rows.len() >= N {
         return;
     }
-    logs.push(at);
+    rows.push(one);
 }
 
 /// The log of a row joins the others, if it is that of a publication over datagrams.
@@ -37,7 +26,7 @@ fn add_publication(row: &Source, logs: &mut Rows<LogAt, 256>)
     ensures { logs.new ≡ (if is_sent row.now then take 256 (logs.old ++ log_at row.now ∷ []) else logs.old) }
 {
     if row.is_published() && row.channel.media() == Media::Udp {
-        add(logs, log_at(row));
+        add(logs, LogAt::of(row));
     }
 }
 
@@ -46,7 +35,7 @@ fn add_image(row: &Source, logs: &mut Rows<LogAt, 512>)
     ensures { logs.new ≡ (if is_remote row.now then take 512 (logs.old ++ log_at row.now ∷ []) else logs.old) }
 {
     if !row.is_published() {
-        add(logs, log_at(row));
+        add(logs, LogAt::of(row));
     }
 }
 

@@ -2,13 +2,14 @@
 
 ghost use Rattle.driver_core.specs.Conduct.{outcome_of, state_after};
 ghost use Rattle.driver_core.specs.Soundness.{IsSound};
+ghost use Rattle.media_agents.specs.Asking.{AreSilent, Gathers, Joins};
 ghost use Rattle.published_registry.specs.Histories.{IsPlannedOn};
-ghost use Rattle.std.specs.Prelude.{◌≡◌, IfOk};
+ghost use Rattle.std.specs.Prelude.{◌≡◌, [], IfOk};
 
 use crate::aftermath::Aftermath;
 use crate::pairing::join;
 use crate::silence::silent_of;
-use crate::slots::Slots;
+use crate::slots::Logs;
 use byte_strings::Items;
 use driver_core::{End, Entry, Event, Inputs, Registry};
 use log_slots::{LogMemory, Naming, memory_for};
@@ -36,6 +37,7 @@ fn plan_at(
     ensures planned { IfOk result (λ entry. IsPlannedOn registry.now entry) }
     ensures sound { IfOk result (λ entry. IsSound registry.now → IsSound (state_after registry.now entry.event entry.inputs)) }
     ensures event_is { IfOk result (λ entry. entry.event ≡ event.now) }
+    ensures inputs { IfOk result (λ entry. entry.inputs ≡ record { silent = silent.now; ends = ends }) }
 {
     let inputs = Inputs {
         silent: Items::from(Vec::from_slice(alloc, silent)?),
@@ -75,6 +77,7 @@ fn plan_with(
     ensures planned { IfOk result (λ ready. IsPlannedOn registry.now ready.entry) }
     ensures sound { IfOk result (λ ready. IsSound registry.now → IsSound (state_after registry.now ready.entry.event ready.entry.inputs)) }
     ensures event_is { IfOk result (λ ready. ready.entry.event ≡ event.now) }
+    ensures inputs { IfOk result (λ ready. ready.entry.inputs ≡ record { silent = silent.now; ends = ends }) }
     ensures replies { IfOk result (λ ready. ready.aftermath.replies ≡ ready.entry.outcome.replies) }
 {
     let entry = plan_at(alloc, registry, event, silent, ends)?;
@@ -83,7 +86,9 @@ fn plan_with(
 }
 
 /// The pairs that come with an entry.
-fn pairs_of(alloc: Global, entry: &Entry) -> Result<Items<Pair>, AllocError> {
+fn pairs_of(alloc: Global, entry: &Entry) -> Result<Items<Pair>, AllocError>
+    ensures { IfOk result (λ pairs. pairs ≡ entry.now.outcome.come) }
+{
     let pairs = Vec::from_slice(alloc, entry.outcome.come.as_slice())?;
     Ok(Items::from(pairs))
 }
@@ -96,14 +101,17 @@ pub(crate) struct Foreseen {
 }
 
 /// Asks the logs which images are silent, and plans the event without knowing how far logs reach, to see which pairs would come.
-pub(crate) fn foresee<N: Naming, R: Wait>(
+pub(crate) fn foresee<N: Naming, L: Logs<N>, R: Wait>(
     rt: &R,
     alloc: Global,
-    slots: &Slots<N>,
+    logs: &L,
     registry: &Registry,
     event: &Event,
-) -> Result<Foreseen, AllocError> {
-    let silent = silent_of(rt, alloc, slots, registry, event)?;
+) -> Result<Foreseen, AllocError>
+    ensures silent { IfOk result (λ foreseen. AreSilent (L.held logs.now) registry.now event.now foreseen.silent) }
+    ensures come { IfOk result (λ foreseen. foreseen.come ≡ (outcome_of registry.now event.now (record { silent = foreseen.silent; ends = [] })).come) }
+{
+    let silent = silent_of(rt, alloc, logs, registry, event)?;
     let draft = plan_at(alloc, registry, event, silent.as_slice(), Items::new(alloc))?;
     let come = pairs_of(alloc, &draft);
     drop(draft);
@@ -115,10 +123,10 @@ pub(crate) fn foresee<N: Naming, R: Wait>(
 
 /// The pairs that come are joined to their logs, each behind its lock, and the event is planned with how far these logs reach
 /// then. So a reply names the position at which its pair really begins, although clients go on offering.
-pub(crate) fn plan_joined<N: Naming, R: Wait>(
+pub(crate) fn plan_joined<N: Naming, L: Logs<N>, R: Wait>(
     rt: &R,
     alloc: Global,
-    slots: &Slots<N>,
+    logs: &L,
     registry: &Registry,
     room: &mut Rows<u64, 512>,
     event: &Event,
@@ -128,8 +136,10 @@ pub(crate) fn plan_joined<N: Naming, R: Wait>(
     ensures planned { IfOk result (λ ready. IsPlannedOn registry.now ready.entry) }
     ensures sound { IfOk result (λ ready. IsSound (state_after registry.now ready.entry.event ready.entry.inputs)) }
     ensures event_is { IfOk result (λ ready. ready.entry.event ≡ event.now) }
+    ensures silent { IfOk result (λ ready. ready.entry.inputs.silent ≡ foreseen.now.silent) }
+    ensures ends { IfOk result (λ ready. Gathers (Joins (L.held logs.now) registry.now foreseen.now.come) foreseen.now.come ready.entry.inputs.ends) }
     ensures replies { IfOk result (λ ready. ready.aftermath.replies ≡ ready.entry.outcome.replies) }
 {
-    let ends = join(rt, alloc, slots, registry, room, foreseen.come.as_slice())?;
+    let ends = join(rt, alloc, logs, registry, room, foreseen.come.as_slice())?;
     plan_with(alloc, registry, event, foreseen.silent.as_slice(), ends)
 }

@@ -1,5 +1,8 @@
 ghost use Rattle.any_log.specs.Held.{made_held, messages_held, place_held};
-ghost use Rattle.log_slots.specs.Slots.{IsMadeFor};
+ghost use Rattle.log_slots.specs.Slots.{IsMadeFor, SlotLog};
+ghost use Rattle.media_agents.specs.Asking.{Closes, IsHold, Rejoins, SaysSilent};
+ghost use Rattle.media_agents.specs.declared.slots.LogAt.{LogAt as At};
+ghost use Rattle.media_agents.specs.Finding.{log_at};
 ghost use Rattle.std.specs.Prelude.{◌≡◌, ◌≤◌, length, IfErr, IfSome};
 
 use driver_steps::OpenLog;
@@ -19,7 +22,7 @@ pub struct LogAt {
 impl LogAt {
     /// As the row says.
     pub fn of(row: &Source) -> LogAt
-        ensures { result.source ≡ row.now.number }
+        ensures { result ≡ log_at row.now }
     {
         LogAt {
             source: row.number,
@@ -29,6 +32,28 @@ impl LogAt {
     }
 }
 
+/// The logs of a driver as the conductor gets at them, each behind the lock of its slot. A slot that is not there is as one in
+/// which no log is open.
+pub trait Logs<N: Naming> {
+    /// In one hold of the lock of that log's slot this was found there, and that was left. What is said over any logs can know
+    /// it by a call alone.
+    ghost held: { Self → At → SlotLog → SlotLog → Type 0 };
+
+    /// Exactly these subscriptions read the log from now on: from which position on a new one does, if it is open.
+    fn rejoin<R: Wait>(&self, rt: &R, at: LogAt, subscriptions: &[u64]) -> Option<u64>
+        requires { length subscriptions.now ≤ 512 }
+        ensures { Rejoins (held self.now at) at.source subscriptions.now result };
+
+    /// Whether it is the log of an image that is open, whose publisher was not heard for longer than `limit` nanoseconds.
+    fn is_silent<R: Wait>(&self, rt: &R, at: LogAt, now: u64, limit: u64) -> bool
+        ensures { SaysSilent (held self.now at) at.source now limit result };
+
+    /// The log closes, if it is open: it is handed out.
+    fn close<R: Wait>(&self, rt: &R, at: LogAt) -> Option<OpenLog>
+        ensures closed { Closes (held self.now at) at.source result }
+        ensures home { IfSome result (λ log. (place_held log.log).home ≡ N.home) };
+}
+
 /// The slots of a driver.
 #[derive(Drop)]
 pub struct Slots<N: Naming> {
@@ -36,43 +61,104 @@ pub struct Slots<N: Naming> {
     pub images: Vec<Mutex<LogSlot<N>>>,
 }
 
-impl<N: Naming> Slots<N> {
-    /// Exactly these subscriptions read the log from now on: from which position on a new one does.
-    pub fn rejoin<R: Wait>(&self, rt: &R, at: LogAt, subscriptions: &[u64]) -> Option<u64>
-        requires { length subscriptions.now ≤ 512 }
-    {
+/// Exactly these subscriptions read the log of that publication, if it is open here.
+fn rejoin_publication<N: Naming>(
+    slot: &mut Slot<N>,
+    source: u64,
+    subscriptions: &[u64],
+) -> Option<u64>
+    requires { length subscriptions.now ≤ 512 }
+    ensures { Rejoins (IsHold N.home) source subscriptions.now result }
+{
+    slot.holds();
+    let position = slot.rejoin(source, subscriptions);
+    slot.holds();
+    position
+}
+
+/// Exactly these subscriptions read the log of that image, if it is open here.
+fn rejoin_image<N: Naming>(slot: &mut LogSlot<N>, source: u64, subscriptions: &[u64]) -> Option<u64>
+    requires { length subscriptions.now ≤ 512 }
+    ensures { Rejoins (IsHold N.home) source subscriptions.now result }
+{
+    slot.holds();
+    let position = slot.rejoin(source, subscriptions);
+    slot.holds();
+    position
+}
+
+/// Whether the log of that image is open here and silent.
+fn ask_image<N: Naming>(slot: &LogSlot<N>, source: u64, now: u64, limit: u64) -> bool
+    ensures { SaysSilent (IsHold N.home) source now limit result }
+{
+    slot.holds();
+    slot.is_silent(source, now, limit)
+}
+
+/// The log of that publication closes, if it is open here.
+fn close_publication<N: Naming>(slot: &mut Slot<N>, source: u64) -> Option<OpenLog>
+    ensures closed { Closes (IsHold N.home) source result }
+    ensures home { IfSome result (λ log. (place_held log.log).home ≡ N.home) }
+{
+    slot.holds();
+    let log = slot.close(source);
+    slot.holds();
+    log
+}
+
+/// The log of that image closes, if it is open here.
+fn close_image<N: Naming>(slot: &mut LogSlot<N>, source: u64) -> Option<OpenLog>
+    ensures closed { Closes (IsHold N.home) source result }
+    ensures home { IfSome result (λ log. (place_held log.log).home ≡ N.home) }
+{
+    slot.holds();
+    let log = slot.close(source);
+    slot.holds();
+    log
+}
+
+impl<N: Naming> Logs<N> for Slots<N> {
+    ghost held = { λ slots at found left. IsHold N.home found left };
+
+    fn rejoin<R: Wait>(&self, rt: &R, at: LogAt, subscriptions: &[u64]) -> Option<u64> {
         let slot = at.slot as usize;
         if at.published {
-            let mut log = self.publications.get(slot)?.lock(rt);
-            log.rejoin(at.source, subscriptions)
+            match self.publications.get(slot) {
+                Some(it) => rejoin_publication(&mut *it.lock(rt), at.source, subscriptions),
+                None => None,
+            }
         } else {
-            let mut log = self.images.get(slot)?.lock(rt);
-            log.rejoin(at.source, subscriptions)
+            match self.images.get(slot) {
+                Some(it) => rejoin_image(&mut *it.lock(rt), at.source, subscriptions),
+                None => None,
+            }
         }
     }
 
-    /// Whether it is the log of an image that is open, whose publisher was not heard for longer than `limit` nanoseconds.
-    pub fn is_silent<R: Wait>(&self, rt: &R, at: LogAt, now: u64, limit: u64) -> bool {
+    fn is_silent<R: Wait>(&self, rt: &R, at: LogAt, now: u64, limit: u64) -> bool {
         match self.images.get(at.slot as usize) {
-            Some(slot) => slot.lock(rt).is_silent(at.source, now, limit),
+            Some(it) => ask_image(&*it.lock(rt), at.source, now, limit),
             None => false,
         }
     }
 
-    /// The log closes.
-    pub fn close<R: Wait>(&self, rt: &R, at: LogAt) -> Option<OpenLog>
-        ensures { IfSome result (λ held. (place_held held.log).home ≡ N.home) }
-    {
+    fn close<R: Wait>(&self, rt: &R, at: LogAt) -> Option<OpenLog> {
         let slot = at.slot as usize;
         if at.published {
-            let mut log = self.publications.get(slot)?.lock(rt);
-            log.close(at.source)
+            match self.publications.get(slot) {
+                Some(it) => close_publication(&mut *it.lock(rt), at.source),
+                None => None,
+            }
         } else {
-            let mut log = self.images.get(slot)?.lock(rt);
-            log.close(at.source)
+            match self.images.get(slot) {
+                Some(it) => close_image(&mut *it.lock(rt), at.source),
+                None => None,
+            }
         }
     }
+}
 
+impl<N: Naming> Slots<N> {
     /// The log opens. It comes back where there is no such slot, or another log is open there.
     pub fn open<R: Wait>(
         &self,

@@ -1,6 +1,6 @@
-ghost use Rattle.std.specs.Prelude.{◌≡◌, ◌++◌, ◌∷◌, [], List, MatchBool, ◌≤◌};
 ghost use Rattle.command_queue.specs.Known.{IsKnown, Tells, facts_of};
-ghost use Rattle.media_agents.specs.Turns.{TakesAll, Turned};
+ghost use Rattle.media_agents.specs.Turns.{HasRoom, IsAtLast, TakesAll, Turned};
+ghost use Rattle.std.specs.Prelude.{◌≡◌, ◌≤◌, ◌++◌, ◌∷◌, [], List, MatchBool};
 
 use command_queue::{Known, Taker};
 use std::sync::Wait;
@@ -13,12 +13,18 @@ pub trait Conducts<E> {
     /// The events of the entries so far.
     ghost history: { Self → List E };
 
+    /// Whether the history is at the last number: then no entry comes any more.
+    fn is_full(&self) -> bool
+        ensures { MatchBool result (IsAtLast (history self.now)) (HasRoom (history self.now)) };
+
     /// Makes an entry of an event, and says whether it did: not where it was refused memory.
     fn conduct<R: Wait>(&mut self, rt: &R, event: E) -> bool
+        requires { HasRoom (history self.old) }
         ensures { MatchBool result (history self.new ≡ history self.old ++ event ∷ []) (history self.new ≡ history self.old) };
 }
 
-/// Takes the events that lie in the queue. What is known of the queue decides nothing: whatever it is, the answers fit it.
+/// Takes the events that lie in the queue, for as long as the history has a number left. What is known of the queue decides
+/// nothing: whatever it is, the answers fit it.
 fn take_all<E: Drop, C: Conducts<E>, R: Wait>(
     rt: &R,
     taker: &mut Taker<E>,
@@ -32,6 +38,9 @@ fn take_all<E: Drop, C: Conducts<E>, R: Wait>(
 {
     let mut misses = 0;
     for _taken in 0..MOST {
+        if conductor.is_full() {
+            return misses;
+        }
         let Some(event) = taker.pop(rt, known) else {
             return misses;
         };
@@ -42,7 +51,7 @@ fn take_all<E: Drop, C: Conducts<E>, R: Wait>(
     misses
 }
 
-/// A turn.
+/// A turn: the events that lie in the queue, and then the tick. Once the history is at its last number none of them is taken.
 pub fn turn<E: Drop, C: Conducts<E>, R: Wait>(
     rt: &R,
     taker: &mut Taker<E>,
@@ -55,6 +64,9 @@ pub fn turn<E: Drop, C: Conducts<E>, R: Wait>(
     ensures turned { Turned taker.old taker.new (facts_of known.old) tick (C.history conductor.old) (C.history conductor.new) result }
 {
     let misses = take_all(rt, taker, known, conductor);
+    if conductor.is_full() {
+        return misses;
+    }
     if conductor.conduct(rt, tick) {
         misses
     } else {

@@ -145,7 +145,7 @@ impl<N: DriverNaming> Works<N> {
         follow(
             rt,
             &mut self.region,
-            &self.slots,
+            &*self.slots,
             publisher.newest(),
             &mut self.room,
             aftermath,
@@ -211,7 +211,7 @@ impl<N: DriverNaming> Works<N> {
         let ready = plan_joined(
             rt,
             self.alloc,
-            &self.slots,
+            &*self.slots,
             publisher.newest(),
             &mut self.room,
             event,
@@ -227,7 +227,7 @@ impl<N: DriverNaming> Works<N> {
         let Some(publisher) = &self.publisher else {
             unreachable!()
         };
-        settle(rt, &self.slots, publisher.newest(), &mut self.room, pairs);
+        settle(rt, &*self.slots, publisher.newest(), &mut self.room, pairs);
     }
 
     /// The conductor takes an event, and the logs follow.
@@ -243,7 +243,7 @@ impl<N: DriverNaming> Works<N> {
         let foreseen = foresee(
             rt,
             self.alloc,
-            &self.slots,
+            &*self.slots,
             self.publisher().newest(),
             event,
         )?;
@@ -310,7 +310,7 @@ impl<N: DriverNaming> Works<N> {
         match publisher {
             Some(publisher) => {
                 let registry = publisher.end(rt);
-                close_live(rt, &mut region, &slots, &registry);
+                close_live(rt, &mut region, &*slots, &registry);
             }
             None => unreachable!(),
         }
@@ -320,10 +320,11 @@ impl<N: DriverNaming> Works<N> {
 impl<N: DriverNaming> Conducts<Event> for Works<N> {
     ghost history = { λ works. events_in works.entries };
 
+    fn is_full(&self) -> bool {
+        self.number() == u64::MAX
+    }
+
     fn conduct<R: Wait>(&mut self, rt: &R, event: Event) -> bool {
-        if self.number() == u64::MAX {
-            return false;
-        }
         match self.take(rt, &event) {
             Ok((response, receipt)) => {
                 self.answer(rt, &event, response, receipt);

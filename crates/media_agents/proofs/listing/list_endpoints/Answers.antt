@@ -1,4 +1,4 @@
-use Rattle.std.proofs.Common.{◌≡◌, List, [], subst, sym, take, ◌∙◌}
+use Rattle.std.proofs.Common.{List, [], subst, sym, ◌∙◌}
 use Rattle.std.proofs.lemmas.List.{take_all}
 use Rattle.stream_registry.specs.declared.row.Subscription.{Subscription}
 use Rattle.media_agents.specs.Finding.{AreNamed, named_by}

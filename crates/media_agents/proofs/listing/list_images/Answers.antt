@@ -1,4 +1,4 @@
-use Rattle.std.proofs.Common.{◌≡◌, List, ap, filter, map, take, ◌∙◌}
+use Rattle.std.proofs.Common.{[], List, ap, filter, map, take, ◌∙◌}
 use Rattle.std.proofs.lemmas.List.{take_all}
 use Rattle.stream_registry.specs.Origins.{is_remote}
 use Rattle.stream_registry.specs.declared.row.Source.{Source}
@@ -11,7 +11,7 @@ loop-row-init c = c.clear.ensures
 
 pub loop-row-preserved : goal.loop-row-preserved
 loop-row-preserved c =
-    list_more is_remote 512 c.sources-row-items.result.now c.loop-row.row-index c.row-item.result c.loop-row.logs c.add_image.new.logs
+    list_more log_at is_remote 512 [] c.sources-row-items.result.now c.loop-row.row-index c.row-item.result c.loop-row.logs c.add_image.new.logs
     c.loop-row-test.true c.row-item.is c.loop-row.invariant c.add_image.ensures
 
 pub returns : goal.returns

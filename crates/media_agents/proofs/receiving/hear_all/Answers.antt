@@ -1,4 +1,4 @@
-use Rattle.std.proofs.Common.{◌≡◌, ◌+◌, arith}
+use Rattle.std.proofs.Common.{arith}
 use Rattle.media_agents.proofs.LookLemmas.{continues, stays_known}
 use Rattle.media_agents.proofs.TrafficLemmas.{counts_none, reads_most, reads_none, reads_one, sets_up_more, sets_up_none}
 use Rattle.media_agents.specs.Traffic.{IsReadAt}

@@ -1,4 +1,4 @@
-use Rattle.std.proofs.Common.{◌≡◌, List, subst, take}
+use Rattle.std.proofs.Common.{List, subst}
 use Rattle.std.proofs.lemmas.List.{take_all}
 use Rattle.channel_uri.specs.declared.address.Address.{Address}
 use Rattle.media_agents.proofs.LookLemmas.{continues, stays_known}

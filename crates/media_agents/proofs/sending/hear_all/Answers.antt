@@ -1,4 +1,4 @@
-use Rattle.std.proofs.Common.{◌≡◌, ◌+◌, arith}
+use Rattle.std.proofs.Common.{◌+◌, arith}
 use Rattle.media_agents.proofs.LookLemmas.{continues, stays_known}
 use Rattle.media_agents.proofs.TrafficLemmas.{counts_none, read_is_at, reads_most, reads_none, reads_one, sends_on, sent_is_at}
 use Rattle.media_agents.specs.Traffic.{IsAt}

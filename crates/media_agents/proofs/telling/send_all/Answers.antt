@@ -1,4 +1,4 @@
-use Rattle.std.proofs.Common.{take, sym, ◌≡◌, List, ℕ, ◌+◌, ◌∙◌, get_or}
+use Rattle.std.proofs.Common.{take, List, ℕ, ◌+◌}
 use Rattle.media_agents.proofs.TrafficLemmas.{more_to, sends_more}
 use Rattle.media_agents.specs.Traffic.{letters_to}
 use Rattle.media_wire.specs.Letters.{letter}

@@ -1,8 +1,4 @@
-use Rattle.std.proofs.Common.{◌≡◌, List, subst, take}
-use Rattle.std.proofs.lemmas.List.{take_all}
-use Rattle.driver_core.specs.declared.send_request.Outlet.{Outlet}
 use Rattle.media_agents.proofs.TrafficLemmas.{out_more, tried_none}
-use Rattle.media_agents.specs.Traffic.{AreTried, GoesOn, letters_out}
 use Rattle.media_agents.proofs.telling.send_out.Goals as goal
 
 pub loop-outlet-init : goal.loop-outlet-init

@@ -16,7 +16,7 @@ loop-taken-preserved g c =
       | then-not-conduct w ↦ rw w.misses-is (
         record {
           letters = so.letters ++ letter ∷ [];
-          takes = takes_missed c.args.taker.now c.loop-taken.taker c.pop.new.self so.letters letter (history c.args.conductor.now) (history c.loop-taken.conductor) (history c.conduct.new.self) c.loop-taken.misses so.takes c.in-Some.ensures.taken.1 w.if-not-conduct.ensures;
+          takes = takes_missed c.args.taker.now c.loop-taken.taker c.pop.new.self so.letters letter (history c.args.conductor.now) (history c.loop-taken.conductor) (history c.conduct.new.self) c.loop-taken.misses c.if-is_full.ensures so.takes c.in-Some.ensures.taken.1 w.if-not-conduct.ensures;
           size = more;
           few = omega (arith, so.few);
         },
@@ -25,7 +25,7 @@ loop-taken-preserved g c =
       | else-not-conduct w ↦ rw w.misses-is (
         record {
           letters = so.letters ++ letter ∷ [];
-          takes = takes_made c.args.taker.now c.loop-taken.taker c.pop.new.self so.letters letter (history c.args.conductor.now) (history c.loop-taken.conductor) (history c.conduct.new.self) c.loop-taken.misses so.takes c.in-Some.ensures.taken.1 w.if-not-conduct.ensures;
+          takes = takes_made c.args.taker.now c.loop-taken.taker c.pop.new.self so.letters letter (history c.args.conductor.now) (history c.loop-taken.conductor) (history c.conduct.new.self) c.loop-taken.misses c.if-is_full.ensures so.takes c.in-Some.ensures.taken.1 w.if-not-conduct.ensures;
           size = more;
           few = omega (arith, so.few);
         },
