@@ -12,50 +12,53 @@ use Rattle.stream_registry.specs.declared.row.Subscription.{Subscription}
 
 -- ---- logs
 
--- so many, and more of them, cut off again
-pub take_again : (n : ℕ) (xs ys : List LogAt) → take n (take n xs ++ ys) ≡ take n (xs ++ ys)
-take_again n xs ys = by (cases_lt (length xs) n)
-  where
-    by : (length xs < n) ⊎ (n ≤ length xs) → take n (take n xs ++ ys) ≡ take n (xs ++ ys)
-    by (inl short) = ap (λ (all : List LogAt). take n (all ++ ys)) (take_all n xs (omega arith))
-    by (inr long) =
-        let some : length (take n xs) ≡ n = length-take-le n xs long in
-        take-append-le n (take n xs) ys (omega (arith, some))
-        ∙ take_all n (take n xs) (omega (arith, some))
-        ∙ sym (take-append-le n xs ys long)
+module _ {A : Type 0} where
+  -- so many, and more of them, cut off again
+  pub take_again : (n : ℕ) (xs ys : List A) → take n (take n xs ++ ys) ≡ take n (xs ++ ys)
+  take_again n xs ys = by (cases_lt (length xs) n)
+    where
+      by : (length xs < n) ⊎ (n ≤ length xs) → take n (take n xs ++ ys) ≡ take n (xs ++ ys)
+      by (inl short) = ap (λ (all : List A). take n (all ++ ys)) (take_all n xs (omega arith))
+      by (inr long) =
+          let some : length (take n xs) ≡ n = length-take-le n xs long in
+          take-append-le n (take n xs) ys (omega (arith, some))
+          ∙ take_all n (take n xs) (omega (arith, some))
+          ∙ sym (take-append-le n xs ys long)
 
-pub full : (n : ℕ) (xs ys : List LogAt) → length xs ≤ n → n ≤ length xs → xs ≡ take n (xs ++ ys)
-full n xs ys few most = sym (take-append-le n xs ys most ∙ take_all n xs few)
+  pub full : (n : ℕ) (xs ys : List A) → length xs ≤ n → n ≤ length xs → xs ≡ take n (xs ++ ys)
+  full n xs ys few most = sym (take-append-le n xs ys most ∙ take_all n xs few)
 
-pub has_room : (n : ℕ) (xs : List LogAt) (x : LogAt) → length xs < n → xs ++ x ∷ [] ≡ take n (xs ++ x ∷ [])
-has_room n xs x room = sym (take_all n (xs ++ x ∷ []) (omega (arith, length-append xs (x ∷ []))))
+  pub has_room : (n : ℕ) (xs : List A) (x : A) → length xs < n → xs ++ x ∷ [] ≡ take n (xs ++ x ∷ [])
+  has_room n xs x room = sym (take_all n (xs ++ x ∷ []) (omega (arith, length-append xs (x ∷ []))))
 
-joins : (p : Source → Bool) (n : ℕ) (before : List LogAt) (one : Source) (b : Bool) → p one ≡ b
-    → cond b (take n (take n before ++ log_at one ∷ [])) (take n before) ≡ take n (before ++ map log_at (filter p (one ∷ [])))
-joins p n before one true is =
-    take_again n before (log_at one ∷ [])
-    ∙ ap (λ (b : Bool). take n (before ++ map log_at (cond b (one ∷ []) []))) (sym is)
-joins p n before one false is =
-    ap (take n) (sym (append-nil before))
-    ∙ ap (λ (b : Bool). take n (before ++ map log_at (cond b (one ∷ []) []))) (sym is)
+module _ {A B : Type 0} (of : A → B) (p : A → Bool) where
+  joins : (n : ℕ) (before : List B) (one : A) (b : Bool) → p one ≡ b
+      → cond b (take n (take n before ++ of one ∷ [])) (take n before) ≡ take n (before ++ map of (filter p (one ∷ [])))
+  joins n before one true is =
+      take_again n before (of one ∷ [])
+      ∙ ap (λ (b : Bool). take n (before ++ map of (cond b (one ∷ []) []))) (sym is)
+  joins n before one false is =
+      ap (take n) (sym (append-nil before))
+      ∙ ap (λ (b : Bool). take n (before ++ map of (cond b (one ∷ []) []))) (sym is)
 
--- one row more
-pub list_more : (p : Source → Bool) (n : ℕ) (rows : List Source) (at : ℕ) (one : Source) (old new : List LogAt) → at < length rows
-    → one ≡ get_or rows at one
-    → old ≡ take n (map log_at (filter p (take at rows)))
-    → new ≡ cond (p one) (take n (old ++ log_at one ∷ [])) old
-    → new ≡ take n (map log_at (filter p (take (at + 1) rows)))
-list_more p n rows at one old new within is before added =
-    let rest : List LogAt = map log_at (filter p (take at rows)) in
-    let whole : map log_at (filter p (take (at + 1) rows)) ≡ rest ++ map log_at (filter p (one ∷ [])) =
-    ap (λ (rows : List Source). map log_at (filter p rows)) (take_more rows at one within)
-    ∙ ap (λ (last : Source). map log_at (filter p (take at rows ++ last ∷ []))) (sym is)
-    ∙ ap (map log_at) (filter-append p (take at rows) (one ∷ []))
-    ∙ map-append log_at (filter p (take at rows)) (filter p (one ∷ [])) in
-    added
-    ∙ ap (λ (old : List LogAt). cond (p one) (take n (old ++ log_at one ∷ [])) old) before
-    ∙ joins p n rest one (p one) refl
-    ∙ ap (take n) (sym whole)
+  -- one row more, behind those that were there first
+  pub list_more : (n : ℕ) (first : List B) (rows : List A) (at : ℕ) (one : A) (old new : List B) → at < length rows
+      → one ≡ get_or rows at one
+      → old ≡ take n (first ++ map of (filter p (take at rows)))
+      → new ≡ cond (p one) (take n (old ++ of one ∷ [])) old
+      → new ≡ take n (first ++ map of (filter p (take (at + 1) rows)))
+  list_more n first rows at one old new within is before added =
+      let rest : List B = map of (filter p (take at rows)) in
+      let whole : map of (filter p (take (at + 1) rows)) ≡ rest ++ map of (filter p (one ∷ [])) =
+      ap (λ (rows : List A). map of (filter p rows)) (take_more rows at one within)
+      ∙ ap (λ (last : A). map of (filter p (take at rows ++ last ∷ []))) (sym is)
+      ∙ ap (map of) (filter-append p (take at rows) (one ∷ []))
+      ∙ map-append of (filter p (take at rows)) (filter p (one ∷ [])) in
+      added
+      ∙ ap (λ (old : List B). cond (p one) (take n (old ++ of one ∷ [])) old) before
+      ∙ joins n (first ++ rest) one (p one) refl
+      ∙ ap (take n) (append_assoc first rest (map of (filter p (one ∷ []))))
+      ∙ ap (λ (more : List B). take n (first ++ more)) (sym whole)
 
 -- ---- addresses
 

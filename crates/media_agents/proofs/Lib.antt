@@ -1,4 +1,5 @@
 pub mod FindingLemmas
+pub mod ImageLemmas
 pub mod LookLemmas
 pub mod RowLemmas
 pub mod TrafficLemmas

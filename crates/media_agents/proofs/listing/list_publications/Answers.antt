@@ -1,4 +1,4 @@
-use Rattle.std.proofs.Common.{◌≡◌, List, ap, filter, map, take, ◌∙◌}
+use Rattle.std.proofs.Common.{[], List, ap, filter, map, take, ◌∙◌}
 use Rattle.std.proofs.lemmas.List.{take_all}
 use Rattle.driver_core.specs.SendRequests.{is_sent}
 use Rattle.stream_registry.specs.declared.row.Source.{Source}
@@ -11,7 +11,7 @@ loop-row-init c = c.clear.ensures
 
 pub loop-row-preserved : goal.loop-row-preserved
 loop-row-preserved c =
-    list_more is_sent 256 c.sources-row-items.result.now c.loop-row.row-index c.row-item.result c.loop-row.logs c.add_publication.new.logs
+    list_more log_at is_sent 256 [] c.sources-row-items.result.now c.loop-row.row-index c.row-item.result c.loop-row.logs c.add_publication.new.logs
     c.loop-row-test.true c.row-item.is c.loop-row.invariant c.add_publication.ensures
 
 pub returns : goal.returns
