@@ -1,5 +1,6 @@
 pub mod AskingLemmas
 pub mod FindingLemmas
+pub mod ImageLemmas
 pub mod LookLemmas
 pub mod RowLemmas
 pub mod TrafficLemmas

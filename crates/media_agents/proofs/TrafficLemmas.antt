@@ -10,12 +10,13 @@ use Rattle.driver_core.specs.declared.send_request.Outlet.{Outlet}
 use Rattle.driver_steps.specs.declared.answer.Answer.{Answer}
 use Rattle.driver_steps.specs.declared.answer.Answer.TheVariants.{Reported, Resent, Sent as Cut}
 use Rattle.frame_codec.specs.declared.setup.Setup.{Setup}
+use Rattle.media_agents.specs.declared.listing.ImageAt.{ImageAt}
 use Rattle.media_wire.specs.Events.{Event, failed, nothing, read, sent, sent_event}
 use Rattle.media_wire.specs.Letters.{letter}
 use Rattle.media_wire.specs.declared.letter.Letter.{Letter}
 use Rattle.media_wire.specs.declared.wire.WireFault.{WireFault}
 use Rattle.std.specs.Prelude.{◌≤◌, Contains, None, Result, Ok, Err, Some}
-use Rattle.media_agents.specs.Traffic.{AreSentFrom, AreTried, GoesOn, IsAt, IsReadAt, IsReading, IsSentFrom, IsSetUp, IsTried, ReadsEach, ReadsOut, Receives, Sends, SetsUp, is_allowed, letters_of, letters_out, letters_to, reads}
+use Rattle.media_agents.specs.Traffic.{AreSentFrom, AreTried, Ends, GoesOn, IsAt, IsReadAt, IsReading, IsSentFrom, IsSetUp, IsTried, ReadsEach, ReadsOut, Receives, Sends, SentEach, SetsUp, is_allowed, letters_of, letters_out, letters_to, reads}
 
 -- what was done first, and what was done then
 pub goes_on : (First Then Whole : List Event → Type 0) (old between new : List Event → Type 0)
@@ -280,6 +281,27 @@ sends_more_from local old between new =
 pub sends_none : (local : Address) (old : List Event → Type 0) → GoesOn (AreSentFrom local) old old
 sends_none local old = stays (AreSentFrom local) old (All-nil (IsSentFrom local))
 
+-- ---- for each of some images
+
+for_each_more : (before : List ImageAt) (image : ImageAt) (a b : List Event) → SentEach before a → AreSentFrom image.endpoint b
+    → SentEach (before ++ image ∷ []) (a ++ b)
+for_each_more [] image a b none out = (b, [], ap (λ (a : List Event). a ++ b) none ∙ sym (append-nil b), out, refl)
+for_each_more (first ∷ before) image a b each out =
+    (each.0, each.1 ++ b, ap (λ (a : List Event). a ++ b) each.2 ∙ append_assoc each.0 each.1 b, each.3, for_each_more before image each.1 b each.4 out)
+
+pub for_each_on : (images : List ImageAt) (at : ℕ) (one : ImageAt) (old between new : List Event → Type 0) → at < length images
+    → GoesOn (SentEach (take at images)) old between
+    → GoesOn (AreSentFrom (get_or images at one).endpoint) between new
+    → GoesOn (SentEach (take (at + 1) images)) old new
+for_each_on images at one old between new within =
+    let image : ImageAt = get_or images at one in
+    goes_on (SentEach (take at images)) (AreSentFrom image.endpoint) (SentEach (take (at + 1) images)) old between new
+    (λ a b each out. subst (λ (all : List ImageAt). SentEach all (a ++ b)) (sym (take_more images at one within))
+    (for_each_more (take at images) image a b each out))
+
+pub for_each_none : (old : List Event → Type 0) → GoesOn (SentEach []) old old
+for_each_none old = stays (SentEach []) old refl
+
 -- a turn's end is no call
 pub turn_ends : (Whole : List Event → Type 0) (old between new : List Event → Type 0)
     → GoesOn Whole old between → ((events : List Event) → between events → new events) → GoesOn Whole old new
@@ -293,11 +315,11 @@ turn_sends local old between new =
     goes_on (ReadsOut (IsAt local) local) (AreSentFrom local) (Sends local) old between new (λ a b one two.
     record { heard = a; told = b; order = refl; reads_out = one; sends = two })
 
-pub turn_receives : (local : Address) (endpoints : List Address) (old between new : List Event → Type 0)
-    → GoesOn (ReadsEach endpoints) old between → GoesOn (AreSentFrom local) between new → GoesOn (Receives local endpoints) old new
-turn_receives local endpoints old between new =
-    goes_on (ReadsEach endpoints) (AreSentFrom local) (Receives local endpoints) old between new (λ a b one two.
-    record { heard = a; told = b; order = refl; reads_each = one; sends = two })
+pub turn_receives : (endpoints : List Address) (images : List ImageAt) (old between new : List Event → Type 0)
+    → GoesOn (ReadsEach endpoints) old between → GoesOn (SentEach images) between new → GoesOn (Receives endpoints images) old new
+turn_receives endpoints images old between new =
+    goes_on (ReadsEach endpoints) (SentEach images) (Receives endpoints images) old between new (λ a b one two.
+    record { heard = a; told = b; order = refl; reads_each = one; sent_each = two })
 
 -- ---- SETUPs
 

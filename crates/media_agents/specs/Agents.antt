@@ -4,7 +4,8 @@ use Rattle.channel_uri.specs.declared.address.Address.{Address}
 use Rattle.command_queue.specs.Sent.{Sent}
 use Rattle.driver_core.specs.declared.event.Event.{Event}
 use Rattle.media_agents.specs.declared.gate.Turn.{Turn}
-use Rattle.media_agents.specs.Finding.{AreEndpoints}
+use Rattle.media_agents.specs.declared.listing.ImageAt.{ImageAt}
+use Rattle.media_agents.specs.Finding.{AreEndpoints, images_of}
 use Rattle.media_agents.specs.Traffic.{GoesOn, Receives}
 use Rattle.media_wire.specs.Events.{Event as Call}
 use Rattle.published_registry.specs.Histories.{History, IsContinuedBy, registry_of}
@@ -15,19 +16,23 @@ pub record Sending : Type 0 where
   pub known : History
   pub turn : Turn
 
--- the receiver: the same, and what it pushed into the queue of events
+-- the receiver: the registries that it knows of, its next turn, and what it pushed into the queue of events
 pub record Receiving : Type 0 where
-  pub local : Address
   pub known : History
   pub turn : Turn
   pub queue : Sent Event
 
--- what a turn of the receiver does to the wire: it reads where the subscriptions of a look take datagrams, a look that is none
--- before those that it knew and none after those that it knows then; and then it sends. It reads nowhere where there is no look.
-pub record ReceivesBy (local : Address) (before after : History) (old new : List Call → Type 0) : Type 0 where
+-- What a turn of the receiver does to the wire. It reads where the subscriptions of a look take datagrams, a look that is none
+-- before those that it knew; and then it sends for the images of a second look, which is none before the first and none after
+-- those that it knows then. It reads nowhere, or sends nothing, where there is no such look.
+pub record ReceivesBy (before after : History) (old new : List Call → Type 0) : Type 0 where
   pub look : History
   pub later : IsContinuedBy before look
-  pub earlier : IsContinuedBy look after
   pub endpoints : List Address
   pub named : AreEndpoints (registry_of look) endpoints ⊎ (endpoints ≡ [])
-  pub wire : GoesOn (Receives local endpoints) old new
+  pub second : History
+  pub next : IsContinuedBy look second
+  pub images : List ImageAt
+  pub listed : (images ≡ images_of (registry_of second)) ⊎ (images ≡ [])
+  pub earlier : IsContinuedBy second after
+  pub wire : GoesOn (Receives endpoints images) old new

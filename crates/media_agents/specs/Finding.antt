@@ -1,9 +1,11 @@
 -- Where the logs of a registry are, and where its subscriptions take datagrams. Own rules.
-use Rattle.std.specs.Prelude.{◌≡◌, ◌<◌, ◌⊎◌, List, Option, Some, None, ◌++◌, ◌∷◌, [], All, Contains, filter, filter_map, length, map, take}
+use Rattle.std.specs.Prelude.{◌≡◌, ◌<◌, ◌⊎◌, List, Option, Some, None, ◌++◌, ◌∷◌, [], All, Contains, filter, filter_map, if◌then◌else◌, length, map, take}
 use Rattle.channel_uri.specs.declared.address.Address.{Address}
+use Rattle.channel_uri.specs.Parameters.{endpoint_of}
 use Rattle.driver_core.specs.Directing.{target_address}
 use Rattle.driver_core.specs.SendRequests.{is_sent}
 use Rattle.driver_core.specs.State.{State}
+use Rattle.media_agents.specs.declared.listing.ImageAt.{ImageAt}
 use Rattle.media_agents.specs.declared.slots.LogAt.{LogAt}
 use Rattle.stream_registry.specs.Origins.{is_published, is_remote}
 use Rattle.stream_registry.specs.declared.row.Source.{Source}
@@ -17,9 +19,23 @@ log_at row = record { source = row.number; published = is_published row; slot = 
 abbrev pub publications_of : State → List LogAt
 publications_of s = take 256 (map log_at (filter is_sent s.streams.sources))
 
--- where those of images are, 512 at most
-abbrev pub images_of : State → List LogAt
-images_of s = take 512 (map log_at (filter is_remote s.streams.sources))
+-- where the log of an image is, and at which address the image reads: the endpoint of its channel
+abbrev pub image_at : Source → Option Address → Option ImageAt
+image_at row None = None
+image_at row (Some endpoint) = Some (record { log = log_at row; endpoint = endpoint })
+
+-- of a row that is an image
+abbrev pub image_in : Source → Option ImageAt
+image_in row = if is_remote row then image_at row (endpoint_of row.channel) else None
+
+-- an image joins others, if there is one, and there are fewer than 512
+abbrev pub with_image : Option ImageAt → List ImageAt → List ImageAt
+with_image None images = images
+with_image (Some image) images = take 512 (images ++ image ∷ [])
+
+-- the images, in the order of their numbers, 512 at most
+abbrev pub images_of : State → List ImageAt
+images_of s = take 512 (filter_map image_in s.streams.sources)
 
 -- where a subscription takes datagrams: a spy takes none
 abbrev pub endpoint_in : Subscription → Option Address

@@ -8,6 +8,7 @@ use Rattle.driver_core.specs.declared.send_request.Outlet.{Outlet}
 use Rattle.driver_steps.specs.declared.answer.Answer.{Answer}
 use Rattle.driver_steps.specs.declared.answer.Answer.TheVariants.{Reported, Resent, Sent as Cut}
 use Rattle.frame_codec.specs.declared.setup.Setup.{Setup}
+use Rattle.media_agents.specs.declared.listing.ImageAt.{ImageAt}
 use Rattle.media_wire.specs.Events.{Event, failed, nothing, read, sent}
 use Rattle.media_wire.specs.Letters.{letter}
 use Rattle.media_wire.specs.declared.letter.Letter.{Letter}
@@ -73,13 +74,20 @@ pub record Sends (local : Address) (events : List Event) : Type 0 where
   pub reads_out : ReadsOut (IsAt local) local heard
   pub sends : AreSentFrom local told
 
--- a turn of the receiver: it reads at each of these addresses, and then it sends
-pub record Receives (local : Address) (endpoints : List Address) (events : List Event) : Type 0 where
+-- Of these images, one after another, is told: what goes out for an image goes out from the address at which it reads, and
+-- nothing else goes out.
+abbrev pub SentEach : List ImageAt → List Event → Type 0
+SentEach [] events = events ≡ []
+SentEach (image ∷ later) events =
+    (first : List Event) × (rest : List Event) × (events ≡ first ++ rest) × AreSentFrom image.endpoint first × SentEach later rest
+
+-- a turn of the receiver: it reads at each of these addresses, and then it sends for each of these images
+pub record Receives (endpoints : List Address) (images : List ImageAt) (events : List Event) : Type 0 where
   pub heard : List Event
   pub told : List Event
   pub order : events ≡ heard ++ told
   pub reads_each : ReadsEach endpoints heard
-  pub sends : AreSentFrom local told
+  pub sent_each : SentEach images told
 
 -- one read at that address: a datagram came, so long and from there; or none was there, or the read failed
 abbrev pub IsReading : Address → Option (ℕ × Address) → List Event → Type 0

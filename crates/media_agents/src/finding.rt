@@ -4,7 +4,7 @@ ghost use Rattle.media_agents.specs.Finding.{AreEndpoints, images_of, publicatio
 ghost use Rattle.published_registry.specs.Histories.{IsContinuedBy, registry_of};
 ghost use Rattle.std.specs.Prelude.{◌≡◌, ◌⊎◌, []};
 
-use crate::listing::{list_endpoints, list_images, list_publications};
+use crate::listing::{ImageAt, list_endpoints, list_images, list_publications};
 use crate::slots::LogAt;
 use channel_uri::Address;
 use driver_core::{Registry, View};
@@ -91,18 +91,18 @@ pub(crate) fn find_publications(pass: Pass, logs: &mut Rows<LogAt, 256>) -> Pass
     }
 }
 
-/// The logs of images of a look, by their numbers. There are none where there is no look.
-pub(crate) fn find_images(pass: Pass, logs: &mut Rows<LogAt, 512>) -> Pass
+/// The images of a look, by their numbers. There are none where there is no look.
+pub(crate) fn find_images(pass: Pass, images: &mut Rows<ImageAt, 512>) -> Pass
     ensures known { IsContinuedBy pass result }
-    ensures listed { (logs.new ≡ images_of (registry_of result)) ⊎ (logs.new ≡ []) }
+    ensures listed { (images.new ≡ images_of (registry_of result)) ⊎ (images.new ≡ []) }
 {
     match pass.enter() {
         Ok(look) => {
-            list_images(look.registry(), logs);
+            list_images(look.registry(), images);
             look.leave()
         }
         Err(pass) => {
-            logs.clear();
+            images.clear();
             pass
         }
     }

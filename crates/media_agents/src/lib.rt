@@ -29,6 +29,7 @@ pub use clock::Clock;
 pub use conductor::Conductor;
 pub use desk::{Answered, Desk};
 pub use gate::{Agent, Backoff, Gate, Turn};
+pub use listing::ImageAt;
 pub use mail::{ClientReply, Mail};
 pub use naming::DriverNaming;
 pub use posting::EventSender;

@@ -1,15 +1,21 @@
 //! Where the logs of a registry are, and where its subscriptions take datagrams.
 
 ghost use Rattle.driver_core.specs.SendRequests.{is_sent};
-ghost use Rattle.media_agents.specs.Finding.{Adds, AddsIf, AreEndpoints, endpoint_in, images_of, log_at, publications_of};
+ghost use Rattle.media_agents.specs.Finding.{Adds, AddsIf, AreEndpoints, endpoint_in, image_in, images_of, log_at, publications_of, with_image};
 ghost use Rattle.std.specs.Prelude.{◌≡◌, ◌++◌, ◌∷◌, [], Contains, IsTrue, if◌then◌else◌, take};
-ghost use Rattle.stream_registry.specs.Origins.{is_remote};
 
 use crate::slots::LogAt;
 use channel_uri::{Address, Media};
 use driver_core::Registry;
 use rows::Rows;
 use stream_registry::{Source, Subscription};
+
+/// An image: where its log is, and the address at which it reads.
+#[derive(Clone, Copy, Debug, PartialEq, Eq)]
+pub struct ImageAt {
+    pub log: LogAt,
+    pub endpoint: Address,
+}
 
 /// Puts one behind the others, where there is room.
 pub(crate) fn add<T: Drop, const N: usize>(rows: &mut Rows<T, N>, one: T)
@@ -30,12 +36,27 @@ fn add_publication(row: &Source, logs: &mut Rows<LogAt, 256>)
     }
 }
 
-/// The log of a row joins the others, if it is that of an image.
-fn add_image(row: &Source, logs: &mut Rows<LogAt, 512>)
-    ensures { logs.new ≡ (if is_remote row.now then take 512 (logs.old ++ log_at row.now ∷ []) else logs.old) }
+/// The image that a row is, if it is one.
+fn image_in(row: &Source) -> Option<ImageAt>
+    ensures { result ≡ image_in row.now }
 {
-    if !row.is_published() {
-        add(logs, LogAt::of(row));
+    if row.is_published() {
+        return None;
+    }
+    let endpoint = row.channel.endpoint()?;
+    Some(ImageAt {
+        log: LogAt::of(row),
+        endpoint,
+    })
+}
+
+/// The image that a row is joins the others, if it is one.
+fn add_image(row: &Source, images: &mut Rows<ImageAt, 512>)
+    ensures { images.new ≡ with_image (image_in row.now) images.old }
+{
+    match image_in(row) {
+        Some(image) => add(images, image),
+        None => {}
     }
 }
 
@@ -49,13 +70,13 @@ pub(crate) fn list_publications(registry: &Registry, logs: &mut Rows<LogAt, 256>
     }
 }
 
-/// The logs of images, by their numbers.
-pub(crate) fn list_images(registry: &Registry, logs: &mut Rows<LogAt, 512>)
-    ensures { logs.new ≡ images_of registry.now }
+/// The images, by their numbers.
+pub(crate) fn list_images(registry: &Registry, images: &mut Rows<ImageAt, 512>)
+    ensures { images.new ≡ images_of registry.now }
 {
-    logs.clear();
+    images.clear();
     for row in registry.sources() {
-        add_image(row, logs);
+        add_image(row, images);
     }
 }
 

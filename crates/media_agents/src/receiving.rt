@@ -2,16 +2,17 @@
 
 ghost use Rattle.media_agents.specs.Agents.{ReceivesBy};
 ghost use Rattle.media_agents.specs.Passing.{next_turn};
-ghost use Rattle.media_agents.specs.Traffic.{AreSentFrom, GoesOn, IsReadAt, ReadsEach, ReadsOut, SetsUp};
+ghost use Rattle.media_agents.specs.Traffic.{AreSentFrom, GoesOn, IsReadAt, ReadsEach, ReadsOut, SentEach, SetsUp};
 ghost use Rattle.published_registry.specs.Histories.{IsContinuedBy};
 ghost use Rattle.std.specs.Prelude.{◌≡◌, Bool, IfOk};
 
 use crate::finding::{find_endpoints, find_images};
 use crate::gate::{Agent, Gate, Turn};
 use crate::hearing::hear_as_receiver;
+use crate::listing::ImageAt;
 use crate::posting::EventSender;
 use crate::reading::{MOST, Room};
-use crate::slots::{LogAt, Slots};
+use crate::slots::Slots;
 use crate::telling::tell;
 use channel_uri::Address;
 use driver_core::Event;
@@ -110,8 +111,8 @@ fn is_due(answer: &Answer) -> bool {
     }
 }
 
-/// One step on one image: what is due goes out, from the address `local`, once the log's lock is let go. Whether anything was
-/// due.
+/// One step on one image: what is due goes out, from the address at which the image reads, once the log's lock is let go. So
+/// what is sent again comes to where the image reads it. Whether anything was due.
 fn report_one<N: Naming, R: Wait, W: Wire>(
     rt: &R,
     slots: &Slots<N>,
@@ -119,19 +120,18 @@ fn report_one<N: Naming, R: Wait, W: Wire>(
     wire: &mut W,
     alloc: Global,
     now: u64,
-    local: &Address,
-    at: LogAt,
+    image: &ImageAt,
 ) -> (Pass, bool)
     ensures known { IsContinuedBy pass result.0 }
-    ensures wire { GoesOn (AreSentFrom local.now) (W.went wire.old) (W.went wire.new) }
+    ensures wire { GoesOn (AreSentFrom image.now.endpoint) (W.went wire.old) (W.went wire.new) }
 {
-    let Some(slot) = slots.images.get(at.slot as usize) else {
+    let Some(slot) = slots.images.get(image.log.slot as usize) else {
         return (pass, false);
     };
-    let (pass, answer) = report(rt, slot, pass, alloc, now, at.source);
+    let (pass, answer) = report(rt, slot, pass, alloc, now, image.log.source);
     match answer {
         Some(answer) => {
-            tell(wire, local, &answer);
+            tell(wire, &image.endpoint, &answer);
             (pass, is_due(&answer))
         }
         None => (pass, false),
@@ -146,16 +146,15 @@ fn report_each<N: Naming, R: Wait, W: Wire>(
     wire: &mut W,
     alloc: Global,
     now: u64,
-    local: &Address,
-    logs: &[LogAt],
+    images: &[ImageAt],
 ) -> (Pass, bool)
     ensures known { IsContinuedBy pass result.0 }
-    ensures wire { GoesOn (AreSentFrom local.now) (W.went wire.old) (W.went wire.new) }
+    ensures wire { GoesOn (SentEach images.now) (W.went wire.old) (W.went wire.new) }
 {
     let mut pass = pass;
     let mut worked = false;
-    for at in logs {
-        let (next, due) = report_one(rt, slots, pass, wire, alloc, now, local, *at);
+    for image in images {
+        let (next, due) = report_one(rt, slots, pass, wire, alloc, now, image);
         pass = next;
         worked = worked || due;
     }
@@ -170,13 +169,11 @@ pub struct ReceiverAgent<N: Naming, G: Gate> {
     /// It is taken out for as long as a turn lasts.
     pass: Option<Pass>,
     queue: EventSender,
-    /// The address from which all datagrams are sent.
-    local: Address,
     room: Room,
     /// Where the turn reads.
     endpoints: Rows<Address, 512>,
-    /// The logs of the turn.
-    logs: Rows<LogAt, 512>,
+    /// The images of the turn.
+    images: Rows<ImageAt, 512>,
     alloc: Global,
     turn: Turn,
 }
@@ -188,32 +185,30 @@ impl<N: Naming, G: Gate> Model for ReceiverAgent<N, G> {
 
     ghost Value = { Receiving };
 
-    ghost view = { λ agent. record { local = agent.local; known = history_in agent.pass; turn = agent.turn; queue = agent.queue } };
+    ghost view = { λ agent. record { known = history_in agent.pass; turn = agent.turn; queue = agent.queue } };
 
     ghost invariant = { λ agent. IsSome agent.pass };
 }
 
 impl<N: Naming, G: Gate + Drop> ReceiverAgent<N, G> {
-    /// A receiver before its first turn, which sends from the address `local`.
+    /// A receiver before its first turn.
     pub fn new(
         alloc: Global,
         slots: Arc<Slots<N>>,
         gate: Arc<G>,
         pass: Pass,
         queue: EventSender,
-        local: Address,
     ) -> Result<ReceiverAgent<N, G>, AllocError>
-        ensures { IfOk result (λ agent. agent ≡ record { local = local; known = pass; turn = record { number = 0; idle = 0 }; queue = queue }) }
+        ensures { IfOk result (λ agent. agent ≡ record { known = pass; turn = record { number = 0; idle = 0 }; queue = queue }) }
     {
         Ok(ReceiverAgent {
             slots,
             gate,
             pass: Some(pass),
             queue,
-            local,
             room: Room::new(alloc)?,
             endpoints: Rows::new(alloc)?,
-            logs: Rows::new(alloc)?,
+            images: Rows::new(alloc)?,
             alloc,
             turn: Turn::first(),
         })
@@ -221,15 +216,14 @@ impl<N: Naming, G: Gate + Drop> ReceiverAgent<N, G> {
 
     /// A turn, at the moment `now` in nanoseconds, once the gate lets it pass. At each address where subscriptions of a look
     /// take datagrams those that came are read, 1,024 at most: data and heartbeats are steps on their image, and a SETUP is
-    /// pushed as an event, or lost where the queue is full. Then each image of a look has one step, in the order of their
-    /// numbers. Each step is one hold of the log's lock, with one look within it; what it tells to send goes out, from the
-    /// address `local`, once the lock is let go, and a send that fails is a datagram lost.
+    /// pushed as an event, or lost where the queue is full. Then each image of a second look has one step, in the order of
+    /// their numbers. Each step is one hold of the log's lock, with one look within it; what it tells to send goes out from
+    /// the address at which the image reads, once the lock is let go, and a send that fails is a datagram lost.
     pub fn turn<R: Wait, W: Wire>(&mut self, rt: &R, wire: &mut W, now: u64)
         ensures known { IsContinuedBy self.old.known self.new.known }
-        ensures local { self.new.local ≡ self.old.local }
         ensures turn { (worked : Bool) × (self.new.turn ≡ next_turn worked self.old.turn) }
         ensures queue { SetsUp now self.old.queue self.new.queue }
-        ensures wire { ReceivesBy self.old.local self.old.known self.new.known (W.went wire.old) (W.went wire.new) }
+        ensures wire { ReceivesBy self.old.known self.new.known (W.went wire.old) (W.went wire.new) }
     {
         self.gate.pass(Agent::Receiver, self.turn);
         let Some(pass) = self.pass.take() else {
@@ -248,18 +242,9 @@ impl<N: Naming, G: Gate + Drop> ReceiverAgent<N, G> {
             now,
             endpoints,
         );
-        let pass = find_images(pass, &mut self.logs);
-        let logs = self.logs.as_slice();
-        let (pass, due) = report_each(
-            rt,
-            &self.slots,
-            pass,
-            wire,
-            self.alloc,
-            now,
-            &self.local,
-            logs,
-        );
+        let pass = find_images(pass, &mut self.images);
+        let images = self.images.as_slice();
+        let (pass, due) = report_each(rt, &self.slots, pass, wire, self.alloc, now, images);
         wire.turn_ended();
         self.pass = Some(pass);
         self.turn = self.turn.next(heard || due);

@@ -1,9 +1,9 @@
-use Rattle.std.proofs.Common.{[], List, ap, filter, map, take, ◌∙◌}
+use Rattle.std.proofs.Common.{◌≡◌, List, ap, take, ◌∙◌}
 use Rattle.std.proofs.lemmas.List.{take_all}
-use Rattle.stream_registry.specs.Origins.{is_remote}
+use Rattle.std.specs.Prelude.{filter_map}
 use Rattle.stream_registry.specs.declared.row.Source.{Source}
-use Rattle.media_agents.specs.Finding.{log_at}
-use Rattle.media_agents.proofs.FindingLemmas.{list_more}
+use Rattle.media_agents.specs.Finding.{image_in}
+use Rattle.media_agents.proofs.ImageLemmas.{images_more}
 use Rattle.media_agents.proofs.listing.list_images.Goals as goal
 
 pub loop-row-init : goal.loop-row-init
@@ -11,10 +11,10 @@ loop-row-init c = c.clear.ensures
 
 pub loop-row-preserved : goal.loop-row-preserved
 loop-row-preserved c =
-    list_more log_at is_remote 512 [] c.sources-row-items.result.now c.loop-row.row-index c.row-item.result c.loop-row.logs c.add_image.new.logs
+    images_more c.sources-row-items.result.now c.loop-row.row-index c.row-item.result c.loop-row.images c.add_image.new.images
     c.loop-row-test.true c.row-item.is c.loop-row.invariant c.add_image.ensures
 
 pub returns : goal.returns
 returns c =
     c.loop-row.invariant
-    ∙ ap (λ (rows : List Source). take 512 (map log_at (filter is_remote rows))) (take_all c.loop-row.row-index c.sources-row-items.result.now c.loop-row-test.false ∙ c.sources-row-items.ensures)
+    ∙ ap (λ (rows : List Source). take 512 (filter_map image_in rows)) (take_all c.loop-row.row-index c.sources-row-items.result.now c.loop-row-test.false ∙ c.sources-row-items.ensures)

@@ -3,27 +3,32 @@ use Rattle.channel_uri.specs.declared.address.Address.{Address}
 use Rattle.media_agents.proofs.LookLemmas.{continues}
 use Rattle.media_agents.proofs.TrafficLemmas.{turn_ends, turn_receives}
 use Rattle.media_agents.specs.Agents.{Receiving}
-use Rattle.media_agents.specs.Finding.{AreEndpoints}
-use Rattle.media_agents.specs.Traffic.{GoesOn, Receives}
+use Rattle.media_agents.specs.declared.listing.ImageAt.{ImageAt}
+use Rattle.media_agents.specs.Finding.{AreEndpoints, images_of}
+use Rattle.media_agents.specs.Traffic.{Receives}
 use Rattle.media_agents.proofs.receiving.ReceiverAgent.turn.Goals as goal
 use Rattle.published_registry.specs.Histories.{History, IsContinuedBy, history_in, registry_of}
 
 pub returns-clause-wire : goal.returns-clause-wire
 returns-clause-wire g c =
     let went = g.W.Wire.went in
-    let from = c.self.inside.local in
     let there = sym c.take.ensures.value ∙ c.in-Some.is in
     let same : c.in-Some.pass ≡ c.args.self.now.known = sym (ap history_in there) ∙ ap (λ (agent : Receiving). agent.known) c.self.view_is in
     let look : History = c.find_endpoints-pass.result in
+    let second : History = c.find_images-pass.result in
     let endpoints : List Address = c.as_slice-endpoints.result.now in
+    let images : List ImageAt = c.as_slice-images.result.now in
     record {
       look = look;
       later = subst (λ (known : History). IsContinuedBy known look) same c.find_endpoints-pass.ensures.known;
-      earlier = continues (continues c.hear_each-pass.ensures.known c.find_images-pass.ensures.known) c.report_each-pass.ensures.known;
       endpoints = endpoints;
       named = subst (λ (all : List Address). AreEndpoints (registry_of look) all ⊎ (all ≡ [])) (sym c.as_slice-endpoints.ensures.value) c.find_endpoints-pass.ensures.listed;
-      wire = subst (λ (local : Address). GoesOn (Receives local endpoints) (went c.args.wire.now) (went c.turn_ended.new.self)) (ap (λ (agent : Receiving). agent.local) c.self.view_is)
-          (turn_ends (Receives from endpoints) (went c.args.wire.now) (went c.report_each-pass.new.wire) (went c.turn_ended.new.self)
-          (turn_receives from endpoints (went c.args.wire.now) (went c.hear_each-pass.new.wire) (went c.report_each-pass.new.wire) c.hear_each-pass.ensures.wire c.report_each-pass.ensures.wire)
-          c.turn_ended.ensures);
+      second = second;
+      next = continues c.hear_each-pass.ensures.known c.find_images-pass.ensures.known;
+      images = images;
+      listed = subst (λ (all : List ImageAt). (all ≡ images_of (registry_of second)) ⊎ (all ≡ [])) (sym c.as_slice-images.ensures.value) c.find_images-pass.ensures.listed;
+      earlier = c.report_each-pass.ensures.known;
+      wire = turn_ends (Receives endpoints images) (went c.args.wire.now) (went c.report_each-pass.new.wire) (went c.turn_ended.new.self)
+          (turn_receives endpoints images (went c.args.wire.now) (went c.hear_each-pass.new.wire) (went c.report_each-pass.new.wire) c.hear_each-pass.ensures.wire c.report_each-pass.ensures.wire)
+          c.turn_ended.ensures;
     }
