@@ -1,5 +1,5 @@
 -- What a new driver is made of.
-use Rattle.std.proofs.Common.{◌≡◌, ℕ, zero, suc, ◌+◌, List, [], ◌∷◌, ◌++◌, All, length, replicate, Some, refl, sym, subst, ap₂, ◌∙◌, arith, rules}
+use Rattle.std.proofs.Common.{◌≡◌, ℕ, zero, suc, List, [], ◌∷◌, ◌++◌, All, length, replicate, Some, refl, sym, subst, ap₂, ◌∙◌, arith, rules}
 use Rattle.std.proofs.lemmas.List.Elements.{All-append, All-cons, All-nil, All-pop, All-replicate}
 use Rattle.std.proofs.lemmas.Grind.{common_steps}
 use Rattle.command_queue.specs.Sent.{Sent, new_sender, new_senders}

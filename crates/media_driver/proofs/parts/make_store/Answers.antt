@@ -1,4 +1,3 @@
-use Rattle.std.proofs.Common.{All, length, []}
 use Rattle.media_driver.proofs.OpeningLemmas.{many, unsent}
 use Rattle.media_driver.proofs.parts.make_store.Goals as goal
 

@@ -1,4 +1,4 @@
-use Rattle.std.proofs.Common.{◌≡◌, ◌+◌, ◌≤◌, ◌∙◌, length, sum_by, ap, arith}
+use Rattle.std.proofs.Common.{◌∙◌, length, sum_by, ap, arith}
 use Rattle.std.proofs.lemmas.List.Sums.{sum_by-cons}
 use Rattle.media_driver.specs.Clients.{Attached}
 use Rattle.media_driver.proofs.stopping.settle_clients.Goals as goal

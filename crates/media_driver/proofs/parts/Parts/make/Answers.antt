@@ -1,4 +1,4 @@
-use Rattle.std.proofs.Common.{◌≡◌, All, length, [], replicate, rules}
+use Rattle.std.proofs.Common.{rules}
 use Rattle.media_driver.proofs.OpeningLemmas.{begins_sound, ours}
 use Rattle.media_driver.proofs.parts.Parts.make.Goals as goal
 
