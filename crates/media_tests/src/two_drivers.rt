@@ -114,6 +114,17 @@ impl<N: DriverNaming, C: Clock + Drop> Poller<N, C> {
     }
 }
 
+/// Tells the driver that a client is there still.
+fn stays<N: DriverNaming, C: Clock, R: Wait>(rt: &R, client: &mut Client<N, C>) -> Outcome {
+    match client.keepalive(rt) {
+        Ok(_) => Ok(()),
+        Err(_) => Err("a keepalive does not reach the driver"),
+    }
+}
+
+/// How many steps go by from one keepalive to the next.
+const STEPS: u32 = 1_000;
+
 /// One step of the two, and whether one of them went on.
 fn go_on<N: DriverNaming, M: DriverNaming, C: Clock + Drop, R: Wait>(
     rt: &R,
@@ -132,9 +143,15 @@ fn all_come<N: DriverNaming, M: DriverNaming, C: Clock + Drop, R: Wait>(
     poller: &mut Poller<M, C>,
 ) -> Outcome {
     let mut idle = 0u32;
+    let mut step = 0u32;
     for _ in rt.forever() {
         if poller.count == MESSAGES {
             return Ok(());
+        }
+        step = step.wrapping_add(1);
+        if step % STEPS == 0 {
+            stays(rt, &mut publisher.client)?;
+            stays(rt, &mut poller.client)?;
         }
         if go_on(rt, publisher, poller)? {
             idle = 0;
