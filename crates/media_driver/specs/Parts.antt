@@ -1,0 +1,29 @@
+-- What a driver is made of, and whether a name is that of these parts. Own rules.
+use Rattle.std.specs.Prelude.{◌≡◌, ℕ}
+use Rattle.driver_core.specs.State.{State}
+use Rattle.log_arena.specs.Homes.{Home}
+use Rattle.logbook.specs.Pages.{Book}
+
+-- the region of its logs, its ledgers and into how many parts they are cut, its history, and the registry that was opened
+pub record PartsState : Type 0 where
+  pub home : Home
+  pub client_ledger : ℕ
+  pub client_parts : ℕ
+  pub slot_ledger : ℕ
+  pub slot_parts : ℕ
+  pub book : Book
+  pub opening : State
+
+-- the type names these parts
+pub record AreNamed (home : Home) (client_ledger client_parts slot_ledger slot_parts : ℕ) (book : Book) (parts : PartsState) : Type 0 where
+  pub home_is : parts.home ≡ home
+  pub client_ledger_is : parts.client_ledger ≡ client_ledger
+  pub client_parts_are : parts.client_parts ≡ client_parts
+  pub slot_ledger_is : parts.slot_ledger ≡ slot_ledger
+  pub slot_parts_are : parts.slot_parts ≡ slot_parts
+  pub book_is : parts.book ≡ book
+
+-- what a driver's owner sees of it: how many clients are out, and how many messages those counted that came back
+pub record DriverState : Type 0 where
+  pub out : ℕ
+  pub counted : ℕ

@@ -1,0 +1,72 @@
+//! A client of a driver.
+
+ghost use Rattle.media_driver.specs.Clients.{Learns};
+ghost use Rattle.std.specs.Prelude.{◌≡◌};
+
+use decision_cache::Cache;
+use log_slots::{OfClients, Totals};
+use media_agents::{Clock, DriverNaming, EventSender, LogAt, Mail, Slots};
+use published_registry::{Pass, Receipt, caches_stay_right_of_later_looks};
+use rtrb::Consumer;
+use std::alloc::Global;
+use std::marker::Model;
+use std::sync::ledger::Share;
+use std::sync::{Arc, Mutex};
+
+/// A client of a driver. It acts for the principal whom its driver's owner named.
+#[derive(Drop)]
+pub struct Client<N: DriverNaming, C: Clock> {
+    pub(crate) number: u64,
+    /// Which of the driver's seats it has.
+    pub(crate) place: u16,
+    /// The correlation id of its last command.
+    pub(crate) correlation: u64,
+    /// It is taken out for as long as a look lasts.
+    pub(crate) pass: Option<Pass>,
+    pub(crate) queue: EventSender,
+    pub(crate) mails: Consumer<Mail<N>, Global>,
+    /// Verdicts that the policy gave lately.
+    pub(crate) cache: Cache,
+    /// Its share of the ledger of all messages.
+    pub(crate) share: Share<OfClients<N>>,
+    pub(crate) slots: Arc<Slots<N>>,
+    pub(crate) totals: Arc<Mutex<Totals<N>>>,
+    pub(crate) clock: C,
+    pub(crate) alloc: Global,
+    /// Where the log of the last offer is, by its registration.
+    pub(crate) offered: Option<(u64, LogAt)>,
+    /// Where the log of the last poll is.
+    pub(crate) polled: Option<LogAt>,
+}
+
+impl<N: DriverNaming, C: Clock> Model for Client<N, C> {
+    ghost use Rattle.media_driver.specs.Clients.{Attached, IsOurs, IsRight};
+    ghost use Rattle.published_registry.specs.Histories.{history_in};
+    ghost use Rattle.std.specs.Prelude.{◌≡◌, IsSome};
+
+    ghost Value = { Attached };
+
+    ghost view = { λ client. record { number = client.number; correlation = client.correlation; known = history_in client.pass; queue = client.queue; counted = client.share.amount } };
+
+    ghost invariant = { λ client. IsSome client.pass × IsOurs N.book client.pass × IsRight client.pass client.cache × (client.share.parts ≡ 1) };
+}
+
+impl<N: DriverNaming, C: Clock> Client<N, C> {
+    /// The id by which the driver knows it.
+    pub fn number(&self) -> u64
+        ensures { result ≡ self.now.number }
+    {
+        self.number
+    }
+
+    /// From now on no look of this client is at a registry before the one that the receipt names. It waits for nobody.
+    pub fn learn(&mut self, receipt: &Receipt)
+        requires { receipt.now.book ≡ N.book }
+        ensures { Learns receipt.now self.old self.new }
+    {
+        caches_stay_right_of_later_looks();
+        if let Some(pass) = &mut self.pass {
+            pass.learn(receipt);
+        }
+    }
+}

@@ -1,0 +1,26 @@
+//! The machine's clock.
+
+use media_agents::Clock;
+use std::time;
+
+/// The machine's clock, in nanoseconds from any beginning. Where it can't be read, it stands at 0, and a moment before one
+/// that was seen counts as that one.
+#[derive(Clone, Copy, Debug)]
+pub struct MachineClock<C> {
+    clock: C,
+}
+
+impl<C> MachineClock<C> {
+    pub fn new(clock: C) -> MachineClock<C> {
+        MachineClock { clock }
+    }
+}
+
+impl<C: time::Clock> Clock for MachineClock<C> {
+    fn now(&self) -> u64 {
+        match self.clock.monotonic() {
+            Ok(since) => since.as_nanos().min(u64::MAX as u128) as u64,
+            Err(_) => 0,
+        }
+    }
+}

@@ -1,0 +1,133 @@
+//! Why a call is refused.
+
+use policy_core::Verdict;
+use policy_text::PolicyFault;
+use std::alloc::AllocError;
+use std::fmt;
+use std::thread::SpawnError;
+
+/// Why no driver is made.
+#[derive(Clone, Copy, Debug, PartialEq, Eq)]
+pub enum MakeFault {
+    NoMemory,
+    /// A reader's place was not given by the published registry.
+    NoPass,
+}
+
+/// Why a driver does not start.
+#[derive(Clone, Copy, Debug, PartialEq, Eq)]
+pub enum StartFault {
+    NoMemory,
+    /// The system makes no thread.
+    NoThread,
+}
+
+/// Why a client does not attach.
+#[derive(Clone, Copy, Debug, PartialEq, Eq)]
+pub enum AttachFault {
+    /// 64 clients are out, or as many are attached.
+    Full,
+    /// The driver was ended by a client that may do so.
+    Stopped,
+    NoMemory,
+}
+
+/// Why a policy is not put in force.
+#[derive(Clone, Copy, Debug, PartialEq, Eq)]
+pub enum ReloadFault {
+    /// The text is no policy.
+    Policy(PolicyFault),
+    /// There would be too many pairs under the policy.
+    Full,
+    NoMemory,
+}
+
+/// Why a command does not reach the driver.
+#[derive(Clone, Copy, Debug, PartialEq, Eq)]
+pub enum PushFault {
+    /// The queue of commands is full.
+    QueueFull,
+    NoMemory,
+}
+
+/// Why a message is not taken.
+#[derive(Clone, Copy, Debug, PartialEq, Eq)]
+pub enum OfferFault {
+    /// The client has no such registration, or its log is closed (-4).
+    Closed,
+    /// The policy denies it, by this verdict.
+    Denied(Verdict),
+    TooLong,
+    /// Nobody is there to read (-1).
+    NotConnected,
+    /// The log is at its greatest position (-5).
+    MaxPosition,
+    /// The slowest reader is too far behind (-2).
+    BackPressured,
+    /// The rest of the term was too short and is passed: offer again (-3).
+    AdminAction,
+    /// The registry gave no look, and nothing is changed.
+    NoLook,
+}
+
+/// Why a poll gives nothing.
+#[derive(Clone, Copy, Debug, PartialEq, Eq)]
+pub enum PollFault {
+    /// The subscription does not read that log.
+    Gone,
+    /// The policy denies it, by this verdict.
+    Denied(Verdict),
+    /// The registry gave no look, and nothing is changed.
+    NoLook,
+    NoMemory,
+}
+
+/// Why counters are not shown.
+#[derive(Clone, Copy, Debug, PartialEq, Eq)]
+pub enum LookFault {
+    /// The registry gave no look, and nothing is changed.
+    NoLook,
+    NoMemory,
+}
+
+impl From<AllocError> for MakeFault {
+    fn from(_error: AllocError) -> MakeFault {
+        MakeFault::NoMemory
+    }
+}
+
+impl From<AllocError> for StartFault {
+    fn from(_error: AllocError) -> StartFault {
+        StartFault::NoMemory
+    }
+}
+
+impl From<AllocError> for PushFault {
+    fn from(_error: AllocError) -> PushFault {
+        PushFault::NoMemory
+    }
+}
+
+impl<F: Drop> From<SpawnError<F>> for StartFault {
+    fn from(_refused: SpawnError<F>) -> StartFault {
+        StartFault::NoThread
+    }
+}
+
+impl fmt::Display for MakeFault {
+    fn fmt<W: fmt::Write>(&self, f: &mut fmt::Formatter<W>) -> fmt::Result {
+        f.write_str(match self {
+            MakeFault::NoMemory => "no memory",
+            MakeFault::NoPass => "no pass",
+        })
+    }
+}
+
+impl fmt::Display for StartFault {
+    fn fmt<W: fmt::Write>(&self, f: &mut fmt::Formatter<W>) -> fmt::Result {
+        f.write_str(match self {
+            StartFault::NoMemory => "no memory",
+            StartFault::NoThread => "no thread",
+        })
+    }
+}

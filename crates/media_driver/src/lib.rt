@@ -1,0 +1,30 @@
+//! A driver that runs: its three agents on threads of their own, and the clients that attach to it.
+//!
+//! [`Parts::make`] takes the memory of a driver, and [`Driver::start`] its threads. [`Driver::client`] attaches a client,
+//! whose owner its caller names. Each call of a [`Client`] is one push of a command, one look at the registry, or one hold
+//! of one log.
+#![tactic(auto)]
+
+mod client;
+mod clock;
+mod commands;
+mod driver;
+mod faults;
+mod looking;
+mod mail;
+mod offering;
+mod parts;
+mod polling;
+mod seat;
+mod starting;
+mod threads;
+mod works;
+
+pub use client::Client;
+pub use clock::MachineClock;
+pub use driver::Driver;
+pub use faults::{
+    AttachFault, LookFault, MakeFault, OfferFault, PollFault, PushFault, ReloadFault, StartFault,
+};
+pub use media_agents::{ClientReply, Clock, DriverNaming, Gate, Mail};
+pub use parts::Parts;

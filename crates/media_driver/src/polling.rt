@@ -1,0 +1,218 @@
+//! A client polls a log.
+
+ghost use Rattle.driver_core.specs.Cached.{AreCached};
+ghost use Rattle.driver_steps.specs.declared.answer.Answer.TheVariants.{Gone};
+ghost use Rattle.driver_steps.specs.Moves.{for_source, poll_move};
+ghost use Rattle.media_driver.specs.Clients.{Looks};
+ghost use Rattle.media_driver.specs.Steps.{IsPoll, IsStep, poll_answer};
+ghost use Rattle.published_registry.specs.Histories.{IsContinuedBy, registry_of};
+ghost use Rattle.std.specs.Prelude.{◌≡◌, Err, None, IfErr, IfOk, IfSome};
+
+use crate::client::Client;
+use crate::faults::PollFault;
+use decision_cache::Cache;
+use driver_core::View;
+use driver_steps::{Answer, FragmentCopies, Told};
+use log_slots::{LogSlot, Slot};
+use media_agents::{Clock, DriverNaming, LogAt, Slots};
+use published_registry::{Pass, caches_stay_right_of_later_looks};
+use std::alloc::{AllocError, Global};
+use std::sync::{Mutex, Wait};
+
+/// Where the log of a source is, by a look that decides nothing. `None` where there is no look.
+fn find(pass: Pass, source: u64) -> (Pass, Option<Option<LogAt>>)
+    ensures { IsContinuedBy pass result.0 }
+{
+    match pass.enter() {
+        Ok(look) => {
+            let at = match look.registry().source(source) {
+                Some(row) => Some(LogAt::of(row)),
+                None => None,
+            };
+            (look.leave(), Some(at))
+        }
+        Err(pass) => (pass, None),
+    }
+}
+
+/// One hold of the lock of a publication's log, with one look within it.
+fn poll_publication<N: DriverNaming, R: Wait>(
+    rt: &R,
+    slot: &Mutex<Slot<N>>,
+    source: u64,
+    pass: Pass,
+    cache: &mut Cache,
+    alloc: Global,
+    client: u64,
+    subscription: u64,
+    limit: u32,
+) -> (Pass, Option<Result<Told, AllocError>>)
+    requires right { AreCached (registry_of pass) cache.old }
+    ensures known { IsContinuedBy pass result.0 }
+    ensures right { AreCached (registry_of result.0) cache.new }
+    ensures step { IfSome result.1 (λ told. IfOk told (λ told. IsStep (for_source source (poll_move (registry_of result.0) client subscription limit)) Gone told.answer)) }
+{
+    caches_stay_right_of_later_looks();
+    let mut slot = slot.lock(rt);
+    match pass.enter() {
+        Ok(look) => {
+            let told = slot.poll(&look, cache, alloc, client, subscription, source, limit);
+            (look.leave(), Some(told))
+        }
+        Err(pass) => (pass, None),
+    }
+}
+
+/// One hold of the lock of an image's log, with one look within it.
+fn poll_image<N: DriverNaming, R: Wait>(
+    rt: &R,
+    slot: &Mutex<LogSlot<N>>,
+    source: u64,
+    pass: Pass,
+    cache: &mut Cache,
+    alloc: Global,
+    client: u64,
+    subscription: u64,
+    limit: u32,
+) -> (Pass, Option<Result<Told, AllocError>>)
+    requires right { AreCached (registry_of pass) cache.old }
+    ensures known { IsContinuedBy pass result.0 }
+    ensures right { AreCached (registry_of result.0) cache.new }
+    ensures step { IfSome result.1 (λ told. IfOk told (λ told. IsStep (for_source source (poll_move (registry_of result.0) client subscription limit)) Gone told.answer)) }
+{
+    caches_stay_right_of_later_looks();
+    let mut slot = slot.lock(rt);
+    match pass.enter() {
+        Ok(look) => {
+            let told = slot.poll(&look, cache, alloc, client, subscription, source, limit);
+            (look.leave(), Some(told))
+        }
+        Err(pass) => (pass, None),
+    }
+}
+
+/// The same, of a log of either kind. `None` where there is no look.
+fn poll_once<N: DriverNaming, R: Wait>(
+    rt: &R,
+    slots: &Slots<N>,
+    at: LogAt,
+    pass: Pass,
+    cache: &mut Cache,
+    alloc: Global,
+    client: u64,
+    subscription: u64,
+    limit: u32,
+) -> (Pass, Option<Result<Told, AllocError>>)
+    requires right { AreCached (registry_of pass) cache.old }
+    ensures known { IsContinuedBy pass result.0 }
+    ensures right { AreCached (registry_of result.0) cache.new }
+    ensures step { IfSome result.1 (λ told. IfOk told (λ told. IsStep (for_source at.source (poll_move (registry_of result.0) client subscription limit)) Gone told.answer)) }
+{
+    let place = at.slot as usize;
+    if at.published {
+        match slots.publications.get(place) {
+            Some(slot) => poll_publication(
+                rt,
+                slot,
+                at.source,
+                pass,
+                cache,
+                alloc,
+                client,
+                subscription,
+                limit,
+            ),
+            None => (pass, None),
+        }
+    } else {
+        match slots.images.get(place) {
+            Some(slot) => poll_image(
+                rt,
+                slot,
+                at.source,
+                pass,
+                cache,
+                alloc,
+                client,
+                subscription,
+                limit,
+            ),
+            None => (pass, None),
+        }
+    }
+}
+
+/// What the answer of a step says.
+fn fragments_of(told: Told) -> Result<FragmentCopies, PollFault>
+    ensures { IfSome (poll_answer result) (λ answer. told.answer ≡ answer) }
+{
+    match told.answer {
+        Answer::Polled(fragments) => Ok(fragments),
+        Answer::Denied(verdict) => Err(PollFault::Denied(verdict)),
+        _ => Err(PollFault::Gone),
+    }
+}
+
+impl<N: DriverNaming, C: Clock> Client<N, C> {
+    /// Where the log of a source is: it stays there for as long as the log is open.
+    fn log_at(&mut self, source: u64) -> Result<LogAt, PollFault>
+        ensures looks { Looks self.old self.new }
+        ensures source { IfOk result (λ at. at.source ≡ source) }
+        ensures fault { IfErr result (λ fault. poll_answer (Err fault) ≡ None) }
+    {
+        caches_stay_right_of_later_looks();
+        if let Some(at) = self.polled {
+            if at.source == source {
+                return Ok(at);
+            }
+        }
+        let Some(pass) = self.pass.take() else {
+            unreachable!()
+        };
+        let (pass, found) = find(pass, source);
+        self.pass = Some(pass);
+        match found {
+            Some(Some(at)) => {
+                self.polled = Some(at);
+                Ok(at)
+            }
+            Some(None) => Err(PollFault::Gone),
+            None => Err(PollFault::NoLook),
+        }
+    }
+
+    /// Polls the log of a source by a subscription of this client's: up to `limit` fragments from where it stands.
+    pub fn poll<R: Wait>(
+        &mut self,
+        rt: &R,
+        subscription: u64,
+        source: u64,
+        limit: u32,
+    ) -> Result<FragmentCopies, PollFault>
+        ensures looks { Looks self.old self.new }
+        ensures step { IsPoll (registry_of self.new.known) self.old.number subscription source limit result }
+    {
+        caches_stay_right_of_later_looks();
+        let at = self.log_at(source)?;
+        let Some(pass) = self.pass.take() else {
+            unreachable!()
+        };
+        let (pass, told) = poll_once(
+            rt,
+            &self.slots,
+            at,
+            pass,
+            &mut self.cache,
+            self.alloc,
+            self.number,
+            subscription,
+            limit,
+        );
+        self.pass = Some(pass);
+        match told {
+            Some(Ok(told)) => fragments_of(told),
+            Some(Err(_)) => Err(PollFault::NoMemory),
+            None => Err(PollFault::NoLook),
+        }
+    }
+}
