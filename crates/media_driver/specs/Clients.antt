@@ -1,24 +1,31 @@
 -- What a client is to its owner, and what its calls change of it. Own rules.
-use Rattle.std.specs.Prelude.{◌≡◌, ℕ, ◌+◌, ◌-◌, ◌^◌, min, List, [], ◌∷◌, ◌++◌, Option, Some, None}
+use Rattle.std.specs.Prelude.{◌≡◌, ◌≢◌, ℕ, ◌+◌, ◌-◌, ◌^◌, ◌≤◌, ◌⊎◌, min, All, length, List, [], ◌∷◌, ◌++◌, Option, Some, None, Result, Ok, Err}
 use mathlib.Core.List.{IsPrefix}
 use Rattle.command_codec.specs.Command.{command_bytes}
 use Rattle.command_codec.specs.declared.command.Body.{Body}
+use Rattle.command_queue.specs.declared.known.Facts.{Facts}
+use Rattle.command_queue.specs.Facts.{WasFull}
 use Rattle.command_queue.specs.Sent.{Sent}
-use Rattle.decision_cache.specs.declared.key.Key.{Key}
-use Rattle.driver_core.specs.Cached.{AreCached}
 use Rattle.driver_core.specs.declared.event.Event.{Event}
 use Rattle.driver_core.specs.declared.event.Event.TheVariants.{Command}
-use Rattle.logbook.specs.Pages.{Book}
-use Rattle.policy_core.specs.declared.verdict.Verdict.{Verdict}
-use Rattle.published_registry.specs.Histories.{History, IsContinuedBy, Known, registry_of}
+use Rattle.media_agents.specs.Mails.{Posted}
+use Rattle.media_driver.specs.declared.faults.LookFault.{LookFault}
+use Rattle.media_driver.specs.declared.faults.LookFault.TheVariants as looks
+use Rattle.media_driver.specs.declared.faults.PushFault.{PushFault}
+use Rattle.media_driver.specs.declared.faults.PushFault.TheVariants as pushes
+use Rattle.published_registry.specs.Histories.{History, IsContinuedBy, Known}
 
--- the id by which the driver knows it, the correlation id of its last command, the history that it saw or learned of, what it
--- pushed, and how many of its messages were counted
+-- the id by which the driver knows it; the correlation id of its last command; the greatest moment of its commands and offers;
+-- the history that it saw or learned of; what it pushed; the mails that it took out of its ring, and those that it saw there;
+-- and how many of its messages were counted
 pub record Attached : Type 0 where
   pub number : ℕ
   pub correlation : ℕ
+  pub moment : ℕ
   pub known : History
   pub queue : Sent Event
+  pub taken : List Posted
+  pub waiting : List Posted
   pub counted : ℕ
 
 -- what a client has of a driver: the history that its pass saw or learned of, and what was pushed by it
@@ -26,34 +33,39 @@ pub record Seated : Type 0 where
   pub known : History
   pub queue : Sent Event
 
--- a pass is of the driver's history, where it is there
-abbrev pub IsOurs : Book → Option History → Type 0
-IsOurs book None = Unit {0}
-IsOurs book (Some history) = history.book ≡ book
-
--- what is cached is right of the last registry that was seen
-abbrev pub IsRight : Option History → List (Key × Verdict) → Type 0
-IsRight None cached = Unit {0}
-IsRight (Some history) cached = AreCached (registry_of history) cached
+-- ---- a command
 
 -- the next correlation id: one more, up to the greatest number
 abbrev pub next_correlation : ℕ → ℕ
 next_correlation correlation = min (correlation + 1) (2 ^ 64 - 1)
 
--- a command of the client is pushed, under its next correlation id, and nothing else changes
+-- a command of the client is pushed, under its next correlation id, at a moment not before its last one; nothing else changes
 pub record Pushes (old new : Attached) (body : Body) (correlation : ℕ) : Type 0 where
-  pub now : ℕ
   pub correlation_is : correlation ≡ next_correlation old.correlation
+  pub later : old.moment ≤ new.moment
   pub new_is :
       new
       ≡ record old {
         correlation = correlation;
+        moment = new.moment;
         queue = record old.queue {
           sent =
               old.queue.sent
-              ++ Command now old.number (command_bytes (record { client = old.number; correlation = correlation; body = body })) ∷ [];
+              ++ Command new.moment old.number (command_bytes (record { client = old.number; correlation = correlation; body = body })) ∷ [];
         };
       }
+
+-- a push is refused as full only where the queue held 1,024 events at one moment
+abbrev pub MayRefuse : Sent Event → PushFault → Type 0
+MayRefuse queue pushes.QueueFull = (facts : Facts Event) × WasFull queue.total queue.number queue.sent facts
+MayRefuse queue pushes.NoMemory = Unit {0}
+
+-- the command is pushed; or it is refused, and nothing changes
+abbrev pub Commands : Attached → Attached → Body → Result ℕ PushFault → Type 0
+Commands old new body (Ok correlation) = Pushes old new body correlation
+Commands old new body (Err fault) = (new ≡ old) × MayRefuse old.queue fault
+
+-- ---- a look
 
 -- the client knows as much of the history as before, or more, and nothing else changes
 pub record Looks (old new : Attached) : Type 0 where
@@ -64,3 +76,45 @@ pub record Looks (old new : Attached) : Type 0 where
 pub record Learns (receipt : Known) (old new : Attached) : Type 0 where
   pub looks : Looks old new
   pub learned : IsPrefix receipt.entries new.known.entries
+
+-- nothing changes where the registry gave no look
+abbrev pub IsUnseen : Attached → Attached → LookFault → Type 0
+IsUnseen old new looks.NoLook = new ≡ old
+IsUnseen old new looks.NoMemory = Unit {0}
+
+-- ---- mail
+
+-- a mail is taken out of the ring, whosever it is; or none is there
+abbrev pub Pops : Attached → Attached → Option Posted → Type 0
+Pops old new None = new ≡ record old { waiting = [] }
+Pops old new (Some mail) = new ≡ record old { taken = old.taken ++ mail ∷ []; waiting = new.waiting }
+
+-- mails are taken out of the ring that are none of the client's own: they were for an earlier client of that ring
+pub record PassesOver (passed : List Posted) (old new : Attached) : Type 0 where
+  pub others : All (λ (mail : Posted). mail.client ≢ old.number) passed
+  pub new_is : new ≡ record old { taken = old.taken ++ passed; waiting = new.waiting }
+
+-- so it ends with none of its own: no mail is left, or 257 were passed over, one more than a ring holds
+pub record FindsNone (old new : Attached) : Type 0 where
+  pub passed : List Posted
+  pub passes : PassesOver passed old new
+  pub ends : (new.waiting ≡ []) ⊎ (length passed ≡ 257)
+
+-- or with one of its own, whose receipt the client learns
+pub record FindsOwn (mail : Posted) (old new : Attached) : Type 0 where
+  pub passed : List Posted
+  pub others : All (λ (mail : Posted). mail.client ≢ old.number) passed
+  pub own : mail.client ≡ old.number
+  pub known : IsContinuedBy old.known new.known
+  pub learned : IsPrefix mail.receipt.entries new.known.entries
+  pub new_is :
+      new
+      ≡ record old {
+        known = new.known;
+        taken = (old.taken ++ passed) ++ mail ∷ [];
+        waiting = new.waiting;
+      }
+
+abbrev pub TakesMail : Attached → Attached → Option Posted → Type 0
+TakesMail old new None = FindsNone old new
+TakesMail old new (Some mail) = FindsOwn mail old new

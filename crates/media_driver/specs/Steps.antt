@@ -1,24 +1,40 @@
--- What a client's offer and poll are answered: each answer but that there was no look is that of a step on one log, by the
--- registry that the client saw last. Own rules.
-use Rattle.std.specs.Prelude.{◌≡◌, ℕ, ◌+◌, ◌⊎◌, List, Option, Some, None, Result, Ok, Err}
+-- What a client's offer and poll are answered: the answer of a step on one log, by the registry that the client saw last. Of an
+-- answer that the log is closed, that the subscription does not read it, or that there was no look, nothing is said: what lies
+-- behind a lock is known to whoever holds it, and a slot with no log answers so. Own rules.
+use Rattle.std.specs.Prelude.{◌≡◌, ℕ, ◌+◌, ◌⊎◌, List, Option, Some, None, Result, Ok, Err, IfSome}
+use Rattle.any_log.specs.Whole.{HasWhole}
 use Rattle.driver_core.specs.State.{State}
 use Rattle.driver_steps.specs.declared.answer.Answer.{Answer}
 use Rattle.driver_steps.specs.declared.answer.Answer.TheVariants.{Denied as IsDenied, Gone as IsGone, Offered as OfferedAs, Polled}
 use Rattle.driver_steps.specs.declared.answer.Offered.TheVariants as offered
 use Rattle.driver_steps.specs.Held.{HeldLog}
 use Rattle.driver_steps.specs.Moves.{Move, WholeLog, for_source, offer_move, poll_move}
+use Rattle.log_arena.specs.Homes.{Home}
 use Rattle.log_pairs.specs.Polling.{Fetched}
-use Rattle.log_slots.specs.Slots.{Moves}
+use Rattle.log_slots.specs.Slots.{GivesIn, IsSlot, Moves, SlotLog}
 use Rattle.media_driver.specs.declared.faults.OfferFault.{OfferFault}
 use Rattle.media_driver.specs.declared.faults.OfferFault.TheVariants as offers
 use Rattle.media_driver.specs.declared.faults.PollFault.{PollFault}
 use Rattle.media_driver.specs.declared.faults.PollFault.TheVariants as polls
 
--- a log that lay behind a lock moved so, and that is the answer; where none was open, it is the one for that
-pub record IsStep (move : WholeLog → Move) (absent answer : Answer) : Type 0 where
-  pub old : Option HeldLog
+-- this may lie behind a lock: a log that is open lies in that region, is made for what the slot says, and stands for a whole
+-- log
+pub record IsLocked (home : Home) (slot : SlotLog) : Type 0 where
+  pub own : IsSlot home slot.source slot.session slot.stream slot.log
+  pub whole : IfSome slot.log (λ (held : HeldLog). HasWhole held.log)
+
+-- the log that lay behind a lock moved so, and that is the answer; where none was open, it is the one for that
+pub record IsStep (home : Home) (move : WholeLog → Move) (absent answer : Answer) : Type 0 where
+  pub slot : SlotLog
+  pub locked : IsLocked home slot
   pub new : Option HeldLog
-  pub moves : Moves move absent old new answer
+  pub moves : Moves move absent slot.log new answer
+
+-- the log that lay behind a lock gives something by such a move
+pub record IsGiving (home : Home) (move : WholeLog → Move) : Type 0 where
+  pub slot : SlotLog
+  pub locked : IsLocked home slot
+  pub gives : GivesIn move slot.log
 
 -- how a step is answered that gives this; `None` where no step on a log was taken, or none that the answer tells of
 abbrev pub offer_answer : Result ℕ OfferFault → Option Answer
@@ -39,19 +55,24 @@ poll_answer (Err polls.Gone) = None
 poll_answer (Err polls.NoLook) = None
 poll_answer (Err polls.NoMemory) = None
 
-abbrev pub IsAnswered : (WholeLog → Move) → Answer → Option Answer → Type 0
-IsAnswered move absent None = Unit {0}
-IsAnswered move absent (Some answer) = IsStep move absent answer
-
 -- an offer at that moment, by that registry
-abbrev pub IsOffer : State → ℕ → ℕ → ℕ → List ℕ → Result ℕ OfferFault → Type 0
-IsOffer s now client registration message result =
-    IsAnswered (offer_move s now client registration message) (OfferedAs offered.Closed) (offer_answer result)
+abbrev pub IsOffer : Home → State → ℕ → ℕ → ℕ → List ℕ → Result ℕ OfferFault → Type 0
+IsOffer home s now client registration message result =
+    IfSome (offer_answer result) (IsStep home (offer_move s now client registration message) (OfferedAs offered.Closed))
+
+-- a poll of the log of that source
+abbrev pub poll_of : State → ℕ → ℕ → ℕ → ℕ → WholeLog → Move
+poll_of s client subscription source limit = for_source source (poll_move s client subscription limit) IsGone
 
 -- a poll by that registry
-abbrev pub IsPoll : State → ℕ → ℕ → ℕ → ℕ → Result (List Fetched) PollFault → Type 0
-IsPoll s client subscription source limit result =
-    IsAnswered (for_source source (poll_move s client subscription limit)) IsGone (poll_answer result)
+abbrev pub IsPoll : Home → State → ℕ → ℕ → ℕ → ℕ → Result (List Fetched) PollFault → Type 0
+IsPoll home s client subscription source limit result =
+    IfSome (poll_answer result) (IsStep home (poll_of s client subscription source limit) IsGone)
+
+-- there is no memory for a poll only where the log gives fragments
+abbrev pub MayLack : Home → (WholeLog → Move) → PollFault → Type 0
+MayLack home move polls.NoMemory = IsGiving home move
+MayLack home move fault = Unit {0}
 
 -- a message that was taken counts once more, unless no more are counted; nothing else counts
 abbrev pub Counts : {T E : Type 0} → Result T E → ℕ → ℕ → Type 0

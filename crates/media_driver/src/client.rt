@@ -1,7 +1,7 @@
 //! A client of a driver.
 
 ghost use Rattle.media_driver.specs.Clients.{Learns};
-ghost use Rattle.std.specs.Prelude.{◌≡◌};
+ghost use Rattle.std.specs.Prelude.{◌≡◌, ◌≤◌};
 
 use decision_cache::Cache;
 use log_slots::{OfClients, Totals};
@@ -21,6 +21,8 @@ pub struct Client<N: DriverNaming, C: Clock> {
     pub(crate) place: u16,
     /// The correlation id of its last command.
     pub(crate) correlation: u64,
+    /// The greatest moment of its commands and offers so far, in nanoseconds.
+    pub(crate) moment: u64,
     /// It is taken out for as long as a look lasts.
     pub(crate) pass: Option<Pass>,
     pub(crate) queue: EventSender,
@@ -40,15 +42,27 @@ pub struct Client<N: DriverNaming, C: Clock> {
 }
 
 impl<N: DriverNaming, C: Clock> Model for Client<N, C> {
-    ghost use Rattle.media_driver.specs.Clients.{Attached, IsOurs, IsRight};
-    ghost use Rattle.published_registry.specs.Histories.{history_in};
+    ghost use Rattle.driver_core.specs.Cached.{AreCached};
+    ghost use Rattle.media_driver.specs.Clients.{Attached};
+    ghost use Rattle.published_registry.specs.Histories.{history_in, registry_of};
+    ghost use Rattle.rtrb.specs.Ring.{known_items, received};
     ghost use Rattle.std.specs.Prelude.{◌≡◌, IsSome};
 
     ghost Value = { Attached };
 
-    ghost view = { λ client. record { number = client.number; correlation = client.correlation; known = history_in client.pass; queue = client.queue; counted = client.share.amount } };
+    ghost view = { λ client. record {
+      number = client.number;
+      correlation = client.correlation;
+      moment = client.moment;
+      known = history_in client.pass;
+      queue = client.queue;
+      taken = received client.mails;
+      waiting = known_items client.mails;
+      counted = client.share.amount;
+    } };
 
-    ghost invariant = { λ client. IsSome client.pass × IsOurs N.book client.pass × IsRight client.pass client.cache × (client.share.parts ≡ 1) };
+    ghost invariant = { λ client. IsSome client.pass × ((history_in client.pass).book ≡ N.book)
+        × AreCached (registry_of (history_in client.pass)) client.cache × (client.share.parts ≡ 1) };
 }
 
 impl<N: DriverNaming, C: Clock> Client<N, C> {
@@ -59,14 +73,22 @@ impl<N: DriverNaming, C: Clock> Client<N, C> {
         self.number
     }
 
+    /// The moment by its clock. One before the last moment of its commands and offers counts as that one.
+    pub(crate) fn now(&self) -> u64
+        ensures { self.now.moment ≤ result }
+    {
+        self.clock.now().max(self.moment)
+    }
+
     /// From now on no look of this client is at a registry before the one that the receipt names. It waits for nobody.
     pub fn learn(&mut self, receipt: &Receipt)
         requires { receipt.now.book ≡ N.book }
         ensures { Learns receipt.now self.old self.new }
     {
         caches_stay_right_of_later_looks();
-        if let Some(pass) = &mut self.pass {
-            pass.learn(receipt);
-        }
+        let Some(pass) = &mut self.pass else {
+            unreachable!()
+        };
+        pass.learn(receipt);
     }
 }

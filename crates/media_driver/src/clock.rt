@@ -3,14 +3,15 @@
 use media_agents::Clock;
 use std::time;
 
-/// The machine's clock, in nanoseconds from any beginning. Where it can't be read, it stands at 0, and a moment before one
-/// that was seen counts as that one.
+/// The machine's clock, in nanoseconds from any beginning. Where it can't be read it stands at 0, which counts as the last
+/// moment that was read.
 #[derive(Clone, Copy, Debug)]
 pub struct MachineClock<C> {
     clock: C,
 }
 
 impl<C> MachineClock<C> {
+    /// The clock of that machine.
     pub fn new(clock: C) -> MachineClock<C> {
         MachineClock { clock }
     }

@@ -1,13 +1,10 @@
-//! The commands of a client: each is one push into the driver's queue.
+//! The commands of a client: each is one push into the driver's queue. It gives the command's correlation id, by which its
+//! reply names it; a push that is refused uses none.
 
 ghost use Rattle.command_codec.specs.Command.{command_bytes};
 ghost use Rattle.command_codec.specs.declared.command.Body.TheVariants as bodies;
-ghost use Rattle.command_queue.specs.declared.known.Facts.{Facts};
-ghost use Rattle.command_queue.specs.Facts.{WasFull};
-ghost use Rattle.driver_core.specs.declared.event.Event.{Event as Happening};
-ghost use Rattle.media_driver.specs.Clients.{Pushes};
-ghost use Rattle.std.specs.Prelude.{◌≡◌, ◌^◌, ◌-◌, [], IfErr, IfOk, MatchResult, Some, None};
-ghost use Rattle.media_driver.specs.declared.faults.PushFault.TheVariants.{QueueFull};
+ghost use Rattle.media_driver.specs.Clients.{Commands};
+ghost use Rattle.std.specs.Prelude.{◌≡◌, ◌^◌, ◌-◌, [], IfOk};
 
 use crate::client::Client;
 use crate::faults::PushFault;
@@ -22,35 +19,35 @@ use std::alloc::{AllocError, Global};
 use std::sync::Wait;
 
 /// The bytes of a command, as the driver reads them.
-fn laid_out(alloc: Global, command: &Command) -> Result<Received, AllocError>
-    ensures { IfOk result (λ bytes. bytes ≡ command_bytes command.now) }
+fn laid_out(alloc: Global, command: Command) -> Result<Received, AllocError>
+    ensures { IfOk result (λ bytes. bytes ≡ command_bytes command) }
 {
     let bytes = command.write(alloc)?;
     Received::new(alloc, bytes.as_slice())
 }
 
 impl<N: DriverNaming, C: Clock> Client<N, C> {
-    /// Pushes a command. Its correlation id is 1 for the first one that was pushed, and one more for each next.
+    /// Pushes a command. Its correlation id is 1 for the first one that was pushed, and one more for each next, up to the
+    /// greatest `u64`.
+    ///
+    /// # Errors
+    /// `QueueFull`, only where the queue held 1,024 events at one moment, or `NoMemory`. Nothing is changed then.
     fn push<R: Wait>(&mut self, rt: &R, body: Body) -> Result<u64, PushFault>
-        ensures pushed { MatchResult result (λ correlation. Pushes self.old self.new body correlation) (λ _. self.new ≡ self.old) }
-        ensures full { IfErr result (λ fault. fault ≡ QueueFull → (facts : Facts Happening) × WasFull self.old.queue.total self.old.queue.number self.old.queue.sent facts) }
+        ensures { Commands self.old self.new body result }
     {
+        let client = self.number;
         let correlation = self.correlation.saturating_add(1);
+        let now = self.now();
         let command = Command {
-            client: self.number,
+            client,
             correlation,
             body,
         };
-        let laid = laid_out(self.alloc, &command);
-        drop(command);
-        let event = Event::Command {
-            now: self.clock.now(),
-            client: self.number,
-            bytes: laid?,
-        };
-        match self.queue.push(rt, event) {
+        let bytes = laid_out(self.alloc, command)?;
+        match self.queue.push(rt, Event::Command { now, client, bytes }) {
             Ok(()) => {
                 self.correlation = correlation;
+                self.moment = now;
                 Ok(correlation)
             }
             Err(_) => Err(PushFault::QueueFull),
@@ -65,7 +62,7 @@ impl<N: DriverNaming, C: Clock> Client<N, C> {
         channel: &str,
         stream: i32,
     ) -> Result<u64, PushFault>
-        ensures { MatchResult result (λ correlation. Pushes self.old self.new (bodies.AddPublication (record { stream = stream; channel = channel.now })) correlation) (λ _. self.new ≡ self.old) }
+        ensures { Commands self.old self.new (bodies.AddPublication (record { stream = stream; channel = channel.now })) result }
     {
         let channel = Text::new(self.alloc, channel)?;
         self.push(rt, Body::AddPublication(AddPublication { stream, channel }))
@@ -78,7 +75,7 @@ impl<N: DriverNaming, C: Clock> Client<N, C> {
         channel: &str,
         stream: i32,
     ) -> Result<u64, PushFault>
-        ensures { MatchResult result (λ correlation. Pushes self.old self.new (bodies.AddExclusivePublication (record { stream = stream; channel = channel.now })) correlation) (λ _. self.new ≡ self.old) }
+        ensures { Commands self.old self.new (bodies.AddExclusivePublication (record { stream = stream; channel = channel.now })) result }
     {
         let channel = Text::new(self.alloc, channel)?;
         self.push(
@@ -94,7 +91,7 @@ impl<N: DriverNaming, C: Clock> Client<N, C> {
         channel: &str,
         stream: i32,
     ) -> Result<u64, PushFault>
-        ensures { MatchResult result (λ correlation. Pushes self.old self.new (bodies.AddSubscription (record { registration_correlation = 2 ^ 64 - 1; stream = stream; channel = channel.now })) correlation) (λ _. self.new ≡ self.old) }
+        ensures { Commands self.old self.new (bodies.AddSubscription (record { registration_correlation = 2 ^ 64 - 1; stream = stream; channel = channel.now })) result }
     {
         let channel = Text::new(self.alloc, channel)?;
         self.push(
@@ -113,7 +110,7 @@ impl<N: DriverNaming, C: Clock> Client<N, C> {
         rt: &R,
         registration: u64,
     ) -> Result<u64, PushFault>
-        ensures { MatchResult result (λ correlation. Pushes self.old self.new (bodies.RemovePublication (record { registration = registration })) correlation) (λ _. self.new ≡ self.old) }
+        ensures { Commands self.old self.new (bodies.RemovePublication (record { registration = registration })) result }
     {
         self.push(rt, Body::RemovePublication(Removal { registration }))
     }
@@ -124,7 +121,7 @@ impl<N: DriverNaming, C: Clock> Client<N, C> {
         rt: &R,
         registration: u64,
     ) -> Result<u64, PushFault>
-        ensures { MatchResult result (λ correlation. Pushes self.old self.new (bodies.RemoveSubscription (record { registration = registration })) correlation) (λ _. self.new ≡ self.old) }
+        ensures { Commands self.old self.new (bodies.RemoveSubscription (record { registration = registration })) result }
     {
         self.push(rt, Body::RemoveSubscription(Removal { registration }))
     }
@@ -136,7 +133,7 @@ impl<N: DriverNaming, C: Clock> Client<N, C> {
         registration: u64,
         channel: &str,
     ) -> Result<u64, PushFault>
-        ensures { MatchResult result (λ correlation. Pushes self.old self.new (bodies.AddDestination (record { registration = registration; channel = channel.now })) correlation) (λ _. self.new ≡ self.old) }
+        ensures { Commands self.old self.new (bodies.AddDestination (record { registration = registration; channel = channel.now })) result }
     {
         let channel = Text::new(self.alloc, channel)?;
         self.push(
@@ -155,7 +152,7 @@ impl<N: DriverNaming, C: Clock> Client<N, C> {
         registration: u64,
         channel: &str,
     ) -> Result<u64, PushFault>
-        ensures { MatchResult result (λ correlation. Pushes self.old self.new (bodies.RemoveDestination (record { registration = registration; channel = channel.now })) correlation) (λ _. self.new ≡ self.old) }
+        ensures { Commands self.old self.new (bodies.RemoveDestination (record { registration = registration; channel = channel.now })) result }
     {
         let channel = Text::new(self.alloc, channel)?;
         self.push(
@@ -175,7 +172,7 @@ impl<N: DriverNaming, C: Clock> Client<N, C> {
         key: ShortBytes<112>,
         label: ShortText<380>,
     ) -> Result<u64, PushFault>
-        ensures { MatchResult result (λ correlation. Pushes self.old self.new (bodies.AddCounter (record { type_id = type_id; key = key; label = label })) correlation) (λ _. self.new ≡ self.old) }
+        ensures { Commands self.old self.new (bodies.AddCounter (record { type_id = type_id; key = key; label = label })) result }
     {
         self.push(
             rt,
@@ -194,7 +191,7 @@ impl<N: DriverNaming, C: Clock> Client<N, C> {
         registration: u64,
         value: i64,
     ) -> Result<u64, PushFault>
-        ensures { MatchResult result (λ correlation. Pushes self.old self.new (bodies.SetCounter (record { registration = registration; value = value })) correlation) (λ _. self.new ≡ self.old) }
+        ensures { Commands self.old self.new (bodies.SetCounter (record { registration = registration; value = value })) result }
     {
         self.push(
             rt,
@@ -207,28 +204,28 @@ impl<N: DriverNaming, C: Clock> Client<N, C> {
 
     /// A counter goes (REMOVE_COUNTER).
     pub fn remove_counter<R: Wait>(&mut self, rt: &R, registration: u64) -> Result<u64, PushFault>
-        ensures { MatchResult result (λ correlation. Pushes self.old self.new (bodies.RemoveCounter (record { registration = registration })) correlation) (λ _. self.new ≡ self.old) }
+        ensures { Commands self.old self.new (bodies.RemoveCounter (record { registration = registration })) result }
     {
         self.push(rt, Body::RemoveCounter(Removal { registration }))
     }
 
     /// Tells the driver that the client is there still (CLIENT_KEEPALIVE).
     pub fn keepalive<R: Wait>(&mut self, rt: &R) -> Result<u64, PushFault>
-        ensures { MatchResult result (λ correlation. Pushes self.old self.new bodies.ClientKeepalive correlation) (λ _. self.new ≡ self.old) }
+        ensures { Commands self.old self.new bodies.ClientKeepalive result }
     {
         self.push(rt, Body::ClientKeepalive)
     }
 
     /// The client goes, with all that it registered (CLIENT_CLOSE).
     pub fn close<R: Wait>(&mut self, rt: &R) -> Result<u64, PushFault>
-        ensures { MatchResult result (λ correlation. Pushes self.old self.new bodies.ClientClose correlation) (λ _. self.new ≡ self.old) }
+        ensures { Commands self.old self.new bodies.ClientClose result }
     {
         self.push(rt, Body::ClientClose)
     }
 
     /// Asks that the driver end (TERMINATE_DRIVER).
     pub fn terminate<R: Wait>(&mut self, rt: &R) -> Result<u64, PushFault>
-        ensures { MatchResult result (λ correlation. Pushes self.old self.new (bodies.TerminateDriver (record { token = [] })) correlation) (λ _. self.new ≡ self.old) }
+        ensures { Commands self.old self.new (bodies.TerminateDriver (record { token = [] })) result }
     {
         let token = Bytes::new(self.alloc, &[])?;
         self.push(rt, Body::TerminateDriver(TerminateDriver { token }))

@@ -275,6 +275,7 @@ impl<
                     number,
                     place: place as u16,
                     correlation: 0,
+                    moment: 0,
                     pass: Some(pass),
                     queue,
                     mails,

@@ -1,5 +1,11 @@
 //! Why a call is refused.
 
+ghost use Rattle.media_driver.specs.declared.faults.MakeFault.TheVariants as make;
+ghost use Rattle.media_driver.specs.declared.faults.PushFault.TheVariants as push;
+ghost use Rattle.media_driver.specs.declared.faults.StartFault.TheVariants as start;
+ghost use Rattle.media_driver.specs.Faults.{make_text, start_text};
+ghost use Rattle.std.specs.Prelude.{◌≡◌, Some};
+
 use policy_core::Verdict;
 use policy_text::PolicyFault;
 use std::alloc::AllocError;
@@ -91,43 +97,55 @@ pub enum LookFault {
 }
 
 impl From<AllocError> for MakeFault {
+    ghost from_gives = { λ _ fault. fault ≡ make.NoMemory };
+
     fn from(_error: AllocError) -> MakeFault {
         MakeFault::NoMemory
     }
 }
 
 impl From<AllocError> for StartFault {
+    ghost from_gives = { λ _ fault. fault ≡ start.NoMemory };
+
     fn from(_error: AllocError) -> StartFault {
         StartFault::NoMemory
     }
 }
 
 impl From<AllocError> for PushFault {
+    ghost from_gives = { λ _ fault. fault ≡ push.NoMemory };
+
     fn from(_error: AllocError) -> PushFault {
         PushFault::NoMemory
     }
 }
 
 impl<F: Drop> From<SpawnError<F>> for StartFault {
+    ghost from_gives = { λ _ fault. fault ≡ start.NoThread };
+
     fn from(_refused: SpawnError<F>) -> StartFault {
         StartFault::NoThread
     }
 }
 
 impl fmt::Display for MakeFault {
+    ghost output = { λ fault. Some (make_text fault) };
+
     fn fmt<W: fmt::Write>(&self, f: &mut fmt::Formatter<W>) -> fmt::Result {
-        f.write_str(match self {
-            MakeFault::NoMemory => "no memory",
-            MakeFault::NoPass => "no pass",
-        })
+        match self {
+            MakeFault::NoMemory => f.write_str("no memory"),
+            MakeFault::NoPass => f.write_str("no pass"),
+        }
     }
 }
 
 impl fmt::Display for StartFault {
+    ghost output = { λ fault. Some (start_text fault) };
+
     fn fmt<W: fmt::Write>(&self, f: &mut fmt::Formatter<W>) -> fmt::Result {
-        f.write_str(match self {
-            StartFault::NoMemory => "no memory",
-            StartFault::NoThread => "no thread",
-        })
+        match self {
+            StartFault::NoMemory => f.write_str("no memory"),
+            StartFault::NoThread => f.write_str("no thread"),
+        }
     }
 }

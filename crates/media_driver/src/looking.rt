@@ -1,9 +1,10 @@
 //! Looks of a client: they wait for nobody.
 
 ghost use Rattle.driver_core.specs.Listing.{list, value};
-ghost use Rattle.media_driver.specs.Clients.{Looks};
+ghost use Rattle.media_driver.specs.Clients.{IsUnseen, Looks};
+ghost use Rattle.media_driver.specs.declared.faults.LookFault.TheVariants.{NoLook};
 ghost use Rattle.published_registry.specs.Histories.{IsContinuedBy, registry_of};
-ghost use Rattle.std.specs.Prelude.{◌≡◌, IfOk, IfSome};
+ghost use Rattle.std.specs.Prelude.{◌≡◌, IfErr, IfNone, IfOk, IfSome};
 
 use crate::client::Client;
 use crate::faults::LookFault;
@@ -15,6 +16,7 @@ use std::alloc::{AllocError, Global};
 /// The counters that a client may see, by one look.
 fn listed(pass: Pass, alloc: Global, client: u64) -> (Pass, Option<Result<Listed, AllocError>>)
     ensures known { IsContinuedBy pass result.0 }
+    ensures none { IfNone result.1 (result.0 ≡ pass) }
     ensures listed { IfSome result.1 (λ listed. IfOk listed (λ rows. rows ≡ list (registry_of result.0) client)) }
 {
     match pass.enter() {
@@ -29,6 +31,7 @@ fn listed(pass: Pass, alloc: Global, client: u64) -> (Pass, Option<Result<Listed
 /// What a client is shown of a counter, by one look.
 fn shown(pass: Pass, client: u64, number: u64) -> (Pass, Option<Shown>)
     ensures known { IsContinuedBy pass result.0 }
+    ensures none { IfNone result.1 (result.0 ≡ pass) }
     ensures shown { IfSome result.1 (λ shown. shown ≡ value (registry_of result.0) client number) }
 {
     match pass.enter() {
@@ -41,10 +44,15 @@ fn shown(pass: Pass, client: u64, number: u64) -> (Pass, Option<Shown>)
 }
 
 impl<N: DriverNaming, C: Clock> Client<N, C> {
-    /// The counters that the client may see, by their numbers.
+    /// The counters that the client may see, by their numbers, as the registry says that the client sees now. It waits for
+    /// nobody.
+    ///
+    /// # Errors
+    /// `NoLook`, with nothing changed, or `NoMemory`.
     pub fn list(&mut self) -> Result<Listed, LookFault>
         ensures looks { Looks self.old self.new }
         ensures listed { IfOk result (λ rows. rows ≡ list (registry_of self.new.known) self.old.number) }
+        ensures fault { IfErr result (λ fault. IsUnseen self.old self.new fault) }
     {
         caches_stay_right_of_later_looks();
         let Some(pass) = self.pass.take() else {
@@ -59,10 +67,15 @@ impl<N: DriverNaming, C: Clock> Client<N, C> {
         }
     }
 
-    /// What the client is shown of a counter.
+    /// What the client is shown of a counter, as the registry says that the client sees now. It waits for nobody, and takes
+    /// no memory.
+    ///
+    /// # Errors
+    /// `NoLook`, with nothing changed.
     pub fn counter_value(&mut self, number: u64) -> Result<Shown, LookFault>
         ensures looks { Looks self.old self.new }
         ensures shown { IfOk result (λ shown. shown ≡ value (registry_of self.new.known) self.old.number number) }
+        ensures fault { IfErr result (λ fault. (fault ≡ NoLook) × (self.new ≡ self.old)) }
     {
         caches_stay_right_of_later_looks();
         let Some(pass) = self.pass.take() else {

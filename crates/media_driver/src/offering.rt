@@ -8,7 +8,7 @@ ghost use Rattle.log_slots.specs.Counting.{taken_by};
 ghost use Rattle.media_driver.specs.Clients.{Looks};
 ghost use Rattle.media_driver.specs.Steps.{Counts, IsOffer, IsStep, offer_answer};
 ghost use Rattle.published_registry.specs.Histories.{IsContinuedBy, registry_of};
-ghost use Rattle.std.specs.Prelude.{◌≡◌, ◌+◌, ◌<◌, ◌⊎◌, ℕ, IfErr, IfNone, IfSome, Err, None, Some};
+ghost use Rattle.std.specs.Prelude.{◌≡◌, ◌+◌, ◌≤◌, ◌⊎◌, IfErr, IfNone, IfSome, Err, None};
 
 use crate::client::Client;
 use crate::faults::OfferFault;
@@ -61,10 +61,11 @@ fn offer_once<N: DriverNaming, R: Wait>(
     ensures right { AreCached (registry_of result.0) cache.new }
     ensures counted { IfSome result.1 (λ told. (mine.new.amount ≡ mine.old.amount + taken_by told.answer) ⊎ (mine.new.amount ≡ mine.old.amount)) }
     ensures none { IfNone result.1 (mine.new.amount ≡ mine.old.amount) }
-    ensures step { IfSome result.1 (λ told. IsStep (offer_move (registry_of result.0) now client registration message.now) (OfferedAs Closed) told.answer) }
+    ensures step { IfSome result.1 (λ told. IsStep N.home (offer_move (registry_of result.0) now client registration message.now) (OfferedAs Closed) told.answer) }
 {
     caches_stay_right_of_later_looks();
     let mut slot = slot.lock(rt);
+    slot.holds();
     match pass.enter() {
         Ok(look) => {
             let mut late = Late { rt, totals, end: 0 };
@@ -101,16 +102,20 @@ fn position_of(told: &Told) -> Result<u64, OfferFault>
     }
 }
 
+/// The log, with whose registration it is found.
+fn remembered(registration: u64, at: Option<LogAt>) -> Option<(u64, LogAt)> {
+    Some((registration, at?))
+}
+
 impl<N: DriverNaming, C: Clock> Client<N, C> {
-    /// Where the log of a registration is: it stays there for as long as the log is open.
-    fn log_of(&mut self, registration: u64) -> Result<LogAt, OfferFault>
-        ensures looks { Looks self.old self.new }
-        ensures fault { IfErr result (λ fault. offer_answer (Err fault) ≡ None) }
+    /// Where the log of a registration is: it stays there for as long as the log is open. `None` where there is no look.
+    fn log_of(&mut self, registration: u64) -> Option<Option<LogAt>>
+        ensures { Looks self.old self.new }
     {
         caches_stay_right_of_later_looks();
         if let Some((known, at)) = self.offered {
             if known == registration {
-                return Ok(at);
+                return Some(Some(at));
             }
         }
         let Some(pass) = self.pass.take() else {
@@ -118,17 +123,17 @@ impl<N: DriverNaming, C: Clock> Client<N, C> {
         };
         let (pass, found) = find(pass, self.number, registration);
         self.pass = Some(pass);
-        match found {
-            Some(Some(at)) => {
-                self.offered = Some((registration, at));
-                Ok(at)
-            }
-            Some(None) => Err(OfferFault::Closed),
-            None => Err(OfferFault::NoLook),
-        }
+        self.offered = remembered(registration, found.flatten());
+        found
     }
 
-    /// Offers a message to the log of a publication of this client's. The position after it is given back.
+    /// Offers a message to the log of a publication of this client's, and gives the position after it. It is one look, if
+    /// the client does not remember where that log is, and then one hold of the log's lock with one look within it. Such a
+    /// message is counted by the client's share, unless the total is at its greatest value; no other is. It takes no memory.
+    ///
+    /// # Errors
+    /// The first that applies, by the registry of that look: `Closed`, `Denied`, `TooLong`, `NotConnected`, `MaxPosition`,
+    /// `BackPressured`, `AdminAction`; or `NoLook`, and then nothing is offered.
     pub fn offer<R: Wait>(
         &mut self,
         rt: &R,
@@ -136,15 +141,21 @@ impl<N: DriverNaming, C: Clock> Client<N, C> {
         message: &[u8],
     ) -> Result<u64, OfferFault>
         ensures known { IsContinuedBy self.old.known self.new.known }
-        ensures same { self.new ≡ record self.old { known = self.new.known; counted = self.new.counted } }
+        ensures moment { self.old.moment ≤ self.new.moment }
+        ensures same { self.new ≡ record self.old { known = self.new.known; moment = self.new.moment; counted = self.new.counted } }
         ensures counted { Counts result self.old.counted self.new.counted }
-        ensures step { (now : ℕ) × IsOffer (registry_of self.new.known) now self.old.number registration message.now result }
+        ensures step { IsOffer N.home (registry_of self.new.known) self.new.moment self.old.number registration message.now result }
     {
         caches_stay_right_of_later_looks();
-        let at = self.log_of(registration)?;
-        let now = self.clock.now();
-        let Some(slot) = self.slots.publications.get(at.slot as usize) else {
+        let Some(found) = self.log_of(registration) else {
+            return Err(OfferFault::NoLook);
+        };
+        let Some(at) = found else {
             return Err(OfferFault::Closed);
+        };
+        let now = self.now();
+        let Some(slot) = self.slots.publications.get(at.slot as usize) else {
+            return Err(OfferFault::NoLook);
         };
         let Some(pass) = self.pass.take() else {
             unreachable!()
@@ -162,9 +173,10 @@ impl<N: DriverNaming, C: Clock> Client<N, C> {
             message,
         );
         self.pass = Some(pass);
-        match told {
-            Some(told) => position_of(&told),
-            None => Err(OfferFault::NoLook),
-        }
+        let Some(told) = told else {
+            return Err(OfferFault::NoLook);
+        };
+        self.moment = now;
+        position_of(&told)
     }
 }

@@ -2,11 +2,12 @@
 
 ghost use Rattle.driver_core.specs.Cached.{AreCached};
 ghost use Rattle.driver_steps.specs.declared.answer.Answer.TheVariants.{Gone};
-ghost use Rattle.driver_steps.specs.Moves.{for_source, poll_move};
+ghost use Rattle.driver_steps.specs.Moves.{Move, WholeLog};
+ghost use Rattle.log_arena.specs.Homes.{Home};
 ghost use Rattle.media_driver.specs.Clients.{Looks};
-ghost use Rattle.media_driver.specs.Steps.{IsPoll, IsStep, poll_answer};
+ghost use Rattle.media_driver.specs.Steps.{IsGiving, IsPoll, IsStep, MayLack, poll_answer, poll_of};
 ghost use Rattle.published_registry.specs.Histories.{IsContinuedBy, registry_of};
-ghost use Rattle.std.specs.Prelude.{◌≡◌, Err, None, IfErr, IfOk, IfSome};
+ghost use Rattle.std.specs.Prelude.{◌≡◌, Err, None, IfErr, IfOk, IfSome, OnErr};
 
 use crate::client::Client;
 use crate::faults::PollFault;
@@ -21,12 +22,16 @@ use std::sync::{Mutex, Wait};
 
 /// Where the log of a source is, by a look that decides nothing. `None` where there is no look.
 fn find(pass: Pass, source: u64) -> (Pass, Option<Option<LogAt>>)
-    ensures { IsContinuedBy pass result.0 }
+    ensures known { IsContinuedBy pass result.0 }
+    ensures source { IfSome result.1 (λ found. IfSome found (λ at. at.source ≡ source)) }
 {
     match pass.enter() {
         Ok(look) => {
             let at = match look.registry().source(source) {
-                Some(row) => Some(LogAt::of(row)),
+                Some(row) => Some(LogAt {
+                    source,
+                    ..LogAt::of(row)
+                }),
                 None => None,
             };
             (look.leave(), Some(at))
@@ -50,10 +55,12 @@ fn poll_publication<N: DriverNaming, R: Wait>(
     requires right { AreCached (registry_of pass) cache.old }
     ensures known { IsContinuedBy pass result.0 }
     ensures right { AreCached (registry_of result.0) cache.new }
-    ensures step { IfSome result.1 (λ told. IfOk told (λ told. IsStep (for_source source (poll_move (registry_of result.0) client subscription limit)) Gone told.answer)) }
+    ensures step { IfSome result.1 (λ told. IfOk told (λ told. IsStep N.home (poll_of (registry_of result.0) client subscription source limit) Gone told.answer)) }
+    ensures memory { IfSome result.1 (λ told. OnErr told (IsGiving N.home (poll_of (registry_of result.0) client subscription source limit))) }
 {
     caches_stay_right_of_later_looks();
     let mut slot = slot.lock(rt);
+    slot.holds();
     match pass.enter() {
         Ok(look) => {
             let told = slot.poll(&look, cache, alloc, client, subscription, source, limit);
@@ -78,10 +85,12 @@ fn poll_image<N: DriverNaming, R: Wait>(
     requires right { AreCached (registry_of pass) cache.old }
     ensures known { IsContinuedBy pass result.0 }
     ensures right { AreCached (registry_of result.0) cache.new }
-    ensures step { IfSome result.1 (λ told. IfOk told (λ told. IsStep (for_source source (poll_move (registry_of result.0) client subscription limit)) Gone told.answer)) }
+    ensures step { IfSome result.1 (λ told. IfOk told (λ told. IsStep N.home (poll_of (registry_of result.0) client subscription source limit) Gone told.answer)) }
+    ensures memory { IfSome result.1 (λ told. OnErr told (IsGiving N.home (poll_of (registry_of result.0) client subscription source limit))) }
 {
     caches_stay_right_of_later_looks();
     let mut slot = slot.lock(rt);
+    slot.holds();
     match pass.enter() {
         Ok(look) => {
             let told = slot.poll(&look, cache, alloc, client, subscription, source, limit);
@@ -106,7 +115,8 @@ fn poll_once<N: DriverNaming, R: Wait>(
     requires right { AreCached (registry_of pass) cache.old }
     ensures known { IsContinuedBy pass result.0 }
     ensures right { AreCached (registry_of result.0) cache.new }
-    ensures step { IfSome result.1 (λ told. IfOk told (λ told. IsStep (for_source at.source (poll_move (registry_of result.0) client subscription limit)) Gone told.answer)) }
+    ensures step { IfSome result.1 (λ told. IfOk told (λ told. IsStep N.home (poll_of (registry_of result.0) client subscription at.source limit) Gone told.answer)) }
+    ensures memory { IfSome result.1 (λ told. OnErr told (IsGiving N.home (poll_of (registry_of result.0) client subscription at.source limit))) }
 {
     let place = at.slot as usize;
     if at.published {
@@ -144,7 +154,8 @@ fn poll_once<N: DriverNaming, R: Wait>(
 
 /// What the answer of a step says.
 fn fragments_of(told: Told) -> Result<FragmentCopies, PollFault>
-    ensures { IfSome (poll_answer result) (λ answer. told.answer ≡ answer) }
+    ensures answer { IfSome (poll_answer result) (λ answer. told.answer ≡ answer) }
+    ensures memory { (home : Home) (move : WholeLog → Move) → IfErr result (λ fault. MayLack home move fault) }
 {
     match told.answer {
         Answer::Polled(fragments) => Ok(fragments),
@@ -154,16 +165,15 @@ fn fragments_of(told: Told) -> Result<FragmentCopies, PollFault>
 }
 
 impl<N: DriverNaming, C: Clock> Client<N, C> {
-    /// Where the log of a source is: it stays there for as long as the log is open.
-    fn log_at(&mut self, source: u64) -> Result<LogAt, PollFault>
+    /// Where the log of a source is: it stays there for as long as the log is open. `None` where there is no look.
+    fn log_at(&mut self, source: u64) -> Option<Option<LogAt>>
         ensures looks { Looks self.old self.new }
-        ensures source { IfOk result (λ at. at.source ≡ source) }
-        ensures fault { IfErr result (λ fault. poll_answer (Err fault) ≡ None) }
+        ensures source { IfSome result (λ found. IfSome found (λ at. at.source ≡ source)) }
     {
         caches_stay_right_of_later_looks();
         if let Some(at) = self.polled {
             if at.source == source {
-                return Ok(at);
+                return Some(Some(at));
             }
         }
         let Some(pass) = self.pass.take() else {
@@ -171,17 +181,16 @@ impl<N: DriverNaming, C: Clock> Client<N, C> {
         };
         let (pass, found) = find(pass, source);
         self.pass = Some(pass);
-        match found {
-            Some(Some(at)) => {
-                self.polled = Some(at);
-                Ok(at)
-            }
-            Some(None) => Err(PollFault::Gone),
-            None => Err(PollFault::NoLook),
-        }
+        self.polled = found.flatten();
+        found
     }
 
-    /// Polls the log of a source by a subscription of this client's: up to `limit` fragments from where it stands.
+    /// Polls the log of a source by a subscription of this client's: up to `limit` fragments from where it stands. It is one
+    /// look, if the client does not remember where that log is, and then one hold of the log's lock with one look within it.
+    ///
+    /// # Errors
+    /// The first that applies, by the registry of that look: `Gone`, `Denied`; `NoMemory`, only where there are fragments to
+    /// give; or `NoLook`, and then nothing is polled.
     pub fn poll<R: Wait>(
         &mut self,
         rt: &R,
@@ -190,10 +199,16 @@ impl<N: DriverNaming, C: Clock> Client<N, C> {
         limit: u32,
     ) -> Result<FragmentCopies, PollFault>
         ensures looks { Looks self.old self.new }
-        ensures step { IsPoll (registry_of self.new.known) self.old.number subscription source limit result }
+        ensures step { IsPoll N.home (registry_of self.new.known) self.old.number subscription source limit result }
+        ensures memory { IfErr result (λ fault. MayLack N.home (poll_of (registry_of self.new.known) self.old.number subscription source limit) fault) }
     {
         caches_stay_right_of_later_looks();
-        let at = self.log_at(source)?;
+        let Some(found) = self.log_at(source) else {
+            return Err(PollFault::NoLook);
+        };
+        let Some(at) = found else {
+            return Err(PollFault::Gone);
+        };
         let Some(pass) = self.pass.take() else {
             unreachable!()
         };
@@ -209,10 +224,12 @@ impl<N: DriverNaming, C: Clock> Client<N, C> {
             limit,
         );
         self.pass = Some(pass);
-        match told {
-            Some(Ok(told)) => fragments_of(told),
-            Some(Err(_)) => Err(PollFault::NoMemory),
-            None => Err(PollFault::NoLook),
-        }
+        let Some(told) = told else {
+            return Err(PollFault::NoLook);
+        };
+        let Ok(told) = told else {
+            return Err(PollFault::NoMemory);
+        };
+        fragments_of(told)
     }
 }

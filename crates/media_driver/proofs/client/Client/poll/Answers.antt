@@ -1,0 +1,4 @@
+use Rattle.media_driver.proofs.client.Client.poll.Goals as goal
+
+pub returns-clause-memory : goal.returns-clause-memory
+returns-clause-memory g c = c.fragments_of.ensures.memory _ _
