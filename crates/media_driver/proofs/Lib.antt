@@ -1,2 +1,4 @@
+pub mod AttachLemmas
 pub mod MailLemmas
+pub mod OpeningLemmas
 pub mod PassLemmas

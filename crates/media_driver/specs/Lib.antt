@@ -1,4 +1,6 @@
+pub mod Attaching
 pub mod Clients
 pub mod Faults
 pub mod Parts
+pub mod Reloading
 pub mod Steps

@@ -1,8 +1,11 @@
 -- What a driver is made of, and whether a name is that of these parts. Own rules.
-use Rattle.std.specs.Prelude.{◌≡◌, ℕ}
+use Rattle.std.specs.Prelude.{◌≡◌, ◌++◌, ◌∷◌, ℕ, List, [], All}
+use Rattle.command_queue.specs.Sent.{Sent}
+use Rattle.driver_core.specs.declared.event.Event.{Event}
 use Rattle.driver_core.specs.State.{State}
 use Rattle.log_arena.specs.Homes.{Home}
 use Rattle.logbook.specs.Pages.{Book}
+use Rattle.published_registry.specs.Histories.{History}
 
 -- the region of its logs, its ledgers and into how many parts they are cut, its history, and the registry that was opened
 pub record PartsState : Type 0 where
@@ -23,7 +26,18 @@ pub record AreNamed (home : Home) (client_ledger client_parts slot_ledger slot_p
   pub slot_parts_are : parts.slot_parts ≡ slot_parts
   pub book_is : parts.book ≡ book
 
--- what a driver's owner sees of it: how many clients are out, and how many messages those counted that came back
+-- the passes are of that history, and nothing was sent by the senders
+pub record AreFresh (book : Book) (passes : List History) (senders : List (Sent Event)) : Type 0 where
+  pub ours : All (λ pass. pass.book ≡ book) passes
+  pub unsent : All (λ sender. sender.sent ≡ []) senders
+
+-- what a driver's owner sees of it: how many clients are out, how many messages those counted that came back, and what the
+-- driver asked of its conductor
 pub record DriverState : Type 0 where
   pub out : ℕ
   pub counted : ℕ
+  pub queue : Sent Event
+
+-- it asks the conductor this, once
+abbrev pub Asks : Event → DriverState → DriverState → Type 0
+Asks event old new = new ≡ record old { queue = record old.queue { sent = old.queue.sent ++ event ∷ [] } }

@@ -5,6 +5,8 @@
 //! of one log.
 #![tactic(auto)]
 
+mod asking;
+mod attaching;
 mod client;
 mod clock;
 mod commands;
@@ -15,8 +17,12 @@ mod mail;
 mod offering;
 mod parts;
 mod polling;
+mod preparing;
+mod reloading;
 mod seat;
+mod seats;
 mod starting;
+mod stopping;
 mod threads;
 mod works;
 

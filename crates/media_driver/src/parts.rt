@@ -2,15 +2,18 @@
 
 ghost use Rattle.driver_core.specs.Soundness.{AreSettings};
 ghost use Rattle.driver_core.specs.State.{opened};
-ghost use Rattle.std.specs.Prelude.{◌≡◌, IfOk};
+ghost use Rattle.media_driver.specs.Parts.{AreFresh};
+ghost use Rattle.published_registry.specs.Histories.{registry_of};
+ghost use Rattle.std.specs.Prelude.{◌≡◌, ◌+◌, ◌<◌, ◌≤◌, [], All, IfOk, length};
 
 use crate::faults::MakeFault;
 use command_queue::{Sender, Taker};
 use driver_core::{Event, Peer, Registry, Settings};
 use log_arena::Arena;
+use media_agents::{DriverNaming, EventSender};
 use policy_core::Policy;
 use published_registry::{Pass, Publisher};
-use std::alloc::Global;
+use std::alloc::{AllocError, Global};
 use std::marker::Model;
 use std::sync::Wait;
 use std::sync::ledger::Blank;
@@ -36,34 +39,99 @@ pub struct Parts {
 #[derive(Drop)]
 pub(crate) struct Pieces {
     pub(crate) settings: Settings,
+    pub(crate) store: Store,
+    pub(crate) hands: Hands,
+    pub(crate) blanks: Blanks,
+}
+
+/// What the conductor alone works with.
+#[derive(Drop)]
+pub(crate) struct Store {
     pub(crate) arena: Arena,
+    pub(crate) taker: Taker<Event>,
+}
+
+/// By what the others reach the conductor and its registry: a pass for the sender, the receiver and each client; and an end of
+/// the queue for the driver's owner, the receiver and each client.
+#[derive(Drop)]
+pub(crate) struct Hands {
     pub(crate) passes: Vec<Pass>,
     pub(crate) senders: Vec<Sender<Event>>,
-    pub(crate) taker: Taker<Event>,
+}
+
+/// The ledgers of messages, before they are opened: a part for each client and one for the driver, which keeps what clients
+/// counted that came back; and a part for each slot.
+#[derive(Drop)]
+pub(crate) struct Blanks {
     pub(crate) clients: Blank,
     pub(crate) slots: Blank,
 }
 
 impl Model for Parts {
     ghost use Rattle.driver_core.specs.Soundness.{IsSound};
-    ghost use Rattle.media_driver.specs.Parts.{PartsState};
+    ghost use Rattle.media_driver.specs.Parts.{AreFresh, PartsState};
     ghost use Rattle.published_registry.specs.Histories.{registry_of};
-    ghost use Rattle.std.specs.Prelude.{◌≡◌, All};
+    ghost use Rattle.std.specs.Prelude.{◌≡◌, length};
 
     ghost Value = { PartsState };
 
     ghost view = { λ parts. record {
-      home = parts.pieces.arena.home;
-      client_ledger = parts.pieces.clients.name;
-      client_parts = parts.pieces.clients.parts;
-      slot_ledger = parts.pieces.slots.name;
-      slot_parts = parts.pieces.slots.parts;
+      home = parts.pieces.store.arena.home;
+      client_ledger = parts.pieces.blanks.clients.name;
+      client_parts = parts.pieces.blanks.clients.parts;
+      slot_ledger = parts.pieces.blanks.slots.name;
+      slot_parts = parts.pieces.blanks.slots.parts;
       book = parts.publisher.book;
       opening = registry_of parts.publisher;
     } };
 
-    ghost invariant = { λ parts. IsSound (registry_of parts.publisher) × All (λ pass. pass.book ≡ parts.publisher.book) parts.pieces.passes.items
-        × (parts.pieces.clients.parts ≡ 64) × (parts.pieces.slots.parts ≡ 256) };
+    ghost invariant = { λ parts. IsSound (registry_of parts.publisher)
+        × AreFresh parts.publisher.book parts.pieces.hands.passes.items parts.pieces.hands.senders.items
+        × (length parts.pieces.hands.passes.items ≡ 66) × (length parts.pieces.hands.senders.items ≡ 66)
+        × (parts.pieces.blanks.clients.parts ≡ 65) × (parts.pieces.blanks.slots.parts ≡ 256) };
+}
+
+impl Hands {
+    /// A pass that was not given yet.
+    pub(crate) fn pass<N: DriverNaming>(&mut self) -> Pass
+        requires fresh { AreFresh N.book self.old.passes.items self.old.senders.items }
+        requires passes { 0 < length self.old.passes.items }
+        ensures ours { result.book ≡ N.book }
+        ensures fresh { AreFresh N.book self.new.passes.items self.new.senders.items }
+        ensures passes { length self.new.passes.items + 1 ≡ length self.old.passes.items }
+        ensures senders { self.new.senders ≡ self.old.senders }
+    {
+        match self.passes.pop() {
+            Some(pass) => pass,
+            None => unreachable!(),
+        }
+    }
+
+    /// An end of the queue that was not given yet.
+    pub(crate) fn sender<N: DriverNaming>(&mut self) -> EventSender
+        requires fresh { AreFresh N.book self.old.passes.items self.old.senders.items }
+        requires senders { 0 < length self.old.senders.items }
+        ensures unsent { result.sent ≡ [] }
+        ensures fresh { AreFresh N.book self.new.passes.items self.new.senders.items }
+        ensures senders { length self.new.senders.items + 1 ≡ length self.old.senders.items }
+        ensures passes { self.new.passes ≡ self.old.passes }
+    {
+        match self.senders.pop() {
+            Some(sender) => EventSender::new(sender),
+            None => unreachable!(),
+        }
+    }
+}
+
+/// The region for the logs, and the queue.
+fn make_store(alloc: Global, settings: Settings) -> Result<(Store, Vec<Sender<Event>>), AllocError>
+    requires { AreSettings settings }
+    ensures unsent { IfOk result (λ made. All (λ sender. sender.sent ≡ []) made.1.items) }
+    ensures senders { IfOk result (λ made. length made.1.items ≡ 66) }
+{
+    let arena = Arena::new(alloc, settings.arena_pages as usize)?;
+    let (senders, taker) = command_queue::make(alloc, CLIENTS as usize + 2)?;
+    Ok((Store { arena, taker }, senders))
 }
 
 impl Parts {
@@ -80,22 +148,21 @@ impl Parts {
     ) -> Result<Parts, MakeFault>
         requires { AreSettings settings }
         ensures opening { IfOk result (λ parts. parts.opening ≡ opened settings policy peers.now) }
-        ensures parts { IfOk result (λ parts. (parts.client_parts ≡ 64) × (parts.slot_parts ≡ 256)) }
+        ensures parts { IfOk result (λ parts. (parts.client_parts ≡ 65) × (parts.slot_parts ≡ 256)) }
     {
-        let arena = Arena::new(alloc, settings.arena_pages as usize)?;
-        let (senders, taker) = command_queue::make(alloc, CLIENTS as usize + 2)?;
         let registry = Registry::new(alloc, settings, policy, peers)?;
+        let (store, senders) = make_store(alloc, settings)?;
         match published_registry::make(rt, alloc, registry, CLIENTS + 2) {
             Ok((publisher, passes)) => Ok(Parts {
                 publisher,
                 pieces: Pieces {
                     settings,
-                    arena,
-                    passes,
-                    senders,
-                    taker,
-                    clients: Blank::new(CLIENTS as u64),
-                    slots: Blank::new(PUBLICATIONS as u64),
+                    store,
+                    hands: Hands { passes, senders },
+                    blanks: Blanks {
+                        clients: Blank::new(CLIENTS as u64 + 1),
+                        slots: Blank::new(PUBLICATIONS as u64),
+                    },
                 },
             }),
             Err(published_registry::MakeFault::NoMemory) => Err(MakeFault::NoMemory),

@@ -1,21 +1,13 @@
-//! The memory that a driver takes as it starts.
+//! The memory that a driver takes as it starts: what counts its messages, and what its threads have in common.
 
-ghost use Rattle.std.specs.Prelude.{◌≡◌, All, IfOk};
-ghost use Rattle.std.specs.Arc.{arc_value};
+ghost use Rattle.std.specs.Prelude.{◌≡◌, IfOk, OnOk};
 
-use crate::mail::REPLIES;
-use crate::parts::{CLIENTS, IMAGES, PUBLICATIONS};
-use crate::seat::Seat;
-use command_queue::Sender;
-use decision_cache::Cache;
-use driver_core::Event;
+use crate::parts::{Blanks, IMAGES, PUBLICATIONS};
 use log_slots::{LogSlot, Naming, OfClients, OfSlots, Slot, Totals};
-use media_agents::{Desk, DriverNaming, EventSender, Mail, Ring, Rings, Slots};
-use published_registry::Pass;
-use rtrb::{Consumer, RingBuffer};
+use media_agents::{Desk, DriverNaming, Slots};
 use std::alloc::{AllocError, Global};
 use std::sync::atomic::AtomicBool;
-use std::sync::ledger::{Blank, Share};
+use std::sync::ledger::Share;
 use std::sync::{Arc, Mutex};
 
 /// A value that several threads have.
@@ -32,7 +24,7 @@ fn publication_slots<N: Naming>(
     share: &mut Share<OfSlots<N>>,
 ) -> Result<Vec<Mutex<Slot<N>>>, AllocError>
     requires { (share.old.parts ≡ 256) × (share.old.amount ≡ 0) }
-    ensures { (share.new.amount ≡ 0) }
+    ensures { OnOk result ((share.new.parts ≡ 0) × (share.new.amount ≡ 0)) }
 {
     let mut slots = Vec::with_capacity(alloc, PUBLICATIONS as usize)?;
     for _made in 0..PUBLICATIONS {
@@ -55,6 +47,7 @@ fn image_slots<N: Naming>(alloc: Global) -> Result<Vec<Mutex<LogSlot<N>>>, Alloc
 pub(crate) struct Common<N: DriverNaming> {
     pub(crate) slots: Arc<Slots<N>>,
     pub(crate) desk: Arc<Mutex<Desk<N>>>,
+    /// Whether the threads are to end.
     pub(crate) stop: Arc<AtomicBool>,
 }
 
@@ -80,16 +73,13 @@ pub(crate) struct Ledgers<N: DriverNaming> {
 }
 
 /// Opens the ledgers.
-pub(crate) fn open_ledgers<N: DriverNaming>(
-    alloc: Global,
-    clients: Blank,
-    slots: Blank,
-) -> Result<Ledgers<N>, AllocError>
-    requires clients { (clients.name ≡ N.client_ledger) × (clients.parts ≡ N.client_parts) }
-    requires slots { (slots.name ≡ N.slot_ledger) × (slots.parts ≡ N.slot_parts) }
+fn open_ledgers<N: DriverNaming>(alloc: Global, blanks: Blanks) -> Result<Ledgers<N>, AllocError>
+    requires clients { (blanks.clients.name ≡ N.client_ledger) × (blanks.clients.parts ≡ N.client_parts) }
+    requires slots { (blanks.slots.name ≡ N.slot_ledger) × (blanks.slots.parts ≡ N.slot_parts) }
     ensures clients { IfOk result (λ ledgers. (ledgers.clients.parts ≡ N.client_parts) × (ledgers.clients.amount ≡ 0)) }
     ensures slots { IfOk result (λ ledgers. (ledgers.slots.parts ≡ N.slot_parts) × (ledgers.slots.amount ≡ 0)) }
 {
+    let Blanks { clients, slots } = blanks;
     let (client_book, clients) = clients.open::<OfClients<N>>();
     let (slot_book, slots) = slots.open::<OfSlots<N>>();
     let totals = shared(alloc, Mutex::new(Totals::new(client_book, slot_book)))?;
@@ -100,12 +90,13 @@ pub(crate) fn open_ledgers<N: DriverNaming>(
     })
 }
 
-/// The slots of a driver, each with its part of the ledger, and what else its threads have in common.
-pub(crate) fn make_common<N: DriverNaming>(
+/// The slots of a driver, each for a publication with its part of the ledger, and what else its threads have in common.
+fn make_common<N: DriverNaming>(
     alloc: Global,
     share: &mut Share<OfSlots<N>>,
 ) -> Result<Common<N>, AllocError>
     requires { (share.old.parts ≡ 256) × (share.old.amount ≡ 0) }
+    ensures { OnOk result ((share.new.parts ≡ 0) × (share.new.amount ≡ 0)) }
 {
     let slots = Slots {
         publications: publication_slots(alloc, share)?,
@@ -118,41 +109,24 @@ pub(crate) fn make_common<N: DriverNaming>(
     })
 }
 
-/// The two ends of each client's ring.
-pub(crate) fn rings<N: DriverNaming>(
-    alloc: Global,
-) -> Result<(Rings<N>, Vec<Consumer<Mail<N>, Global>>), AllocError> {
-    let mut rings = Vec::with_capacity(alloc, CLIENTS as usize)?;
-    let mut ends = Vec::with_capacity(alloc, CLIENTS as usize)?;
-    for _made in 0..CLIENTS {
-        let (producer, consumer) = RingBuffer::new(alloc, REPLIES)?;
-        rings.push(Ring::new(producer))?;
-        ends.push(consumer)?;
-    }
-    Ok((Rings::new(rings), ends))
+/// What stands below all that a driver does.
+#[derive(Drop)]
+pub(crate) struct Base<N: DriverNaming> {
+    pub(crate) common: Common<N>,
+    pub(crate) ledgers: Ledgers<N>,
 }
 
-/// The seats of the clients.
-pub(crate) fn seats<N: DriverNaming>(
+/// The ledgers are opened, and each slot for a publication has its part.
+pub(crate) fn make_base<N: DriverNaming>(
     alloc: Global,
-    passes: &mut Vec<Pass>,
-    senders: &mut Vec<Sender<Event>>,
-    ends: Vec<Consumer<Mail<N>, Global>>,
-) -> Result<Vec<Option<Seat<N>>>, AllocError>
-    requires { All (λ pass. pass.book ≡ N.book) passes.old.items }
+    blanks: Blanks,
+) -> Result<Base<N>, AllocError>
+    requires clients { (blanks.clients.name ≡ N.client_ledger) × (blanks.clients.parts ≡ N.client_parts) }
+    requires slots { (blanks.slots.name ≡ N.slot_ledger) × (blanks.slots.parts ≡ N.slot_parts) × (N.slot_parts ≡ 256) }
+    ensures clients { IfOk result (λ base. (base.ledgers.clients.parts ≡ N.client_parts) × (base.ledgers.clients.amount ≡ 0)) }
+    ensures slots { IfOk result (λ base. (base.ledgers.slots.parts ≡ 0) × (base.ledgers.slots.amount ≡ 0)) }
 {
-    let mut seats = Vec::with_capacity(alloc, CLIENTS as usize)?;
-    for mails in ends {
-        let (Some(pass), Some(queue)) = (passes.pop(), senders.pop()) else {
-            return Err(AllocError);
-        };
-        let cache = Cache::new(alloc)?;
-        seats.push(Some(Seat {
-            pass,
-            queue: EventSender::new(queue),
-            mails,
-            cache,
-        }))?;
-    }
-    Ok(seats)
+    let mut ledgers = open_ledgers(alloc, blanks)?;
+    let common = make_common(alloc, &mut ledgers.slots)?;
+    Ok(Base { common, ledgers })
 }

@@ -6,117 +6,77 @@ use media_wire::Wire;
 use std::sync::atomic::{AtomicBool, Ordering};
 use std::sync::{Arc, Wait};
 
-/// The conductor's thread. However it ends, the driver's logs close, and nobody gets a look at its registry any more.
-pub(crate) struct ConductorWork<N: DriverNaming, R: Wait + Drop, G: Gate + Drop, C: Clock + Drop> {
-    pub(crate) rt: R,
-    pub(crate) conductor: Conductor<N, G>,
+/// What a thread does again and again.
+pub(crate) trait Turns {
+    /// One turn, at the moment `now` in nanoseconds.
+    fn turn<R: Wait>(&mut self, rt: &R, now: u64);
+}
+
+/// A thread's work: turns, until the driver stops.
+#[derive(Drop)]
+pub(crate) struct Work<T: Turns + Drop, C: Clock + Drop> {
+    pub(crate) turns: T,
     pub(crate) clock: C,
+    /// Whether the thread is to end.
     pub(crate) stop: Arc<AtomicBool>,
 }
 
-impl<N: DriverNaming, R: Wait + Drop, G: Gate + Drop, C: Clock + Drop> Drop
-    for ConductorWork<N, R, G, C> {
+impl<T: Turns + Drop, C: Clock + Drop> Work<T, C> {
+    /// Returns once the driver stops.
+    pub(crate) fn run<R: Wait>(self, rt: &R) {
+        let mut work = self;
+        for _ in rt.forever() {
+            if work.stop.load(Ordering::SeqCst) {
+                return;
+            }
+            let now = work.clock.now();
+            work.turns.turn(rt, now);
+        }
+        unreachable!()
+    }
+}
+
+/// The conductor. However its thread ends, the driver's logs close, and nobody gets a look at its registry any more.
+pub(crate) struct Conducting<N: DriverNaming, R: Wait + Drop, G: Gate + Drop> {
+    pub(crate) rt: R,
+    pub(crate) conductor: Conductor<N, G>,
+}
+
+impl<N: DriverNaming, R: Wait + Drop, G: Gate + Drop> Drop for Conducting<N, R, G> {
     fn drop(self) {
-        let Self {
-            rt,
-            conductor,
-            clock: _,
-            stop: _,
-        } = self;
+        let Self { rt, conductor } = self;
         conductor.end(&rt);
     }
 }
 
-impl<N: DriverNaming, R: Wait + Copy + Drop, G: Gate + Drop, C: Clock + Drop> ConductorWork<
-    N,
-    R,
-    G,
-    C,
-> {
-    pub(crate) fn run(self) {
-        let mut work = self;
-        let rt = work.rt;
-        for _ in rt.forever() {
-            if work.stop.load(Ordering::SeqCst) {
-                return;
-            }
-            let now = work.clock.now();
-            work.conductor.turn(&rt, now);
-        }
-        unreachable!()
+impl<N: DriverNaming, R: Wait + Drop, G: Gate + Drop> Turns for Conducting<N, R, G> {
+    fn turn<Q: Wait>(&mut self, rt: &Q, now: u64) {
+        self.conductor.turn(rt, now);
     }
 }
 
-/// The sender's thread.
+/// The sender, with the wire that it sends by.
 #[derive(Drop)]
-pub(crate) struct SenderWork<
-    N: Naming,
-    R: Wait + Drop,
-    G: Gate + Drop,
-    C: Clock + Drop,
-    W: Wire + Drop,
-> {
-    pub(crate) rt: R,
+pub(crate) struct Sending<N: Naming, G: Gate + Drop, W: Wire + Drop> {
     pub(crate) agent: SenderAgent<N, G>,
     pub(crate) wire: W,
-    pub(crate) clock: C,
-    pub(crate) stop: Arc<AtomicBool>,
 }
 
-impl<N: Naming, R: Wait + Copy + Drop, G: Gate + Drop, C: Clock + Drop, W: Wire + Drop> SenderWork<
-    N,
-    R,
-    G,
-    C,
-    W,
-> {
-    pub(crate) fn run(self) {
-        let mut work = self;
-        let rt = work.rt;
-        for _ in rt.forever() {
-            if work.stop.load(Ordering::SeqCst) {
-                return;
-            }
-            let now = work.clock.now();
-            work.agent.turn(&rt, &mut work.wire, now);
-        }
-        unreachable!()
+impl<N: Naming, G: Gate + Drop, W: Wire + Drop> Turns for Sending<N, G, W> {
+    fn turn<R: Wait>(&mut self, rt: &R, now: u64) {
+        self.agent.turn(rt, &mut self.wire, now);
     }
 }
 
-/// The receiver's thread.
+/// The receiver, with the wire that it reads by.
 #[derive(Drop)]
-pub(crate) struct ReceiverWork<
-    N: Naming,
-    R: Wait + Drop,
-    G: Gate + Drop,
-    C: Clock + Drop,
-    W: Wire + Drop,
-> {
-    pub(crate) rt: R,
+pub(crate) struct Receiving<N: Naming, G: Gate + Drop, W: Wire + Drop> {
     pub(crate) agent: ReceiverAgent<N, G>,
     pub(crate) wire: W,
-    pub(crate) clock: C,
-    pub(crate) stop: Arc<AtomicBool>,
 }
 
-impl<
-    N: Naming,
-    R: Wait + Copy + Drop,
-    G: Gate + Drop,
-    C: Clock + Drop,
-    W: Wire + Drop,
-> ReceiverWork<N, R, G, C, W> {
-    pub(crate) fn run(self) {
-        let mut work = self;
-        let rt = work.rt;
-        for _ in rt.forever() {
-            if work.stop.load(Ordering::SeqCst) {
-                return;
-            }
-            let now = work.clock.now();
-            work.agent.turn(&rt, &mut work.wire, now);
-        }
-        unreachable!()
+impl<N: Naming, G: Gate + Drop, W: Wire + Drop> Turns for Receiving<N, G, W> {
+    fn turn<R: Wait>(&mut self, rt: &R, now: u64) {
+        self.agent.turn(rt, &mut self.wire, now);
     }
 }

@@ -1,0 +1,8 @@
+use Rattle.media_driver.proofs.AttachLemmas.{attaches}
+use Rattle.media_driver.proofs.driver.Driver.client.Goals as goal
+
+pub returns-in-Some-Attached-clause-done : goal.returns-in-Some-Attached-clause-done
+returns-in-Some-Attached-clause-done g c =
+    attaches c.args.principal c.now-now.result c.args.self.now
+    (record { out = c.self.inside.out; counted = c.self.inside.kept.ledgers.clients.amount; queue = c.self.inside.kept.queue })
+    c.ask-answered.new.queue c.admit.new.self c.self.view_is c.ask-answered.ensures c.admit.ensures.out

@@ -1,0 +1,249 @@
+//! All that a driver wants beside its parts is taken before a thread begins.
+
+ghost use Rattle.media_driver.specs.Parts.{AreFresh};
+ghost use Rattle.std.specs.Prelude.{◌≡◌, ◌+◌, [], IfOk, OnOk, length};
+
+use crate::parts::{Hands, Pieces, Store};
+use crate::seats::{Seats, make_seats};
+use crate::starting::{Base, Common, Ledgers, make_base, shared};
+use crate::works::{Receiving, Sending};
+use channel_uri::Address;
+use command_queue::Taker;
+use driver_core::Event;
+use log_arena::Arena;
+use media_agents::{DriverNaming, EventSender, Gate, ReceiverAgent, Rings, SenderAgent};
+use media_wire::{Shared, Wire};
+use rows::Rows;
+use std::alloc::{AllocError, Global};
+use std::sync::atomic::AtomicBool;
+use std::sync::{Arc, Wait};
+
+/// The two ends of the wire.
+#[derive(Drop)]
+pub(crate) struct Wires<W: Wire + Drop, R: Wait + Copy + Drop> {
+    ours: Shared<W, R>,
+    theirs: Shared<W, R>,
+}
+
+/// One wire for the sender and the receiver.
+fn make_wires<W: Wire + Drop, R: Wait + Copy + Drop>(
+    alloc: Global,
+    rt: R,
+    wire: W,
+) -> Result<Wires<W, R>, AllocError> {
+    let ours = Shared::new(alloc, rt, wire)?;
+    let theirs = ours.another()?;
+    Ok(Wires { ours, theirs })
+}
+
+/// What a thread begins with: what takes turns on it, and what tells it to end.
+#[derive(Drop)]
+pub(crate) struct Ready<T: Drop> {
+    pub(crate) turns: T,
+    pub(crate) stop: Arc<AtomicBool>,
+}
+
+/// The sender before its first turn.
+fn make_sender<N: DriverNaming, G: Gate + Drop, W: Wire + Drop>(
+    alloc: Global,
+    common: &Common<N>,
+    gate: &Arc<G>,
+    hands: &mut Hands,
+    local: Address,
+    wire: W,
+) -> Result<Ready<Sending<N, G, W>>, AllocError>
+    requires fresh { AreFresh N.book hands.old.passes.items hands.old.senders.items }
+    requires passes { length hands.old.passes.items ≡ 66 }
+    ensures fresh { OnOk result (AreFresh N.book hands.new.passes.items hands.new.senders.items) }
+    ensures passes { OnOk result (length hands.new.passes.items ≡ 65) }
+    ensures senders { OnOk result (hands.new.senders ≡ hands.old.senders) }
+{
+    let slots = Arc::try_clone(&common.slots)?;
+    let gate = Arc::try_clone(gate)?;
+    let agent = SenderAgent::new(alloc, slots, gate, hands.pass::<N>(), local)?;
+    Ok(Ready {
+        turns: Sending { agent, wire },
+        stop: Arc::try_clone(&common.stop)?,
+    })
+}
+
+/// The receiver before its first turn.
+fn make_receiver<N: DriverNaming, G: Gate + Drop, W: Wire + Drop>(
+    alloc: Global,
+    common: &Common<N>,
+    gate: &Arc<G>,
+    hands: &mut Hands,
+    wire: W,
+) -> Result<Ready<Receiving<N, G, W>>, AllocError>
+    requires fresh { AreFresh N.book hands.old.passes.items hands.old.senders.items }
+    requires passes { length hands.old.passes.items ≡ 65 }
+    requires senders { length hands.old.senders.items ≡ 66 }
+    ensures fresh { OnOk result (AreFresh N.book hands.new.passes.items hands.new.senders.items) }
+    ensures passes { OnOk result (length hands.new.passes.items ≡ 64) }
+    ensures senders { OnOk result (length hands.new.senders.items ≡ 65) }
+{
+    let slots = Arc::try_clone(&common.slots)?;
+    let gate = Arc::try_clone(gate)?;
+    let agent = ReceiverAgent::new(
+        alloc,
+        slots,
+        gate,
+        hands.pass::<N>(),
+        hands.sender::<N>(),
+        local,
+    )?;
+    Ok(Ready {
+        turns: Receiving { agent, wire },
+        stop: Arc::try_clone(&common.stop)?,
+    })
+}
+
+/// The sender and the receiver of a driver, before their first turns.
+#[derive(Drop)]
+pub(crate) struct Agents<N: DriverNaming, G: Gate + Drop, W: Wire + Drop> {
+    pub(crate) sender: Ready<Sending<N, G, W>>,
+    pub(crate) receiver: Ready<Receiving<N, G, W>>,
+}
+
+/// Takes the memory of both.
+fn make_agents<N: DriverNaming, R: Wait + Copy + Drop, G: Gate + Drop, W: Wire + Drop>(
+    alloc: Global,
+    common: &Common<N>,
+    gate: &Arc<G>,
+    hands: &mut Hands,
+    local: Address,
+    wires: Wires<W, R>,
+) -> Result<Agents<N, G, Shared<W, R>>, AllocError>
+    requires fresh { AreFresh N.book hands.old.passes.items hands.old.senders.items }
+    requires passes { length hands.old.passes.items ≡ 66 }
+    requires senders { length hands.old.senders.items ≡ 66 }
+    ensures fresh { OnOk result (AreFresh N.book hands.new.passes.items hands.new.senders.items) }
+    ensures passes { OnOk result (length hands.new.passes.items ≡ 64) }
+    ensures senders { OnOk result (length hands.new.senders.items ≡ 65) }
+{
+    let Wires { ours, theirs } = wires;
+    let sender = make_sender(alloc, common, gate, hands, local, ours)?;
+    let receiver = make_receiver(alloc, common, gate, hands, theirs)?;
+    Ok(Agents { sender, receiver })
+}
+
+/// What the owner of a driver keeps of it.
+#[derive(Drop)]
+pub(crate) struct Kept<N: DriverNaming> {
+    pub(crate) common: Common<N>,
+    pub(crate) ledgers: Ledgers<N>,
+    pub(crate) queue: EventSender,
+    pub(crate) seats: Seats<N>,
+}
+
+/// What the owner keeps, and the rings by which the conductor reaches the clients.
+fn keep<N: DriverNaming>(
+    alloc: Global,
+    base: Base<N>,
+    hands: Hands,
+) -> Result<(Kept<N>, Rings<N>), AllocError>
+    requires fresh { AreFresh N.book hands.passes.items hands.senders.items }
+    requires passes { length hands.passes.items ≡ 64 }
+    requires senders { length hands.senders.items ≡ 65 }
+    ensures ledgers { IfOk result (λ made. made.0.ledgers ≡ base.ledgers) }
+    ensures queue { IfOk result (λ made. made.0.queue.sent ≡ []) }
+    ensures seats { IfOk result (λ made. made.0.seats ≡ 64) }
+{
+    let mut hands = hands;
+    let queue = hands.sender::<N>();
+    let (rings, seats) = make_seats(alloc, &mut hands)?;
+    let Base { common, ledgers } = base;
+    let kept = Kept {
+        common,
+        ledgers,
+        queue,
+        seats,
+    };
+    Ok((kept, rings))
+}
+
+/// What the conductor works with, but for the publisher.
+#[derive(Drop)]
+pub(crate) struct Desks<N: DriverNaming, G: Gate + Drop> {
+    pub(crate) common: Common<N>,
+    pub(crate) rings: Rings<N>,
+    pub(crate) room: Rows<u64, 512>,
+    pub(crate) gate: Arc<G>,
+    pub(crate) arena: Arena,
+    pub(crate) taker: Taker<Event>,
+}
+
+/// Takes its memory.
+fn make_desks<N: DriverNaming, G: Gate + Drop>(
+    alloc: Global,
+    common: &Common<N>,
+    rings: Rings<N>,
+    gate: Arc<G>,
+    store: Store,
+) -> Result<Desks<N, G>, AllocError>
+    ensures { IfOk result (λ desks. desks.arena ≡ store.arena) }
+{
+    let common = common.again()?;
+    let room = Rows::new(alloc)?;
+    let Store { arena, taker } = store;
+    Ok(Desks {
+        common,
+        rings,
+        room,
+        gate,
+        arena,
+        taker,
+    })
+}
+
+/// All that a driver is made of, but for the publisher, once its memory is taken.
+#[derive(Drop)]
+pub(crate) struct Prepared<N: DriverNaming, G: Gate + Drop, W: Wire + Drop> {
+    pub(crate) kept: Kept<N>,
+    pub(crate) desks: Desks<N, G>,
+    pub(crate) agents: Agents<N, G, W>,
+}
+
+/// Takes the memory that a driver wants beside its parts.
+pub(crate) fn prepare<N: DriverNaming, R: Wait + Copy + Drop, G: Gate + Drop, W: Wire + Drop>(
+    rt: R,
+    alloc: Global,
+    pieces: Pieces,
+    gate: G,
+    wire: W,
+) -> Result<Prepared<N, G, Shared<W, R>>, AllocError>
+    requires clients { (pieces.blanks.clients.name ≡ N.client_ledger) × (pieces.blanks.clients.parts ≡ N.client_parts) }
+    requires slots { (pieces.blanks.slots.name ≡ N.slot_ledger) × (pieces.blanks.slots.parts ≡ N.slot_parts) × (N.slot_parts ≡ 256) }
+    requires fresh { AreFresh N.book pieces.hands.passes.items pieces.hands.senders.items }
+    requires passes { length pieces.hands.passes.items ≡ 66 }
+    requires senders { length pieces.hands.senders.items ≡ 66 }
+    ensures arena { IfOk result (λ prepared. prepared.desks.arena ≡ pieces.store.arena) }
+    ensures shares { IfOk result (λ prepared. (prepared.kept.ledgers.clients.parts ≡ N.client_parts) × (prepared.kept.ledgers.clients.amount ≡ 0)) }
+    ensures queue { IfOk result (λ prepared. prepared.kept.queue.sent ≡ []) }
+    ensures seats { IfOk result (λ prepared. prepared.kept.seats ≡ 64) }
+{
+    let Pieces {
+        settings,
+        store,
+        mut hands,
+        blanks,
+    } = pieces;
+    let gate = shared(alloc, gate)?;
+    let wires = make_wires(alloc, rt, wire)?;
+    let base = make_base(alloc, blanks)?;
+    let agents = make_agents(
+        alloc,
+        &base.common,
+        &gate,
+        &mut hands,
+        settings.send_address,
+        wires,
+    )?;
+    let (kept, rings) = keep(alloc, base, hands)?;
+    let desks = make_desks(alloc, &kept.common, rings, gate, store)?;
+    Ok(Prepared {
+        kept,
+        desks,
+        agents,
+    })
+}
