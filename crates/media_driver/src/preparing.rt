@@ -84,14 +84,7 @@ fn make_receiver<N: DriverNaming, G: Gate + Drop, W: Wire + Drop>(
 {
     let slots = Arc::try_clone(&common.slots)?;
     let gate = Arc::try_clone(gate)?;
-    let agent = ReceiverAgent::new(
-        alloc,
-        slots,
-        gate,
-        hands.pass::<N>(),
-        hands.sender::<N>(),
-        local,
-    )?;
+    let agent = ReceiverAgent::new(alloc, slots, gate, hands.pass::<N>(), hands.sender::<N>())?;
     Ok(Ready {
         turns: Receiving { agent, wire },
         stop: Arc::try_clone(&common.stop)?,
