@@ -73,7 +73,6 @@ fn make_receiver<N: DriverNaming, G: Gate + Drop, W: Wire + Drop>(
     common: &Common<N>,
     gate: &Arc<G>,
     hands: &mut Hands,
-    local: Address,
     wire: W,
 ) -> Result<Ready<Receiving<N, G, W>>, AllocError>
     requires fresh { AreFresh N.book hands.old.passes.items hands.old.senders.items }
@@ -85,14 +84,7 @@ fn make_receiver<N: DriverNaming, G: Gate + Drop, W: Wire + Drop>(
 {
     let slots = Arc::try_clone(&common.slots)?;
     let gate = Arc::try_clone(gate)?;
-    let agent = ReceiverAgent::new(
-        alloc,
-        slots,
-        gate,
-        hands.pass::<N>(),
-        hands.sender::<N>(),
-        local,
-    )?;
+    let agent = ReceiverAgent::new(alloc, slots, gate, hands.pass::<N>(), hands.sender::<N>())?;
     Ok(Ready {
         turns: Receiving { agent, wire },
         stop: Arc::try_clone(&common.stop)?,
@@ -124,7 +116,7 @@ fn make_agents<N: DriverNaming, R: Wait + Copy + Drop, G: Gate + Drop, W: Wire +
 {
     let Wires { ours, theirs } = wires;
     let sender = make_sender(alloc, common, gate, hands, local, ours)?;
-    let receiver = make_receiver(alloc, common, gate, hands, local, theirs)?;
+    let receiver = make_receiver(alloc, common, gate, hands, theirs)?;
     Ok(Agents { sender, receiver })
 }
 

@@ -1,0 +1,27 @@
+//! Tests of `media_driver`: drivers that run, on threads of their own, and their clients.
+#![tactic(auto)]
+
+#[cfg(test)]
+mod asking;
+#[cfg(test)]
+mod cases;
+#[cfg(test)]
+mod each_call;
+#[cfg(test)]
+mod gates;
+#[cfg(test)]
+mod lost_replies;
+#[cfg(test)]
+mod network;
+#[cfg(test)]
+mod opening;
+#[cfg(test)]
+mod order;
+#[cfg(test)]
+mod publishers;
+#[cfg(test)]
+mod seats;
+#[cfg(test)]
+mod threads;
+#[cfg(test)]
+mod two_drivers;
