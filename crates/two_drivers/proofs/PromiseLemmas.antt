@@ -12,7 +12,7 @@ use Rattle.term_log.specs.declared.ident.Ident.{Ident}
 use Rattle.term_log.specs.Frames.{Frame}
 use Rattle.two_drivers.specs.Streams.{IsNamed, IsRead, IsReadIn, PollsGiveARunOfThePublication}
 use Rattle.two_drivers.proofs.StreamLemmas.{images_named}
-use Rattle.two_worlds.specs.Drivers.{ArePairAnswers, IsOnlyPublication, IsThere, Opening, PairEnd, PairStep, opening_pair, pair_after, pair_end}
+use Rattle.two_worlds.specs.Drivers.{ArePairAnswers, IsOnlyPublication, IsThere, Opening, PairEnd, DriversStep, opening_pair, pair_after, pair_end}
 use Rattle.two_worlds.specs.Polling.{Reads}
 use Rattle.two_worlds.proofs.DriversLemmas.{Holds, held_run, held_step, opening_holds, second_gives}
 
@@ -38,7 +38,7 @@ reads_of i source subscription e named is =
       stands = is.stands;
     }
 
-there_of : (i : Ident) (all : List Frame) (opening : Opening) (source subscription : ℕ) (e : PairEnd) (steps : List PairStep) (answers : List Answer) →
+there_of : (i : Ident) (all : List Frame) (opening : Opening) (source subscription : ℕ) (e : PairEnd) (steps : List DriversStep) (answers : List Answer) →
     0 < i.term_length → IsLine i.term_length i.start (line_of i i.start all) → AreSettings opening.settings → Holds i all opening e →
     IsOnlyPublication i all e steps answers → ArePairAnswers e steps answers → IsReadIn i source subscription e steps answers →
     IsThere i source subscription e steps answers

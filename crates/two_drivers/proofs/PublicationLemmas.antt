@@ -1,5 +1,5 @@
 -- All frames of a publication are those that its log had when it was last there; and the promise, of two worlds.
-use Rattle.std.proofs.Common.{◌≡◌, ℕ, ◌==◌, ◌<◌, ◌≤◌, Bool, true, false, cond, take, drop, List, [], ◌∷◌, ◌++◌, Option, Some, None, refl, sym, ap, ◌∙◌, subst, arith}
+use Rattle.std.proofs.Common.{◌≡◌, ℕ, ◌==◌, ◌<◌, ◌≤◌, Bool, true, false, cond, take, drop, List, [], ◌∷◌, ◌++◌, Option, Some, None, refl, sym, ap, ap₂, ◌∙◌, subst, arith, length, map}
 use Rattle.std.specs.List.{All}
 use Rattle.std.proofs.lemmas.List.{append-nil, take-append-drop}
 use Rattle.std.proofs.lemmas.List.Elements.{All-nil, All-cons, All-head, All-tail}
@@ -15,6 +15,7 @@ use Rattle.driver_steps.specs.declared.answer.Answer.{Answer}
 use Rattle.driver_steps.specs.declared.answer.Answer.TheVariants.{NoMemory}
 use Rattle.driver_steps.specs.declared.step.Step.{Step}
 use Rattle.driver_steps.specs.Ends.{RunEnd, log_at, opening_end}
+use Rattle.driver_steps.specs.Laws.{made_as, made_for}
 use Rattle.driver_steps.specs.Moves.{WholeLog}
 use Rattle.driver_steps.specs.Runs.{Reading as DriverReading, AreAnswers, IsAnswerTo, end_of, left_by, read_by}
 use Rattle.driver_steps.proofs.EndLemmas.{opening_is, state_of_both}
@@ -23,29 +24,31 @@ use Rattle.driver_steps.proofs.LiveLemmas.{found_log}
 use Rattle.driver_world.specs.declared.actor.Actor.{Actor}
 use Rattle.driver_world.specs.declared.actor.Actor.TheVariants.{Client, Conductor, Receiver, Sender}
 use Rattle.driver_world.specs.declared.reading.Reading.{Reading}
-use Rattle.driver_world.specs.Ends.{RunEnd as WorldEnd, Moved, after, after_by, bad, moved_as, opening_end as world_opening}
+use Rattle.driver_world.specs.Ends.{RunEnd as WorldEnd, Moved, after, after_by, bad, end_of as world_end_of, moved_as, opening_end as world_opening}
 use Rattle.driver_world.specs.Views.{Past, actor_of, is_out, newest_of, registry_at, seat_of, view_or}
-use Rattle.driver_world.proofs.RunLemmas.{IsNewest, goes_as}
+use Rattle.driver_world.proofs.RunLemmas.{IsNewest, goes_as, is_drivers_run}
 use Rattle.mirrored_streams.specs.Line.{IsLine, line_of}
 use Rattle.mirrored_streams.specs.Sending.{IsFit, IsWell}
 use Rattle.mirrored_streams.proofs.ReadingLemmas.{line_is}
 use Rattle.term_log.specs.declared.ident.Ident.{Ident}
 use Rattle.term_log.specs.Frames.{Frame}
 use Rattle.term_log.specs.Whole.{Whole}
-use Rattle.two_drivers.specs.Publication.{AreSole, HasPair, IsSole, IsSoleOf, SecondGivesARunOfThePublication, firsts_after, frames_in, last_seen, later_of, seen, seen_in}
+use Rattle.two_drivers.specs.Publication.{AreSole, HasPair, IsSole, IsSoleOf, RunGivesARunOfThePublication, SecondGivesARunOfThePublication, firsts_after, frames_in, last_seen, later_of, seen, seen_in}
 use Rattle.two_drivers.proofs.AskedLemmas.{asked}
 use Rattle.two_drivers.proofs.FitLemmas.{fit_of}
 use Rattle.two_drivers.proofs.LaterLemmas.{IsLater, IsMore, left_later, more_later, stays_there}
 use Rattle.two_drivers.proofs.NumberLemmas.{IsPast, are_found, drawn_at, left_draws, past_on}
 use Rattle.two_drivers.proofs.PairLemmas.{pair_read}
 use Rattle.two_drivers.proofs.PromiseLemmas.{named_second, reads_of}
-use Rattle.two_worlds.specs.Drivers.{Opening}
-use Rattle.two_worlds.specs.Sent.{IsFitLog, IsPart}
-use Rattle.two_worlds.specs.Worlds.{AreAnswersOfBoth, AtEach, IsAnswerToBoth, ReadsThere, TwoEnds, WorldStep, after_both, after_second, comes, end_of_both, first_takes, opening_both, second_takes, step_of_second}
-use Rattle.two_worlds.proofs.DriversLemmas.{Holds, reached_follows}
+use Rattle.two_worlds.specs.Drivers.{Opening, PairEnd, opening_pair}
+use Rattle.two_worlds.specs.Sent.{Datagram, IsFitLog, IsPart}
+use Rattle.two_worlds.specs.declared.pair_step.PairStep.{PairStep}
+use Rattle.two_worlds.specs.declared.pair_step.PairStep.TheVariants.{A, B, Deliver}
+use Rattle.two_worlds.specs.Worlds.{AreAnswersOfBoth, AreFresh, AtEach, IsAnswerToBoth, IsFresh, ReadsThere, TwoEnds, after_both, after_second, end_of_both, step_of_second}
+use Rattle.two_worlds.proofs.DriversLemmas.{Holds, opening_holds, reached_follows}
 use Rattle.two_worlds.proofs.GivenLemmas.{answers_push, end_push}
 use Rattle.two_worlds.proofs.SentLemmas.{IsAsked, IsOverUdp, OverUdp, WellLog, opening_well, step_sends, step_well}
-use Rattle.two_worlds.proofs.WorldLemmas.{AreSentGood, IsSeen, SendsGood, an_older, both_held, both_opened, drivers_of, run_held, stayed, the_newest, went, went_sends, world_sends, world_went}
+use Rattle.two_worlds.proofs.WorldLemmas.{AreSentGood, IsSeen, SendsGood, an_older, both_held, drivers_of, run_held, stayed, the_newest, went, went_sends, world_sends, world_went}
 
 -- ---- ends of a driver, one behind the other
 
@@ -258,16 +261,16 @@ second_same e answer (Some reading) = refl
 none_next : (e : RunEnd) → AreNext e []
 none_next e = tt
 
-world_next : (e : TwoEnds) (step : WorldStep) (answer : Answer) → IsAnswerToBoth e step answer → IsNext e.first.driver (after_both e step answer).first.driver
-world_next e (first_takes reading) answer answered =
+world_next : (e : TwoEnds) (step : PairStep) (answer : Answer) → IsAnswerToBoth e step answer → IsNext e.first.driver (after_both e step answer).first.driver
+world_next e (A reading) answer answered =
     elim (world_went e.first reading answer answered) [
       | stayed same silent ↦ same_end same
       | went r like seen told leaves ↦ one_step r answer told leaves
     ]
-world_next e (second_takes reading) answer answered = same_end (second_same e answer (step_of_second e (second_takes reading)))
-world_next e (comes sent now view) answer answered = same_end (second_same e answer (step_of_second e (comes sent now view)))
+world_next e (B reading) answer answered = same_end (second_same e answer (step_of_second e (B reading)))
+world_next e (Deliver sent now view) answer answered = same_end (second_same e answer (step_of_second e (Deliver sent now view)))
 
-worlds_next : (e : TwoEnds) (steps : List WorldStep) (answers : List Answer) (more : List RunEnd) → AreAnswersOfBoth e steps answers →
+worlds_next : (e : TwoEnds) (steps : List PairStep) (answers : List Answer) (more : List RunEnd) → AreAnswersOfBoth e steps answers →
     AreNext (end_of_both e steps answers).first.driver more → AreNext e.first.driver (firsts_after e steps answers ++ more)
 worlds_next e [] answers more are next = next
 worlds_next e (step ∷ steps) [] more are next = absurd are
@@ -283,22 +286,21 @@ second_part : (P : RunEnd → Type 0) (xs ys : List RunEnd) → All P (xs ++ ys)
 second_part P [] ys all = all
 second_part P (x ∷ xs) ys all = second_part P xs ys (All-tail P x (xs ++ ys) all)
 
-end_holds : (P : RunEnd → Type 0) (e : TwoEnds) (steps : List WorldStep) (answers : List Answer) → All P (e.first.driver ∷ firsts_after e steps answers) →
+end_holds : (P : RunEnd → Type 0) (e : TwoEnds) (steps : List PairStep) (answers : List Answer) → All P (e.first.driver ∷ firsts_after e steps answers) →
     P (end_of_both e steps answers).first.driver
 end_holds P e [] answers all = All-head P e.first.driver [] all
 end_holds P e (step ∷ steps) [] all = All-head P e.first.driver [] all
 end_holds P e (step ∷ steps) (answer ∷ answers) all =
     end_holds P (after_both e step answer) steps answers (All-tail P e.first.driver (firsts_after e (step ∷ steps) (answer ∷ answers)) all)
 
-opening_ends : (first second : Opening) → IsEnd first (opening_both first second).first.driver
-unfolding world_opening
-opening_ends first second = record {
+opening_ends : (opening : Opening) → IsEnd opening (opening_end opening.settings opening.policy opening.peers)
+opening_ends opening = record {
   readings = [];
   answers = [];
   are = tt;
   is = refl;
-  rises = subst AreRising (sym (opening_is first.settings first.policy first.peers)) (opened_rises first.settings first.policy first.peers);
-  well = opening_well first.settings first.policy first.peers;
+  rises = subst AreRising (sym (opening_is opening.settings opening.policy opening.peers)) (opened_rises opening.settings opening.policy opening.peers);
+  well = opening_well opening.settings opening.policy opening.peers;
 }
 
 -- images of that session and stream are of the stream
@@ -339,15 +341,77 @@ world_end_opening : (opening : Opening) → IsWorldEnd opening (world_opening op
 unfolding world_opening
 world_end_opening opening = record { opened_is = refl; newest = opening_is opening.settings opening.policy opening.peers }
 
+-- ---- worlds in which no event was taken yet
+
+world_ends : (opening : Opening) (e : WorldEnd) (readings : List Reading) (answers : List Answer) → IsWorldEnd opening e →
+    IsWorldEnd opening (world_end_of e readings answers)
+world_ends opening e [] answers end = end
+world_ends opening e (reading ∷ readings) [] end = end
+world_ends opening e (reading ∷ readings) (answer ∷ answers) end =
+    world_ends opening (after e reading answer) readings answers (world_end_after opening e reading answer end)
+
+fresh_end : (opening : Opening) (e : WorldEnd) → IsFresh opening e → IsWorldEnd opening e
+fresh_end opening e fresh =
+    subst (IsWorldEnd opening) (sym fresh.is)
+    (world_ends opening (world_opening opening.settings opening.policy opening.peers) fresh.readings fresh.answers (world_end_opening opening))
+
+no_events : (events : List (Event × Inputs)) → length events ≡ 0 → events ≡ []
+no_events [] none = refl
+no_events (event ∷ events) none = absurd (cc none)
+
+no_logs : (logs : List WholeLog) → map made_for logs ≡ [] → logs ≡ []
+no_logs [] none = refl
+no_logs (log ∷ logs) none = absurd (cc none)
+
+fresh_registry : (opening : Opening) (e : WorldEnd) → IsFresh opening e → e.driver.registry ≡ opened opening.settings opening.policy opening.peers
+fresh_registry opening e fresh =
+    let end = fresh_end opening e fresh in
+    end.newest ∙ ap₂ state_of end.opened_is (no_events e.past.taken fresh.none)
+
+fresh_follows : (opening : Opening) (e : WorldEnd) → AreSettings opening.settings → IsFresh opening e → Follows e.driver
+fresh_follows opening e sound fresh =
+    let run = is_drivers_run opening.settings opening.policy opening.peers fresh.readings fresh.answers fresh.are in
+    subst (λ (x : WorldEnd). Follows x.driver) (sym fresh.is)
+    (subst Follows (sym run.ends) (ends_follow opening.settings opening.policy opening.peers run.readings run.given sound run.are))
+
+opened_rows : (opening : Opening) (s : State) → s ≡ opened opening.settings opening.policy opening.peers → s.streams.sources ≡ []
+unfolding opened
+opened_rows opening s is = ap (λ (x : State). x.streams.sources) is
+
+fresh_logs : (opening : Opening) (e : WorldEnd) → AreSettings opening.settings → IsFresh opening e → e.driver.logs ≡ []
+fresh_logs opening e sound fresh =
+    no_logs e.driver.logs
+    ((fresh_follows opening e sound fresh).logs.made
+    ∙ ap (map (made_as e.driver.registry.settings)) (opened_rows opening e.driver.registry (fresh_registry opening e fresh)))
+
+-- its driver is as it was opened
+fresh_driver : (opening : Opening) (e : WorldEnd) → AreSettings opening.settings → IsFresh opening e →
+    e.driver ≡ opening_end opening.settings opening.policy opening.peers
+unfolding opening_end
+fresh_driver opening e sound fresh =
+    ap₂ (λ (s : State) (logs : List WholeLog). let end : RunEnd = record { registry = s; logs = logs } in end) (fresh_registry opening e fresh)
+    (fresh_logs opening e sound fresh)
+
+fresh_pair : (first second : Opening) (e : TwoEnds) → AreSettings first.settings → AreSettings second.settings → AreFresh first second e →
+    drivers_of e ≡ opening_pair first second
+fresh_pair first second e sound settings fresh =
+    ap₂ (λ (d : RunEnd) (other : RunEnd). let pair : PairEnd = record { first = d; second = other; sent = e.sent } in pair)
+    (fresh_driver first e.first sound fresh.first) (fresh_driver second e.second settings fresh.second)
+    ∙ ap (λ (sent : List Datagram). let pair : PairEnd = record {
+      first = opening_end first.settings first.policy first.peers;
+      second = opening_end second.settings second.policy second.peers;
+      sent = sent;
+    } in pair) fresh.sent
+
 -- the first of the two
 second_world : (opening : Opening) (e : TwoEnds) (answer : Answer) (o : Option Reading) → IsWorldEnd opening e.first → IsWorldEnd opening (after_second e o answer).first
 second_world opening e answer None end = end
 second_world opening e answer (Some reading) end = end
 
-both_world : (opening : Opening) (e : TwoEnds) (step : WorldStep) (answer : Answer) → IsWorldEnd opening e.first → IsWorldEnd opening (after_both e step answer).first
-both_world opening e (first_takes reading) answer end = world_end_after opening e.first reading answer end
-both_world opening e (second_takes reading) answer end = second_world opening e answer (step_of_second e (second_takes reading)) end
-both_world opening e (comes sent now view) answer end = second_world opening e answer (step_of_second e (comes sent now view)) end
+both_world : (opening : Opening) (e : TwoEnds) (step : PairStep) (answer : Answer) → IsWorldEnd opening e.first → IsWorldEnd opening (after_both e step answer).first
+both_world opening e (A reading) answer end = world_end_after opening e.first reading answer end
+both_world opening e (B reading) answer end = second_world opening e answer (step_of_second e (B reading)) end
+both_world opening e (Deliver sent now view) answer end = second_world opening e answer (step_of_second e (Deliver sent now view)) end
 
 -- whichever registry its actor looks at
 taken_parts : (k : ℕ) (events : List (Event × Inputs)) → events ≡ take k events ++ drop k events
@@ -371,21 +435,21 @@ asked_seen opening i all e o follows over end (an_older k is) =
     subst (λ (x : Option State). IsAsked i all (read_by e.driver x) e.driver) (sym is)
     (asked_older opening i all e k (k == newest_of e.past) follows over end)
 
-step_good : (opening : Opening) (i : Ident) (all : List Frame) (e : TwoEnds) (step : WorldStep) (answer : Answer) → AreSettings opening.settings →
+step_good : (opening : Opening) (i : Ident) (all : List Frame) (e : TwoEnds) (step : PairStep) (answer : Answer) → AreSettings opening.settings →
     IsEnd opening e.first.driver → IsWorldEnd opening e.first → All (IsOverUdp i all) e.first.driver.logs → IsAnswerToBoth e step answer →
     SendsGood i all step answer
-step_good opening i all e (first_takes reading) answer sound end world over answered =
+step_good opening i all e (A reading) answer sound end world over answered =
     went_sends i all e.first reading answer (world_went e.first reading answer answered)
     (λ r seen told.
     step_sends i all e.first.driver r answer told end.well over
     (asked_seen opening i all e.first r.older (end_follows opening e.first.driver sound end) over world seen))
-step_good opening i all e (second_takes reading) answer sound end world over answered = tt
-step_good opening i all e (comes sent now view) answer sound end world over answered = tt
+step_good opening i all e (B reading) answer sound end world over answered = tt
+step_good opening i all e (Deliver sent now view) answer sound end world over answered = tt
 
 abbrev OverAll : Ident → List Frame → RunEnd → Type 0
 OverAll i all e = All (IsOverUdp i all) e.logs
 
-steps_good : (opening : Opening) (i : Ident) (all : List Frame) (e : TwoEnds) (steps : List WorldStep) (answers : List Answer) → AreSettings opening.settings →
+steps_good : (opening : Opening) (i : Ident) (all : List Frame) (e : TwoEnds) (steps : List PairStep) (answers : List Answer) → AreSettings opening.settings →
     IsEnd opening e.first.driver → IsWorldEnd opening e.first → All (OverAll i all) (e.first.driver ∷ firsts_after e steps answers) →
     AreAnswersOfBoth e steps answers → AreSentGood i all steps answers
 steps_good opening i all e [] answers sound end world over are = tt
@@ -402,7 +466,7 @@ record IsEndOfBoth (opening : Opening) (e : TwoEnds) : Type 0 where
   end : IsEnd opening e.first.driver
   world : IsWorldEnd opening e.first
 
-ends_of_both : (opening : Opening) (e : TwoEnds) (steps : List WorldStep) (answers : List Answer) → AreAnswersOfBoth e steps answers → IsEndOfBoth opening e →
+ends_of_both : (opening : Opening) (e : TwoEnds) (steps : List PairStep) (answers : List Answer) → AreAnswersOfBoth e steps answers → IsEndOfBoth opening e →
     IsEndOfBoth opening (end_of_both e steps answers)
 ends_of_both opening e [] answers are is = is
 ends_of_both opening e (step ∷ steps) [] are is = is
@@ -415,7 +479,7 @@ ends_of_both opening e (step ∷ steps) (answer ∷ answers) are is =
 
 -- ---- the promise
 
-reads_there : (i : Ident) (all : List Frame) (opening : Opening) (source subscription : ℕ) (e : TwoEnds) (steps : List WorldStep) (answers : List Answer) →
+reads_there : (i : Ident) (all : List Frame) (opening : Opening) (source subscription : ℕ) (e : TwoEnds) (steps : List PairStep) (answers : List Answer) →
     0 < i.term_length → IsLine i.term_length i.start (line_of i i.start all) → AreSettings opening.settings → Holds i all opening (drivers_of e) →
     AreSentGood i all steps answers → AreAnswersOfBoth e steps answers → AtEach (HasPair i source subscription) e steps answers →
     AtEach (ReadsThere i source subscription) e steps answers
@@ -433,15 +497,16 @@ reads_there i all opening source subscription e (step ∷ steps) (answer ∷ ans
 )
 
 pub publication_run : SecondGivesARunOfThePublication
-publication_run first second before earlier steps answers publication source subscription last sound settings were are seen' sole read =
-    let start : TwoEnds = opening_both first second in
+publication_run first second start before earlier steps answers publication source subscription last sound settings fresh were are seen' sole read =
     let e : TwoEnds = end_of_both start before earlier in
     let i : Ident = last.ident in
     let all : List Frame = last.frames in
     let befores : List RunEnd = firsts_after start before earlier in
     let afters : List RunEnd = firsts_after e steps answers in
     let P : RunEnd → Type 0 = OverAll i all in
-    let end = opening_ends first second in
+    let end = subst (IsEnd first) (sym (fresh_driver first start.first sound fresh.first)) (opening_ends first) in
+    let holds : Holds i all second (drivers_of start) =
+    subst (Holds i all second) (sym (fresh_pair first second start sound settings fresh)) (opening_holds i all first second) in
     let last_next : AreNext e.first.driver afters =
     subst (AreNext e.first.driver) (append-nil afters) (worlds_next e steps answers [] are (none_next (end_of_both e steps answers).first.driver)) in
     let next : AreNext start.first.driver (befores ++ afters) = worlds_next start before earlier afters were last_next in
@@ -452,13 +517,31 @@ publication_run first second before earlier steps answers publication source sub
     let only = ends_only first i all publication start.first.driver (befores ++ afters) sound end next is sole in
     let only_before = first_part P (start.first.driver ∷ befores) afters only in
     let only_after = All-cons P e.first.driver afters (end_holds P start before earlier only_before) (second_part P (start.first.driver ∷ befores) afters only) in
-    let at_start : IsEndOfBoth first start = record { end = end; world = world_end_opening first } in
+    let at_start : IsEndOfBoth first start = record { end = end; world = fresh_end first start.first fresh.first } in
     let at_end = ends_of_both first start before earlier were at_start in
     let sent_before = steps_good first i all start before earlier sound end at_start.world only_before were in
     let sent_after = steps_good first i all e steps answers sound at_end.end at_end.world only_after are in
     let low = fine.0.sizes.term_low in
     let some : 0 < i.term_length = omega (arith, low) in
     let line = line_is i i.start all fine.1.run in
-    world_sends i all first second before earlier steps answers source subscription some fine.1.run settings were sent_before are sent_after
+    world_sends i all second start before earlier steps answers source subscription some fine.1.run settings holds were sent_before are sent_after
     (reads_there i all second source subscription e steps answers some line settings
-    (run_held i all second start before earlier some line settings (both_opened i all first second) sent_before were) sent_after are read)
+    (run_held i all second start before earlier some line settings holds sent_before were) sent_after are read)
+
+-- ---- what both worlds are answered
+
+parts_answered : (e : TwoEnds) (steps more : List PairStep) (answers given : List Answer) → length steps ≡ length answers →
+    AreAnswersOfBoth e (steps ++ more) (answers ++ given) →
+    AreAnswersOfBoth e steps answers × AreAnswersOfBoth (end_of_both e steps answers) more given
+parts_answered e [] more [] given same are = (tt, are)
+parts_answered e [] more (answer ∷ answers) given same are = absurd (cc same)
+parts_answered e (step ∷ steps) more [] given same are = absurd (cc same)
+parts_answered e (step ∷ steps) more (answer ∷ answers) given same are =
+    let rest = parts_answered (after_both e step answer) steps more answers given (cc same) are.1 in ((are.0, rest.0), rest.1)
+
+pub run_gives : RunGivesARunOfThePublication
+run_gives first second held start before earlier steps answers more others publication source subscription last sound settings fresh stands answered same
+    same' seen' sole read =
+    let both = parts_answered start before (steps ++ more) earlier (answers ++ others) same (answered.on start stands) in
+    let there = parts_answered (end_of_both start before earlier) steps more answers others same' both.1 in
+    publication_run first second start before earlier steps answers publication source subscription last sound settings fresh both.0 there.0 seen' sole read

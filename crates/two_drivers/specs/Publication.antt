@@ -1,6 +1,6 @@
 -- All frames of a publication, which are those that its log had when it was last there; and the promise, of two worlds. Own
 -- rules.
-use Rattle.std.specs.Prelude.{◌≡◌, ℕ, true, List, [], ◌∷◌, ◌++◌, All, FitsSigned, Option, Some, None}
+use Rattle.std.specs.Prelude.{◌≡◌, ℕ, true, List, [], ◌∷◌, ◌++◌, length, All, FitsSigned, Option, Some, None}
 use Rattle.std.specs.Int.{w32}
 use Rattle.any_log.specs.Whole.{AnyWhole, whole, rebuilt}
 use Rattle.driver_core.specs.LogRequests.{has_pair}
@@ -16,7 +16,9 @@ use Rattle.term_log.specs.declared.ident.Ident.{Ident}
 use Rattle.term_log.specs.Ident.{is_udp}
 use Rattle.term_log.specs.Whole.{Whole}
 use Rattle.two_worlds.specs.Drivers.{Opening}
-use Rattle.two_worlds.specs.Worlds.{AreAnswersOfBoth, AtEach, TwoEnds, WorldStep, after_both, end_of_both, opening_both, polled_of_all}
+use Rattle.two_worlds.specs.Standing.{AnswerBoth, HeldBoth, StandForEnds}
+use Rattle.two_worlds.specs.declared.pair_step.PairStep.{PairStep}
+use Rattle.two_worlds.specs.Worlds.{AreAnswersOfBoth, AreFresh, AtEach, TwoEnds, after_both, end_of_both, polled_of_all}
 
 -- ---- a publication by its number
 
@@ -66,13 +68,13 @@ AreSole i publication e = All (IsSole i publication) e.logs
 -- ---- the promise
 
 -- the first's driver at each end of a run
-abbrev pub firsts_after : TwoEnds → List WorldStep → List Answer → List RunEnd
+abbrev pub firsts_after : TwoEnds → List PairStep → List Answer → List RunEnd
 firsts_after e [] answers = []
 firsts_after e (step ∷ steps) [] = []
 firsts_after e (step ∷ steps) (answer ∷ answers) =
     (after_both e step answer).first.driver ∷ firsts_after (after_both e step answer) steps answers
 
-abbrev pub firsts_in : TwoEnds → List WorldStep → List Answer → List WorldStep → List Answer → List RunEnd
+abbrev pub firsts_in : TwoEnds → List PairStep → List Answer → List PairStep → List Answer → List RunEnd
 firsts_in e before earlier steps answers =
     e.first.driver ∷ firsts_after e before earlier ++ firsts_after (end_of_both e before earlier) steps answers
 
@@ -88,17 +90,31 @@ pub record IsPair (i : Ident) (source subscription : ℕ) (e : RunEnd) : Type 0 
 abbrev pub HasPair : Ident → ℕ → ℕ → TwoEnds → Type 0
 HasPair i source subscription e = IsPair i source subscription e.second.driver
 
--- Two worlds, and a publication of the first, where no other one over datagrams has its session and stream: whatever was lost,
--- came twice or in another order, and whatever either policy does, what the polls of one pair of the second give of an image of
--- that session and stream, from the pair's coming to its going, are the payloads, flags and positions of a contiguous run of the
--- frames that were appended to the publication, pads left out.
+-- Two worlds in which no event was taken yet, and a publication of the first, where no other one over datagrams has its session
+-- and stream: whatever was lost, came twice or in another order, and whatever either policy does, what the polls of one pair of
+-- the second give of an image of that session and stream, from the pair's coming to its going, are the payloads, flags and
+-- positions of a contiguous run of the frames that were appended to the publication, pads left out.
 abbrev pub SecondGivesARunOfThePublication : Type 0
 SecondGivesARunOfThePublication =
-    (first second : Opening) (before : List WorldStep) (earlier : List Answer) (steps : List WorldStep) (answers : List Answer)
-    (publication source subscription : ℕ) (last : Whole) → AreSettings first.settings → AreSettings second.settings →
-    AreAnswersOfBoth (opening_both first second) before earlier →
-    AreAnswersOfBoth (end_of_both (opening_both first second) before earlier) steps answers →
-    last_seen publication (firsts_in (opening_both first second) before earlier steps answers) ≡ Some last →
-    All (AreSole last.ident publication) (firsts_in (opening_both first second) before earlier steps answers) →
-    AtEach (HasPair last.ident source subscription) (end_of_both (opening_both first second) before earlier) steps answers →
+    (first second : Opening) (start : TwoEnds) (before : List PairStep) (earlier : List Answer) (steps : List PairStep)
+    (answers : List Answer) (publication source subscription : ℕ) (last : Whole) → AreSettings first.settings →
+    AreSettings second.settings → AreFresh first second start → AreAnswersOfBoth start before earlier →
+    AreAnswersOfBoth (end_of_both start before earlier) steps answers →
+    last_seen publication (firsts_in start before earlier steps answers) ≡ Some last →
+    All (AreSole last.ident publication) (firsts_in start before earlier steps answers) →
+    AtEach (HasPair last.ident source subscription) (end_of_both start before earlier) steps answers →
+    IsRunOf last.ident last.frames (polled_of_all source subscription steps answers)
+
+-- The same of what `TwoWorlds::run` answers: `held` are both worlds as they are handed to it, `start` any ends that they stand for.
+-- Of its steps some come before the pair does, then there are those while it is there, and then some more.
+abbrev pub RunGivesARunOfThePublication : Type 0
+RunGivesARunOfThePublication =
+    (first second : Opening) (held : HeldBoth) (start : TwoEnds) (before : List PairStep) (earlier : List Answer)
+    (steps : List PairStep) (answers : List Answer) (more : List PairStep) (others : List Answer)
+    (publication source subscription : ℕ) (last : Whole) →
+    AreSettings first.settings → AreSettings second.settings → AreFresh first second start → StandForEnds held start →
+    AnswerBoth held (before ++ (steps ++ more)) (earlier ++ (answers ++ others)) → length before ≡ length earlier →
+    length steps ≡ length answers → last_seen publication (firsts_in start before earlier steps answers) ≡ Some last →
+    All (AreSole last.ident publication) (firsts_in start before earlier steps answers) →
+    AtEach (HasPair last.ident source subscription) (end_of_both start before earlier) steps answers →
     IsRunOf last.ident last.frames (polled_of_all source subscription steps answers)

@@ -15,7 +15,7 @@ use Rattle.mirrored_streams.specs.Line.{IsRunOf, stream_of}
 use Rattle.policy_core.specs.RuleList.{Rules}
 use Rattle.term_log.specs.declared.ident.Ident.{Ident}
 use Rattle.term_log.specs.Frames.{Frame, IsRun as AreSound}
-use Rattle.two_worlds.specs.Drivers.{ArePairAnswers, IsOnlyPublication, Opening, PairEnd, PairStep, given_in, opening_pair, pair_after, pair_end}
+use Rattle.two_worlds.specs.Drivers.{ArePairAnswers, IsOnlyPublication, Opening, PairEnd, DriversStep, given_in, opening_pair, pair_after, pair_end}
 use Rattle.two_worlds.specs.Given.{AreGood}
 
 -- of that session and stream, a log has the publication's first term and term length too
@@ -44,7 +44,7 @@ pub record IsRead (i : Ident) (source subscription : ℕ) (e : RunEnd) : Type 0 
   pub stands : position_of r.pairs subscription ≡ Some at
 
 -- at each end of a run of both, from the pair's coming to its going
-abbrev pub IsReadIn : Ident → ℕ → ℕ → PairEnd → List PairStep → List Answer → Type 0
+abbrev pub IsReadIn : Ident → ℕ → ℕ → PairEnd → List DriversStep → List Answer → Type 0
 IsReadIn i source subscription e [] answers = IsRead i source subscription e.second
 IsReadIn i source subscription e (step ∷ steps) [] = IsRead i source subscription e.second
 IsReadIn i source subscription e (step ∷ steps) (answer ∷ answers) =
@@ -55,7 +55,7 @@ IsReadIn i source subscription e (step ∷ steps) (answer ∷ answers) =
 -- appended, pads left out.
 abbrev pub PollsGiveARunOfThePublication : Type 0
 PollsGiveARunOfThePublication =
-    (i : Ident) (all : List Frame) (first second : Opening) (before : List PairStep) (earlier : List Answer) (steps : List PairStep)
+    (i : Ident) (all : List Frame) (first second : Opening) (before : List DriversStep) (earlier : List Answer) (steps : List DriversStep)
     (answers : List Answer) (source subscription : ℕ) → 0 < i.term_length → AreSound i i.start all → AreSettings second.settings →
     ArePairAnswers (opening_pair first second) before earlier →
     IsOnlyPublication i all (opening_pair first second) before earlier →

@@ -22,7 +22,7 @@ use Rattle.mirrored_streams.proofs.ReadingLemmas.{line_is}
 use Rattle.mirrored_streams.proofs.RunLemmas.{lines_run}
 use Rattle.term_log.specs.declared.ident.Ident.{Ident}
 use Rattle.term_log.specs.Frames.{Frame}
-use Rattle.two_worlds.specs.Drivers.{ArePairAnswers, IsOnlyPublication, IsPairAnswer, IsSecondAnswer, IsThere, Opening, PairEnd, PairStep, SecondGivesARun, delivered, delivery, given_by, given_in, is_quiet, numbered, of_first, of_second, opening_pair, pair_after, pair_end, second_after, second_step}
+use Rattle.two_worlds.specs.Drivers.{ArePairAnswers, IsOnlyPublication, IsPairAnswer, IsSecondAnswer, IsThere, Opening, PairEnd, DriversStep, SecondGivesARun, delivered, delivery, given_by, given_in, is_quiet, numbered, of_first, of_second, opening_pair, pair_after, pair_end, second_after, second_step}
 use Rattle.two_worlds.specs.Given.{AreGood, IsGood, IsGoodStep, MirrorsLog}
 use Rattle.two_worlds.specs.Polling.{IsRun, Reads, polled_by}
 use Rattle.two_worlds.specs.Sent.{Datagram, IsOnlyLog, sent_by}
@@ -101,7 +101,7 @@ numbered_good i all (suc n) (one ∷ sent) datagram good is =
     numbered_good i all n sent datagram (All-tail (λ (d : Datagram). IsGood i (line_of i i.start all) d.bytes) one sent good) is
 
 -- what the second's step is, if it takes one: good, and a poll only where the step is its own
-record IsFine (i : Ident) (all : List Frame) (source subscription : ℕ) (step : PairStep) (answer : Answer) (reading : Reading) : Type 0 where
+record IsFine (i : Ident) (all : List Frame) (source subscription : ℕ) (step : DriversStep) (answer : Answer) (reading : Reading) : Type 0 where
   good : IsGoodStep i (line_of i i.start all) reading.step
   gives : given_by source subscription step answer ≡ polled_by source subscription reading.step answer
 
@@ -123,7 +123,7 @@ came_fine i all source subscription sent now older from answer reading (Some dat
     subst (IsFine i all source subscription (delivery sent now older) answer) same
     (record { good = good datagram refl; gives = refl })
 
-second_fine : (i : Ident) (all : List Frame) (opening : Opening) (source subscription : ℕ) (e : PairEnd) (step : PairStep) (answer : Answer)
+second_fine : (i : Ident) (all : List Frame) (opening : Opening) (source subscription : ℕ) (e : PairEnd) (step : DriversStep) (answer : Answer)
     (reading : Reading) → Holds i all opening e → second_step e step ≡ Some reading → IsFine i all source subscription step answer reading
 second_fine i all opening source subscription e (of_first own) answer reading holds is = absurd (cc is)
 second_fine i all opening source subscription e (of_second own) answer reading holds is =
@@ -189,7 +189,7 @@ bad_polled source subscription (Lists now client) = refl
 bad_polled source subscription (Value now client number) = refl
 
 -- where the second takes no step, nothing is given: what it is answered is no poll's answer
-none_given_by : (source subscription : ℕ) (e : PairEnd) (step : PairStep) (answer : Answer) → IsSecondAnswer e (second_step e step) answer →
+none_given_by : (source subscription : ℕ) (e : PairEnd) (step : DriversStep) (answer : Answer) → IsSecondAnswer e (second_step e step) answer →
     second_step e step ≡ None → given_by source subscription step answer ≡ []
 none_given_by source subscription e (of_first reading) answer answered none = refl
 none_given_by source subscription e (delivery sent now older) answer answered none = refl
@@ -198,7 +198,7 @@ none_given_by source subscription e (of_second reading) answer answered none =
     subst (λ (o : Option Reading). IsSecondAnswer e o answer) none answered in
     subst (λ (a : Answer). polled_by source subscription reading.step a ≡ []) (sym bad) (bad_polled source subscription reading.step)
 
-step_behind : (i : Ident) (all : List Frame) (opening : Opening) (source subscription : ℕ) (so_far : List Fetched) (e : PairEnd) (step : PairStep)
+step_behind : (i : Ident) (all : List Frame) (opening : Opening) (source subscription : ℕ) (so_far : List Fetched) (e : PairEnd) (step : DriversStep)
     (answer : Answer) → 0 < i.term_length → IsLine i.term_length i.start (line_of i i.start all) → AreSettings opening.settings →
     Holds i all opening e → All (IsOnlyLog i all) e.first.logs → (re : Reads i source subscription e.second) →
     IsRunTo (line_of i i.start all) re.at so_far → IsPairAnswer e step answer →
@@ -237,7 +237,7 @@ held_second i all opening e answer (Some reading) some is sound holds answered f
   reached = reached_more i all opening e.second reading answer holds.reached (fine reading refl) answered;
 }
 
-pub held_step : (i : Ident) (all : List Frame) (opening : Opening) (e : PairEnd) (step : PairStep) (answer : Answer) → 0 < i.term_length →
+pub held_step : (i : Ident) (all : List Frame) (opening : Opening) (e : PairEnd) (step : DriversStep) (answer : Answer) → 0 < i.term_length →
     IsLine i.term_length i.start (line_of i i.start all) → AreSettings opening.settings → Holds i all opening e →
     All (IsOnlyLog i all) e.first.logs → IsPairAnswer e step answer → Holds i all opening (pair_after e step answer)
 held_step i all opening e (of_first reading) answer some is sound holds only answered =
@@ -249,7 +249,7 @@ held_step i all opening e (delivery sent now older) answer some is sound holds o
     held_second i all opening e answer (second_step e (delivery sent now older)) some is sound holds answered
     (λ one found. (second_fine i all opening 0 0 e (delivery sent now older) answer one holds found).good)
 
-pub held_run : (i : Ident) (all : List Frame) (opening : Opening) (e : PairEnd) (steps : List PairStep) (answers : List Answer) → 0 < i.term_length →
+pub held_run : (i : Ident) (all : List Frame) (opening : Opening) (e : PairEnd) (steps : List DriversStep) (answers : List Answer) → 0 < i.term_length →
     IsLine i.term_length i.start (line_of i i.start all) → AreSettings opening.settings → Holds i all opening e →
     IsOnlyPublication i all e steps answers → ArePairAnswers e steps answers → Holds i all opening (pair_end e steps answers)
 held_run i all opening e [] answers some is sound holds only are = holds
@@ -260,13 +260,13 @@ held_run i all opening e (step ∷ steps) (answer ∷ answers) some is sound hol
 
 -- ---- runs while it is there
 
-abbrev there_first : (i : Ident) (source subscription : ℕ) (e : PairEnd) (steps : List PairStep) (answers : List Answer) →
+abbrev there_first : (i : Ident) (source subscription : ℕ) (e : PairEnd) (steps : List DriversStep) (answers : List Answer) →
     IsThere i source subscription e steps answers → Reads i source subscription e.second
 there_first i source subscription e [] answers there = there
 there_first i source subscription e (step ∷ steps) [] there = there
 there_first i source subscription e (step ∷ steps) (answer ∷ answers) there = there.0
 
-given_run : (i : Ident) (all : List Frame) (opening : Opening) (source subscription : ℕ) (so_far : List Fetched) (e : PairEnd) (steps : List PairStep)
+given_run : (i : Ident) (all : List Frame) (opening : Opening) (source subscription : ℕ) (so_far : List Fetched) (e : PairEnd) (steps : List DriversStep)
     (answers : List Answer) → 0 < i.term_length → IsLine i.term_length i.start (line_of i i.start all) → AreSettings opening.settings →
     Holds i all opening e → IsOnlyPublication i all e steps answers → ArePairAnswers e steps answers →
     (there : IsThere i source subscription e steps answers) →

@@ -1,5 +1,6 @@
 pub mod DriversLemmas
 pub mod GivenLemmas
+pub mod NumberedLemmas
 pub mod PollingLemmas
 pub mod RowLemmas
 pub mod SentLemmas

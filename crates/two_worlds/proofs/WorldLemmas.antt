@@ -29,7 +29,9 @@ use Rattle.two_worlds.specs.Drivers.{Opening, PairEnd, is_quiet, numbered}
 use Rattle.two_worlds.specs.Given.{IsGood, IsGoodStep}
 use Rattle.two_worlds.specs.Polling.{IsRun, Reads, polled_by}
 use Rattle.two_worlds.specs.Sent.{Datagram, sent_by}
-use Rattle.two_worlds.specs.Worlds.{AreAnswersOfBoth, AtEach, IsAnswerOfSecond, IsAnswerToBoth, OnlyPublication, ReadsThere, SecondWorldGivesARun, TwoEnds, WorldStep, after_both, after_second, comes, coming, end_of_both, first_takes, opening_both, polled_of, polled_of_all, second_takes, step_of_second}
+use Rattle.two_worlds.specs.declared.pair_step.PairStep.{PairStep}
+use Rattle.two_worlds.specs.declared.pair_step.PairStep.TheVariants.{A, B, Deliver}
+use Rattle.two_worlds.specs.Worlds.{AreAnswersOfBoth, AtEach, IsAnswerOfSecond, IsAnswerToBoth, OnlyPublication, ReadsThere, SecondWorldGivesARun, TwoEnds, after_both, after_second, coming, end_of_both, opening_both, polled_of, polled_of_all, step_of_second}
 use Rattle.two_worlds.proofs.DriversLemmas.{Behind, Holds, bad_polled, first_behind, held_first, held_second, numbered_good, opening_holds, quiet_good, second_behind}
 use Rattle.two_worlds.proofs.SentLemmas.{AllGood, WellLog, step_sent, step_well}
 use Rattle.two_worlds.proofs.PollingLemmas.{none_given, none_polled, put_goes}
@@ -174,9 +176,9 @@ still_behind i all opening source subscription so_far gives e end none same' hol
 first_went : (i : Ident) (all : List Frame) (opening : Opening) (source subscription : ℕ) (so_far : List Fetched) (e : TwoEnds) (reading : Reading)
     (answer : Answer) → Holds i all opening (drivers_of e) → AllGood i all (sent_by answer) →
     (re : Reads i source subscription e.second.driver) → IsRunTo (line_of i i.start all) re.at so_far → Went e.first reading answer →
-    Behind i all opening source subscription (so_far ++ []) (drivers_of (after_both e (first_takes reading) answer))
+    Behind i all opening source subscription (so_far ++ []) (drivers_of (after_both e (A reading) answer))
 first_went i all opening source subscription so_far e reading answer holds sends re run (stayed same' silent) =
-    still_behind i all opening source subscription so_far [] (drivers_of e) (drivers_of (after_both e (first_takes reading) answer)) refl
+    still_behind i all opening source subscription so_far [] (drivers_of e) (drivers_of (after_both e (A reading) answer)) refl
     (ap (λ (d : DriverEnd). let p : PairEnd = record { first = d; second = e.second.driver; sent = e.sent ++ sent_by answer } in p) same'
     ∙ ap (λ (sent : List Datagram). let p : PairEnd = record { first = e.first.driver; second = e.second.driver; sent = sent } in p)
     (ap (λ (more : List Datagram). e.sent ++ more) silent.sent ∙ append-nil e.sent))
@@ -207,45 +209,45 @@ second_went i all opening source subscription so_far gives e reading answer some
 
 -- ---- what the second's step is
 
-pub record IsFine (i : Ident) (all : List Frame) (source subscription : ℕ) (step : WorldStep) (answer : Answer) (reading : Reading) : Type 0 where
+pub record IsFine (i : Ident) (all : List Frame) (source subscription : ℕ) (step : PairStep) (answer : Answer) (reading : Reading) : Type 0 where
   pub good : IsGoodStep i (line_of i i.start all) reading.step
   pub gives : polled_of source subscription step answer ≡ polled_by source subscription reading.step answer
 
 own_fine : (i : Ident) (all : List Frame) (source subscription : ℕ) (own reading : Reading) (answer : Answer) (b : Bool) →
-    is_quiet own.step ≡ b → cond b (Some own) None ≡ Some reading → IsFine i all source subscription (second_takes own) answer reading
+    is_quiet own.step ≡ b → cond b (Some own) None ≡ Some reading → IsFine i all source subscription (B own) answer reading
 own_fine i all source subscription own reading answer true quiet is =
     let same' : own ≡ reading = cc is in
-    subst (IsFine i all source subscription (second_takes own) answer) same'
+    subst (IsFine i all source subscription (B own) answer) same'
     (record { good = quiet_good i (line_of i i.start all) own.step quiet; gives = refl })
 own_fine i all source subscription own reading answer false quiet is = absurd (cc is)
 
 came_fine : (i : Ident) (all : List Frame) (source subscription sent now : ℕ) (view : Option ℕ) (from : Address) (answer : Answer)
     (reading : Reading) (o : Option Datagram) → ((datagram : Datagram) → o ≡ Some datagram → IsGood i (line_of i i.start all) datagram.bytes) →
-    coming from now view o ≡ Some reading → IsFine i all source subscription (comes sent now view) answer reading
+    coming from now view o ≡ Some reading → IsFine i all source subscription (Deliver sent now view) answer reading
 came_fine i all source subscription sent now view from answer reading None good is = absurd (cc is)
 came_fine i all source subscription sent now view from answer reading (Some datagram) good is =
     let step : Step = Packet now datagram.to from datagram.bytes in
     let same' : record { view = view; step = step } ≡ reading = cc is in
-    subst (IsFine i all source subscription (comes sent now view) answer) same' (record { good = good datagram refl; gives = refl })
+    subst (IsFine i all source subscription (Deliver sent now view) answer) same' (record { good = good datagram refl; gives = refl })
 
-pub fine_second : (i : Ident) (all : List Frame) (opening : Opening) (source subscription : ℕ) (e : TwoEnds) (step : WorldStep) (answer : Answer)
+pub fine_second : (i : Ident) (all : List Frame) (opening : Opening) (source subscription : ℕ) (e : TwoEnds) (step : PairStep) (answer : Answer)
     (reading : Reading) → Holds i all opening (drivers_of e) → step_of_second e step ≡ Some reading → IsFine i all source subscription step answer reading
-fine_second i all opening source subscription e (first_takes own) answer reading holds is = absurd (cc is)
-fine_second i all opening source subscription e (second_takes own) answer reading holds is =
+fine_second i all opening source subscription e (A own) answer reading holds is = absurd (cc is)
+fine_second i all opening source subscription e (B own) answer reading holds is =
     own_fine i all source subscription own reading answer (is_quiet own.step) refl is
-fine_second i all opening source subscription e (comes sent now view) answer reading holds is =
+fine_second i all opening source subscription e (Deliver sent now view) answer reading holds is =
     came_fine i all source subscription sent now view e.first.driver.registry.settings.send_address answer reading (numbered sent e.sent)
     (λ datagram found. numbered_good i all sent e.sent datagram holds.good found) is
 
-none_polled_of : (source subscription : ℕ) (e : TwoEnds) (step : WorldStep) (answer : Answer) → IsAnswerOfSecond e (step_of_second e step) answer →
+none_polled_of : (source subscription : ℕ) (e : TwoEnds) (step : PairStep) (answer : Answer) → IsAnswerOfSecond e (step_of_second e step) answer →
     step_of_second e step ≡ None → polled_of source subscription step answer ≡ []
-none_polled_of source subscription e (first_takes reading) answer answered none = refl
-none_polled_of source subscription e (comes sent now view) answer answered none = refl
-none_polled_of source subscription e (second_takes reading) answer answered none =
+none_polled_of source subscription e (A reading) answer answered none = refl
+none_polled_of source subscription e (Deliver sent now view) answer answered none = refl
+none_polled_of source subscription e (B reading) answer answered none =
     let bad' : answer ≡ BadStep = subst (λ (o : Option Reading). IsAnswerOfSecond e o answer) none answered in
     subst (λ (a : Answer). polled_by source subscription reading.step a ≡ []) (sym bad') (bad_polled source subscription reading.step)
 
-second_by : (i : Ident) (all : List Frame) (opening : Opening) (source subscription : ℕ) (so_far : List Fetched) (e : TwoEnds) (step : WorldStep)
+second_by : (i : Ident) (all : List Frame) (opening : Opening) (source subscription : ℕ) (so_far : List Fetched) (e : TwoEnds) (step : PairStep)
     (answer : Answer) (o : Option Reading) → step_of_second e step ≡ o → 0 < i.term_length → IsLine i.term_length i.start (line_of i i.start all) →
     AreSettings opening.settings → Holds i all opening (drivers_of e) → (re : Reads i source subscription e.second.driver) →
     IsRunTo (line_of i i.start all) re.at so_far → IsAnswerOfSecond e o answer →
@@ -259,33 +261,33 @@ second_by i all opening source subscription so_far e step answer (Some reading) 
     fine.gives (world_went e.second reading answer answered)
 
 -- what the first sends by a step is good
-abbrev pub SendsGood : Ident → List Frame → WorldStep → Answer → Type 0
-SendsGood i all (first_takes reading) answer = AllGood i all (sent_by answer)
+abbrev pub SendsGood : Ident → List Frame → PairStep → Answer → Type 0
+SendsGood i all (A reading) answer = AllGood i all (sent_by answer)
 SendsGood i all step answer = Unit {0}
 
-abbrev pub AreSentGood : Ident → List Frame → List WorldStep → List Answer → Type 0
+abbrev pub AreSentGood : Ident → List Frame → List PairStep → List Answer → Type 0
 AreSentGood i all [] answers = Unit {0}
 AreSentGood i all (step ∷ steps) [] = Unit {0}
 AreSentGood i all (step ∷ steps) (answer ∷ answers) = SendsGood i all step answer × AreSentGood i all steps answers
 
-both_behind : (i : Ident) (all : List Frame) (opening : Opening) (source subscription : ℕ) (so_far : List Fetched) (e : TwoEnds) (step : WorldStep)
+both_behind : (i : Ident) (all : List Frame) (opening : Opening) (source subscription : ℕ) (so_far : List Fetched) (e : TwoEnds) (step : PairStep)
     (answer : Answer) → 0 < i.term_length → IsLine i.term_length i.start (line_of i i.start all) → AreSettings opening.settings →
     Holds i all opening (drivers_of e) → SendsGood i all step answer → (re : Reads i source subscription e.second.driver) →
     IsRunTo (line_of i i.start all) re.at so_far → IsAnswerToBoth e step answer →
     Behind i all opening source subscription (so_far ++ polled_of source subscription step answer) (drivers_of (after_both e step answer))
-both_behind i all opening source subscription so_far e (first_takes reading) answer some is sound holds sends re run answered =
+both_behind i all opening source subscription so_far e (A reading) answer some is sound holds sends re run answered =
     first_went i all opening source subscription so_far e reading answer holds sends re run (world_went e.first reading answer answered)
-both_behind i all opening source subscription so_far e (second_takes reading) answer some is sound holds sends re run answered =
-    second_by i all opening source subscription so_far e (second_takes reading) answer (step_of_second e (second_takes reading)) refl some is sound holds re run
+both_behind i all opening source subscription so_far e (B reading) answer some is sound holds sends re run answered =
+    second_by i all opening source subscription so_far e (B reading) answer (step_of_second e (B reading)) refl some is sound holds re run
     answered
-both_behind i all opening source subscription so_far e (comes sent now view) answer some is sound holds sends re run answered =
-    second_by i all opening source subscription so_far e (comes sent now view) answer (step_of_second e (comes sent now view)) refl some is sound holds re run
+both_behind i all opening source subscription so_far e (Deliver sent now view) answer some is sound holds sends re run answered =
+    second_by i all opening source subscription so_far e (Deliver sent now view) answer (step_of_second e (Deliver sent now view)) refl some is sound holds re run
     answered
 
 -- ---- before the pair comes
 
 first_held : (i : Ident) (all : List Frame) (opening : Opening) (e : TwoEnds) (reading : Reading) (answer : Answer) → Holds i all opening (drivers_of e) →
-    AllGood i all (sent_by answer) → Went e.first reading answer → Holds i all opening (drivers_of (after_both e (first_takes reading) answer))
+    AllGood i all (sent_by answer) → Went e.first reading answer → Holds i all opening (drivers_of (after_both e (A reading) answer))
 first_held i all opening e reading answer holds sends (stayed same' silent) =
     subst (Holds i all opening)
     (sym (ap (λ (d : DriverEnd). let p : PairEnd = record { first = d; second = e.second.driver; sent = e.sent ++ sent_by answer } in p) same'
@@ -313,7 +315,7 @@ second_held i all opening e reading answer some is sound holds good (went r like
     subst (λ (x : DriverReading). IsGoodStep i (line_of i i.start all) x.step) same'
     (like_good i (line_of i i.start all) reading.step r.step like good))))
 
-held_by : (i : Ident) (all : List Frame) (opening : Opening) (e : TwoEnds) (step : WorldStep) (answer : Answer) (o : Option Reading) →
+held_by : (i : Ident) (all : List Frame) (opening : Opening) (e : TwoEnds) (step : PairStep) (answer : Answer) (o : Option Reading) →
     step_of_second e step ≡ o → 0 < i.term_length → IsLine i.term_length i.start (line_of i i.start all) → AreSettings opening.settings →
     Holds i all opening (drivers_of e) → IsAnswerOfSecond e o answer → Holds i all opening (drivers_of (after_second e o answer))
 held_by i all opening e step answer None found some is sound holds answered = holds
@@ -321,17 +323,17 @@ held_by i all opening e step answer (Some reading) found some is sound holds ans
     second_held i all opening e reading answer some is sound holds (fine_second i all opening 0 0 e step answer reading holds found).good
     (world_went e.second reading answer answered)
 
-pub both_held : (i : Ident) (all : List Frame) (opening : Opening) (e : TwoEnds) (step : WorldStep) (answer : Answer) → 0 < i.term_length →
+pub both_held : (i : Ident) (all : List Frame) (opening : Opening) (e : TwoEnds) (step : PairStep) (answer : Answer) → 0 < i.term_length →
     IsLine i.term_length i.start (line_of i i.start all) → AreSettings opening.settings → Holds i all opening (drivers_of e) →
     SendsGood i all step answer → IsAnswerToBoth e step answer → Holds i all opening (drivers_of (after_both e step answer))
-both_held i all opening e (first_takes reading) answer some is sound holds sends answered =
+both_held i all opening e (A reading) answer some is sound holds sends answered =
     first_held i all opening e reading answer holds sends (world_went e.first reading answer answered)
-both_held i all opening e (second_takes reading) answer some is sound holds sends answered =
-    held_by i all opening e (second_takes reading) answer (step_of_second e (second_takes reading)) refl some is sound holds answered
-both_held i all opening e (comes sent now view) answer some is sound holds sends answered =
-    held_by i all opening e (comes sent now view) answer (step_of_second e (comes sent now view)) refl some is sound holds answered
+both_held i all opening e (B reading) answer some is sound holds sends answered =
+    held_by i all opening e (B reading) answer (step_of_second e (B reading)) refl some is sound holds answered
+both_held i all opening e (Deliver sent now view) answer some is sound holds sends answered =
+    held_by i all opening e (Deliver sent now view) answer (step_of_second e (Deliver sent now view)) refl some is sound holds answered
 
-pub run_held : (i : Ident) (all : List Frame) (opening : Opening) (e : TwoEnds) (steps : List WorldStep) (answers : List Answer) → 0 < i.term_length →
+pub run_held : (i : Ident) (all : List Frame) (opening : Opening) (e : TwoEnds) (steps : List PairStep) (answers : List Answer) → 0 < i.term_length →
     IsLine i.term_length i.start (line_of i i.start all) → AreSettings opening.settings → Holds i all opening (drivers_of e) →
     AreSentGood i all steps answers → AreAnswersOfBoth e steps answers → Holds i all opening (drivers_of (end_of_both e steps answers))
 run_held i all opening e [] answers some is sound holds sends are = holds
@@ -342,13 +344,13 @@ run_held i all opening e (step ∷ steps) (answer ∷ answers) some is sound hol
 
 -- ---- while it is there
 
-abbrev reads_first : (i : Ident) (source subscription : ℕ) (e : TwoEnds) (steps : List WorldStep) (answers : List Answer) →
+abbrev reads_first : (i : Ident) (source subscription : ℕ) (e : TwoEnds) (steps : List PairStep) (answers : List Answer) →
     AtEach (ReadsThere i source subscription) e steps answers → Reads i source subscription e.second.driver
 reads_first i source subscription e [] answers there = there
 reads_first i source subscription e (step ∷ steps) [] there = there
 reads_first i source subscription e (step ∷ steps) (answer ∷ answers) there = there.0
 
-world_run : (i : Ident) (all : List Frame) (opening : Opening) (source subscription : ℕ) (so_far : List Fetched) (e : TwoEnds) (steps : List WorldStep)
+world_run : (i : Ident) (all : List Frame) (opening : Opening) (source subscription : ℕ) (so_far : List Fetched) (e : TwoEnds) (steps : List PairStep)
     (answers : List Answer) → 0 < i.term_length → IsLine i.term_length i.start (line_of i i.start all) → AreSettings opening.settings →
     Holds i all opening (drivers_of e) → AreSentGood i all steps answers → AreAnswersOfBoth e steps answers →
     (there : AtEach (ReadsThere i source subscription) e steps answers) →
@@ -369,18 +371,18 @@ unfolding opening_end
 both_opened i all first second = opening_holds i all first second
 
 -- where all that the first sends is good
-pub world_sends : (i : Ident) (all : List Frame) (first second : Opening) (before : List WorldStep) (earlier : List Answer) (steps : List WorldStep)
-    (answers : List Answer) (source subscription : ℕ) → 0 < i.term_length → AreSound i i.start all → AreSettings second.settings →
-    AreAnswersOfBoth (opening_both first second) before earlier → AreSentGood i all before earlier →
-    AreAnswersOfBoth (end_of_both (opening_both first second) before earlier) steps answers → AreSentGood i all steps answers →
-    AtEach (ReadsThere i source subscription) (end_of_both (opening_both first second) before earlier) steps answers →
+pub world_sends : (i : Ident) (all : List Frame) (second : Opening) (start : TwoEnds) (before : List PairStep) (earlier : List Answer)
+    (steps : List PairStep) (answers : List Answer) (source subscription : ℕ) → 0 < i.term_length → AreSound i i.start all →
+    AreSettings second.settings → Holds i all second (drivers_of start) → AreAnswersOfBoth start before earlier → AreSentGood i all before earlier →
+    AreAnswersOfBoth (end_of_both start before earlier) steps answers → AreSentGood i all steps answers →
+    AtEach (ReadsThere i source subscription) (end_of_both start before earlier) steps answers →
     IsRunOf i all (polled_of_all source subscription steps answers)
-world_sends i all first second before earlier steps answers source subscription some sound settings were was are sends there =
+world_sends i all second start before earlier steps answers source subscription some sound settings holds were was are sends there =
     let line : List Kept = line_of i i.start all in
     let is = line_is i i.start all sound in
-    let e : TwoEnds = end_of_both (opening_both first second) before earlier in
+    let e : TwoEnds = end_of_both start before earlier in
     let run = world_run i all second source subscription [] e steps answers some is settings
-    (run_held i all second (opening_both first second) before earlier some is settings (both_opened i all first second) was were) sends are there
+    (run_held i all second start before earlier some is settings holds was were) sends are there
     (none_given line (reads_first i source subscription e steps answers there).at) in
     lines_run i all run.at (polled_of_all source subscription steps answers) run.is
 
@@ -395,28 +397,28 @@ second_first : (P : DriverEnd → Type 0) (e : TwoEnds) (answer : Answer) (o : O
 second_first P e answer None holds = holds
 second_first P e answer (Some reading) holds = holds
 
-both_well : (e : TwoEnds) (step : WorldStep) (answer : Answer) → All WellLog e.first.driver.logs → IsAnswerToBoth e step answer →
+both_well : (e : TwoEnds) (step : PairStep) (answer : Answer) → All WellLog e.first.driver.logs → IsAnswerToBoth e step answer →
     All WellLog (after_both e step answer).first.driver.logs
-both_well e (first_takes reading) answer well answered = went_well e.first reading answer well (world_went e.first reading answer answered)
-both_well e (second_takes reading) answer well answered =
-    second_first (λ d. All WellLog d.logs) e answer (step_of_second e (second_takes reading)) well
-both_well e (comes sent now view) answer well answered =
-    second_first (λ d. All WellLog d.logs) e answer (step_of_second e (comes sent now view)) well
+both_well e (A reading) answer well answered = went_well e.first reading answer well (world_went e.first reading answer answered)
+both_well e (B reading) answer well answered =
+    second_first (λ d. All WellLog d.logs) e answer (step_of_second e (B reading)) well
+both_well e (Deliver sent now view) answer well answered =
+    second_first (λ d. All WellLog d.logs) e answer (step_of_second e (Deliver sent now view)) well
 
 pub went_sends : (i : Ident) (all : List Frame) (e : RunEnd) (reading : Reading) (answer : Answer) → Went e reading answer →
     ((r : DriverReading) → IsSeen e.past r.older → IsAnswerTo e.driver r answer → AllGood i all (sent_by answer)) → AllGood i all (sent_by answer)
 went_sends i all e reading answer (stayed same' silent) sends = subst (AllGood i all) (sym silent.sent) (All-nil (λ (d : Datagram). IsGood i (line_of i i.start all) d.bytes))
 went_sends i all e reading answer (went r like seen told leaves) sends = sends r seen told
 
-only_sends : (i : Ident) (all : List Frame) (e : TwoEnds) (step : WorldStep) (answer : Answer) → All WellLog e.first.driver.logs →
+only_sends : (i : Ident) (all : List Frame) (e : TwoEnds) (step : PairStep) (answer : Answer) → All WellLog e.first.driver.logs →
     OnlyPublication i all e → IsAnswerToBoth e step answer → SendsGood i all step answer
-only_sends i all e (first_takes reading) answer well only answered =
+only_sends i all e (A reading) answer well only answered =
     went_sends i all e.first reading answer (world_went e.first reading answer answered)
     (λ r seen told. step_sent i all e.first.driver r answer told well only)
-only_sends i all e (second_takes reading) answer well only answered = tt
-only_sends i all e (comes sent now view) answer well only answered = tt
+only_sends i all e (B reading) answer well only answered = tt
+only_sends i all e (Deliver sent now view) answer well only answered = tt
 
-only_sent : (i : Ident) (all : List Frame) (e : TwoEnds) (steps : List WorldStep) (answers : List Answer) → All WellLog e.first.driver.logs →
+only_sent : (i : Ident) (all : List Frame) (e : TwoEnds) (steps : List PairStep) (answers : List Answer) → All WellLog e.first.driver.logs →
     AtEach (OnlyPublication i all) e steps answers → AreAnswersOfBoth e steps answers → AreSentGood i all steps answers
 only_sent i all e [] answers well only are = tt
 only_sent i all e (step ∷ steps) [] well only are = tt
@@ -425,7 +427,7 @@ only_sent i all e (step ∷ steps) (answer ∷ answers) well only are = (
   only_sent i all (after_both e step answer) steps answers (both_well e step answer well are.0) only.1 are.1,
 )
 
-run_well : (e : TwoEnds) (steps : List WorldStep) (answers : List Answer) → All WellLog e.first.driver.logs → AreAnswersOfBoth e steps answers →
+run_well : (e : TwoEnds) (steps : List PairStep) (answers : List Answer) → All WellLog e.first.driver.logs → AreAnswersOfBoth e steps answers →
     All WellLog (end_of_both e steps answers).first.driver.logs
 run_well e [] answers well are = well
 run_well e (step ∷ steps) [] well are = well
@@ -436,6 +438,6 @@ world_gives i all first second before earlier steps answers source subscription 
     let start : TwoEnds = opening_both first second in
     let e : TwoEnds = end_of_both start before earlier in
     let well : All WellLog start.first.driver.logs = (both_opened i all first second).well in
-    world_sends i all first second before earlier steps answers source subscription some sound settings were
+    world_sends i all second start before earlier steps answers source subscription some sound settings (both_opened i all first second) were
     (only_sent i all start before earlier well was were) are
     (only_sent i all e steps answers (run_well start before earlier well were) only are) there

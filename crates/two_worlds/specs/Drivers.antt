@@ -23,10 +23,10 @@ use Rattle.two_worlds.specs.Sent.{Datagram, IsOnlyLog, sent_by}
 
 -- a step of the first, a step of the second, or the delivery to the second of the datagram of that number, counted from 0,
 -- among those that the first sent so far, at a moment, by the registry that its actor looks at
-pub data PairStep : Type 0 where
-  of_first : Reading → PairStep
-  of_second : Reading → PairStep
-  delivery : ℕ → ℕ → Option State → PairStep
+pub data DriversStep : Type 0 where
+  of_first : Reading → DriversStep
+  of_second : Reading → DriversStep
+  delivery : ℕ → ℕ → Option State → DriversStep
 
 pub record PairEnd : Type 0 where
   pub first : RunEnd
@@ -51,7 +51,7 @@ delivered from now older (Some datagram) =
     Some (record { older = older; step = Packet now datagram.to from datagram.bytes })
 
 -- the step that the second takes
-abbrev pub second_step : PairEnd → PairStep → Option Reading
+abbrev pub second_step : PairEnd → DriversStep → Option Reading
 second_step e (of_first reading) = None
 second_step e (of_second reading) = if is_quiet reading.step then Some reading else None
 second_step e (delivery sent now older) =
@@ -66,23 +66,23 @@ abbrev pub second_after : PairEnd → Option Reading → Answer → PairEnd
 second_after e None answer = e
 second_after e (Some reading) answer = record e { second = left_by e.second reading answer }
 
-abbrev pub IsPairAnswer : PairEnd → PairStep → Answer → Type 0
+abbrev pub IsPairAnswer : PairEnd → DriversStep → Answer → Type 0
 IsPairAnswer e (of_first reading) answer = IsAnswerTo e.first reading answer
 IsPairAnswer e step answer = IsSecondAnswer e (second_step e step) answer
 
-abbrev pub pair_after : PairEnd → PairStep → Answer → PairEnd
+abbrev pub pair_after : PairEnd → DriversStep → Answer → PairEnd
 pair_after e (of_first reading) answer =
     record e { first = left_by e.first reading answer; sent = e.sent ++ sent_by answer }
 pair_after e step answer = second_after e (second_step e step) answer
 
-abbrev pub ArePairAnswers : PairEnd → List PairStep → List Answer → Type 0
+abbrev pub ArePairAnswers : PairEnd → List DriversStep → List Answer → Type 0
 ArePairAnswers e [] [] = Unit {0}
 ArePairAnswers e [] (answer ∷ answers) = ⊥
 ArePairAnswers e (step ∷ steps) [] = ⊥
 ArePairAnswers e (step ∷ steps) (answer ∷ answers) =
     IsPairAnswer e step answer × ArePairAnswers (pair_after e step answer) steps answers
 
-abbrev pub pair_end : PairEnd → List PairStep → List Answer → PairEnd
+abbrev pub pair_end : PairEnd → List DriversStep → List Answer → PairEnd
 pair_end e [] answers = e
 pair_end e (step ∷ steps) [] = e
 pair_end e (step ∷ steps) (answer ∷ answers) = pair_end (pair_after e step answer) steps answers
@@ -103,25 +103,25 @@ opening_pair first second = record {
 -- ---- the promise
 
 -- at each end of a run the publication alone has its session and stream in the first driver, and these are all its frames
-abbrev pub IsOnlyPublication : Ident → List Frame → PairEnd → List PairStep → List Answer → Type 0
+abbrev pub IsOnlyPublication : Ident → List Frame → PairEnd → List DriversStep → List Answer → Type 0
 IsOnlyPublication i all e [] answers = All (IsOnlyLog i all) e.first.logs
 IsOnlyPublication i all e (step ∷ steps) [] = All (IsOnlyLog i all) e.first.logs
 IsOnlyPublication i all e (step ∷ steps) (answer ∷ answers) =
     All (IsOnlyLog i all) e.first.logs × IsOnlyPublication i all (pair_after e step answer) steps answers
 
 -- and at each one the subscription reads the log of that source in the second, which is of the publication's stream
-abbrev pub IsThere : Ident → ℕ → ℕ → PairEnd → List PairStep → List Answer → Type 0
+abbrev pub IsThere : Ident → ℕ → ℕ → PairEnd → List DriversStep → List Answer → Type 0
 IsThere i source subscription e [] answers = Reads i source subscription e.second
 IsThere i source subscription e (step ∷ steps) [] = Reads i source subscription e.second
 IsThere i source subscription e (step ∷ steps) (answer ∷ answers) =
     Reads i source subscription e.second × IsThere i source subscription (pair_after e step answer) steps answers
 
 -- what the second's polls give of a pair
-abbrev pub given_by : ℕ → ℕ → PairStep → Answer → List Fetched
+abbrev pub given_by : ℕ → ℕ → DriversStep → Answer → List Fetched
 given_by source subscription (of_second reading) answer = polled_by source subscription reading.step answer
 given_by source subscription step answer = []
 
-abbrev pub given_in : ℕ → ℕ → List PairStep → List Answer → List Fetched
+abbrev pub given_in : ℕ → ℕ → List DriversStep → List Answer → List Fetched
 given_in source subscription [] answers = []
 given_in source subscription (step ∷ steps) [] = []
 given_in source subscription (step ∷ steps) (answer ∷ answers) =
@@ -131,7 +131,7 @@ given_in source subscription (step ∷ steps) (answer ∷ answers) =
 -- coming to its going is what a contiguous run of the publication's frames carries, pads left out.
 abbrev pub SecondGivesARun : Type 0
 SecondGivesARun =
-    (i : Ident) (all : List Frame) (first second : Opening) (before : List PairStep) (earlier : List Answer) (steps : List PairStep)
+    (i : Ident) (all : List Frame) (first second : Opening) (before : List DriversStep) (earlier : List Answer) (steps : List DriversStep)
     (answers : List Answer) (source subscription : ℕ) → 0 < i.term_length → AreSound i i.start all → AreSettings second.settings →
     ArePairAnswers (opening_pair first second) before earlier →
     IsOnlyPublication i all (opening_pair first second) before earlier →

@@ -1,5 +1,6 @@
 pub mod Drivers
 pub mod Given
+pub mod Memory
 pub mod Polling
 pub mod Sent
 pub mod Standing

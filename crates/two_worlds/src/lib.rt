@@ -1,12 +1,21 @@
-//! Two drivers: what the polls of one give of a publication of the other. Each function does nothing, and its clause is the
-//! law.
+//! Two drivers, of which the second is given what the first sent, in whatever order and however often: `TwoWorlds`.
+//!
+//! And what the polls of the second give of a publication of the first: each of the functions here does nothing, and its clause
+//! is the law.
 #![tactic(auto)]
+
+mod pair_step;
+mod sent;
+mod worlds;
 
 ghost use Rattle.two_worlds.specs.Drivers.{SecondGivesARun};
 ghost use Rattle.two_worlds.specs.Given.{GoodDatagramsAreMirrored};
 ghost use Rattle.two_worlds.specs.Polling.{PollsGiveARun};
 ghost use Rattle.two_worlds.specs.Sent.{SentIsGood};
 ghost use Rattle.two_worlds.specs.Worlds.{SecondWorldGivesARun};
+
+pub use pair_step::PairStep;
+pub use worlds::TwoWorlds;
 
 /// Where whatever a driver is given of a stream is one publication's, the logs of that stream have its frames alone.
 pub fn good_datagrams_are_mirrored()
