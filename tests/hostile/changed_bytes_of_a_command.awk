@@ -15,7 +15,8 @@ function answer(hex, at, value,    correlation) {
     else reply(1, "010f0000" correlation little(1, 4) text("invalid channel"))
 }
 function granted(correlation) {
-    reply(1, "070f0000" correlation little(++registration, 8))
+    registration++
+    reply(1, "070f0000" correlation little(registration, 8))
     gives(0, 1, remove_subscription(1, 7, registration))
     succeeded(1, 7)
 }

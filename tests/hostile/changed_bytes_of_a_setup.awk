@@ -15,7 +15,8 @@ function answer_setup(hex,    pages, session) {
     if (word(hex, 16) != 10) { want("dropped no-subscription"); return }
     # Three terms have to lie in the 4,096 pages of the arena, which is free.
     if (3 * word(hex, 28) / 4096 > 4096) { want("dropped no-room"); return }
-    want("setup " ++source)
+    source++
+    want("setup " source)
     session = word(hex, 12)
     image_comes(1, source, 1, session, 10, position_of(word(hex, 20), word(hex, 24), word(hex, 8), word(hex, 28)), \
         "127.0.0.1:40000")

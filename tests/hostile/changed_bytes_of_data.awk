@@ -18,7 +18,8 @@ function answer(hex,    fault, position, payload) {
 function tries(hex) {
     now += 2
     say("packet " now " 127.0.0.1:40123 127.0.0.1:40000 " setup)
-    want("setup " ++source)
+    source++
+    want("setup " source)
     image_comes(1, source, 1, 9, 10, 0, "127.0.0.1:40000")
     say("packet " now " 127.0.0.1:40123 127.0.0.1:40000 " hex)
     answer(hex)

@@ -30,7 +30,8 @@ function answer(hex,    fault, type) {
     else answer_nak(hex)
 }
 function tries(hex) {
-    say("packet " ++now " 127.0.0.1:40000 127.0.0.1:50001 " hex)
+    now++
+    say("packet " now " 127.0.0.1:40000 127.0.0.1:50001 " hex)
     answer(hex)
 }
 function change_each(whole,    at, value) {

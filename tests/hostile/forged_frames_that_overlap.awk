@@ -4,7 +4,8 @@
 function tries(first, one, second, other,    meet) {
     now += 2
     say("packet " now " 127.0.0.1:40123 127.0.0.1:40000 " setup)
-    want("setup " ++source)
+    source++
+    want("setup " source)
     image_comes(1, source, 1, 9, 10, 0, "127.0.0.1:40000")
     say("packet " now " 127.0.0.1:40123 127.0.0.1:40000 " one)
     want("data taken")
@@ -28,7 +29,8 @@ function tries(first, one, second, other,    meet) {
 }
 function gets(frame) {
     reached += rounded(bytes_of(frame))
-    fragments[++count] = "fragment " reached " c0 " behind(frame, 32)
+    count++
+    fragments[count] = "fragment " reached " c0 " behind(frame, 32)
 }
 function repeated(byte_hex, count,    bytes) {
     for (; count > 0; count--) bytes = bytes byte_hex
