@@ -34,7 +34,10 @@ function polls(number, count,    position, rows, row, hex, at) {
     while (rows < count && position < contiguous) {
         hex = frame_at[position]
         position = end_at[position]
-        if (!is_pad(hex)) row[++rows] = "fragment " decimal(position) " " hex_of[byte(hex, 5)] " " written(behind(hex, 32))
+        if (!is_pad(hex)) {
+            rows++
+            row[rows] = "fragment " decimal(position) " " hex_of[byte(hex, 5)] " " written(behind(hex, 32))
+        }
     }
     reader[number] = position
     say("poll " decimal(now) " " number " " number " 3 " count)

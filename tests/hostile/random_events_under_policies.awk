@@ -1,0 +1,455 @@
+# Four clients of three principals publish, subscribe, spy, take back, offer, poll and look, publishers elsewhere tell of
+# streams, time goes on, and one policy after another is put in force, of rules on any principal, act, channel and stream. All
+# that is granted, denied, opened and closed, what each client is told, and the decisions of every actor, are worked out here
+# from plain lists, and all pairs from the beginning after each event, in the words of docs/POLICY.md, STREAMS.md, IMAGES.md,
+# CLIENTS.md and AUDIT.md. A row of numbers decides what comes.
+function next_below(bound) {
+    state = state * 16807 % 2147483647
+    return state % bound
+}
+function one_of(words, at,    count) {
+    count = split(words, several, " ")
+    return several[at > 0 ? at : 1 + next_below(count)]
+}
+
+# ---- The policy
+
+# Whether a pattern covers a channel: its medium, and each of its keys with that value or one that begins so.
+function covers(pattern, channel,    at, count, keys, of_channel, value) {
+    if (pattern == "*") return 1
+    split(pattern, of_pattern, "?")
+    split(channel, of_channel, "?")
+    if (of_pattern[1] != of_channel[1]) return 0
+    count = split(of_pattern[2], keys, "|")
+    for (at = 1; at <= count; at++) {
+        value = keys[at]
+        if (value ~ /\*$/) {
+            if (index("|" of_channel[2], "|" substr(value, 1, length(value) - 1)) == 0) return 0
+        } else if (index("|" of_channel[2] "|", "|" value "|") == 0) return 0
+    }
+    return 1
+}
+# The first rule that matches, or 0 for the default; what it says is in `is_allowed`.
+function verdict(principal, act, channel, stream,    at) {
+    for (at = 1; at <= rules; at++) {
+        if (rule_principal[at] != "*" && rule_principal[at] != principal) continue
+        if (rule_act[at] != "*" && index(" " rule_act[at] " ", " " act " ") == 0) continue
+        if (stream < rule_low[at] || stream > rule_high[at] || !covers(rule_channel[at], channel)) continue
+        is_allowed = rule_allow[at]
+        return at
+    }
+    is_allowed = default_allow
+    return 0
+}
+function text_of(at) { return (is_allowed ? "allowed by " : "denied by ") (at ? "rule " at : "default") " in policy " epoch }
+# Asks, and keeps the decision in the actor's audit.
+function asks(actor, principal, act, channel, stream,    told) {
+    told = text_of(verdict(principal, act, channel, stream))
+    audits[actor]++
+    audit[actor, audits[actor]] = "decision " principal " " act " " stream " " told
+    if (!is_allowed) denials[act]++
+    return told
+}
+function policy(    at, acts, names) {
+    rules = next_below(6)
+    default_allow = next_below(5) > 0
+    epoch++
+    opens(default_allow ? "allow" : "deny")
+    for (at = 1; at <= rules; at++) {
+        rule_principal[at] = one_of("* 1 2 3")
+        rule_channel[at] = one_of("* * aeron:ipc aeron:udp aeron:udp?endpoint=127.0.0.1:40123 aeron:udp?endpoint=127.0.0.1:4012* " \
+            "aeron:ipc?session-id=1* aeron:udp?control-mode=manual")
+        names = 1 + next_below(4)
+        rule_act[at] = ""
+        acts = ""
+        for (; names > 0; names--)
+            rule_act[at] = rule_act[at] " " one_of("publish publish-exclusive subscribe spy offer image image receive list")
+        rule_act[at] = substr(rule_act[at], 2)
+        if (next_below(6) == 0) rule_act[at] = "*"
+        rule_low[at] = -2147483648
+        rule_high[at] = 2147483647
+        rule_allow[at] = default_allow ? next_below(3) == 0 : next_below(3) > 0
+        say("[[rule]]")
+        say("name = \"of a case\"")
+        say("principal = \"" (rule_principal[at] == "*" ? "*" : "p" rule_principal[at]) "\"")
+        acts = rule_act[at]
+        if (acts != "*") gsub(/ /, "\", \"", acts)
+        say("act = " (rule_act[at] == "*" ? "\"*\"" : "[\"" acts "\"]"))
+        say("channel = \"" rule_channel[at] "\"")
+        if (next_below(3) == 0) {
+            rule_low[at] = 9 + next_below(3)
+            rule_high[at] = rule_low[at] + next_below(2)
+            say("stream = [" rule_low[at] ", " rule_high[at] "]")
+        }
+        say("allow = " (rule_allow[at] ? "true" : "false"))
+    }
+    closes()
+}
+
+# ---- The lists. Numbers are drawn from 1 on; rows that went are deleted.
+
+# What meets: the place of a channel, without its session.
+function place_of(channel) {
+    sub(/[?|]session-id=.*/, "", channel)
+    return channel
+}
+function medium_of(channel) { return channel ~ /^aeron:ipc/ ? "ipc" : "udp" }
+function fits(source, subscription) {
+    if (stream_of[source] != stream_of[subscription]) return 0
+    if (is_image[source]) {
+        if (is_spy[subscription] || medium_of(channel_of[subscription]) == "ipc") return 0
+    } else if (medium_of(channel_of[source]) == "ipc") {
+        if (medium_of(channel_of[subscription]) != "ipc") return 0
+    } else if (!is_spy[subscription]) return 0
+    if (place_of(channel_of[source]) != place_of(channel_of[subscription])) return 0
+    return !(subscription in session_stated) || session_stated[subscription] == session_of[source]
+}
+function image_asked(subscription) {
+    return verdict(principal_of[client_of[subscription]], "image", channel_of[subscription], stream_of[subscription])
+}
+function origin_of(source) {
+    return is_image[source] ? "127.0.0.1:40000" : medium_of(channel_of[source]) == "ipc" ? ipc : "aeron:spy"
+}
+function compact(list, count,    at, kept) {
+    kept = 0
+    for (at = 1; at <= count; at++) if (list[at] in stream_of) {
+        kept++
+        list[kept] = list[at]
+    }
+    return kept
+}
+
+# ---- After each event: who reads what, from the lists alone, and what clients are told of it.
+function renew(by_policy,    at, other, source, subscription, allowed, pair) {
+    sources = compact(source_at, sources)
+    subscriptions = compact(subscription_at, subscriptions)
+    for (other = 1; other <= subscriptions; other++) {
+        image_asked(subscription_at[other])
+        allowed[other] = is_allowed
+    }
+    for (pair in now_read) delete now_read[pair]
+    for (at = 1; at <= sources; at++)
+        for (other = 1; other <= subscriptions; other++)
+            if (allowed[other] && fits(source_at[at], subscription_at[other])) now_read[source_at[at], subscription_at[other]] = 1
+    # Those that go. Nobody is told of a subscription that went.
+    for (at = 1; at <= reads; at++) {
+        source = read_source[at]
+        subscription = read_subscription[at]
+        if ((source, subscription) in now_read) continue
+        delete position_of_reader[source, subscription]
+        if (!(subscription in stream_of)) continue
+        if (by_policy) {
+            asks("conductor", principal_of[client_of[subscription]], "image", channel_of[subscription], stream_of[subscription])
+            taken_away++
+        }
+        image_goes(client_of[subscription], source, subscription, stream_of[subscription])
+    }
+    # Those that come.
+    for (at = 1; at <= reads; at++) was_read[read_source[at], read_subscription[at]] = 1
+    reads = 0
+    for (pair in readers) delete readers[pair]
+    for (at = 1; at <= sources; at++)
+        for (other = 1; other <= subscriptions; other++) {
+            source = source_at[at]
+            subscription = subscription_at[other]
+            if (!((source, subscription) in now_read)) continue
+            reads++
+            read_source[reads] = source
+            read_subscription[reads] = subscription
+            readers[source]++
+            if ((source, subscription) in was_read) continue
+            position_of_reader[source, subscription] = tail[source] + 0
+            asks("conductor", principal_of[client_of[subscription]], "image", channel_of[subscription], stream_of[subscription])
+            image_comes(client_of[subscription], source, subscription, session_of[source], stream_of[source], \
+                tail[source] + 0, origin_of(source))
+            came++
+        }
+    for (pair in was_read) delete was_read[pair]
+    # An image that nobody reads closes.
+    for (at = 1; at <= sources; at++) if (is_image[source_at[at]] && !readers[source_at[at]]) {
+        forget(source_at[at])
+        unread++
+    }
+    sources = compact(source_at, sources)
+}
+function forget(number) {
+    delete stream_of[number]
+    delete is_image[number]
+    delete is_exclusive[number]
+    delete lingers[number]
+}
+function takes_back(registration,    source) {
+    source = source_of[registration]
+    delete source_of[registration]
+    registered[source]--
+    if (registered[source] == 0) lingers[source] = now
+}
+
+# ---- Commands
+
+function channel(    kind) {
+    kind = next_below(8)
+    if (kind < 3) return ipc
+    if (kind == 3) return manual
+    return "aeron:udp?endpoint=127.0.0.1:4012" 3 + next_below(2)
+}
+function publishes(client, act,    over, stream, told, at, source) {
+    over = channel()
+    stream = 10 + next_below(2)
+    correlation++
+    gives(now, client, act == "publish" ? add_publication(client, correlation, stream, over) \
+        : add_exclusive_publication(client, correlation, stream, over))
+    if (!(client in is_here)) { error(client, correlation, 1004, "wrong client"); return }
+    told = asks("conductor", principal_of[client], act, over, stream)
+    if (!is_allowed) { error(client, correlation, 1001, told); return }
+    source = 0
+    if (act == "publish" && over != manual)
+        for (at = 1; at <= sources && !source; at++)
+            if (!is_image[source_at[at]] && !is_exclusive[source_at[at]] && !(source_at[at] in lingers) && \
+                channel_of[source_at[at]] == over && stream_of[source_at[at]] == stream) source = source_at[at]
+    # Each log takes 48 of the 4,096 pages.
+    if (!source && sources >= 85) { error(client, correlation, 1006, "no room"); return }
+    last++
+    if (!source) {
+        source = last
+        channel_of[source] = over
+        stream_of[source] = stream
+        session++
+        session_of[source] = session
+        is_exclusive[source] = act != "publish"
+        sources++
+        source_at[sources] = source
+    } else joined++
+    source_of[last] = source
+    owner_of[last] = client
+    registered[source]++
+    if (act == "publish") publication_ready(client, correlation, last, session_of[source], stream)
+    else exclusive_ready(client, correlation, last, session_of[source], stream)
+    renew(0)
+}
+function subscribes(client,    over, stream, act, told, stated) {
+    over = channel()
+    act = next_below(3) && over != manual || over == ipc ? "subscribe" : "spy"
+    stream = 10 + next_below(2)
+    stated = next_below(6) ? 0 : 1 + next_below(session + 1)
+    if (stated) over = over (over == ipc ? "?" : "|") "session-id=" stated
+    correlation++
+    gives(now, client, add_subscription(client, correlation, stream, (act == "spy" ? "aeron-spy:" : "") over))
+    if (!(client in is_here)) { error(client, correlation, 1004, "wrong client"); return }
+    told = asks("conductor", principal_of[client], act, over, stream)
+    if (!is_allowed) { error(client, correlation, 1001, told); return }
+    last++
+    channel_of[last] = over
+    stream_of[last] = stream
+    client_of[last] = client
+    is_spy[last] = act == "spy"
+    if (stated) session_stated[last] = stated
+    subscriptions++
+    subscription_at[subscriptions] = last
+    subscription_ready(client, correlation, last)
+    renew(0)
+}
+function unpublishes(client, registration) {
+    correlation++
+    gives(now, client, remove_publication(client, correlation, registration))
+    if (!(client in is_here)) error(client, correlation, 1004, "wrong client")
+    else if (!(registration in source_of) || owner_of[registration] != client) error(client, correlation, 3, "unknown publication")
+    else {
+        succeeded(client, correlation)
+        takes_back(registration)
+        renew(0)
+    }
+}
+function unsubscribes(client, registration) {
+    correlation++
+    gives(now, client, remove_subscription(client, correlation, registration))
+    if (!(client in is_here)) error(client, correlation, 1004, "wrong client")
+    else if (!(registration in client_of) || !(registration in stream_of) || client_of[registration] != client)
+        error(client, correlation, 2, "unknown subscription")
+    else {
+        succeeded(client, correlation)
+        forget(registration)
+        renew(0)
+    }
+}
+function leaves(client,    at, registration) {
+    correlation++
+    gives(now, client, command(11, client, correlation, ""))
+    if (!(client in is_here)) { error(client, correlation, 1004, "wrong client"); return }
+    succeeded(client, correlation)
+    for (registration = 1; registration <= last; registration++) {
+        if (registration in source_of && owner_of[registration] == client) takes_back(registration)
+        else if (registration in client_of && registration in stream_of && client_of[registration] == client) forget(registration)
+    }
+    delete is_here[client]
+    renew(0)
+    attaches(principal_of[client])
+}
+function attaches(principal) {
+    say("attach " decimal(now) " " principal)
+    clients++
+    want("attached " clients)
+    is_here[clients] = 1
+    principal_of[clients] = principal
+    # The one that left goes on being tried now and then.
+    handle[1 + next_below(4)] = clients
+}
+
+# ---- The other events
+
+function setup(    local, stream, remote, at, lowest, source) {
+    local = 40123 + next_below(2)
+    stream = 10 + next_below(2)
+    remote = 1 + next_below(session + 4)
+    say("packet " decimal(now) " 127.0.0.1:" local " 127.0.0.1:40000 " setup_frame(0, remote, stream, 5, 5, 65536, 1408))
+    source = last + 1
+    channel_of[source] = "aeron:udp?endpoint=127.0.0.1:" local
+    stream_of[source] = stream
+    session_of[source] = remote
+    is_image[source] = 1
+    lowest = 0
+    for (at = 1; at <= sources; at++)
+        if (is_image[source_at[at]] && channel_of[source_at[at]] == channel_of[source] && stream_of[source_at[at]] == stream && \
+            session_of[source_at[at]] == remote) { want("dropped exists"); forget(source); return }
+    for (at = 1; at <= subscriptions; at++) if (fits(source, subscription_at[at])) {
+        if (!lowest) lowest = subscription_at[at]
+        image_asked(subscription_at[at])
+        if (is_allowed) break
+    }
+    if (!lowest) { want("dropped no-subscription"); forget(source); return }
+    if (at > subscriptions) {
+        want("dropped " text_of(image_asked(lowest)))
+        setups_denied++
+        forget(source)
+        return
+    }
+    if (sources >= 85) { want("dropped no-room"); forget(source); return }
+    last++
+    made_at[source] = now
+    sources++
+    source_at[sources] = source
+    want("setup " source)
+    renew(0)
+}
+function ticks(    at, source) {
+    say("tick " decimal(now))
+    for (at = 1; at <= sources; at++) {
+        source = source_at[at]
+        if (is_image[source] ? now - made_at[source] > 5000 : source in lingers && now - lingers[source] > 3000) forget(source)
+    }
+    renew(0)
+}
+function reloads() {
+    policy()
+    want("policy " epoch)
+    renew(1)
+}
+
+# ---- Steps of clients
+
+function offers(client, registration,    source, told, at, least) {
+    message = (message + 1) % 256
+    say("offer " decimal(now) " " client " " registration " " hex_of[message])
+    if (!(client in is_here) || !(registration in source_of) || owner_of[registration] != client) { want("offer -4"); return }
+    source = source_of[registration]
+    told = asks(client, principal_of[client], "offer", channel_of[source], stream_of[source])
+    if (!is_allowed) { want(told); return }
+    if (medium_of(channel_of[source]) == "udp" || !readers[source]) { want("offer -1"); return }
+    least = tail[source] + 0
+    for (at = 1; at <= reads; at++)
+        if (read_source[at] == source && position_of_reader[source, read_subscription[at]] < least)
+            least = position_of_reader[source, read_subscription[at]]
+    if (tail[source] >= least + 32768) { want("offer -2"); return }
+    said[source, tail[source] + 0] = hex_of[message]
+    tail[source] += 64
+    want("offer " tail[source])
+    taken++
+}
+function polls(client, subscription, source, count,    told, rows, from) {
+    say("poll " decimal(now) " " client " " subscription " " source " " count)
+    if (!((source, subscription) in now_read) || client_of[subscription] != client) { want("gone"); return }
+    told = asks(client, principal_of[client], "receive", channel_of[subscription], stream_of[subscription])
+    if (!is_allowed) { want(told); return }
+    from = position_of_reader[source, subscription]
+    rows = (tail[source] - from) / 64
+    if (rows > count) rows = count
+    want("poll " rows)
+    for (; rows > 0; rows--) {
+        want("fragment " from + 64 " c0 " said[source, from])
+        from += 64
+        polled++
+    }
+    position_of_reader[source, subscription] = from
+}
+function looks(client,    at, source, told, rows, row) {
+    say("list " decimal(now) " " client)
+    if (!(client in is_here)) { want("wrong client"); return }
+    rows = 0
+    for (at = 1; at <= sources; at++) {
+        source = source_at[at]
+        told = text_of(verdict(principal_of[client], "list", channel_of[source], stream_of[source]))
+        # What is shown is not audited.
+        if (!is_allowed) {
+            audits[client]++
+            audit[client, audits[client]] = "decision " principal_of[client] " list " stream_of[source] " " told
+            hidden++
+        } else {
+            rows++
+            row[rows] = "counter " source " " (is_image[source] ? "10002 " readers[source] : "10001 " registered[source]) \
+                " " ascii(channel_of[source])
+        }
+    }
+    want("list " rows)
+    for (at = 1; at <= rows; at++) want(row[at])
+}
+function shows(actor,    at, first) {
+    say("audit " actor)
+    first = audits[actor] > 4096 ? audits[actor] - 4096 : 0
+    want("audit " audits[actor] - first " dropped " first)
+    for (at = first + 1; at <= audits[actor]; at++) want(audit[actor, at])
+}
+function some(count) { return count ? 1 + next_below(count) : 0 }
+function steps(    client, kind, at, tries) {
+    kind = next_below(40)
+    client = handle[1 + next_below(4)]
+    if (kind < 3) publishes(client, "publish")
+    else if (kind < 5) publishes(client, "publish-exclusive")
+    else if (kind < 12) subscribes(client)
+    else if (kind < 14) unpublishes(client, some(last))
+    else if (kind == 14 && some(last)) { at = some(last); if (at in source_of) unpublishes(owner_of[at], at) }
+    else if (kind < 17) { if (subscriptions) { at = subscription_at[some(subscriptions)]; unsubscribes(next_below(4) ? client_of[at] : client, at) } }
+    else if (kind < 22) setup()
+    else if (kind < 24) reloads()
+    else if (kind < 26) ticks()
+    else if (kind < 32) {
+        # Mostly by a registration that is there, with a log that has a reader.
+        at = some(last)
+        for (tries = next_below(60); tries > 0 && !(at in source_of && readers[source_of[at]]); tries--) at = some(last)
+        offers(at in source_of && next_below(8) ? owner_of[at] : client, at)
+    }
+    else if (kind < 38) {
+        if (reads && next_below(8)) { at = some(reads); polls(client_of[read_subscription[at]], read_subscription[at], read_source[at], next_below(4)) }
+        else polls(client, some(last), some(last), 3)
+    } else if (kind == 38) looks(client)
+    else if (next_below(4) == 0) leaves(client)
+}
+BEGIN {
+    state = 1
+    now = last = sources = subscriptions = reads = session = clients = epoch = message = correlation = 0
+    for (principal = 1; principal <= 3; principal++) say("principal p" principal " " principal)
+    say("set linger 3000")
+    say("set image-liveness 5000")
+    say("set client-liveness 9000000000000000000")
+    policy()
+    for (at = 1; at <= 4; at++) { attaches(one_of("1 2 3 3", at)); handle[at] = at }
+    for (turn = 1; turn <= 6000; turn++) {
+        if (next_below(3) == 0) now += next_below(400)
+        steps()
+    }
+    shows("conductor")
+    for (client = 1; client <= clients; client++) shows(client)
+    # Much of each kind was granted and denied, came and went.
+    if (came < 300 || taken_away < 50 || unread < 20 || joined < 20 || setups_denied < 10 || taken < 30 || polled < 20 || \
+        hidden < 20 || denials["publish"] < 10 || denials["publish-exclusive"] < 10 || denials["subscribe"] < 10 || \
+        denials["spy"] < 10 || denials["offer"] < 10 || denials["receive"] < 10) want("the row of numbers is no good")
+}
