@@ -1,7 +1,9 @@
 # An image of two readers is sent frames and pads of any length, in any order, at any place: in a row, twice, over one another,
 # below what is kept and beyond the window, one or some in a datagram, with heartbeats between. What each is answered, what
 # each poll then gives, and which NAK and status message each turn of the receiver sends, is worked out here by a map from
-# positions to frames, in the words of docs/IMAGES.md and docs/RESEND.md. A row of numbers decides what comes.
+# positions to frames, in the words of docs/IMAGES.md and docs/RESEND.md. A row of numbers decides what comes. There are two
+# images, one after the other: one joins at 0, the other where eleven terms are left below the greatest position. Positions are
+# kept here from the join on.
 function next_below(bound) {
     state = state * 16807 % 2147483647
     return state % bound
@@ -36,11 +38,11 @@ function polls(number, count,    position, rows, row, hex, at) {
         position = end_at[position]
         if (!is_pad(hex)) {
             rows++
-            row[rows] = "fragment " decimal(position) " " hex_of[byte(hex, 5)] " " written(behind(hex, 32))
+            row[rows] = "fragment " decimal(join + position) " " hex_of[byte(hex, 5)] " " written(behind(hex, 32))
         }
     }
     reader[number] = position
-    say("poll " decimal(now) " " number " " number " 3 " count)
+    say("poll " decimal(now) " " number " " source - 3 + number " " source " " count)
     want("poll " rows)
     for (at = 1; at <= rows; at++) want(row[at])
     given += rows
@@ -54,20 +56,20 @@ function gap_end(    at, most) {
     most = least(heard, base() + 32768)
     return most > contiguous ? most : contiguous
 }
-function told(    missing, source) {
-    say("image " decimal(now) " 3")
+function told(    missing) {
+    say("image " decimal(now) " " source)
     missing = gap_end() - contiguous
     if (missing == 0) gap = -1
     else if (gap != contiguous) { gap = contiguous; found = now; asked = -1 }
     if (missing && now - (asked < 0 ? found : asked) > (asked < 0 ? 1000000 : 60000000)) {
         asked = now
-        want("sent 127.0.0.1:40000 " nak_frame(9, 10, 5 + int(contiguous / 65536), contiguous % 65536, missing))
+        want("sent 127.0.0.1:40000 " nak_frame(9, stream, first + int(contiguous / 65536), contiguous % 65536, missing))
         naks++
     }
     if (reported < 0 || now - reported_at > 200000000 || base() - reported >= 8192) {
         reported = base()
         reported_at = now
-        want("sent 127.0.0.1:40000 " status_frame(0, 9, 10, 5 + int(reported / 65536), reported % 65536, 32768, 1))
+        want("sent 127.0.0.1:40000 " status_frame(0, 9, stream, first + int(reported / 65536), reported % 65536, 32768, 1))
         reports++
     }
 }
@@ -102,10 +104,10 @@ function data(position,    left, offset, hex, stated) {
             # To the end of the term, or a little past it.
             if (offset + stated > 64000) stated = 65536 - offset + 32 * (next_below(8) == 0)
             if (stated <= 0) stated = 32
-            hex = pad_frame(stated, offset, 9, 10, 5 + term)
+            hex = pad_frame(stated, offset, 9, stream, first + term)
             left = 0
         } else {
-            hex = data_frame(0, offset, 9, 10, 5 + term, payload())
+            hex = data_frame(0, offset, 9, stream, first + term, payload())
             hex = front(hex, 5) flags() behind(hex, 6)
             stated = word(hex, 0)
         }
@@ -128,19 +130,26 @@ function arrives(    at, heard_as, words) {
     }
     want(words)
 }
-BEGIN {
-    opens("allow"); closes()
+# An image that joins so many terms behind the initial one, whose id is 5.
+function image(terms,    client, turn, kind, position, word_heard) {
+    stream++
     for (client = 1; client <= 2; client++) {
-        say("attach 0 7")
-        want("attached " client)
-        gives(0, client, add_subscription(client, 11, 10, "aeron:udp?endpoint=127.0.0.1:40123"))
-        subscription_ready(client, 11, client)
+        source++
+        gives(now, client, add_subscription(client, 11, stream, "aeron:udp?endpoint=127.0.0.1:40123"))
+        subscription_ready(client, 11, source)
     }
-    comes(setup_frame(0, 9, 10, 5, 5, 65536, 1408))
-    want("setup 3")
-    for (client = 1; client <= 2; client++) image_comes(client, 3, client, 9, 10, 0, "127.0.0.1:40000")
-    state = 1
-    now = heard = contiguous = reader[1] = reader[2] = 0
+    source++
+    first = 5 + terms
+    join = terms * 65536
+    comes(setup_frame(0, 9, stream, 5, first, 65536, 1408))
+    want("setup " source)
+    for (client = 1; client <= 2; client++)
+        image_comes(client, source, source - 3 + client, 9, stream, join, "127.0.0.1:40000")
+    for (position in is_taken) delete is_taken[position]
+    for (position in frame_at) delete frame_at[position]
+    for (position in end_at) delete end_at[position]
+    for (word_heard in seen) delete seen[word_heard]
+    heard = contiguous = reader[1] = reader[2] = naks = reports = 0
     gap = reported = -1
     data(0)
     for (turn = 1; turn <= 9000; turn++) {
@@ -153,7 +162,7 @@ BEGIN {
         else if (kind < 19) told()
         else {
             position = place()
-            comes(beat_frame(position % 65536, 9, 10, 5 + int(position / 65536)))
+            comes(beat_frame(position % 65536, 9, stream, first + int(position / 65536)))
             want("beat")
             if (position > heard) heard = position
         }
@@ -163,4 +172,16 @@ BEGIN {
         contiguous < 200000 || naks < 100 || reports < 50) {
         want("the row of numbers is no good")
     }
+}
+BEGIN {
+    opens("allow"); closes()
+    for (client = 1; client <= 2; client++) {
+        say("attach 0 7")
+        want("attached " client)
+    }
+    state = 1
+    now = source = 0
+    stream = 9
+    image(0)
+    image(2147483648 - 11)
 }
