@@ -2,7 +2,8 @@
 # streams, time goes on, and one policy after another is put in force, of rules on any principal, act, channel and stream. All
 # that is granted, denied, opened and closed, what each client is told, and the decisions of every actor, are worked out here
 # from plain lists, and all pairs from the beginning after each event, in the words of docs/POLICY.md, STREAMS.md, IMAGES.md,
-# CLIENTS.md and AUDIT.md. A row of numbers decides what comes.
+# CLIENTS.md, AUDIT.md and VIEWS.md: a third of the steps of clients go by an older registry, which their line names. A row of
+# numbers decides what comes.
 function next_below(bound) {
     state = state * 16807 % 2147483647
     return state % bound
@@ -29,19 +30,19 @@ function covers(pattern, channel,    at, count, keys, of_channel, value) {
     }
     return 1
 }
-# The first rule that matches, or 0 for the default; what it says is in `is_allowed`.
+# The first rule of the policy `by` that matches, or 0 for the default; what it says is in `is_allowed`.
 function verdict(principal, act, channel, stream,    at) {
-    for (at = 1; at <= rules; at++) {
-        if (rule_principal[at] != "*" && rule_principal[at] != principal) continue
-        if (rule_act[at] != "*" && index(" " rule_act[at] " ", " " act " ") == 0) continue
-        if (stream < rule_low[at] || stream > rule_high[at] || !covers(rule_channel[at], channel)) continue
-        is_allowed = rule_allow[at]
+    for (at = 1; at <= rules[by]; at++) {
+        if (rule_principal[by, at] != "*" && rule_principal[by, at] != principal) continue
+        if (rule_act[by, at] != "*" && index(" " rule_act[by, at] " ", " " act " ") == 0) continue
+        if (stream < rule_low[by, at] || stream > rule_high[by, at] || !covers(rule_channel[by, at], channel)) continue
+        is_allowed = rule_allow[by, at]
         return at
     }
-    is_allowed = default_allow
+    is_allowed = default_allow[by]
     return 0
 }
-function text_of(at) { return (is_allowed ? "allowed by " : "denied by ") (at ? "rule " at : "default") " in policy " epoch }
+function text_of(at) { return (is_allowed ? "allowed by " : "denied by ") (at ? "rule " at : "default") " in policy " by }
 # Asks, and keeps the decision in the actor's audit.
 function asks(actor, principal, act, channel, stream,    told) {
     told = text_of(verdict(principal, act, channel, stream))
@@ -51,37 +52,38 @@ function asks(actor, principal, act, channel, stream,    told) {
     return told
 }
 function policy(    at, acts, names) {
-    rules = next_below(6)
-    default_allow = next_below(5) > 0
     epoch++
-    opens(default_allow ? "allow" : "deny")
-    for (at = 1; at <= rules; at++) {
-        rule_principal[at] = one_of("* 1 2 3")
-        rule_channel[at] = one_of("* * aeron:ipc aeron:udp aeron:udp?endpoint=127.0.0.1:40123 aeron:udp?endpoint=127.0.0.1:4012* " \
+    by = epoch
+    rules[by] = next_below(6)
+    default_allow[by] = next_below(5) > 0
+    opens(default_allow[by] ? "allow" : "deny")
+    for (at = 1; at <= rules[by]; at++) {
+        rule_principal[by, at] = one_of("* 1 2 3")
+        rule_channel[by, at] = one_of("* * aeron:ipc aeron:udp aeron:udp?endpoint=127.0.0.1:40123 aeron:udp?endpoint=127.0.0.1:4012* " \
             "aeron:ipc?session-id=1* aeron:udp?control-mode=manual")
         names = 1 + next_below(4)
-        rule_act[at] = ""
+        rule_act[by, at] = ""
         acts = ""
         for (; names > 0; names--)
-            rule_act[at] = rule_act[at] " " one_of("publish publish-exclusive subscribe spy offer image image receive list")
-        rule_act[at] = substr(rule_act[at], 2)
-        if (next_below(6) == 0) rule_act[at] = "*"
-        rule_low[at] = -2147483648
-        rule_high[at] = 2147483647
-        rule_allow[at] = default_allow ? next_below(3) == 0 : next_below(3) > 0
+            rule_act[by, at] = rule_act[by, at] " " one_of("publish publish-exclusive subscribe spy offer image image receive list")
+        rule_act[by, at] = substr(rule_act[by, at], 2)
+        if (next_below(6) == 0) rule_act[by, at] = "*"
+        rule_low[by, at] = -2147483648
+        rule_high[by, at] = 2147483647
+        rule_allow[by, at] = default_allow[by] ? next_below(3) == 0 : next_below(3) > 0
         say("[[rule]]")
         say("name = \"of a case\"")
-        say("principal = \"" (rule_principal[at] == "*" ? "*" : "p" rule_principal[at]) "\"")
-        acts = rule_act[at]
+        say("principal = \"" (rule_principal[by, at] == "*" ? "*" : "p" rule_principal[by, at]) "\"")
+        acts = rule_act[by, at]
         if (acts != "*") gsub(/ /, "\", \"", acts)
-        say("act = " (rule_act[at] == "*" ? "\"*\"" : "[\"" acts "\"]"))
-        say("channel = \"" rule_channel[at] "\"")
+        say("act = " (rule_act[by, at] == "*" ? "\"*\"" : "[\"" acts "\"]"))
+        say("channel = \"" rule_channel[by, at] "\"")
         if (next_below(3) == 0) {
-            rule_low[at] = 9 + next_below(3)
-            rule_high[at] = rule_low[at] + next_below(2)
-            say("stream = [" rule_low[at] ", " rule_high[at] "]")
+            rule_low[by, at] = 9 + next_below(3)
+            rule_high[by, at] = rule_low[by, at] + next_below(2)
+            say("stream = [" rule_low[by, at] ", " rule_high[by, at] "]")
         }
-        say("allow = " (rule_allow[at] ? "true" : "false"))
+        say("allow = " (rule_allow[by, at] ? "true" : "false"))
     }
     closes()
 }
@@ -172,6 +174,31 @@ function renew(by_policy,    at, other, source, subscription, allowed, pair) {
     }
     sources = compact(source_at, sources)
 }
+# An event was taken, whatever it was answered: what older looks find of the registry that it made.
+function enters(    at) {
+    newest++
+    policy_at[newest] = epoch
+    sources_at[newest] = ""
+    for (at = 1; at <= sources; at++) {
+        sources_at[newest] = sources_at[newest] " " source_at[at]
+        value_at[newest, source_at[at]] = is_image[source_at[at]] ? readers[source_at[at]] : registered[source_at[at]]
+    }
+    for (at = 1; at <= reads; at++) was_pair[newest, read_source[at], read_subscription[at]] = 1
+}
+# The registry by which a client's next step goes, and how its line names it: mostly the newest, which needs no name.
+function look_of(client,    number) {
+    number = newest
+    mark = ""
+    if (next_below(2)) {
+        if (next_below(3) == 0) number = view[client]
+        else number -= next_below(newest - view[client] + 1) % 40
+        mark = " @" number
+        if (number < newest) older++
+    }
+    view[client] = number
+    by = policy_at[number]
+    return number
+}
 function forget(number) {
     delete stream_of[number]
     delete is_image[number]
@@ -181,6 +208,7 @@ function forget(number) {
 function takes_back(registration,    source) {
     source = source_of[registration]
     delete source_of[registration]
+    gone_at[registration] = newest + 1
     registered[source]--
     if (registered[source] == 0) lingers[source] = now
 }
@@ -213,15 +241,17 @@ function publishes(client, act,    over, stream, told, at, source) {
     if (!source) {
         source = last
         channel_of[source] = over
-        stream_of[source] = stream
+        stream_of[source] = stream_ever[source] = stream
         session++
         session_of[source] = session
         is_exclusive[source] = act != "publish"
+        type_of[source] = 10001
         sources++
         source_at[sources] = source
     } else joined++
-    source_of[last] = source
+    source_of[last] = log_of[last] = source
     owner_of[last] = client
+    come_at[last] = newest + 1
     registered[source]++
     if (act == "publish") publication_ready(client, correlation, last, session_of[source], stream)
     else exclusive_ready(client, correlation, last, session_of[source], stream)
@@ -275,14 +305,16 @@ function unsubscribes(client, registration) {
 function leaves(client,    at, registration) {
     correlation++
     gives(now, client, command(11, client, correlation, ""))
-    if (!(client in is_here)) { error(client, correlation, 1004, "wrong client"); return }
+    if (!(client in is_here)) { error(client, correlation, 1004, "wrong client"); enters(); return }
     succeeded(client, correlation)
     for (registration = 1; registration <= last; registration++) {
         if (registration in source_of && owner_of[registration] == client) takes_back(registration)
         else if (registration in client_of && registration in stream_of && client_of[registration] == client) forget(registration)
     }
     delete is_here[client]
+    here_to[client] = newest + 1
     renew(0)
+    enters()
     attaches(principal_of[client])
 }
 function attaches(principal) {
@@ -291,6 +323,9 @@ function attaches(principal) {
     want("attached " clients)
     is_here[clients] = 1
     principal_of[clients] = principal
+    here_from[clients] = newest + 1
+    enters()
+    view[clients] = newest
     # The one that left goes on being tried now and then.
     handle[1 + next_below(4)] = clients
 }
@@ -304,9 +339,10 @@ function setup(    local, stream, remote, at, lowest, source) {
     say("packet " decimal(now) " 127.0.0.1:" local " 127.0.0.1:40000 " setup_frame(0, remote, stream, 5, 5, 65536, 1408))
     source = last + 1
     channel_of[source] = "aeron:udp?endpoint=127.0.0.1:" local
-    stream_of[source] = stream
+    stream_of[source] = stream_ever[source] = stream
     session_of[source] = remote
     is_image[source] = 1
+    type_of[source] = 10002
     lowest = 0
     for (at = 1; at <= sources; at++)
         if (is_image[source_at[at]] && channel_of[source_at[at]] == channel_of[source] && stream_of[source_at[at]] == stream && \
@@ -347,13 +383,21 @@ function reloads() {
 
 # ---- Steps of clients
 
-function offers(client, registration,    source, told, at, least) {
+# Whether a registration was there in a registry, and a client.
+function had(number, registration) {
+    return registration in log_of && come_at[registration] <= number && !(registration in gone_at && gone_at[registration] <= number)
+}
+function was_here(number, client) { return here_from[client] <= number && !(client in here_to && here_to[client] <= number) }
+
+function offers(client, registration,    number, source, told, at, least) {
     message = (message + 1) % 256
-    say("offer " decimal(now) " " client " " registration " " hex_of[message])
-    if (!(client in is_here) || !(registration in source_of) || owner_of[registration] != client) { want("offer -4"); return }
-    source = source_of[registration]
+    number = look_of(client)
+    say("offer " decimal(now) " " client " " registration " " hex_of[message] mark)
+    source = log_of[registration]
+    if (!had(number, registration) || owner_of[registration] != client || !(source in stream_of)) { want("offer -4"); return }
     told = asks(client, principal_of[client], "offer", channel_of[source], stream_of[source])
     if (!is_allowed) { want(told); return }
+    # Whoever reads the log reads it now.
     if (medium_of(channel_of[source]) == "udp" || !readers[source]) { want("offer -1"); return }
     least = tail[source] + 0
     for (at = 1; at <= reads; at++)
@@ -364,10 +408,14 @@ function offers(client, registration,    source, told, at, least) {
     tail[source] += 64
     want("offer " tail[source])
     taken++
+    if (number < newest) taken_by_older++
 }
-function polls(client, subscription, source, count,    told, rows, from) {
-    say("poll " decimal(now) " " client " " subscription " " source " " count)
-    if (!((source, subscription) in now_read) || client_of[subscription] != client) { want("gone"); return }
+function polls(client, subscription, source, count,    number, told, rows, from) {
+    number = look_of(client)
+    say("poll " decimal(now) " " client " " subscription " " source " " count mark)
+    # It was a pair, and the log has a position for it now.
+    if (!((number, source, subscription) in was_pair) || client_of[subscription] != client || \
+        !((source, subscription) in now_read)) { want("gone"); return }
     told = asks(client, principal_of[client], "receive", channel_of[subscription], stream_of[subscription])
     if (!is_allowed) { want(told); return }
     from = position_of_reader[source, subscription]
@@ -381,22 +429,24 @@ function polls(client, subscription, source, count,    told, rows, from) {
     }
     position_of_reader[source, subscription] = from
 }
-function looks(client,    at, source, told, rows, row) {
-    say("list " decimal(now) " " client)
-    if (!(client in is_here)) { want("wrong client"); return }
+function looks(client,    number, at, count, there, source, told, rows, row) {
+    number = look_of(client)
+    say("list " decimal(now) " " client mark)
+    if (!was_here(number, client)) { want("wrong client"); return }
     rows = 0
-    for (at = 1; at <= sources; at++) {
-        source = source_at[at]
-        told = text_of(verdict(principal_of[client], "list", channel_of[source], stream_of[source]))
+    count = split(substr(sources_at[number], 2), there, " ")
+    for (at = 1; at <= count; at++) {
+        source = there[at]
+        told = text_of(verdict(principal_of[client], "list", channel_of[source], stream_ever[source]))
         # What is shown is not audited.
         if (!is_allowed) {
             audits[client]++
-            audit[client, audits[client]] = "decision " principal_of[client] " list " stream_of[source] " " told
+            audit[client, audits[client]] = "decision " principal_of[client] " list " stream_ever[source] " " told
             hidden++
         } else {
             rows++
-            row[rows] = "counter " source " " (is_image[source] ? "10002 " readers[source] : "10001 " registered[source]) \
-                " " ascii(channel_of[source])
+            row[rows] = "counter " source " " type_of[source] " " \
+                value_at[number, source] + 0 " " ascii(channel_of[source])
         }
     }
     want("list " rows)
@@ -409,27 +459,42 @@ function shows(actor,    at, first) {
     for (at = first + 1; at <= audits[actor]; at++) want(audit[actor, at])
 }
 function some(count) { return count ? 1 + next_below(count) : 0 }
-function steps(    client, kind, at, tries) {
-    kind = next_below(40)
-    client = handle[1 + next_below(4)]
+# Whether what was drawn is an event, and not a step of a client.
+function events(kind, client,    at) {
     if (kind < 3) publishes(client, "publish")
     else if (kind < 5) publishes(client, "publish-exclusive")
     else if (kind < 12) subscribes(client)
     else if (kind < 14) unpublishes(client, some(last))
-    else if (kind == 14 && some(last)) { at = some(last); if (at in source_of) unpublishes(owner_of[at], at) }
-    else if (kind < 17) { if (subscriptions) { at = subscription_at[some(subscriptions)]; unsubscribes(next_below(4) ? client_of[at] : client, at) } }
-    else if (kind < 22) setup()
+    else if (kind == 14) {
+        at = some(last)
+        if (!(at in source_of)) return 0
+        unpublishes(owner_of[at], at)
+    } else if (kind < 17) {
+        if (!subscriptions) return 0
+        at = subscription_at[some(subscriptions)]
+        unsubscribes(next_below(4) ? client_of[at] : client, at)
+    } else if (kind < 22) setup()
     else if (kind < 24) reloads()
     else if (kind < 26) ticks()
-    else if (kind < 32) {
+    else return 0
+    return 1
+}
+function steps(    client, kind, at, tries) {
+    kind = next_below(40)
+    by = epoch
+    client = handle[1 + next_below(4)]
+    if (kind < 26) {
+        if (events(kind, client)) enters()
+    } else if (kind < 32) {
         # Mostly by a registration that is there, with a log that has a reader.
         at = some(last)
         for (tries = next_below(60); tries > 0 && !(at in source_of && readers[source_of[at]]); tries--) at = some(last)
         offers(at in source_of && next_below(8) ? owner_of[at] : client, at)
-    }
-    else if (kind < 38) {
-        if (reads && next_below(8)) { at = some(reads); polls(client_of[read_subscription[at]], read_subscription[at], read_source[at], next_below(4)) }
-        else polls(client, some(last), some(last), 3)
+    } else if (kind < 38) {
+        if (reads && next_below(8)) {
+            at = some(reads)
+            polls(client_of[read_subscription[at]], read_subscription[at], read_source[at], next_below(4))
+        } else polls(client, some(last), some(last), 3)
     } else if (kind == 38) looks(client)
     else if (next_below(4) == 0) leaves(client)
 }
@@ -440,16 +505,18 @@ BEGIN {
     say("set linger 3000")
     say("set image-liveness 5000")
     say("set client-liveness 9000000000000000000")
+    newest = 0
     policy()
+    policy_at[0] = epoch
     for (at = 1; at <= 4; at++) { attaches(one_of("1 2 3 3", at)); handle[at] = at }
-    for (turn = 1; turn <= 6000; turn++) {
+    for (turn = 1; turn <= 2000; turn++) {
         if (next_below(3) == 0) now += next_below(400)
         steps()
     }
     shows("conductor")
     for (client = 1; client <= clients; client++) shows(client)
     # Much of each kind was granted and denied, came and went.
-    if (came < 300 || taken_away < 50 || unread < 20 || joined < 20 || setups_denied < 10 || taken < 30 || polled < 20 || \
+    if (came < 300 || taken_away < 50 || unread < 20 || joined < 20 || setups_denied < 10 || taken < 30 || polled < 20 || older < 300 || taken_by_older < 10 || \
         hidden < 20 || denials["publish"] < 10 || denials["publish-exclusive"] < 10 || denials["subscribe"] < 10 || \
         denials["spy"] < 10 || denials["offer"] < 10 || denials["receive"] < 10) want("the row of numbers is no good")
 }
