@@ -215,14 +215,14 @@ function takes_back(registration,    source) {
 
 # ---- Commands
 
-function channel(    kind) {
+function some_channel(    kind) {
     kind = next_below(8)
     if (kind < 3) return ipc
     if (kind == 3) return manual
     return "aeron:udp?endpoint=127.0.0.1:4012" 3 + next_below(2)
 }
 function publishes(client, act,    over, stream, told, at, source) {
-    over = channel()
+    over = some_channel()
     stream = 10 + next_below(2)
     correlation++
     gives(now, client, act == "publish" ? add_publication(client, correlation, stream, over) \
@@ -258,7 +258,7 @@ function publishes(client, act,    over, stream, told, at, source) {
     renew(0)
 }
 function subscribes(client,    over, stream, act, told, stated) {
-    over = channel()
+    over = some_channel()
     act = next_below(3) && over != manual || over == ipc ? "subscribe" : "spy"
     stream = 10 + next_below(2)
     stated = next_below(6) ? 0 : 1 + next_below(session + 1)

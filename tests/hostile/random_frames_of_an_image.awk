@@ -77,8 +77,8 @@ function told(    missing) {
 # ---- What comes
 
 function comes(hex) { say("packet " decimal(now) " 127.0.0.1:40123 127.0.0.1:40000 " hex) }
-function flags() { return substr("c0c0c0c0c0804000e0", 1 + 2 * next_below(9), 2) }
-function payload(    count, bytes, letter) {
+function some_flags() { return substr("c0c0c0c0c0804000e0", 1 + 2 * next_below(9), 2) }
+function some_payload(    count, bytes, letter) {
     count = next_below(4) ? next_below(4) * 31 : next_below(1377)
     letter = hex_of[97 + next_below(2)]
     for (; count > 0; count--) bytes = bytes letter
@@ -107,8 +107,8 @@ function data(position,    left, offset, hex, stated) {
             hex = pad_frame(stated, offset, 9, stream, first + term)
             left = 0
         } else {
-            hex = data_frame(0, offset, 9, stream, first + term, payload())
-            hex = front(hex, 5) flags() behind(hex, 6)
+            hex = data_frame(0, offset, 9, stream, first + term, some_payload())
+            hex = front(hex, 5) some_flags() behind(hex, 6)
             stated = word(hex, 0)
         }
         whole = filled(whole) hex
