@@ -1,5 +1,5 @@
 /* To be preloaded into a program: it refuses the growth of memory whose number REFUSE_NTH gives, counted from 1, and no
- * other; 0 refuses none. When the program ends, the file that REFUSE_SEEN names is told how many growths there were.
+ * other; 0 refuses none. When the program ends, the number of growths is written to the file that REFUSE_SEEN names.
  * A growth is a call of malloc, calloc, realloc, aligned_alloc or posix_memalign of more than no bytes. */
 #define _GNU_SOURCE
 #include <dlfcn.h>

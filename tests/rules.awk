@@ -45,10 +45,10 @@ function text(words) { return little(length(words), 4) ascii(words) }
 function bytes_of(hex) { return length(hex) / 2 }
 function byte(hex, at) { return value_of[substr(hex, 2 * at + 1, 2)] }
 function front(hex, count) { return substr(hex, 1, 2 * count) }
-function behind(hex, count) { return substr(hex, 2 * count + 1) }
+function after(hex, count) { return substr(hex, 2 * count + 1) }
 
 # The bytes with another one at a place.
-function changed(hex, at, value) { return front(hex, at) hex_of[value] behind(hex, at + 1) }
+function changed(hex, at, value) { return front(hex, at) hex_of[value] after(hex, at + 1) }
 
 # The bytes as a script has them: `-` for none.
 function written(hex) { return hex == "" ? "-" : hex }
@@ -97,8 +97,12 @@ function add_exclusive_publication(client, correlation, stream, channel) {
 function add_subscription(client, correlation, stream, channel) {
     return command(4, client, correlation, little(0, 8) little(stream, 4) text(channel))
 }
-function remove_publication(client, correlation, registration) { return command(2, client, correlation, little(registration, 8)) }
-function remove_subscription(client, correlation, registration) { return command(5, client, correlation, little(registration, 8)) }
+function remove_publication(client, correlation, registration) {
+    return command(2, client, correlation, little(registration, 8))
+}
+function remove_subscription(client, correlation, registration) {
+    return command(5, client, correlation, little(registration, 8))
+}
 function add_destination(client, correlation, registration, channel) {
     return command(7, client, correlation, little(registration, 8) text(channel))
 }

@@ -8,7 +8,7 @@ BEGIN {
         gives(0, 1, add_subscription(1, subscription, 10, ipc))
         subscription_ready(1, subscription, subscription)
     }
-    # A log is heard from position 0 on by each subscription, which is told in their order.
+    # A log is heard from position 0 on by each subscription, in their order.
     for (log_number = 1; log_number <= 8; log_number++) {
         gives(0, 1, add_exclusive_publication(1, 600 + log_number, 10, ipc))
         exclusive_ready(1, 600 + log_number, 512 + log_number, log_number, 10)

@@ -63,7 +63,7 @@ function images(term_length,    place, subscription) {
     subscription_at[registration] = subscription
     take(registration, place, 3 * term_length / 4096)
 }
-# One of those that live goes: a publication lingers for no time, an image has no reader left, and nobody is told.
+# One of those that live goes: a publication lingers for no time, an image has no reader left, and nothing is reported.
 function goes(    number, gone) {
     number = 1 + next_below(lives)
     gone = live[number]

@@ -1,7 +1,7 @@
 # Each byte of ADD_SUBSCRIPTION of aeron:ipc changed to each other value, 11,475 commands. One that is granted is taken back at
 # once. What each is answered is said here in the words of docs/COMMANDS.md.
 function answer(hex, at, value,    correlation) {
-    correlation = behind(front(hex, 20), 12)
+    correlation = after(front(hex, 20), 12)
     # The type: of those that there are none has a layout that these bytes fit.
     if (at < 4) {
         if (word(hex, 0) in types) reply(1, "010f0000" correlation little(7, 4) text("malformed command"))

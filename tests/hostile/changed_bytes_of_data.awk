@@ -10,9 +10,9 @@ function answer(hex,    fault, position, payload) {
     position = position_of(5, word(hex, 20), word(hex, 8), 65536)
     if (position >= 32768 || word(hex, 8) + rounded(word(hex, 0)) > 65536) { want("data beyond"); return }
     want("data taken")
-    # Where it begins at the reader's position the reader gets it: with its flags, without what stands behind its end.
+    # Where it begins at the reader's position the reader gets it: with its flags, without what stands after its end.
     if (position > 0) return
-    payload = behind(front(hex, word(hex, 0)), 32)
+    payload = after(front(hex, word(hex, 0)), 32)
     polled = "fragment " rounded(word(hex, 0)) " " hex_of[byte(hex, 5)] " " written(payload)
 }
 function tries(hex) {

@@ -1,4 +1,4 @@
-# Two forged frames, one behind the other in time, in each way in which two ranges may lie to one another: the first at 0 to
+# Two forged frames, one after the other, in each way in which two ranges may lie to one another: the first at 0 to
 # 160 and the second too, each of four lengths, the second with other bytes than the first or with the same. What came first
 # stays, and a reader gets it and no part of the other; where they do not meet both stay. Each pair finds an image of its own.
 function tries(first, one, second, other,    meet) {
@@ -30,7 +30,7 @@ function tries(first, one, second, other,    meet) {
 function gets(frame) {
     reached += rounded(bytes_of(frame))
     count++
-    fragments[count] = "fragment " reached " c0 " behind(frame, 32)
+    fragments[count] = "fragment " reached " c0 " after(frame, 32)
 }
 function repeated(byte_hex, count,    bytes) {
     for (; count > 0; count--) bytes = bytes byte_hex

@@ -1,4 +1,4 @@
-# Every front of a command of each type, from no byte to all but the last, the whole with a byte behind it, and then the
+# Every front of a command of each type, from no byte to all but the last, the whole with one byte more, and then the
 # whole. A front is malformed, and answered with the correlation id once all eight of its bytes are there; before that with 0.
 # Each whole is granted, so its fronts would do something if they were read for it.
 function prefixes(client, hex,    count) {

@@ -34,7 +34,7 @@ BEGIN {
     prefixes(setup_frame(0, 9, 10, 5, 5, 65536, 1408))
     want("setup 3")
     image_comes(1, 3, 1, 9, 10, 0, "127.0.0.1:40000")
-    # Data, of one frame and of two with bytes behind the last one's end.
+    # Data, of one frame and of two with bytes after the end of the last.
     prefixes(data_frame(192, 0, 9, 10, 5, "616263"))
     want("data taken")
     hex = filled(data_frame(128, 64, 9, 10, 5, "6465")) filled(data_frame(64, 128, 9, 10, 5, "666768696a"))
@@ -43,16 +43,16 @@ BEGIN {
     # A pad is its header alone. It fills up to 512.
     prefixes(pad_frame(320, 192, 9, 10, 5))
     want("data taken")
-    # Data and a pad behind it.
+    # Data and then a pad.
     prefixes(filled(data_frame(192, 512, 9, 10, 5, "6b")) pad_frame(32, 576, 9, 10, 5))
     want("data repeat taken")
     # A heartbeat.
     prefixes(beat_frame(608, 9, 10, 5))
     want("beat")
-    # A status message, which opens the publication, and one with bytes behind it that its length counts.
+    # A status message, which opens the publication, and one with more bytes, which its length counts.
     prefixes(status_frame(0, 1, 20, 0, 0, 32768, 1))
     want("status 32768")
-    prefixes("28" behind(status_frame(0, 1, 20, 0, 0, 32768, 1), 1) "00000000")
+    prefixes("28" after(status_frame(0, 1, 20, 0, 0, 32768, 1), 1) "00000000")
     want("status 32768")
     # A NAK of what was sent.
     say("offer 0 1 2 78")

@@ -1,6 +1,6 @@
 # Four clients of three principals publish, subscribe, spy, take back, offer, poll and look, publishers elsewhere tell of
 # streams, time goes on, and one policy after another is put in force, of rules on any principal, act, channel and stream. All
-# that is granted, denied, opened and closed, what each client is told, and the decisions of every actor, are worked out here
+# that is granted, denied, opened and closed, what is reported to each client, and the decisions of every actor, are worked out here
 # from plain lists, and all pairs from the beginning after each event, in the words of docs/POLICY.md, STREAMS.md, IMAGES.md,
 # CLIENTS.md, AUDIT.md and VIEWS.md: a third of the steps of clients go by an older registry, which their line names. A row of
 # numbers decides what comes.
@@ -44,12 +44,12 @@ function verdict(principal, act, channel, stream,    at) {
 }
 function text_of(at) { return (is_allowed ? "allowed by " : "denied by ") (at ? "rule " at : "default") " in policy " by }
 # Asks, and keeps the decision in the actor's audit.
-function asks(actor, principal, act, channel, stream,    told) {
-    told = text_of(verdict(principal, act, channel, stream))
+function asks(actor, principal, act, channel, stream,    decision) {
+    decision = text_of(verdict(principal, act, channel, stream))
     audits[actor]++
-    audit[actor, audits[actor]] = "decision " principal " " act " " stream " " told
+    audit[actor, audits[actor]] = "decision " principal " " act " " stream " " decision
     if (!is_allowed) denials[act]++
-    return told
+    return decision
 }
 function policy(    at, acts, names) {
     epoch++
@@ -59,13 +59,14 @@ function policy(    at, acts, names) {
     opens(default_allow[by] ? "allow" : "deny")
     for (at = 1; at <= rules[by]; at++) {
         rule_principal[by, at] = one_of("* 1 2 3")
-        rule_channel[by, at] = one_of("* * aeron:ipc aeron:udp aeron:udp?endpoint=127.0.0.1:40123 aeron:udp?endpoint=127.0.0.1:4012* " \
-            "aeron:ipc?session-id=1* aeron:udp?control-mode=manual")
+        rule_channel[by, at] = one_of("* * aeron:ipc aeron:udp aeron:udp?endpoint=127.0.0.1:40123 " \
+            "aeron:udp?endpoint=127.0.0.1:4012* aeron:ipc?session-id=1* aeron:udp?control-mode=manual")
         names = 1 + next_below(4)
         rule_act[by, at] = ""
         acts = ""
         for (; names > 0; names--)
-            rule_act[by, at] = rule_act[by, at] " " one_of("publish publish-exclusive subscribe spy offer image image receive list")
+            rule_act[by, at] = rule_act[by, at] " " \
+                one_of("publish publish-exclusive subscribe spy offer image image receive list")
         rule_act[by, at] = substr(rule_act[by, at], 2)
         if (next_below(6) == 0) rule_act[by, at] = "*"
         rule_low[by, at] = -2147483648
@@ -121,7 +122,7 @@ function compact(list, count,    at, kept) {
     return kept
 }
 
-# ---- After each event: who reads what, from the lists alone, and what clients are told of it.
+# ---- After each event: who reads what, from the lists alone, and what is reported of it.
 function renew(by_policy,    at, other, source, subscription, allowed, pair) {
     sources = compact(source_at, sources)
     subscriptions = compact(subscription_at, subscriptions)
@@ -132,8 +133,9 @@ function renew(by_policy,    at, other, source, subscription, allowed, pair) {
     for (pair in now_read) delete now_read[pair]
     for (at = 1; at <= sources; at++)
         for (other = 1; other <= subscriptions; other++)
-            if (allowed[other] && fits(source_at[at], subscription_at[other])) now_read[source_at[at], subscription_at[other]] = 1
-    # Those that go. Nobody is told of a subscription that went.
+            if (allowed[other] && fits(source_at[at], subscription_at[other]))
+                now_read[source_at[at], subscription_at[other]] = 1
+    # Those that go. Of a subscription that went nothing is reported.
     for (at = 1; at <= reads; at++) {
         source = read_source[at]
         subscription = read_subscription[at]
@@ -221,15 +223,15 @@ function some_channel(    kind) {
     if (kind == 3) return manual
     return "aeron:udp?endpoint=127.0.0.1:4012" 3 + next_below(2)
 }
-function publishes(client, act,    over, stream, told, at, source) {
+function publishes(client, act,    over, stream, decision, at, source) {
     over = some_channel()
     stream = 10 + next_below(2)
     correlation++
     gives(now, client, act == "publish" ? add_publication(client, correlation, stream, over) \
         : add_exclusive_publication(client, correlation, stream, over))
     if (!(client in is_here)) { error(client, correlation, 1004, "wrong client"); return }
-    told = asks("conductor", principal_of[client], act, over, stream)
-    if (!is_allowed) { error(client, correlation, 1001, told); return }
+    decision = asks("conductor", principal_of[client], act, over, stream)
+    if (!is_allowed) { error(client, correlation, 1001, decision); return }
     source = 0
     if (act == "publish" && over != manual)
         for (at = 1; at <= sources && !source; at++)
@@ -257,7 +259,7 @@ function publishes(client, act,    over, stream, told, at, source) {
     else exclusive_ready(client, correlation, last, session_of[source], stream)
     renew(0)
 }
-function subscribes(client,    over, stream, act, told, stated) {
+function subscribes(client,    over, stream, act, decision, stated) {
     over = some_channel()
     act = next_below(3) && over != manual || over == ipc ? "subscribe" : "spy"
     stream = 10 + next_below(2)
@@ -266,8 +268,8 @@ function subscribes(client,    over, stream, act, told, stated) {
     correlation++
     gives(now, client, add_subscription(client, correlation, stream, (act == "spy" ? "aeron-spy:" : "") over))
     if (!(client in is_here)) { error(client, correlation, 1004, "wrong client"); return }
-    told = asks("conductor", principal_of[client], act, over, stream)
-    if (!is_allowed) { error(client, correlation, 1001, told); return }
+    decision = asks("conductor", principal_of[client], act, over, stream)
+    if (!is_allowed) { error(client, correlation, 1001, decision); return }
     last++
     channel_of[last] = over
     stream_of[last] = stream
@@ -283,7 +285,8 @@ function unpublishes(client, registration) {
     correlation++
     gives(now, client, remove_publication(client, correlation, registration))
     if (!(client in is_here)) error(client, correlation, 1004, "wrong client")
-    else if (!(registration in source_of) || owner_of[registration] != client) error(client, correlation, 3, "unknown publication")
+    else if (!(registration in source_of) || owner_of[registration] != client)
+        error(client, correlation, 3, "unknown publication")
     else {
         succeeded(client, correlation)
         takes_back(registration)
@@ -309,7 +312,8 @@ function leaves(client,    at, registration) {
     succeeded(client, correlation)
     for (registration = 1; registration <= last; registration++) {
         if (registration in source_of && owner_of[registration] == client) takes_back(registration)
-        else if (registration in client_of && registration in stream_of && client_of[registration] == client) forget(registration)
+        else if (registration in client_of && registration in stream_of && client_of[registration] == client)
+            forget(registration)
     }
     delete is_here[client]
     here_to[client] = newest + 1
@@ -345,8 +349,8 @@ function setup(    local, stream, remote, at, lowest, source) {
     type_of[source] = 10002
     lowest = 0
     for (at = 1; at <= sources; at++)
-        if (is_image[source_at[at]] && channel_of[source_at[at]] == channel_of[source] && stream_of[source_at[at]] == stream && \
-            session_of[source_at[at]] == remote) { want("dropped exists"); forget(source); return }
+        if (is_image[source_at[at]] && channel_of[source_at[at]] == channel_of[source] && \
+            stream_of[source_at[at]] == stream && session_of[source_at[at]] == remote) { want("dropped exists"); forget(source); return }
     for (at = 1; at <= subscriptions; at++) if (fits(source, subscription_at[at])) {
         if (!lowest) lowest = subscription_at[at]
         image_asked(subscription_at[at])
@@ -385,18 +389,19 @@ function reloads() {
 
 # Whether a registration was there in a registry, and a client.
 function had(number, registration) {
-    return registration in log_of && come_at[registration] <= number && !(registration in gone_at && gone_at[registration] <= number)
+    return registration in log_of && come_at[registration] <= number && \
+        !(registration in gone_at && gone_at[registration] <= number)
 }
 function was_here(number, client) { return here_from[client] <= number && !(client in here_to && here_to[client] <= number) }
 
-function offers(client, registration,    number, source, told, at, least) {
+function offers(client, registration,    number, source, decision, at, least) {
     message = (message + 1) % 256
     number = look_of(client)
     say("offer " decimal(now) " " client " " registration " " hex_of[message] mark)
     source = log_of[registration]
     if (!had(number, registration) || owner_of[registration] != client || !(source in stream_of)) { want("offer -4"); return }
-    told = asks(client, principal_of[client], "offer", channel_of[source], stream_of[source])
-    if (!is_allowed) { want(told); return }
+    decision = asks(client, principal_of[client], "offer", channel_of[source], stream_of[source])
+    if (!is_allowed) { want(decision); return }
     # Whoever reads the log reads it now.
     if (medium_of(channel_of[source]) == "udp" || !readers[source]) { want("offer -1"); return }
     least = tail[source] + 0
@@ -410,14 +415,14 @@ function offers(client, registration,    number, source, told, at, least) {
     taken++
     if (number < newest) taken_by_older++
 }
-function polls(client, subscription, source, count,    number, told, rows, from) {
+function polls(client, subscription, source, count,    number, decision, rows, from) {
     number = look_of(client)
     say("poll " decimal(now) " " client " " subscription " " source " " count mark)
     # It was a pair, and the log has a position for it now.
     if (!((number, source, subscription) in was_pair) || client_of[subscription] != client || \
         !((source, subscription) in now_read)) { want("gone"); return }
-    told = asks(client, principal_of[client], "receive", channel_of[subscription], stream_of[subscription])
-    if (!is_allowed) { want(told); return }
+    decision = asks(client, principal_of[client], "receive", channel_of[subscription], stream_of[subscription])
+    if (!is_allowed) { want(decision); return }
     from = position_of_reader[source, subscription]
     rows = (tail[source] - from) / 64
     if (rows > count) rows = count
@@ -429,7 +434,7 @@ function polls(client, subscription, source, count,    number, told, rows, from)
     }
     position_of_reader[source, subscription] = from
 }
-function looks(client,    number, at, count, there, source, told, rows, row) {
+function looks(client,    number, at, count, there, source, decision, rows, row) {
     number = look_of(client)
     say("list " decimal(now) " " client mark)
     if (!was_here(number, client)) { want("wrong client"); return }
@@ -437,11 +442,11 @@ function looks(client,    number, at, count, there, source, told, rows, row) {
     count = split(substr(sources_at[number], 2), there, " ")
     for (at = 1; at <= count; at++) {
         source = there[at]
-        told = text_of(verdict(principal_of[client], "list", channel_of[source], stream_ever[source]))
+        decision = text_of(verdict(principal_of[client], "list", channel_of[source], stream_ever[source]))
         # What is shown is not audited.
         if (!is_allowed) {
             audits[client]++
-            audit[client, audits[client]] = "decision " principal_of[client] " list " stream_ever[source] " " told
+            audit[client, audits[client]] = "decision " principal_of[client] " list " stream_ever[source] " " decision
             hidden++
         } else {
             rows++
@@ -516,7 +521,7 @@ BEGIN {
     shows("conductor")
     for (client = 1; client <= clients; client++) shows(client)
     # Much of each kind was granted and denied, came and went.
-    if (came < 300 || taken_away < 50 || unread < 20 || joined < 20 || setups_denied < 10 || taken < 30 || polled < 20 || older < 300 || taken_by_older < 10 || \
-        hidden < 20 || denials["publish"] < 10 || denials["publish-exclusive"] < 10 || denials["subscribe"] < 10 || \
+    if (came < 300 || taken_away < 50 || unread < 20 || joined < 20 || setups_denied < 10 || taken < 30 || polled < 20 || \
+        older < 300 || taken_by_older < 10 || hidden < 20 || denials["publish"] < 10 || denials["publish-exclusive"] < 10 || denials["subscribe"] < 10 || \
         denials["spy"] < 10 || denials["offer"] < 10 || denials["receive"] < 10) want("the row of numbers is no good")
 }

@@ -29,7 +29,7 @@ function word_for(position, hex, offset, stated,    at, reached) {
 }
 function is_pad(hex) { return type_at(hex, 0) == PAD }
 
-# A reader gets what stands in a row from where it is. Pads are passed, but for those behind the last fragment.
+# A reader gets what stands in a row from where it is. Pads are passed, but for those after the last fragment.
 function polls(number, count,    position, rows, row, hex, at) {
     position = reader[number]
     rows = 0
@@ -38,7 +38,7 @@ function polls(number, count,    position, rows, row, hex, at) {
         position = end_at[position]
         if (!is_pad(hex)) {
             rows++
-            row[rows] = "fragment " decimal(join + position) " " hex_of[byte(hex, 5)] " " written(behind(hex, 32))
+            row[rows] = "fragment " decimal(join + position) " " hex_of[byte(hex, 5)] " " written(after(hex, 32))
         }
     }
     reader[number] = position
@@ -48,7 +48,7 @@ function polls(number, count,    position, rows, row, hex, at) {
     given += rows
 }
 
-# ---- What the publisher is told
+# ---- What is reported to the publisher
 
 # Where the gap ends that begins at the contiguous position; there where there is none.
 function gap_end(    at, most) {
@@ -56,7 +56,7 @@ function gap_end(    at, most) {
     most = least(heard, base() + 32768)
     return most > contiguous ? most : contiguous
 }
-function told(    missing) {
+function reports_due(    missing) {
     say("image " decimal(now) " " source)
     missing = gap_end() - contiguous
     if (missing == 0) gap = -1
@@ -108,7 +108,7 @@ function data(position,    left, offset, hex, stated) {
             left = 0
         } else {
             hex = data_frame(0, offset, 9, stream, first + term, some_payload())
-            hex = front(hex, 5) some_flags() behind(hex, 6)
+            hex = front(hex, 5) some_flags() after(hex, 6)
             stated = word(hex, 0)
         }
         whole = filled(whole) hex
@@ -130,7 +130,7 @@ function arrives(    at, heard_as, words) {
     }
     want(words)
 }
-# An image that joins so many terms behind the initial one, whose id is 5.
+# An image that joins so many terms after the initial one, whose id is 5.
 function image(terms,    client, turn, kind, position, word_heard) {
     stream++
     for (client = 1; client <= 2; client++) {
@@ -159,7 +159,7 @@ function image(terms,    client, turn, kind, position, word_heard) {
         else if (kind < 11) arrives()
         else if (kind < 13) polls(1, next_below(8) ? 1 + next_below(9) : 0)
         else if (kind < 15) polls(2, next_below(40))
-        else if (kind < 19) told()
+        else if (kind < 19) reports_due()
         else {
             position = place()
             comes(beat_frame(position % 65536, 9, stream, first + int(position / 65536)))

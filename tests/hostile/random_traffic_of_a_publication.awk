@@ -48,7 +48,7 @@ function offers(count,    size, rest, left, at, piece, payload) {
         piece = least(left, 1376)
         left -= piece
         append(filled(data_frame((at == 0 ? 128 : 0) + (left == 0 ? 64 : 0), tail % 65536, 1, 20, term_of(tail), \
-            front(behind(payload, at), piece))), rounded(32 + piece))
+            front(after(payload, at), piece))), rounded(32 + piece))
         at += piece
     } while (left > 0)
     want("offer " decimal(tail))
@@ -117,7 +117,8 @@ function nak(from, missing,    cause, lingering, at, frame, datagram) {
     datagram = ""
     for (frame = 0; frame < frame_count; frame++) {
         if (!meet(from, from + missing, starts_at[frame], ends_at[frame])) continue
-        if (datagram != "" && (bytes_of(datagram wire[frame]) > 1408 || term_of(starts_at[frame]) != term_of(starts_at[frame - 1]))) {
+        if (datagram != "" && (bytes_of(datagram wire[frame]) > 1408 || \
+            term_of(starts_at[frame]) != term_of(starts_at[frame - 1]))) {
             want("sent 127.0.0.1:50001 " datagram)
             datagram = ""
         }
