@@ -5,8 +5,6 @@ pub mod Finding
 pub mod CodeLemmas
 pub mod AddPublicationLemmas
 pub mod AddSubscriptionLemmas
-mod AliveLemmas
-mod SeenLemmas
 pub mod RemovalLemmas
 pub mod AddCounterLemmas
 pub mod SetCounterLemmas

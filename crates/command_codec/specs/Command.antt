@@ -150,29 +150,3 @@ pub record IsCommand (c : Command) : Type 0 where
   pub client : c.client < 2 ^ 64
   pub correlation : c.correlation < 2 ^ 64
   pub body : AreFields c.body
-
--- ---- what is known at a look
-
--- the kind of a command, the client that it names, its correlation id, and the bytes behind its head
-abbrev pub head_of : List ℕ → Result (Kind × ℕ × ℕ × List ℕ) CommandFault
-head_of bytes = do
-  number ← number_at 4 bytes
-  kind ← kind_of number.0
-  client ← number_at 8 number.1
-  correlation ← number_at 8 client.1
-  Ok (kind, client.0, correlation.0, correlation.1)
-
--- whether a client says by this that it is there still
-abbrev pub is_alive : Body → Bool
-is_alive bodies.ClientKeepalive = true
-is_alive other = false
-
--- so for what was read behind a command's head
-abbrev pub is_alive_in : Result Body CommandFault → Bool
-is_alive_in (Ok body) = is_alive body
-is_alive_in (Err fault) = false
-
--- whether what was read is the command CLIENT_KEEPALIVE of that client
-abbrev pub is_keepalive : ℕ → Result Command CommandFault → Bool
-is_keepalive client (Ok command) = if command.client == client then is_alive command.body else false
-is_keepalive client (Err fault) = false

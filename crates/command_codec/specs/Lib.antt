@@ -9,7 +9,6 @@ pub mod SetCounter
 pub mod Destination
 pub mod TerminateDriver
 pub mod Command
-pub mod Seen
 pub mod ErrorReply
 pub mod AvailableImage
 pub mod PublicationReady

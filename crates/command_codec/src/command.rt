@@ -8,7 +8,6 @@ use crate::destination::Destination;
 use crate::fault::CommandFault;
 use crate::fields;
 use crate::removal::Removal;
-use crate::seen::{Seen, SeenCommand};
 use crate::set_counter::SetCounter;
 use crate::terminate_driver::TerminateDriver;
 use byte_strings::Bytes;
@@ -63,8 +62,7 @@ enum Kind {
 }
 
 impl Kind {
-    ghost use Rattle.command_codec.specs.Command.{fields_of, has_bytes, is_alive_in, kind_of};
-    ghost use Rattle.command_codec.specs.Seen.{Sees};
+    ghost use Rattle.command_codec.specs.Command.{fields_of, has_bytes, kind_of};
 
     #[tactic(auto, unfolding(crate::specs::Command::kind_of, crate::specs::Command::kind_number))]
     #[inline(always)]
@@ -86,53 +84,6 @@ impl Kind {
             0x0E => Ok(Kind::TerminateDriver),
             0x1001 => Ok(Kind::SetCounter),
             _ => Err(CommandFault::Unknown),
-        }
-    }
-
-    /// Whether these fields, behind a command's head, say that a client is there still.
-    #[tactic(auto, unfolding(crate::specs::Command::fields_of), using(crate::proofs::AliveLemmas::others_are_not))]
-    #[inline(always)]
-    fn is_alive(self, bytes: &[u8]) -> bool
-        ensures { result ≡ is_alive_in (fields_of self bytes.now) }
-    {
-        match self {
-            Kind::ClientKeepalive => bytes.is_empty(),
-            _ => false,
-        }
-    }
-
-    /// What these fields, behind a command's head, ask for, if that is seen where it lies.
-    #[tactic(auto, unfolding(crate::specs::Command::fields_of), using(crate::proofs::SeenLemmas::others_are_not))]
-    #[inline(always)]
-    fn seen(self, bytes: &[u8]) -> Option<Seen<'_>>
-        ensures { Sees result (fields_of self bytes.now) }
-    {
-        match self {
-            Kind::AddPublication => match AddPublication::seen(bytes) {
-                Ok((stream, channel)) => Some(Seen::AddPublication { stream, channel }),
-                Err(_) => None,
-            },
-            Kind::AddExclusivePublication => match AddPublication::seen(bytes) {
-                Ok((stream, channel)) => Some(Seen::AddExclusivePublication { stream, channel }),
-                Err(_) => None,
-            },
-            Kind::AddSubscription => match AddSubscription::seen(bytes) {
-                Ok((registration_correlation, stream, channel)) => Some(Seen::AddSubscription {
-                    registration_correlation,
-                    stream,
-                    channel,
-                }),
-                Err(_) => None,
-            },
-            Kind::RemovePublication => match Removal::read(bytes) {
-                Ok(fields) => Some(Seen::RemovePublication(fields)),
-                Err(_) => None,
-            },
-            Kind::RemoveSubscription => match Removal::read(bytes) {
-                Ok(fields) => Some(Seen::RemoveSubscription(fields)),
-                Err(_) => None,
-            },
-            _ => None,
         }
     }
 
@@ -237,21 +188,7 @@ impl Body {
 }
 
 impl Command {
-    ghost use Rattle.command_codec.specs.Command.{command_bytes, command_of, correlation_of, has_bytes, head_of, is_keepalive};
-    ghost use Rattle.command_codec.specs.Gives.{Equals};
-    ghost use Rattle.command_codec.specs.Seen.{SeesCommand};
-
-    /// The kind of the command that the bytes are, the client that it names, its correlation id, and the bytes behind its head.
-    #[inline(always)]
-    fn head_of(bytes: &[u8]) -> Result<(Kind, u64, u64, &[u8]), CommandFault>
-        ensures { Equals (λ head. (head.0, head.1, head.2, head.3.now)) result (head_of bytes.now) }
-    {
-        let (number, rest) = fields::u32_at(bytes)?;
-        let kind = Kind::from_number(number)?;
-        let (client, rest) = fields::u64_at(rest)?;
-        let (correlation, rest) = fields::u64_at(rest)?;
-        Ok((kind, client, correlation, rest))
-    }
+    ghost use Rattle.command_codec.specs.Command.{command_bytes, command_of, correlation_of, has_bytes};
 
     /// The command that the bytes are. Its type is looked at first, so a type that is not known is `Unknown` whatever
     /// follows it. Memory is taken for a text or a byte string, and only once all of the bytes are found sound.
@@ -298,37 +235,6 @@ impl Command {
             0
         } else {
             fields::u64_in(&bytes[12..])
-        }
-    }
-
-    /// Whether the bytes are the command CLIENT_KEEPALIVE of that client. They are looked at where they lie.
-    #[tactic(auto, unfolding(crate::specs::Command::command_of))]
-    #[inline(always)]
-    pub fn is_keepalive(bytes: &[u8], client: u64) -> bool
-        ensures { result ≡ is_keepalive client (command_of bytes.now) }
-    {
-        match Command::head_of(bytes) {
-            Ok((kind, named, _, rest)) => named == client && kind.is_alive(rest),
-            Err(_) => false,
-        }
-    }
-
-    /// The command that the bytes are, seen where they lie, if a publication or a subscription comes or goes by it. Where none
-    /// is seen, the bytes are another command, or none.
-    #[tactic(auto, unfolding(crate::specs::Command::command_of))]
-    pub fn seen(bytes: &[u8]) -> Option<SeenCommand<'_>>
-        ensures { SeesCommand result (command_of bytes.now) }
-    {
-        match Command::head_of(bytes) {
-            Ok((kind, client, correlation, rest)) => match kind.seen(rest) {
-                Some(body) => Some(SeenCommand {
-                    client,
-                    correlation,
-                    body,
-                }),
-                None => None,
-            },
-            Err(_) => None,
         }
     }
 

@@ -7,6 +7,7 @@ use Rattle.std.proofs.lemmas.List.Elements.{filter-append}
 use Rattle.std.proofs.lemmas.Slice.Eq.{bytes_eq-Decides}
 use Rattle.channel_uri.specs.declared.address.Address.{Address}
 use Rattle.channel_uri.specs.Address.{is_same}
+use Rattle.channel_uri.specs.Channel.{Shape}
 use Rattle.destinations.specs.declared.destination.Destination.{Destination}
 use Rattle.destinations.specs.declared.fault.DestinationFault.{DestinationFault}
 use Rattle.destinations.specs.declared.fault.DestinationFault.TheVariants.{Conflict, Full}
@@ -182,10 +183,10 @@ pub adds : (destinations : DestinationList) (source : ℕ) (address : Address) (
 unfolding adding
 adds destinations source address number e = adds_from _ _ destinations source address number refl refl e
 
-added_orderly : (destinations : DestinationList) (source number : ℕ) (address : Address) (principal : ℕ) → IsOrderly destinations →
-    adding destinations source address ≡ Ok number → IsOrderly (added destinations source address principal)
+added_orderly : (destinations : DestinationList) (source number : ℕ) (address : Address) (principal : ℕ) (channel : Shape) → IsOrderly destinations →
+    adding destinations source address ≡ Ok number → IsOrderly (added destinations source address principal channel)
 unfolding added
-added_orderly destinations source number address principal orderly answer =
+added_orderly destinations source number address principal channel orderly answer =
     let from = adds destinations source address number answer in
     more_orderly destinations.last destinations.rows _ orderly refl from.room from.missing
 

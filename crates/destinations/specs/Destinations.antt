@@ -4,6 +4,7 @@ use Rattle.std.specs.Prelude.{ℕ, ◌+◌, ◌==◌, Bool, not, ◌&&◌, nat_l
 use Rattle.std.specs.List.{list_any}
 use Rattle.channel_uri.specs.declared.address.Address.{Address}
 use Rattle.channel_uri.specs.Address.{is_same}
+use Rattle.channel_uri.specs.Channel.{Shape}
 use Rattle.destinations.specs.declared.destination.Destination.{Destination}
 use Rattle.destinations.specs.declared.fault.DestinationFault.{DestinationFault}
 use Rattle.destinations.specs.declared.fault.DestinationFault.TheVariants.{Conflict, Full}
@@ -46,11 +47,11 @@ adding destinations source address =
     else if has_room destinations source then Ok (destinations.last + 1)
     else Err Full
 
--- it is there under that number, named for that principal
-unfoldable pub added : DestinationList → ℕ → Address → ℕ → DestinationList
-added destinations source address principal = record {
+-- it is there under that number, named for that principal by that channel
+unfoldable pub added : DestinationList → ℕ → Address → ℕ → Shape → DestinationList
+added destinations source address principal channel = record {
   rows = destinations.rows
-      ++ record { number = destinations.last + 1; source = source; address = address; principal = principal } ∷ [];
+      ++ record { number = destinations.last + 1; source = source; address = address; principal = principal; channel = channel } ∷ [];
   last = destinations.last + 1;
 }
 

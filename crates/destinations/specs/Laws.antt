@@ -2,6 +2,7 @@
 use Rattle.std.specs.Prelude.{◌≡◌, ℕ, ◌<◌, ◌≤◌, ◌==◌, true, false, List, [], ◌∷◌, length, Ok}
 use Rattle.std.specs.List.{AllByRecursion, list_any}
 use Rattle.channel_uri.specs.declared.address.Address.{Address}
+use Rattle.channel_uri.specs.Channel.{Shape}
 use Rattle.destinations.specs.declared.destination.Destination.{Destination}
 use Rattle.destinations.specs.Destinations.{DestinationList, none, of, has, adding, added, without, without_sources, cleared}
 
@@ -28,8 +29,8 @@ IsOrderly destinations = AreOrderly destinations.last destinations.rows
 -- the table is orderly at first, and each call leaves an orderly one
 pub record StaysOrderly : Type 0 where
   pub none : IsOrderly none
-  pub added : (destinations : DestinationList) (source number : ℕ) (address : Address) (principal : ℕ) → IsOrderly destinations →
-      adding destinations source address ≡ Ok number → IsOrderly (added destinations source address principal)
+  pub added : (destinations : DestinationList) (source number : ℕ) (address : Address) (principal : ℕ) (channel : Shape) → IsOrderly destinations →
+      adding destinations source address ≡ Ok number → IsOrderly (added destinations source address principal channel)
   pub without : (destinations : DestinationList) (source : ℕ) (address : Address) → IsOrderly destinations →
       IsOrderly (without destinations source address)
   pub without_sources : (destinations : DestinationList) (sources : List ℕ) → IsOrderly destinations →

@@ -1,12 +1,11 @@
 ghost use Rattle.destinations.specs.Destinations.{has, is_at, is_of, is_of_others, is_other};
 ghost use Rattle.destinations.specs.declared.fault.DestinationFault.TheVariants.{Conflict};
 ghost use Rattle.std.specs.List.{list_any};
-ghost use Rattle.std.specs.Prelude.{◌≡◌, ◌↔◌, IfErr, IfOk, IsOk, OnErr, OnOk, filter, not, true};
+ghost use Rattle.std.specs.Prelude.{◌≡◌, ◌↔◌, IfErr, IfOk, IsOk, OnErr, OnOk, filter, length, not, true};
 
-use crate::destination::Destination;
+use crate::destination::{Destination, NewDestination};
 use crate::fault::DestinationFault;
-use arrayvec::ArrayVec;
-use channel_uri::Address;
+use channel_uri::{Address, Channel};
 use rows::{Rows, Test};
 use std::alloc::{AllocError, Global};
 use std::marker::Model;
@@ -110,17 +109,15 @@ impl Destinations {
         self.rows.as_slice()
     }
 
-    /// The destinations of a log, in the order in which they were named.
-    pub fn of(&self, source: u64) -> ArrayVec<Destination, 32>
-        ensures { result.items ≡ of self.now.rows source }
+    /// How many destinations the log has.
+    fn count(&self, source: u64) -> usize
+        ensures { result ≡ length (of self.now.rows source) }
     {
-        let mut found = ArrayVec::new();
-        for destination in self.rows.as_slice() {
-            if destination.source == source {
-                found.push(*destination);
-            }
-        }
-        found
+        self.rows
+            .as_slice()
+            .iter()
+            .filter(|destination| destination.source == source)
+            .count()
     }
 
     /// Whether the address is a destination of the log.
@@ -147,7 +144,7 @@ impl Destinations {
         if self.has(source, address) {
             return Err(DestinationFault::Conflict);
         }
-        if self.of(source).len() >= OF_A_LOG {
+        if self.count(source) >= OF_A_LOG {
             return Err(DestinationFault::Full);
         }
         if self.rows.len() >= DESTINATIONS || self.last == u64::MAX {
@@ -156,7 +153,7 @@ impl Destinations {
         Ok(self.last + 1)
     }
 
-    /// The address becomes a destination of the log, named for the principal. It is given the next number.
+    /// The address becomes a destination of the log, named for the principal by this channel. It is given the next number.
     ///
     /// # Errors
     /// Those of [`Destinations::adding`]; nothing is changed then.
@@ -166,18 +163,20 @@ impl Destinations {
         source: u64,
         address: &Address,
         principal: u32,
+        channel: &Channel,
     ) -> Result<u64, DestinationFault>
         ensures answer { result ≡ adding self.old source address.now }
-        ensures added { OnOk result (self.new ≡ added self.old source address.now principal) }
+        ensures added { OnOk result (self.new ≡ added self.old source address.now principal channel.now) }
         ensures err { OnErr result (self.new ≡ self.old) }
     {
         let number = self.adding(source, address)?;
         self.last = number;
-        self.rows.push(Destination {
+        self.rows.push_by(&NewDestination {
             number,
             source,
             address: *address,
             principal,
+            channel,
         });
         Ok(number)
     }

@@ -110,6 +110,7 @@ pub record Cases (P : Draft → Type 0) (s : State) (handle : ℕ) (bytes : List
       P (directed (heard s handle) request.client request.correlation (record {
         decision = destination_decision (heard s handle) request.client request.channel request.target;
         target = request.target;
+        channel = request.channel;
       }))
   pub destination_removal :
       (client : Client) (correlation : ℕ) (fields : Destination) (target : Target) → is_heard s handle bytes ≡ true →
@@ -275,7 +276,7 @@ taken_cases : (P : Draft → Type 0) (s : State) (handle : ℕ) (bytes : List �
     request.target.manual ≡ true → (found : Result ℕ DestinationFault) →
     naming (heard s handle).destinations request.target.source request.target.address ≡ found →
     P (directed_as (heard s handle) request.client request.correlation
-    (added_on (destination_decision (heard s handle) request.client request.channel request.target) request.target found))
+    (added_on (destination_decision (heard s handle) request.client request.channel request.target) request.target request.channel found))
 taken_cases P s handle bytes request cases known asks allows manual (Ok number) is =
     cases.destination request number known asks allows manual is
 taken_cases P s handle bytes request cases known asks allows manual (Err why) is =

@@ -1,4 +1,3 @@
-pub mod AliveLemmas
 pub mod AskedLemmas
 pub mod AskingLemmas
 pub mod AttachLemmas
@@ -25,7 +24,6 @@ pub mod SoundnessLemmas
 pub mod StayLemmas
 pub mod StillReadLemmas
 pub mod SubscribeLemmas
-pub mod TakingLemmas
 pub mod TargetLemmas
 pub mod TickLemmas
 pub mod UnreadLemmas

@@ -43,21 +43,21 @@ address_at spot = None
 unfoldable pub sole_address : Shape → Option Address
 sole_address channel = address_at (spot_of channel)
 
--- the address is named for that principal, where that can be
-abbrev pub directed_by : DestinationList → ℕ → Address → ℕ → Result ℕ DestinationFault → DestinationList
-directed_by destinations source address principal (Ok number) = added destinations source address principal
-directed_by destinations source address principal (Err why) = destinations
+-- the address is named for that principal by that channel, where that can be
+abbrev pub directed_by : DestinationList → ℕ → Address → ℕ → Shape → Result ℕ DestinationFault → DestinationList
+directed_by destinations source address principal channel (Ok number) = added destinations source address principal channel
+directed_by destinations source address principal channel (Err why) = destinations
 
-abbrev pub directed_to : DestinationList → ℕ → ℕ → Option Address → DestinationList
-directed_to destinations source principal None = destinations
-directed_to destinations source principal (Some address) =
-    directed_by destinations source address principal (adding destinations source address)
+abbrev pub directed_to : DestinationList → ℕ → ℕ → Shape → Option Address → DestinationList
+directed_to destinations source principal channel None = destinations
+directed_to destinations source principal channel (Some address) =
+    directed_by destinations source address principal channel (adding destinations source address)
 
--- behind a publication; one that joins a log names nothing
+-- after a publication, by its own channel; one that joins a log names nothing
 unfoldable pub with_sole : State → ℕ → Wanted → Adding → DestinationList
 with_sole s principal wanted (Join source session) = s.destinations
 with_sole s principal wanted (Make session) =
-    directed_to s.destinations (s.last_number + 1) principal (sole_address wanted.channel)
+    directed_to s.destinations (s.last_number + 1) principal wanted.channel (sole_address wanted.channel)
 
 abbrev pub is_taken : Result ℕ DestinationFault → Bool
 is_taken (Ok number) = true
@@ -116,9 +116,9 @@ abbrev pub refused_by_destinations : DestinationFault → Refusal
 refused_by_destinations fault.Conflict = Conflict
 refused_by_destinations fault.Full = Full
 
-abbrev pub added_on : Decision → Target → Result ℕ DestinationFault → Result Directed Refused
-added_on decision target (Ok number) = Ok (record { decision = decision; target = target })
-added_on decision target (Err why) = Err (on decision (refused_by_destinations why))
+abbrev pub added_on : Decision → Target → Shape → Result ℕ DestinationFault → Result Directed Refused
+added_on decision target channel (Ok number) = Ok (record { decision = decision; target = target; channel = channel })
+added_on decision target channel (Err why) = Err (on decision (refused_by_destinations why))
 
 -- denied, or in conflict, or full: destinations of other publications are not named by hand
 abbrev pub directing_by : State → Client → Shape → Result Target Refused → Result Directed Refused
@@ -127,7 +127,7 @@ directing_by s client channel (Ok target) =
     if not (destination_decision s client channel target).verdict.allow
     then Err (denied (destination_decision s client channel target))
     else if target.manual
-    then added_on (destination_decision s client channel target) target
+    then added_on (destination_decision s client channel target) target channel
     (adding s.destinations target.source target.address)
     else Err (on (destination_decision s client channel target) Conflict)
 
@@ -135,18 +135,18 @@ abbrev pub directing_on : State → Client → ℕ → Result Shape UriError →
 directing_on s client number (Err why) = Err (plainly InvalidChannel)
 directing_on s client number (Ok channel) = directing_by s client channel (target_of s client.number number channel)
 
--- what is decided on it: why it is refused, or on which decision which address comes to which log
+-- what is decided on it: why it is refused, or on which decision which address comes to which log, by which channel
 unfoldable pub directing_of : State → Client → Destination → Result Directed Refused
 directing_of s client fields = directing_on s client fields.registration (denotes fields.channel)
 
--- the address is there, named for the principal for whom the client acts
-unfoldable pub with_destination : State → Client → Target → State
-with_destination s client target =
-    record s { destinations = added s.destinations target.source target.address client.principal }
+-- the address is there, named by that channel for the principal for whom the client acts
+unfoldable pub with_destination : State → Client → Target → Shape → State
+with_destination s client target channel =
+    record s { destinations = added s.destinations target.source target.address client.principal channel }
 
 unfoldable pub directed : State → Client → ℕ → Directed → Draft
 directed s client correlation granted =
-    replied (with_destination s client granted.target) (granted.decision ∷ []) client.number (OperationSuccess correlation)
+    replied (with_destination s client granted.target granted.channel) (granted.decision ∷ []) client.number (OperationSuccess correlation)
 
 abbrev pub directed_as : State → Client → ℕ → Result Directed Refused → Draft
 directed_as s client correlation (Ok granted) = directed s client correlation granted

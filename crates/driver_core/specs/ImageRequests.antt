@@ -10,6 +10,18 @@ use Rattle.stream_registry.specs.declared.row.Source.{Source}
 use Rattle.stream_registry.specs.Images.{image_at}
 use Rattle.stream_registry.specs.Origins.{address_of}
 
+-- ---- by any sender
+
+abbrev pub number_in : Option Source → Option ℕ
+number_in None = None
+number_in (Some image) = Some image.number
+
+-- the source number of the image of that address, session and stream, whoever asks
+unfoldable pub image_named : State → Address → ℤ → ℤ → Option ℕ
+image_named s local session stream = number_in (image_at s.streams (endpoint_shape local) session stream)
+
+-- ---- by its publisher
+
 -- it is from the address at which its publisher is
 abbrev pub sent_to : Address → Source → Option Address → Result ℕ Astray
 sent_to from image None = Err Stranger

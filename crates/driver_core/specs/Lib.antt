@@ -10,7 +10,6 @@ pub mod Directing
 pub mod Draft
 pub mod Identity
 pub mod ImageRequests
-pub mod InPlace
 pub mod Kept
 pub mod Leaving
 pub mod LeftOut
@@ -33,7 +32,6 @@ pub mod Settings
 pub mod Soundness
 pub mod State
 pub mod Subscribing
-pub mod Taking
 pub mod Terminating
 pub mod Ticking
 pub mod Told

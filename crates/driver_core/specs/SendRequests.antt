@@ -1,7 +1,7 @@
 -- To whom the datagrams of a publication go, and whether they may. Own rules.
 use Rattle.std.specs.Prelude.{ℕ, Bool, ◌&&◌, List, [], map, Option, Some, None, if◌then◌else◌}
 use Rattle.std.specs.Option.{is_some}
-use Rattle.channel_uri.specs.Channel.{Shape, endpoint_shape}
+use Rattle.channel_uri.specs.Channel.{Shape}
 use Rattle.destinations.specs.declared.destination.Destination.{Destination}
 use Rattle.destinations.specs.Destinations.{of}
 use Rattle.driver_core.specs.declared.send_request.Outlet.{Outlet}
@@ -37,9 +37,10 @@ sending_of s source = lingers_by (source_at s.streams.sources source)
 
 -- ---- where its datagrams go
 
--- what the policy is asked about: an address that was named by hand, or else the log's own channel
+-- what the policy is asked about, with all its keys: the channel by which the destination was named by hand, or else the
+-- log's own
 abbrev pub outlet_channel : Source → Destination → Shape
-outlet_channel log destination = if is_manual log.channel then endpoint_shape destination.address else log.channel
+outlet_channel log destination = if is_manual log.channel then destination.channel else log.channel
 
 -- the principal is the destination's maker, the stream the log's
 abbrev pub outlet_of : State → Source → Destination → Outlet

@@ -35,10 +35,12 @@ pub(crate) struct Target {
 }
 
 /// On which decision an address comes to a log.
-#[derive(Clone, Copy)]
+#[derive(Drop)]
 pub(crate) struct Directed {
     pub(crate) decision: Decision,
     pub(crate) target: Target,
+    /// The channel that names the address.
+    pub(crate) channel: Channel,
 }
 
 /// The one destination of a publication on such a channel: its endpoint, where destinations are not named by hand.
@@ -115,12 +117,13 @@ impl Registry {
         }
     }
 
-    /// The endpoint of such a channel, where it has one, becomes a destination of that log, named for the principal.
+    /// The endpoint of such a channel, where it has one, becomes a destination of that log, named for the principal by that
+    /// channel.
     pub(crate) fn put_sole(&mut self, source: u64, principal: u32, channel: &Channel)
-        ensures { self.new ≡ record self.old { destinations = directed_to self.old.destinations source principal (sole_address channel.now) } }
+        ensures { self.new ≡ record self.old { destinations = directed_to self.old.destinations source principal channel.now (sole_address channel.now) } }
     {
         match sole_address(channel) {
-            Some(address) => match self.destinations.add(source, &address, principal) {
+            Some(address) => match self.destinations.add(source, &address, principal, channel) {
                 Ok(_) => {}
                 Err(_) => {}
             },
@@ -174,7 +177,11 @@ impl Registry {
             return Err(Refused::on(decision, Refusal::Conflict));
         }
         match self.destinations.adding(target.source, &target.address) {
-            Ok(_) => Ok(Directed { decision, target }),
+            Ok(_) => Ok(Directed {
+                decision,
+                target,
+                channel: channel.copy(),
+            }),
             Err(fault) => Err(Refused::on(decision, refused_by_destinations(fault))),
         }
     }
@@ -222,15 +229,15 @@ impl Registry {
         }
     }
 
-    /// The address comes to the log, named for the principal for whom the client acts.
+    /// The address comes to the log, named by that channel for the principal for whom the client acts.
     #[tactic(auto, unfolding(crate::specs::Directing::with_destination))]
-    fn put_destination(&mut self, client: Client, target: Target)
+    fn put_destination(&mut self, client: Client, target: Target, channel: &Channel)
         requires { is_taken (adding self.old.destinations target.source target.address) ≡ true }
-        ensures { self.new ≡ with_destination self.old client target }
+        ensures { self.new ≡ with_destination self.old client target channel.now }
     {
         match self
             .destinations
-            .add(target.source, &target.address, client.principal)
+            .add(target.source, &target.address, client.principal, channel)
         {
             Ok(_) => {}
             Err(_) => {}
@@ -249,7 +256,7 @@ impl Registry {
         ensures { (correlation : ℕ) → self.new ≡ (add_destination self.old client correlation fields.now).after }
     {
         match self.directing(client, fields, channel) {
-            Ok(directed) => self.put_destination(client, directed.target),
+            Ok(directed) => self.put_destination(client, directed.target, &directed.channel),
             Err(_) => {}
         }
     }

@@ -1,4 +1,4 @@
-ghost use Rattle.driver_core.specs.ImageRequests.{image_for};
+ghost use Rattle.driver_core.specs.ImageRequests.{image_for, image_named};
 ghost use Rattle.std.specs.Prelude.{◌≡◌};
 
 use crate::registry::Registry;
@@ -14,6 +14,17 @@ pub enum Astray {
 }
 
 impl Registry {
+    /// The source number of the image of that address, session and stream, whoever its publisher is. It takes no memory.
+    #[tactic(auto, unfolding(crate::specs::ImageRequests::image_named))]
+    pub fn image_named(&self, local: &Address, session: i32, stream: i32) -> Option<u64>
+        ensures { result ≡ image_named self.now local.now session stream }
+    {
+        match self.streams.image_to(local, session, stream) {
+            Some(image) => Some(image.number),
+            None => None,
+        }
+    }
+
     /// The source number of the image that a datagram is for which came to `local` from `from`, of that session and stream.
     /// It takes no memory.
     ///

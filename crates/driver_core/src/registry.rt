@@ -14,7 +14,7 @@ use log_readers::Readers;
 use policy_core::Policy;
 use std::alloc::{AllocError, Global};
 use std::marker::Model;
-use stream_registry::{Measures, Streams, Wanted};
+use stream_registry::{Measures, Streams};
 
 /// What the conductor knows: its settings, the policy in force, the clients, what they publish and subscribe to, where
 /// their publications are directed, and their counters.
@@ -36,8 +36,6 @@ pub struct Registry {
     pub(crate) stopped: bool,
     /// Whether it is known that each image has a pair, so that none is looked for that has none.
     pub(crate) all_read: bool,
-    /// Room in which the channel of a command is read, once there was one.
-    pub(crate) spare: Option<Box<Wanted>>,
 }
 
 impl Model for Registry {
@@ -109,7 +107,6 @@ impl Registry {
             last_number: 0,
             stopped: false,
             all_read: true,
-            spare: None,
         })
     }
 
@@ -140,7 +137,6 @@ impl Registry {
             last_number: self.last_number,
             stopped: self.stopped,
             all_read: self.all_read,
-            spare: None,
         })
     }
 

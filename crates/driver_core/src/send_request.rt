@@ -1,4 +1,3 @@
-ghost use Rattle.channel_uri.specs.Channel.{endpoint_shape};
 ghost use Rattle.driver_core.specs.PublicationRequests.{log_decision};
 ghost use Rattle.driver_core.specs.SendRequests.{outlet_of, outlets_by, sent_at};
 ghost use Rattle.policy_core.specs.declared.act.Act.TheVariants.{Send};
@@ -48,27 +47,17 @@ impl Registry {
         )
     }
 
-    /// That where the destination was named by hand: the channel of its address is asked. A channel is large, so that a log
-    /// which has an endpoint is asked for without one.
-    #[inline(never)]
-    fn decision_by_hand(&self, log: &Source, destination: &Destination) -> Decision
-        ensures { result ≡ log_decision self.now destination.now.principal Send destination.now.number (endpoint_shape destination.now.address) log.now.stream }
-    {
-        let channel = Channel::at_endpoint(&destination.address);
-        self.send_decision(log, destination, &channel)
-    }
-
-    /// Where a datagram of the log goes, and whether it may: of an address that was named by hand its channel is asked, else
-    /// the log's own. A decision by hand has a place of its own: told where the other is, that would have to be in memory too.
+    /// Where a datagram of the log goes, and whether it may: the policy is asked about the channel by which the destination was
+    /// named by hand, or else about the log's own.
     fn outlet(&self, log: &Source, destination: &Destination) -> Outlet
         ensures { result ≡ outlet_of self.now log.now destination.now }
     {
-        let decision = if is_manual(&log.channel) {
-            let decision = self.decision_by_hand(log, destination);
-            decision
+        let channel = if is_manual(&log.channel) {
+            &destination.channel
         } else {
-            self.send_decision(log, destination, &log.channel)
+            &log.channel
         };
+        let decision = self.send_decision(log, destination, channel);
         Outlet {
             to: destination.address,
             decision,

@@ -1,16 +1,10 @@
-ghost use Rattle.driver_core.specs.Commands.{at_asking};
-ghost use Rattle.driver_core.specs.Renewal.{outcome_by};
 ghost use Rattle.driver_core.specs.Told.{told_of};
 ghost use Rattle.driver_core.specs.Unpublishing.{remove_publication};
-ghost use Rattle.driver_core.specs.declared.event.Inputs.{Inputs as InputsSpec};
 ghost use Rattle.std.specs.Prelude.{◌≡◌, ℕ, IfOk};
 
-use crate::asking::Asking;
-use crate::outcome::Outcome;
 use crate::refusal::Refusal;
 use crate::refused::Refused;
 use crate::registry::Registry;
-use crate::renewal;
 use crate::replies::Reply;
 use crate::told::Told;
 use client_registry::Client;
@@ -38,19 +32,6 @@ impl Registry {
         }
         let reply = Reply::OperationSuccess { correlation };
         Told::replied(alloc, client.number, reply)
-    }
-
-    /// What it tells once the client was heard of, and does outside the registry.
-    pub(crate) fn outcome_of_remove_publication(
-        &self,
-        alloc: Global,
-        asking: Asking,
-        fields: Removal,
-    ) -> Result<Outcome, AllocError>
-        ensures { (inputs : InputsSpec) → IfOk result (λ outcome. outcome ≡ outcome_by self.now inputs (remove_publication (at_asking self.now asking) asking.client asking.correlation fields)) }
-    {
-        let told = self.tell_remove_publication(alloc, asking.client, asking.correlation, fields)?;
-        renewal::keep_pairs(alloc, told)
     }
 
     /// The command REMOVE_PUBLICATION of a client that is there.

@@ -163,7 +163,7 @@ module _ (s : State) (now handle : ℕ) (bytes : List ℕ) where
   taken_decides : (client : Client) (correlation : ℕ) (channel : Shape) (target : _) →
       AreOnRequest s event (destination_decision left client channel target ∷ []) → (found : Result ℕ DestinationFault) →
       Decides s event (directed_as left client correlation
-      (added_on (destination_decision left client channel target) target found))
+      (added_on (destination_decision left client channel target) target channel found))
   unfolding directed replied told
   taken_decides client correlation channel target one (Ok number) = one
   taken_decides client correlation channel target one (Err why) = refused_decides s event left _ _ _ _ one

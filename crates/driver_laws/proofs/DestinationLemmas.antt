@@ -86,7 +86,7 @@ refuses s request refusal = refused s (decision_on s request ∷ []) request.cli
 abbrev grants : State → DestinationRequest → Draft
 grants s request =
     directed s request.client request.correlation
-    (record { decision = decision_on s request; target = request.target })
+    (record { decision = decision_on s request; target = request.target; channel = request.channel })
 
 directing_denies : (s : State) (request : DestinationRequest) → (decision_on s request).verdict.allow ≡ false →
     directs s request ≡ refuses s request (Denied (decision_on s request).verdict)
@@ -100,7 +100,7 @@ table_decides : (s : State) (request : DestinationRequest) → (decision_on s re
     request.target.manual ≡ true →
     directs s request
     ≡ directed_as s request.client request.correlation
-    (added_on (decision_on s request) request.target
+    (added_on (decision_on s request) request.target request.channel
     (naming s.destinations request.target.source request.target.address))
 table_decides s request allows manual = rw (allows, manual) refl
 
@@ -139,7 +139,7 @@ directed_drops s now handle request read = as_before s _ read refl refl (directe
 taken_drops : (s : State) (now handle : ℕ) (request : DestinationRequest) → AreRead s → (found : Result ℕ DestinationFault) →
     DropsNothing s (
     directed_as (at_request s now handle) request.client request.correlation
-    (added_on (decision_on (at_request s now handle) request) request.target found))
+    (added_on (decision_on (at_request s now handle) request) request.target request.channel found))
 taken_drops s now handle request read (Ok number) = directed_drops s now handle request read
 taken_drops s now handle request read (Err why) = refused_drops s now handle _ request.client.number request.correlation _ read
 

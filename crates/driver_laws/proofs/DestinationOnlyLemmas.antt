@@ -33,6 +33,7 @@ use Rattle.driver_laws.specs.ImageLaws.{AreRead}
 use Rattle.driver_laws.specs.PublishingLaws.{IsAllowed as MayPublish, IsPublishedExactly, IsRegisteredBy}
 use Rattle.channel_uri.specs.declared.address.Address.{Address}
 use Rattle.channel_uri.specs.Address.{address_of}
+use Rattle.channel_uri.specs.Channel.{Shape}
 use Rattle.channel_uri.specs.Place.{Spot, AtIpc, AtManual, AtEndpoint, spot_of}
 use Rattle.destinations.specs.declared.destination.Destination.{Destination}
 use Rattle.destinations.specs.declared.fault.DestinationFault.{DestinationFault}
@@ -108,7 +109,7 @@ named_comes : (s : State) (now handle : ℕ) (bytes : List ℕ) (request : Desti
     AsksToDirect s handle bytes request → MayDirect s request → request.target.manual ≡ true →
     IsFree s.destinations request.target.source request.target.address →
     AllCome s (Command now handle bytes)
-    (named s.destinations request.target.source request.target.address request.client.principal).rows
+    (named s.destinations request.target.source request.target.address request.client.principal request.channel).rows
 unfolding named
 named_comes s now handle bytes request asks allows manual free destination has =
     ⊎_elim (λ before. inl before)
@@ -142,7 +143,7 @@ sole_comes : (s : State) (event : Event) (registration : Registration) (register
     (session : ℤ) (address : Address) (found : Result ℕ DestinationFault) → registered.adding ≡ Make session →
     IsEndpoint registered.request address →
     AllCome s event
-    (directed_by s.destinations (s.last_number + 1) address registered.request.client.principal found).rows
+    (directed_by s.destinations (s.last_number + 1) address registered.request.client.principal registered.request.channel found).rows
 unfolding named
 sole_comes s event registration registered session address (Ok number) makes endpoint destination has =
     ⊎_elim (λ before. inl before)
@@ -163,7 +164,7 @@ sole_comes_by : (s : State) (event : Event) (registration : Registration) (regis
     (session : ℤ) (address : Option Address) → registered.adding ≡ Make session →
     address_at (spot_of registered.request.channel) ≡ address →
     AllCome s event
-    (directed_to s.destinations (s.last_number + 1) registered.request.client.principal address).rows
+    (directed_to s.destinations (s.last_number + 1) registered.request.client.principal registered.request.channel address).rows
 sole_comes_by s event registration registered session None makes is = all_stay s event
 sole_comes_by s event registration registered session (Some address) makes is =
     sole_comes s event registration registered session address (naming s.destinations (s.last_number + 1) address) makes
@@ -270,18 +271,19 @@ destinations_come s event inputs = draft_comes s event inputs
 
 -- ---- a log that is made for an endpoint has its destination
 
-taken_names : (destinations : DestinationList) (source principal : ℕ) (address : Address) (found : Result ℕ DestinationFault) →
-    is_taken found ≡ true →
-    Contains (directed_by destinations source address principal found).rows
-    (record { number = destinations.last + 1; source = source; address = address; principal = principal })
+taken_names : (destinations : DestinationList) (source principal : ℕ) (address : Address) (channel : Shape)
+    (found : Result ℕ DestinationFault) → is_taken found ≡ true →
+    Contains (directed_by destinations source address principal channel found).rows
+    (record { number = destinations.last + 1; source = source; address = address; principal = principal; channel = channel })
 unfolding named
-taken_names destinations source principal address (Ok number) is = Contains-push destinations.rows _
-taken_names destinations source principal address (Err why) is = absurd (cc is)
+taken_names destinations source principal address channel (Ok number) is = Contains-push destinations.rows _
+taken_names destinations source principal address channel (Err why) is = absurd (cc is)
 
 sole_is_named : (s : State) (principal client : ℕ) (wanted : Wanted) (session : ℤ) (text : List ℕ) (address : Address) →
     spot_of wanted.channel ≡ Some (AtEndpoint text) → address_of text ≡ Some address →
     has_room_for_publication s client wanted (Make session) ≡ true →
-    Contains (with_sole s principal wanted (Make session)).rows (row_next s (s.last_number + 1) address principal)
+    Contains (with_sole s principal wanted (Make session)).rows
+    (row_next s (s.last_number + 1) address principal wanted.channel)
 unfolding with_sole sole_address has_room_for_sole
 sole_is_named s principal client wanted session text address is found room =
     let sole : address_at (spot_of wanted.channel) ≡ Some address = ap address_at is ∙ found in
@@ -291,16 +293,16 @@ sole_is_named s principal client wanted session text address is found room =
     subst (λ (a : Option Address). can_direct s.destinations (s.last_number + 1) a ≡ true) sole first.1 in
     subst
     (λ (a : Option Address).
-    Contains (directed_to s.destinations (s.last_number + 1) principal a).rows
-    (row_next s (s.last_number + 1) address principal))
+    Contains (directed_to s.destinations (s.last_number + 1) principal wanted.channel a).rows
+    (row_next s (s.last_number + 1) address principal wanted.channel))
     (sym sole)
-    (taken_names s.destinations (s.last_number + 1) principal address (naming s.destinations (s.last_number + 1) address) taken)
+    (taken_names s.destinations (s.last_number + 1) principal address wanted.channel (naming s.destinations (s.last_number + 1) address) taken)
 
 endpoint_is_named : (s : State) → AreRead s → (event : Event) (inputs : Inputs) (registration : Registration)
     (registered : IsRegisteredBy s event registration) (session : ℤ) (address : Address) →
     registered.adding ≡ Make session → IsEndpoint registered.request address →
     Contains (state_after s event inputs).destinations.rows
-    (row_next s (s.last_number + 1) address registered.request.client.principal)
+    (row_next s (s.last_number + 1) address registered.request.client.principal registered.request.channel)
 unfolding with_directed_publication
 endpoint_is_named s read event inputs registration registered session address makes endpoint =
     let now : ℕ = registered.moment in
@@ -321,7 +323,7 @@ endpoint_is_named s read event inputs registration registered session address ma
     subst (λ (a : Adding). has_room_for_publication s handle (wanted_by request) a ≡ true) makes registered.room in
     subst
     (λ (d : DestinationList).
-    Contains d.rows (row_next s (s.last_number + 1) address request.client.principal))
+    Contains d.rows (row_next s (s.last_number + 1) address request.client.principal request.channel))
     (sym named')
     (sole_is_named s request.client.principal handle (wanted_by request) session endpoint.text address endpoint.spot_is
     endpoint.address_is room)

@@ -34,6 +34,7 @@ use Rattle.driver_laws.specs.DestinationLaws.{AreOfLive, ComeAbove, Destinations
 use Rattle.driver_laws.specs.Events.{AfterAnyEvents}
 use Rattle.driver_laws.specs.OwnerLaws.{HasLog, HaveTheirLogs}
 use Rattle.channel_uri.specs.declared.address.Address.{Address}
+use Rattle.channel_uri.specs.Channel.{Shape}
 use Rattle.client_registry.specs.declared.client.Client.{Client}
 use Rattle.destinations.specs.declared.destination.Destination.{Destination}
 use Rattle.destinations.specs.declared.fault.DestinationFault.{DestinationFault}
@@ -214,11 +215,11 @@ all_gone destinations logs were = record {
 
 -- ---- what comes
 
-named_follows : (destinations : DestinationList) (logs : List Source) (source : ℕ) (address : Address) (principal number : ℕ) →
-    naming destinations source address ≡ Ok number → HasPublication logs source → AreOfLive destinations logs →
-    Follows destinations (named destinations source address principal) logs
+named_follows : (destinations : DestinationList) (logs : List Source) (source : ℕ) (address : Address) (principal : ℕ)
+    (channel : Shape) (number : ℕ) → naming destinations source address ≡ Ok number → HasPublication logs source →
+    AreOfLive destinations logs → Follows destinations (named destinations source address principal channel) logs
 unfolding named
-named_follows destinations logs source address principal number is has were =
+named_follows destinations logs source address principal channel number is has were =
     let rows : List Destination = destinations.rows in
     let last : ℕ = destinations.last in
     let row : Destination = record {
@@ -226,6 +227,7 @@ named_follows destinations logs source address principal number is has were =
       source = source;
       address = address;
       principal = principal;
+      channel = channel;
     } in
     let room = (adds destinations source address number is).places in
     record {
@@ -234,7 +236,7 @@ named_follows destinations logs source address principal number is has were =
             ⊎_elim (λ before. were.live destination before)
             (λ this. subst (λ (d : Destination). HasPublication logs d.source) this has)
             (Contains-push_cases rows row destination stands);
-        orderly = stays_orderly.added destinations source number address principal were.orderly is;
+        orderly = stays_orderly.added destinations source number address principal channel were.orderly is;
         all = let more = length-append rows (row ∷ []) in omega (arith, more, room);
       };
       above = record {
@@ -247,18 +249,19 @@ named_follows destinations logs source address principal number is has were =
     }
 
 tried_follows : (destinations : DestinationList) (logs : List Source) (source : ℕ) (address : Address) (principal : ℕ)
-    (found : Result ℕ DestinationFault) → naming destinations source address ≡ found → HasPublication logs source →
-    AreOfLive destinations logs → Follows destinations (directed_by destinations source address principal found) logs
-tried_follows destinations logs source address principal (Ok number) is has' were =
-    named_follows destinations logs source address principal number is has' were
-tried_follows destinations logs source address principal (Err why) is has' were = same destinations logs were
-
-sole_follows : (destinations : DestinationList) (logs : List Source) (source principal : ℕ) (address : Option Address) →
+    (channel : Shape) (found : Result ℕ DestinationFault) → naming destinations source address ≡ found →
     HasPublication logs source → AreOfLive destinations logs →
-    Follows destinations (directed_to destinations source principal address) logs
-sole_follows destinations logs source principal None has' were = same destinations logs were
-sole_follows destinations logs source principal (Some address) has' were =
-    tried_follows destinations logs source address principal (naming destinations source address) refl has' were
+    Follows destinations (directed_by destinations source address principal channel found) logs
+tried_follows destinations logs source address principal channel (Ok number) is has' were =
+    named_follows destinations logs source address principal channel number is has' were
+tried_follows destinations logs source address principal channel (Err why) is has' were = same destinations logs were
+
+sole_follows : (destinations : DestinationList) (logs : List Source) (source principal : ℕ) (channel : Shape)
+    (address : Option Address) → HasPublication logs source → AreOfLive destinations logs →
+    Follows destinations (directed_to destinations source principal channel address) logs
+sole_follows destinations logs source principal channel None has' were = same destinations logs were
+sole_follows destinations logs source principal channel (Some address) has' were =
+    tried_follows destinations logs source address principal channel (naming destinations source address) refl has' were
 
 -- ---- each event
 
@@ -274,7 +277,7 @@ publication_follows t client wanted place (Join source session) were = same t.de
 publication_follows t client wanted place (Make session) were =
     let log : Source = log_of t.streams (t.last_number + 1) wanted place session in
     let logs : List Source = t.streams.sources ++ log ∷ [] in
-    sole_follows t.destinations logs (t.last_number + 1) client.principal (sole_address wanted.channel)
+    sole_follows t.destinations logs (t.last_number + 1) client.principal wanted.channel (sole_address wanted.channel)
     (record { log = log; stands = Contains-push t.streams.sources log; source_is = refl; published = refl })
     (stays_named t.destinations t.streams.sources logs (more_stay t.streams.sources log) were)
 
@@ -322,7 +325,7 @@ command_follows s now handle bytes logged were =
       keepalive = λ was_heard. stay;
       destination = λ request number was_heard asks allows manual is.
           named_follows s.destinations s.streams.sources request.target.source request.target.address
-          request.client.principal number is
+          request.client.principal request.channel number is
           (target_published (at_moment s now) request logged asks.names_target) were;
       destination_removal = λ client correlation fields target was_heard asks is.
           recalled_follows s.destinations s.streams.sources target.source target.address were;

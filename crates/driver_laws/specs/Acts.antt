@@ -7,7 +7,7 @@ use Rattle.driver_core.specs.Requests.{Asks, AsksToDirect, AsksToPublish, AsksTo
 use Rattle.driver_core.specs.State.{State}
 use Rattle.channel_uri.specs.declared.address.Address.{Address}
 use Rattle.channel_uri.specs.declared.media.Media.TheVariants.{Counter as CounterMedia, Ipc}
-use Rattle.channel_uri.specs.Channel.{Shape, endpoint_shape}
+use Rattle.channel_uri.specs.Channel.{Shape}
 use Rattle.client_registry.specs.declared.client.Client.{Client}
 use Rattle.command_codec.specs.declared.add_counter.AddCounter.{AddCounter}
 use Rattle.command_codec.specs.declared.command.Body.TheVariants.{AddCounter as AddsCounter, TerminateDriver as Terminates}
@@ -60,9 +60,10 @@ counters_channel = record { spy = false; media = CounterMedia; keys = [] }
 abbrev pub drivers_channel : Shape
 drivers_channel = record { spy = false; media = Ipc; keys = [] }
 
--- where a publication's destinations are named by hand the channel is that of the address, and else the log's
+-- where a publication's destinations are named by hand the channel is the one that named it, and else the log's, with all
+-- its keys
 abbrev pub channel_sent : Source → Destination → Shape
-channel_sent log to = if is_manual log.channel then endpoint_shape to.address else log.channel
+channel_sent log to = if is_manual log.channel then to.channel else log.channel
 
 abbrev pub asked : Asking → Question
 asked (publication client exclusive channel stream) =

@@ -17,6 +17,7 @@ use Rattle.driver_laws.specs.GrantLaws.{IsRefusedOn, decided_on}
 use Rattle.driver_laws.specs.PublishingLaws.{IsRegisteredBy}
 use Rattle.channel_uri.specs.declared.address.Address.{Address}
 use Rattle.channel_uri.specs.Address.{address_of}
+use Rattle.channel_uri.specs.Channel.{Shape}
 use Rattle.channel_uri.specs.Place.{AtEndpoint, spot_of}
 use Rattle.destinations.specs.declared.destination.Destination.{Destination}
 use Rattle.destinations.specs.Destinations.{DestinationList, added, has, has_room}
@@ -33,13 +34,14 @@ use Rattle.stream_registry.specs.Origins.{is_published}
 abbrev pub IsAllowed : State → DestinationRequest → Type 0
 IsAllowed s request = (verdict_on s (destination_question request)).allow ≡ true
 
--- the address is there for the publication under the next number of the destinations, named for the principal for whom the
--- client acts, and the one reply is that it is so; all else stays but for the moments
+-- the address is there for the publication under the next number of the destinations, named by the channel of the command
+-- for the principal for whom the client acts, and the one reply is that it is so; all else stays but for the moments
 pub record IsDirected (s : State) (now handle : ℕ) (request : DestinationRequest) (change : Change) : Type 0 where
   pub after_is :
       change.after
       ≡ record (heard (at_moment s now) handle) {
-        destinations = added s.destinations request.target.source request.target.address request.client.principal;
+        destinations =
+            added s.destinations request.target.source request.target.address request.client.principal request.channel;
       }
   pub told :
       change.outcome.replies ≡ record { client = handle; reply = OperationSuccess request.correlation } ∷ []
@@ -114,16 +116,18 @@ DestinationsAreOfLivePublications = AfterAnyEvents AreLawful
 -- ---- granted only
 
 -- the row under the next number of destinations
-abbrev pub row_next : State → ℕ → Address → ℕ → Destination
-row_next s source address principal = record {
+abbrev pub row_next : State → ℕ → Address → ℕ → Shape → Destination
+row_next s source address principal channel = record {
   number = s.destinations.last + 1;
   source = source;
   address = address;
   principal = principal;
+  channel = channel;
 }
 
 -- The event is a request to direct a publication of the client's own there, which the policy in force allows, while its
--- destinations are named by hand, the address is new and there is room; the row is for the principal for whom that client acts.
+-- destinations are named by hand, the address is new and there is room; the row is for the principal for whom that
+-- client acts, with the channel of the command.
 pub record IsNamedBy (s : State) (event : Event) (destination : Destination) : Type 0 where
   pub moment : ℕ
   pub handle : ℕ
@@ -137,7 +141,8 @@ pub record IsNamedBy (s : State) (event : Event) (destination : Destination) : T
   pub new : has s.destinations.rows request.target.source request.target.address ≡ false
   pub room : has_room s.destinations request.target.source ≡ true
   pub made_is :
-      destination ≡ row_next s request.target.source request.target.address request.client.principal
+      destination
+      ≡ row_next s request.target.source request.target.address request.client.principal request.channel
 
 -- the channel names that one address
 pub record IsEndpoint (request : PublicationRequest) (address : Address) : Type 0 where
@@ -146,7 +151,8 @@ pub record IsEndpoint (request : PublicationRequest) (address : Address) : Type 
   pub address_is : address_of text ≡ Some address
 
 -- The event is a request for a publication that is granted, and makes a log for an endpoint: the row is the one destination of
--- that log, for the principal of the client that asks, who is the first to be registered with it.
+-- that log, for the principal of the client that asks, who is the first to be registered with it, with the channel of the
+-- publication.
 pub record IsSoleBy (s : State) (event : Event) (destination : Destination) : Type 0 where
   pub registration : Registration
   pub registered : IsRegisteredBy s event registration
@@ -154,7 +160,9 @@ pub record IsSoleBy (s : State) (event : Event) (destination : Destination) : Ty
   pub makes : registered.adding ≡ Make session
   pub address : Address
   pub endpoint : IsEndpoint registered.request address
-  pub made_is : destination ≡ row_next s (s.last_number + 1) address registered.request.client.principal
+  pub made_is :
+      destination
+      ≡ row_next s (s.last_number + 1) address registered.request.client.principal registered.request.channel
 
 -- a destination behind an event was there before it, or is named by it, or is the one of a log that it makes
 abbrev pub DestinationsAreGrantedOnly : Type 0
@@ -171,4 +179,4 @@ EndpointsAreSentTo =
     (event : Event) (inputs : Inputs) (registration : Registration) (registered : IsRegisteredBy s event registration)
     (session : ℤ) (address : Address) → registered.adding ≡ Make session → IsEndpoint registered.request address →
     Contains (state_after s event inputs).destinations.rows
-    (row_next s (s.last_number + 1) address registered.request.client.principal))
+    (row_next s (s.last_number + 1) address registered.request.client.principal registered.request.channel))

@@ -5,7 +5,7 @@ use Rattle.any_log.specs.Asking.{nak_reply, status_answer}
 use Rattle.channel_uri.specs.declared.address.Address.{Address}
 use Rattle.driver_core.specs.declared.image_request.Astray.{Astray}
 use Rattle.driver_core.specs.declared.log_request.LogRequest.{LogRequest}
-use Rattle.driver_core.specs.ImageRequests.{image_for}
+use Rattle.driver_core.specs.ImageRequests.{image_for, image_named}
 use Rattle.driver_core.specs.PublicationRequests.{publication_for, resending_of}
 use Rattle.driver_core.specs.State.{State}
 use Rattle.driver_steps.specs.declared.answer.Answer.{Answer}
@@ -22,7 +22,7 @@ use Rattle.driver_steps.specs.Memory.{is_listed, packet_takes}
 use Rattle.driver_steps.specs.Moves.{Move, MovesFirst, WholeLog}
 use Rattle.driver_steps.specs.Packets.{IsForRequest, IsOpenContent, IsSoundContent, LogsDecide, content_move, of_asked, of_image, of_told, on_request, packet_request, request_decided, request_seen}
 use Rattle.driver_steps.specs.Receiving.{beat_move, receive_move, unheard}
-use Rattle.driver_steps.specs.Seen.{ComesSeen, ComesSeenAs, Sees, image_seen, packet_seen, still_there, under}
+use Rattle.driver_steps.specs.Seen.{ComesSeen, ComesSeenAs, Sees, image_between, image_seen, is_same_image, packet_seen, under}
 use Rattle.driver_steps.specs.Standing.{Held, Match, Serves, ServesAs}
 use Rattle.driver_steps.proofs.DecidedLemmas.{decided_first}
 use Rattle.driver_steps.proofs.ImageLemmas.{are_for_first}
@@ -219,8 +219,9 @@ is_for_seen older s held local from (frames []) match sound = tt
 is_for_seen older s held local from (frames (frame ∷ later)) match sound =
     let place : TermPlace = frame.header.place in
     request_frames s held local from frame later
-    (still_there (image_for older local from place.session_id place.stream_id) (image_for s local from place.session_id place.stream_id)) match
-    (there_now (image_for older local from place.session_id place.stream_id) (image_for s local from place.session_id place.stream_id)) sound.0 sound.1
+    (image_between older s local from place) match
+    (there_now (is_same_image (image_named older local place.session_id place.stream_id) (image_named s local place.session_id place.stream_id))
+    (image_for older local from place.session_id place.stream_id) (image_for s local from place.session_id place.stream_id)) sound.0 sound.1
 is_for_seen older s held local from (beat header) match sound = image_any held.logs header _
 is_for_seen older s held local from (setup fields) match sound = tt
 is_for_seen older s held local from (nak fields) match sound = asked_any held.logs fields (resending_of older from fields.session_id fields.stream_id)

@@ -6,7 +6,7 @@ use Rattle.any_log.specs.Whole.{AnyWhole, whole, rebuilt, position_in}
 use Rattle.driver_core.specs.declared.log_request.LogRequest.{LogRequest}
 use Rattle.driver_core.specs.LogRequests.{offering_of, receiving_of}
 use Rattle.driver_core.specs.declared.image_request.Astray.{Astray}
-use Rattle.driver_core.specs.declared.image_request.Astray.TheVariants.{NoStream}
+use Rattle.driver_core.specs.declared.image_request.Astray.TheVariants.{NoStream, Stranger}
 use Rattle.driver_core.specs.State.{State}
 use Rattle.driver_steps.specs.declared.answer.Answer.{Answer}
 use Rattle.driver_steps.specs.declared.answer.Answer.TheVariants.{NoMemory, Offered as OfferedAs}
@@ -174,10 +174,12 @@ offer_seen older s old new now client registration message answer serves =
 
 -- ---- an image that is still there
 
-pub there_now : (older newest : Result ℕ Astray) (source : ℕ) → still_there older newest ≡ Ok source → newest ≡ Ok source
-there_now (Err why) newest source is = absurd (cc is)
-there_now (Ok one) (Err why) source is = absurd (cc is)
-there_now (Ok one) (Ok other) source is = by (one == other) refl is
+pub there_now : (there : Bool) (older newest : Result ℕ Astray) (source : ℕ) → still_there there older newest ≡ Ok source → newest ≡ Ok source
+there_now there (Err NoStream) newest source is = absurd (cc is)
+there_now true (Err Stranger) newest source is = absurd (cc is)
+there_now false (Err Stranger) newest source is = absurd (cc is)
+there_now there (Ok one) (Err why) source is = absurd (cc is)
+there_now there (Ok one) (Ok other) source is = by (one == other) refl is
   where
     by : (b : Bool) → (one == other) ≡ b → (let r : Result ℕ Astray = if b then Ok one else Err NoStream in r) ≡ Ok source →
         (let r : Result ℕ Astray = Ok other in r) ≡ Ok source

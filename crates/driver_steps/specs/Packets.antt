@@ -16,7 +16,7 @@ use Rattle.driver_steps.specs.Held.{HeldLog, HeldLogs, held_at}
 use Rattle.driver_steps.specs.Hearing.{nak_move, status_move}
 use Rattle.driver_steps.specs.Moves.{Move, WholeLog, answered, for_source}
 use Rattle.driver_steps.specs.Receiving.{beat_move, receive_move, unheard}
-use Rattle.driver_steps.specs.Seen.{still_there}
+use Rattle.driver_steps.specs.Seen.{image_between}
 use Rattle.driver_steps.specs.declared.answer.Answer.{Answer}
 use Rattle.frame_codec.specs.declared.header.TermPlace.{TermPlace}
 use Rattle.frame_codec.specs.Datagram.{Content, frames, beat, nak, status, setup}
@@ -52,10 +52,7 @@ packet_request s local from (status fields) = of_told (publication_for s fields.
 
 -- by an older registry: an image that the newest has no more has no log
 abbrev pub of_stream_seen : State → State → Address → Address → TermPlace → Result PacketRequest Astray
-of_stream_seen older newest local from place =
-    of_image
-    (still_there (image_for older local from place.session_id place.stream_id)
-    (image_for newest local from place.session_id place.stream_id))
+of_stream_seen older newest local from place = of_image (image_between older newest local from place)
 
 abbrev pub request_seen : State → State → Address → Address → Content → Result PacketRequest Astray
 request_seen older newest local from (frames (frame ∷ later)) = of_stream_seen older newest local from frame.header.place

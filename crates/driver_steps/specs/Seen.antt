@@ -1,10 +1,10 @@
 -- Steps that go by an older registry: what they leave of the logs as they stand now, and what they are answered. Own rules.
-use Rattle.std.specs.Prelude.{◌≡◌, ℕ, ◌==◌, false, List, [], ◌∷◌, Result, Ok, Err, if◌then◌else◌}
+use Rattle.std.specs.Prelude.{◌≡◌, ℕ, ◌==◌, Bool, false, List, [], ◌∷◌, Option, Some, None, Result, Ok, Err, if◌then◌else◌}
 use Rattle.channel_uri.specs.declared.address.Address.{Address}
 use Rattle.driver_core.specs.declared.event.Event.TheVariants.{Setup as SetUp}
 use Rattle.driver_core.specs.declared.image_request.Astray.{Astray}
-use Rattle.driver_core.specs.declared.image_request.Astray.TheVariants.{NoStream}
-use Rattle.driver_core.specs.ImageRequests.{image_for}
+use Rattle.driver_core.specs.declared.image_request.Astray.TheVariants.{NoStream, Stranger}
+use Rattle.driver_core.specs.ImageRequests.{image_for, image_named}
 use Rattle.driver_core.specs.Listing.{list, value}
 use Rattle.driver_core.specs.LogRequests.{offering_of}
 use Rattle.driver_core.specs.PublicationRequests.{publication_for, publisher_of, resending_of}
@@ -33,16 +33,30 @@ use Rattle.frame_codec.specs.Frame.{Sent}
 
 -- ---- a datagram
 
--- an image that is not there any more has no log
-abbrev pub still_there : Result ℕ Astray → Result ℕ Astray → Result ℕ Astray
-still_there (Err why) newest = Err why
-still_there (Ok source) (Err why) = Err NoStream
-still_there (Ok source) (Ok other) = if source == other then Ok source else Err NoStream
+-- whether the image that the older registry has there is the one that the newest has
+abbrev pub is_same_image : Option ℕ → Option ℕ → Bool
+is_same_image None newest = false
+is_same_image (Some image) None = false
+is_same_image (Some image) (Some other) = image == other
+
+-- an image that is not there any more has no log, whoever sends to it
+abbrev pub still_there : Bool → Result ℕ Astray → Result ℕ Astray → Result ℕ Astray
+still_there there (Err NoStream) newest = Err NoStream
+still_there there (Err Stranger) newest = if there then Err Stranger else Err NoStream
+still_there there (Ok source) (Err why) = Err NoStream
+still_there there (Ok source) (Ok other) = if source == other then Ok source else Err NoStream
+
+-- by the older registry and the newest: which image a datagram is for
+abbrev pub image_between : State → State → Address → Address → TermPlace → Result ℕ Astray
+image_between older newest local from place =
+    still_there
+    (is_same_image (image_named older local place.session_id place.stream_id)
+    (image_named newest local place.session_id place.stream_id))
+    (image_for older local from place.session_id place.stream_id)
+    (image_for newest local from place.session_id place.stream_id)
 
 abbrev pub image_seen : State → RunEnd → Address → Address → TermPlace → Result ℕ Astray
-image_seen older e local from place =
-    still_there (image_for older local from place.session_id place.stream_id)
-    (image_for e.registry local from place.session_id place.stream_id)
+image_seen older e local from place = image_between older e.registry local from place
 
 abbrev pub frames_seen : State → RunEnd → ℕ → Address → Address → List Sent → Moved
 frames_seen older e now local from [] = dropped e (IsAstray NoStream)

@@ -4,12 +4,14 @@
 //! handed on.
 
 ghost use Rattle.any_log.specs.Held.{made_held};
+ghost use Rattle.driver_core.specs.ImageRequests.{image_named};
 ghost use Rattle.driver_steps.specs.Decided.{Decides, decision_for};
 ghost use Rattle.driver_steps.specs.Held.{LiesAsBefore};
 ghost use Rattle.driver_steps.specs.Memory.{Gives};
 ghost use Rattle.driver_steps.specs.Moves.{Does};
 ghost use Rattle.driver_steps.specs.Packets.{IsFor, content_move, of_asked, of_image, of_stream, of_stream_seen, of_told, packet_move, packet_request, request_seen};
 ghost use Rattle.driver_steps.specs.Receiving.{unheard};
+ghost use Rattle.driver_steps.specs.Seen.{is_same_image};
 ghost use Rattle.frame_codec.specs.Datagram.{content, frames as data_frames};
 ghost use Rattle.frame_codec.specs.Frames.{frames_left};
 ghost use Rattle.std.specs.Prelude.{◌≡◌, IfOk, None, OnErr};
@@ -71,7 +73,21 @@ pub(crate) fn image_of(
     }
 }
 
-/// As [`of_stream`], of an image of the older registry that the newest still has: else its log is closed.
+/// Whether the image of that place that the older registry has is the one that the newest has.
+fn is_same_image(older: &Registry, newest: &Registry, local: &Address, place: TermPlace) -> bool
+    ensures { result ≡ is_same_image (image_named older.now local.now place.session_id place.stream_id) (image_named newest.now local.now place.session_id place.stream_id) }
+{
+    match (
+        older.image_named(local, place.session_id, place.stream_id),
+        newest.image_named(local, place.session_id, place.stream_id),
+    ) {
+        (Some(image), Some(other)) => image == other,
+        _ => false,
+    }
+}
+
+/// As [`of_stream`], of an image of the older registry that the newest still has: else its log is closed, and the datagram is
+/// of no stream, whoever sent it.
 fn of_stream_seen(
     older: &Registry,
     newest: &Registry,
@@ -81,7 +97,13 @@ fn of_stream_seen(
 ) -> Result<PacketRequest, Astray>
     ensures { result ≡ of_stream_seen older.now newest.now local.now from.now place }
 {
-    let source = older.image_for(local, from, place.session_id, place.stream_id)?;
+    let source = match older.image_for(local, from, place.session_id, place.stream_id) {
+        Ok(source) => source,
+        Err(Astray::Stranger) if is_same_image(older, newest, local, place) => {
+            return Err(Astray::Stranger);
+        }
+        Err(_) => return Err(Astray::NoStream),
+    };
     match newest.image_for(local, from, place.session_id, place.stream_id) {
         Ok(other) if other == source => Ok(PacketRequest {
             source,

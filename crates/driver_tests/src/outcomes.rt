@@ -106,26 +106,6 @@ fn has_pairs(alloc: Global, registry: &Registry, row: &Row) -> Result<bool, Allo
     Ok(registry.pairs(alloc)?.as_slice() == row.6)
 }
 
-/// How a command comes.
-#[derive(Clone, Copy)]
-enum Way {
-    /// As an event, which is planned first, and then taken by one step.
-    Event,
-    /// By its bytes where they lie.
-    Bytes,
-}
-
-fn bytes_are_told(
-    alloc: Global,
-    registry: &mut Registry,
-    bytes: &[u8],
-    inputs: &Inputs,
-    row: &Row,
-) -> Result<bool, AllocError> {
-    let outcome = registry.command(alloc, 0, 1, bytes, inputs)?;
-    Ok(tells(outcome, row))
-}
-
 fn step_is_told(
     alloc: Global,
     registry: &mut Registry,
@@ -199,18 +179,14 @@ fn event_is_told(
     told
 }
 
-/// Whether the row comes about that way.
+/// Whether the row comes about.
 fn comes_to(
     alloc: Global,
     registry: &mut Registry,
     inputs: &Inputs,
-    way: Way,
     row: &Row,
 ) -> Result<bool, AllocError> {
-    let told = match (way, row.0) {
-        (Way::Bytes, Deed::Command(bytes)) => bytes_are_told(alloc, registry, bytes, inputs, row)?,
-        _ => event_is_told(alloc, registry, inputs, row)?,
-    };
+    let told = event_is_told(alloc, registry, inputs, row)?;
     Ok(told & has_pairs(alloc, registry, row)?)
 }
 
@@ -218,11 +194,10 @@ fn all_come_to(
     alloc: Global,
     registry: &mut Registry,
     inputs: &Inputs,
-    way: Way,
     rows: &[Row],
 ) -> Result<bool, AllocError> {
     for row in rows {
-        if !comes_to(alloc, registry, inputs, way, row)? {
+        if !comes_to(alloc, registry, inputs, row)? {
             return Ok(false);
         }
     }
@@ -236,22 +211,17 @@ fn registry(alloc: Global) -> Result<Registry, AllocError> {
 }
 
 /// Whether the rows come about, one behind the other, where the logs tell this.
-fn come_beside(alloc: Global, inputs: &Inputs, way: Way, rows: &[Row]) -> Result<bool, AllocError> {
+fn come_beside(alloc: Global, inputs: &Inputs, rows: &[Row]) -> Result<bool, AllocError> {
     let mut registry = registry(alloc)?;
-    let come = all_come_to(alloc, &mut registry, inputs, way, rows);
+    let come = all_come_to(alloc, &mut registry, inputs, rows);
     drop(registry);
     come
 }
 
-/// Whether the rows come about that way, one behind the other, where there are no logs.
-fn come_to(alloc: Global, way: Way, rows: &[Row]) -> Result<bool, AllocError> {
+/// Whether the rows come about, one after the other, where there are no logs.
+fn come_to(alloc: Global, rows: &[Row]) -> Result<bool, AllocError> {
     let inputs = Inputs::none(alloc);
-    come_beside(alloc, &inputs, way, rows)
-}
-
-/// Whether the rows come about either way.
-fn come_both_ways(alloc: Global, rows: &[Row]) -> bool {
-    (come_to(alloc, Way::Event, rows) == Ok(true)) & (come_to(alloc, Way::Bytes, rows) == Ok(true))
+    come_beside(alloc, &inputs, rows)
 }
 
 /// What a client has goes again: its publication, which lingers and is read on, and then its subscription.
@@ -273,8 +243,8 @@ static REMOVALS: [Row; 5] = [
 
 #[test]
 fn ample_memory(rt: HostRuntime) {
-    let come = come_both_ways(rt.alloc(), &ROWS);
-    assert!(rt; come & come_both_ways(rt.alloc(), &REMOVALS));
+    let come = come_to(rt.alloc(), &ROWS) == Ok(true);
+    assert!(rt; come & (come_to(rt.alloc(), &REMOVALS) == Ok(true)));
 }
 
 /// What another log, another pair, another decision and another list of pairs would be, where the client subscribes.
@@ -294,10 +264,10 @@ static OTHERS: [[Row; 2]; 4] = [
     ],
 ];
 
-/// Whether none of these comes about that way. It is asked with ample memory.
-fn none_come_to(alloc: Global, way: Way, others: &[[Row; 2]]) -> bool {
+/// Whether none of these comes about. It is asked with ample memory.
+fn none_come_to(alloc: Global, others: &[[Row; 2]]) -> bool {
     for rows in others {
-        if come_to(alloc, way, rows) != Ok(false) {
+        if come_to(alloc, rows) != Ok(false) {
             return false;
         }
     }
@@ -306,6 +276,5 @@ fn none_come_to(alloc: Global, way: Way, others: &[[Row; 2]]) -> bool {
 
 #[test]
 fn other_rows_are_told(rt: HostRuntime) {
-    let by_events = none_come_to(rt.alloc(), Way::Event, &OTHERS);
-    assert!(rt; by_events & none_come_to(rt.alloc(), Way::Bytes, &OTHERS));
+    assert!(rt; none_come_to(rt.alloc(), &OTHERS));
 }

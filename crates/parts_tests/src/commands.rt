@@ -1,7 +1,7 @@
 use byte_strings::{Bytes, ShortBytes, ShortText, Text};
 use command_codec::{
     AddCounter, AddPublication, AddSubscription, Body, Command, CommandFault, Destination, Removal,
-    Seen, SetCounter, TerminateDriver,
+    SetCounter, TerminateDriver,
 };
 use std::alloc::{AllocError, Global};
 
@@ -337,64 +337,11 @@ fn is_copied(alloc: Global, command: &Command) -> bool {
     }
 }
 
-/// Whether a publication or a subscription comes or goes by what is asked for.
-fn comes_or_goes(body: &Body) -> bool {
-    matches!(
-        body,
-        Body::AddPublication(_)
-            | Body::AddExclusivePublication(_)
-            | Body::AddSubscription(_)
-            | Body::RemovePublication(_)
-            | Body::RemoveSubscription(_)
-    )
-}
-
-/// Whether this is seen where that is asked for.
-fn is_asked(seen: Seen<'_>, body: &Body) -> bool {
-    match (seen, body) {
-        (Seen::AddPublication { stream, channel }, Body::AddPublication(fields)) => {
-            stream == fields.stream && channel == fields.channel.as_str()
-        }
-        (
-            Seen::AddExclusivePublication { stream, channel },
-            Body::AddExclusivePublication(fields),
-        ) => stream == fields.stream && channel == fields.channel.as_str(),
-        (
-            Seen::AddSubscription {
-                registration_correlation,
-                stream,
-                channel,
-            },
-            Body::AddSubscription(fields),
-        ) => {
-            registration_correlation == fields.registration_correlation
-                && stream == fields.stream
-                && channel == fields.channel.as_str()
-        }
-        (Seen::RemovePublication(fields), Body::RemovePublication(others)) => fields == *others,
-        (Seen::RemoveSubscription(fields), Body::RemoveSubscription(others)) => fields == *others,
-        _ => false,
-    }
-}
-
-/// Whether the command is seen in the bytes, if a publication or a subscription comes or goes by it.
-fn is_seen(command: &Command, bytes: &[u8]) -> bool {
-    match Command::seen(bytes) {
-        Some(seen) => {
-            seen.client == command.client
-                && seen.correlation == command.correlation
-                && is_asked(seen.body, &command.body)
-        }
-        None => !comes_or_goes(&command.body),
-    }
-}
-
-/// Whether the command is written as the bytes, read from them, seen in them, copied, and named by its correlation id.
+/// Whether the command is written as the bytes, read from them, copied, and named by its correlation id.
 fn has_bytes(alloc: Global, command: Command, bytes: &[u8]) -> bool {
     let named = Command::correlation_of(bytes) == command.correlation;
     let same = is_written(alloc, &command, bytes)
         & is_read(alloc, &command, bytes)
-        & is_seen(&command, bytes)
         & is_copied(alloc, &command);
     drop(command);
     named & same

@@ -321,7 +321,7 @@ packet_mirror i start line some is s e now local from bytes (Err fault) reads fo
 packet_mirror i start line some is s e now local from bytes (Ok (frames [])) reads follows good mirrors = mirrors
 packet_mirror i start line some is s e now local from bytes (Ok (frames (frame ∷ later))) reads follows good mirrors =
     receive_mirror i start line is e now local from bytes frame later (image_seen s e local from frame.header.place) follows good reads
-    (λ source found. there_now _ _ source found) mirrors
+    (λ source found. there_now _ _ _ source found) mirrors
 packet_mirror i start line some is s e now local from bytes (Ok (beat header)) reads follows good mirrors =
     beat_mirror i line e now header.place (image_seen s e local from header.place) mirrors
 packet_mirror i start line some is s e now local from bytes (Ok (setup fields)) reads follows good mirrors =
