@@ -4,43 +4,28 @@
 
 ghost use Rattle.media_driver.specs.Parts.{AreNamed};
 
+mod machine;
 mod sharing;
 
+use crate::machine::Machine;
 use crate::sharing::{OPEN, policy, share};
 use driver_core::Settings;
 use media_driver::{Driver, DriverNaming, MachineClock, Parts};
-use media_wire::Udp;
+use media_wire::{Udp, Wire};
 use std::marker::Brand;
-use std::net::Net;
 use std::process::ExitCode;
-use std::sync::Wait;
-use std::thread::Threads;
-use std::time;
 
 /// How many addresses the driver may read at once, with the one from which it sends.
 const SOCKETS: usize = 513;
 
 /// Starts the driver, lets its clients talk, and stops it. How many messages were taken is answered.
-fn serve<
-    N: DriverNaming + Send + Sync + 'static,
-    R: Threads
-        + Wait
-        + Net
-        + Print
-        + AllocGlobal
-        + time::Clock
-        + Copy
-        + Drop
-        + Send
-        + Sync
-        + 'static,
->(rt: R, parts: Parts) -> Result<u64, &'static str>
+fn serve<N: DriverNaming + Send + Sync + 'static, R: Machine, W: Wire + Drop + Send + 'static>(
+    rt: R,
+    parts: Parts,
+    wire: W,
+) -> Result<u64, &'static str>
     requires { AreNamed N.home N.client_ledger N.client_parts N.slot_ledger N.slot_parts N.book parts }
 {
-    let Ok(wire) = Udp::new(rt.alloc(), rt, SOCKETS) else {
-        parts.end(&rt);
-        return Err("no memory");
-    };
     let started: Result<Driver<N, R, MachineClock<R>>, _> = Driver::start(
         rt,
         rt.alloc(),
@@ -59,28 +44,21 @@ fn serve<
 }
 
 /// Makes the parts of the driver under the first policy, and serves.
-fn run<
-    R: Threads
-        + Wait
-        + Net
-        + Print
-        + AllocGlobal
-        + time::Clock
-        + Copy
-        + Drop
-        + Send
-        + Sync
-        + 'static,
->(rt: R) -> Result<u64, &'static str> {
+fn run<R: Machine, W: Wire + Drop + Send + 'static>(rt: R, wire: W) -> Result<u64, &'static str> {
     let policy = policy(rt.alloc(), OPEN)?;
     match Parts::make(&rt, rt.alloc(), Settings::default(), policy, &[]) {
-        Ok(parts) => serve::<Brand, R>(rt, parts),
+        Ok(parts) => serve::<Brand, R, W>(rt, parts, wire),
         Err(_) => Err("no parts"),
     }
 }
 
+/// The wire is made here, where it is known whose sockets they are: it goes to threads.
 fn main(rt: HostRuntime) -> ExitCode {
-    match run(rt) {
+    let Ok(wire) = Udp::new(rt.alloc(), rt, SOCKETS) else {
+        let _ = eprintln!(rt; "embedded_driver: no memory");
+        return ExitCode::FAILURE;
+    };
+    match run(rt, wire) {
         Ok(messages) => {
             let _ = println!(rt; "messages: {messages}");
             ExitCode::SUCCESS

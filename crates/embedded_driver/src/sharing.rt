@@ -51,6 +51,75 @@ pub(crate) fn policy(alloc: Global, text: &str) -> Result<Policy, &'static str> 
     policy_text::read(alloc, text, &names).map_err(|_| "no policy")
 }
 
+/// A client attaches that acts for this principal, and joins the others.
+fn attach<
+    N: DriverNaming + Send + Sync + 'static,
+    R: Threads + Wait + Copy + Drop + Send + Sync + 'static,
+    C: Clock + Copy + Drop + Send + 'static,
+>(
+    driver: &mut Driver<N, R, C>,
+    principal: u32,
+    clients: &mut Vec<Client<N, C>>,
+) -> Result<(), &'static str> {
+    match driver.client(principal) {
+        Ok(client) => match clients.push(client) {
+            Ok(()) => Ok(()),
+            Err(_) => Err("no memory"),
+        },
+        Err(_) => Err("no client"),
+    }
+}
+
+/// The client asks to read the stream.
+fn subscribe<N: DriverNaming, C: Clock, R: Wait>(
+    rt: &R,
+    client: &mut Client<N, C>,
+) -> Result<(), &'static str> {
+    match client.add_subscription(rt, "aeron:ipc", 1001) {
+        Ok(_) => Ok(()),
+        Err(_) => Err("not asked"),
+    }
+}
+
+/// The client asks to publish it.
+fn publish<N: DriverNaming, C: Clock, R: Wait>(
+    rt: &R,
+    client: &mut Client<N, C>,
+) -> Result<(), &'static str> {
+    match client.add_publication(rt, "aeron:ipc", 1001) {
+        Ok(_) => Ok(()),
+        Err(_) => Err("not asked"),
+    }
+}
+
+/// The client offers a message.
+fn offer<N: DriverNaming, C: Clock, R: Wait>(
+    rt: &R,
+    client: &mut Client<N, C>,
+    publication: u64,
+    message: &[u8],
+) -> Result<(), &'static str> {
+    match client.offer(rt, publication, message) {
+        Ok(_) => Ok(()),
+        Err(_) => Err("not taken"),
+    }
+}
+
+/// The text is put in force, and the client goes by it from then on.
+fn reload<
+    N: DriverNaming + Send + Sync + 'static,
+    R: Threads + Wait + Copy + Drop + Send + Sync + 'static,
+    C: Clock + Copy + Drop + Send + 'static,
+>(driver: &mut Driver<N, R, C>, client: &mut Client<N, C>, text: &str) -> Result<(), &'static str> {
+    match driver.reload(text) {
+        Ok(receipt) => {
+            client.learn(&receipt);
+            Ok(())
+        }
+        Err(_) => Err("no reload"),
+    }
+}
+
 /// The registration that the next reply to the client gives.
 fn registration<N: DriverNaming, C: Clock>(client: &mut Client<N, C>) -> Result<u64, &'static str> {
     for _ in 0..TRIES {
@@ -92,7 +161,29 @@ fn polled<N: DriverNaming, C: Clock, R: Wait + Print>(
     }
 }
 
-/// Two owners share the driver. Their clients come back in the list.
+/// The gateway publishes a price, and the desk reads it. The driver's next policy denies it the same.
+fn talk<
+    N: DriverNaming + Send + Sync + 'static,
+    R: Threads + Wait + Print + Copy + Drop + Send + Sync + 'static,
+    C: Clock + Copy + Drop + Send + 'static,
+>(
+    rt: &R,
+    driver: &mut Driver<N, R, C>,
+    gateway: &mut Client<N, C>,
+    desk: &mut Client<N, C>,
+) -> Result<(), &'static str> {
+    subscribe(rt, desk)?;
+    let subscription = registration(desk)?;
+    publish(rt, gateway)?;
+    let publication = registration(gateway)?;
+    offer(rt, gateway, publication, b"bid 99")?;
+    polled(rt, desk, subscription, publication)?;
+
+    reload(driver, desk, SHUT)?;
+    polled(rt, desk, subscription, publication)
+}
+
+/// Two owners share the driver, each by a client. Both stand in the list, whatever comes of it.
 pub(crate) fn share<
     N: DriverNaming + Send + Sync + 'static,
     R: Threads + Wait + Print + Copy + Drop + Send + Sync + 'static,
@@ -102,25 +193,10 @@ pub(crate) fn share<
     driver: &mut Driver<N, R, C>,
     clients: &mut Vec<Client<N, C>>,
 ) -> Result<(), &'static str> {
-    let mut gateway = driver.client(1).map_err(|_| "no client")?;
-    let mut desk = driver.client(2).map_err(|_| "no client")?;
-    desk.add_subscription(rt, "aeron:ipc", 1001)
-        .map_err(|_| "not asked")?;
-    let subscription = registration(&mut desk)?;
-    gateway
-        .add_publication(rt, "aeron:ipc", 1001)
-        .map_err(|_| "not asked")?;
-    let publication = registration(&mut gateway)?;
-    gateway
-        .offer(rt, publication, b"bid 99")
-        .map_err(|_| "not taken")?;
-    polled(rt, &mut desk, subscription, publication)?;
-
-    let receipt = driver.reload(SHUT).map_err(|_| "no reload")?;
-    desk.learn(&receipt);
-    polled(rt, &mut desk, subscription, publication)?;
-
-    clients.push(gateway).map_err(|_| "no memory")?;
-    clients.push(desk).map_err(|_| "no memory")?;
-    Ok(())
+    attach(driver, 1, clients)?;
+    attach(driver, 2, clients)?;
+    match clients.as_mut_slice() {
+        [gateway, desk] => talk(rt, driver, gateway, desk),
+        _ => Err("no client"),
+    }
 }
