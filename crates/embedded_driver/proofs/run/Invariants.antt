@@ -1,12 +1,14 @@
 use Rattle.embedded_driver.proofs.run.Given as goal
 
 -- the parts that were just made
-abbrev pub ghosts-serve : goal.ghosts-serve
-ghosts-serve g a = record {
+abbrev pub ghosts-serve-N-DriverNaming : goal.ghosts-serve-N-DriverNaming
+ghosts-serve-N-DriverNaming g a = record { book = a.parts.book }
+
+abbrev pub ghosts-serve-N-Naming : goal.ghosts-serve-N-Naming
+ghosts-serve-N-Naming g a = record {
   home = a.parts.home;
   client_ledger = a.parts.client_ledger;
   client_parts = a.parts.client_parts;
   slot_ledger = a.parts.slot_ledger;
   slot_parts = a.parts.slot_parts;
-  book = a.parts.book;
 }
