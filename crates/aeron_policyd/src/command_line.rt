@@ -1,3 +1,4 @@
+use crate::running_line::{self, Start};
 use clap::{Arg, ArgMatches, Command, value_parser};
 use std::alloc::{AllocError, Global};
 
@@ -181,6 +182,8 @@ pub enum Task<'a> {
     Script {
         file: &'a str,
     },
+    /// To start a driver.
+    Start(Start<'a>),
 }
 
 /// The argument that names a policy's file.
@@ -260,7 +263,8 @@ pub(crate) fn command<'a>(alloc: Global) -> Result<Command<'a>, AllocError> {
         .subcommand_required(true);
     let command = with(command, check(alloc))?;
     let command = with(command, decide(alloc))?;
-    with(command, script(alloc))
+    let command = with(command, script(alloc))?;
+    with(command, running_line::run(alloc))
 }
 
 fn decide_task<'a>(of: &ArgMatches<'a>) -> Option<Task<'a>> {
@@ -287,5 +291,8 @@ pub(crate) fn task_in<'a>(matches: &ArgMatches<'a>) -> Option<Task<'a>> {
         let file = of.get_str("FILE")?;
         return Some(Task::Script { file });
     }
-    None
+    match running_line::start_in(name, of) {
+        Some(start) => Some(Task::Start(start)),
+        None => None,
+    }
 }

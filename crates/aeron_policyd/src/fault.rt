@@ -1,4 +1,5 @@
 use driver_script::RunFault;
+use media_driver::{MakeFault, PushFault, StartFault};
 use policy_query::DecideFault;
 use policy_text::PolicyFault;
 use std::alloc::AllocError;
@@ -15,6 +16,14 @@ pub enum Fault {
     Policy(PolicyFault),
     #[error("{0}")]
     Decide(DecideFault),
+    #[error("{0}")]
+    Make(MakeFault),
+    #[error("{0}")]
+    Start(StartFault),
+    #[error("no client")]
+    NoClient,
+    #[error("queue full")]
+    QueueFull,
 }
 
 impl Fault {
@@ -38,6 +47,27 @@ impl From<PolicyFault> for Fault {
 impl From<DecideFault> for Fault {
     fn from(fault: DecideFault) -> Fault {
         Fault::Decide(fault)
+    }
+}
+
+impl From<MakeFault> for Fault {
+    fn from(fault: MakeFault) -> Fault {
+        Fault::Make(fault)
+    }
+}
+
+impl From<StartFault> for Fault {
+    fn from(fault: StartFault) -> Fault {
+        Fault::Start(fault)
+    }
+}
+
+impl From<PushFault> for Fault {
+    fn from(fault: PushFault) -> Fault {
+        match fault {
+            PushFault::QueueFull => Fault::QueueFull,
+            PushFault::NoMemory => Fault::NO_MEMORY,
+        }
     }
 }
 

@@ -6,23 +6,33 @@
 
 mod command_line;
 mod fault;
+mod machine;
+mod one_client;
+mod replies;
+mod running;
+mod running_line;
 
 use crate::command_line::{Task, command, task_in};
 use crate::fault::Fault;
+use crate::machine::Machine;
+use crate::one_client::{Work, with_client};
+use crate::running_line::Start;
 use clap::ArgMatches;
 use clap::error::ErrorKind;
+use driver_core::Settings;
 use driver_script::script::Ended;
 use driver_script::{MayFail, read_input, script};
+use policy_core::Policy;
 use policy_query::{check, decide};
 use std::process::ExitCode;
-use std::rt::{Env, Files};
+use std::rt::Files;
 use std::{env, fs, io};
 
 /// The status of a command line that is at fault.
 const USAGE: u8 = 2;
 
 /// The words of the command line; `None` where one is not UTF-8.
-fn words<R: Env + AllocGlobal>(rt: &R) -> Result<Option<Vec<String>>, Fault> {
+fn words<R: Machine>(rt: &R) -> Result<Option<Vec<String>>, Fault> {
     match env::args(rt) {
         Ok(words) => Ok(Some(words.collect(rt.alloc())?)),
         Err(error) if error.kind() == io::ErrorKind::OutOfMemory => Err(Fault::NO_MEMORY),
@@ -106,8 +116,36 @@ fn run_script<R: Files + Print + AllocGlobal>(rt: &R, path: &str) -> Result<Exit
     })
 }
 
+/// The policy in a file.
+fn parsed_policy<R: Machine>(rt: &R, path: &str) -> Result<Policy, Fault> {
+    let bytes = policy_in(rt, path)?;
+    let names = policy_query::principals(rt.alloc())?;
+    Ok(policy_query::policy_in(rt.alloc(), bytes.as_slice(), &names)?)
+}
+
+/// Tries a driver with one client that sends itself a message.
+fn run<R: Machine>(rt: &R, path: &str, tries: u64) -> Result<ExitCode, Fault> {
+    let policy = parsed_policy(rt, path)?;
+    with_client(
+        *rt,
+        Settings::default(),
+        policy,
+        &[],
+        1,
+        Work::TryOut { tries },
+    )?;
+    print_line(rt, "stopped")
+}
+
+/// Starts a driver.
+fn start<R: Machine>(rt: &R, start: Start<'_>) -> Result<ExitCode, Fault> {
+    match start {
+        Start::Run { policy, tries } => run(rt, policy, tries),
+    }
+}
+
 /// Does a task.
-fn perform<R: Files + Print + AllocGlobal>(rt: &R, task: Task<'_>) -> Result<ExitCode, Fault> {
+fn perform<R: Machine>(rt: &R, task: Task<'_>) -> Result<ExitCode, Fault> {
     match task {
         Task::Check { policy } => print_line(rt, checked_in(rt, policy)?.as_str()),
         Task::Decide {
@@ -121,14 +159,12 @@ fn perform<R: Files + Print + AllocGlobal>(rt: &R, task: Task<'_>) -> Result<Exi
             verdict_in(rt, policy, principal, act, channel, stream)?.as_str(),
         ),
         Task::Script { file } => run_script(rt, file),
+        Task::Start(asked) => start(rt, asked),
     }
 }
 
 /// Does what the words of the command line were found to say.
-fn obey<R: Files + Print + AllocGlobal>(
-    rt: &R,
-    matches: &ArgMatches<'_>,
-) -> Result<ExitCode, Fault> {
+fn obey<R: Machine>(rt: &R, matches: &ArgMatches<'_>) -> Result<ExitCode, Fault> {
     match task_in(matches) {
         Some(task) => perform(rt, task),
         None => Ok(ExitCode::from(USAGE)),
@@ -136,10 +172,7 @@ fn obey<R: Files + Print + AllocGlobal>(
 }
 
 /// Does what the words of the command line say.
-fn answer<R: Files + Print + Eprint + AllocGlobal>(
-    rt: &R,
-    words: &[String],
-) -> Result<ExitCode, Fault> {
+fn answer<R: Machine>(rt: &R, words: &[String]) -> Result<ExitCode, Fault> {
     match command(rt.alloc())?.try_get_matches_from(words) {
         Ok(matches) => obey(rt, &matches),
         Err(error) => explain(rt, &error),
@@ -147,7 +180,7 @@ fn answer<R: Files + Print + Eprint + AllocGlobal>(
 }
 
 /// Does what the command line says.
-fn serve<R: Env + Files + Print + Eprint + AllocGlobal>(rt: &R) -> Result<ExitCode, Fault> {
+fn serve<R: Machine>(rt: &R) -> Result<ExitCode, Fault> {
     let Some(words) = words(rt)? else {
         let _ = rt.eprintln("error: invalid UTF-8 was detected in one or more arguments");
         return Ok(ExitCode::from(USAGE));
