@@ -264,10 +264,12 @@ pub(crate) fn command<'a>(alloc: Global) -> Result<Command<'a>, AllocError> {
     let command = with(command, check(alloc))?;
     let command = with(command, decide(alloc))?;
     let command = with(command, script(alloc))?;
-    with(command, running_line::run(alloc))
+    let command = with(command, running_line::run(alloc))?;
+    let command = with(command, running_line::publish(alloc))?;
+    with(command, running_line::subscribe(alloc))
 }
 
-fn decide_task<'a>(of: &ArgMatches<'a>) -> Option<Task<'a>> {
+fn decide_task<'m, 'a>(of: &'m ArgMatches<'a>) -> Option<Task<'m>> {
     Some(Task::Decide {
         policy: of.get_str("POLICY")?,
         principal: of.get_str("PRINCIPAL")?,
@@ -278,7 +280,7 @@ fn decide_task<'a>(of: &ArgMatches<'a>) -> Option<Task<'a>> {
 }
 
 /// What the words ask for, once they were found to be of the form.
-pub(crate) fn task_in<'a>(matches: &ArgMatches<'a>) -> Option<Task<'a>> {
+pub(crate) fn task_in<'m, 'a>(matches: &'m ArgMatches<'a>) -> Option<Task<'m>> {
     let (name, of) = matches.subcommand()?;
     if name == "check" {
         let policy = of.get_str("POLICY")?;

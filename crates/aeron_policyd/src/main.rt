@@ -4,29 +4,36 @@
 //! the program ends with: 0, or 1 after a fault or a bad line of a script, or 2 where the command line is at fault.
 #![tactic(auto)]
 
+mod asking;
 mod command_line;
 mod fault;
+mod files;
+mod input;
 mod machine;
 mod one_client;
+mod options;
+mod publishing;
 mod replies;
 mod running;
 mod running_line;
+mod starting;
+mod station;
+mod subscribing;
+mod watched;
 
 use crate::command_line::{Task, command, task_in};
 use crate::fault::Fault;
+use crate::files::{open, policy_bytes};
 use crate::machine::Machine;
-use crate::one_client::{Work, with_client};
-use crate::running_line::Start;
+use crate::starting::start;
 use clap::ArgMatches;
 use clap::error::ErrorKind;
-use driver_core::Settings;
 use driver_script::script::Ended;
-use driver_script::{MayFail, read_input, script};
-use policy_core::Policy;
+use driver_script::{MayFail, script};
 use policy_query::{check, decide};
 use std::process::ExitCode;
 use std::rt::Files;
-use std::{env, fs, io};
+use std::{env, io};
 
 /// The status of a command line that is at fault.
 const USAGE: u8 = 2;
@@ -55,24 +62,9 @@ fn explain<R: Print + Eprint>(rt: &R, error: &clap::Error) -> Result<ExitCode, F
     })
 }
 
-/// Opens a file to read.
-fn open<R: Files + AllocGlobal>(rt: &R, path: &str) -> Result<R::File, Fault> {
-    match fs::open(rt, path) {
-        Ok(file) => Ok(file),
-        Err(error) if error.kind() == io::ErrorKind::OutOfMemory => Err(Fault::NO_MEMORY),
-        Err(_) => Err(Fault::CannotRead),
-    }
-}
-
-/// All bytes of a policy's file.
-fn policy_in<R: Files + AllocGlobal>(rt: &R, path: &str) -> Result<Vec<u8>, Fault> {
-    let mut file = MayFail(open(rt, path)?);
-    Ok(read_input(rt.alloc(), &mut file)?)
-}
-
 /// The line that says how many rules the policy in a file has.
 fn checked_in<R: Files + AllocGlobal>(rt: &R, path: &str) -> Result<String, Fault> {
-    let policy = policy_in(rt, path)?;
+    let policy = policy_bytes(rt, path)?;
     let checked = check(rt.alloc(), policy.as_slice())?;
     Ok(checked.to_string(rt.alloc())?)
 }
@@ -86,7 +78,7 @@ fn verdict_in<R: Files + AllocGlobal>(
     channel: &str,
     stream: i32,
 ) -> Result<String, Fault> {
-    let policy = policy_in(rt, path)?;
+    let policy = policy_bytes(rt, path)?;
     let verdict = decide(
         rt.alloc(),
         policy.as_slice(),
@@ -116,34 +108,6 @@ fn run_script<R: Files + Print + AllocGlobal>(rt: &R, path: &str) -> Result<Exit
     })
 }
 
-/// The policy in a file.
-fn parsed_policy<R: Machine>(rt: &R, path: &str) -> Result<Policy, Fault> {
-    let bytes = policy_in(rt, path)?;
-    let names = policy_query::principals(rt.alloc())?;
-    Ok(policy_query::policy_in(rt.alloc(), bytes.as_slice(), &names)?)
-}
-
-/// Tries a driver with one client that sends itself a message.
-fn run<R: Machine>(rt: &R, path: &str, tries: u64) -> Result<ExitCode, Fault> {
-    let policy = parsed_policy(rt, path)?;
-    with_client(
-        *rt,
-        Settings::default(),
-        policy,
-        &[],
-        1,
-        Work::TryOut { tries },
-    )?;
-    print_line(rt, "stopped")
-}
-
-/// Starts a driver.
-fn start<R: Machine>(rt: &R, start: Start<'_>) -> Result<ExitCode, Fault> {
-    match start {
-        Start::Run { policy, tries } => run(rt, policy, tries),
-    }
-}
-
 /// Does a task.
 fn perform<R: Machine>(rt: &R, task: Task<'_>) -> Result<ExitCode, Fault> {
     match task {
@@ -159,7 +123,10 @@ fn perform<R: Machine>(rt: &R, task: Task<'_>) -> Result<ExitCode, Fault> {
             verdict_in(rt, policy, principal, act, channel, stream)?.as_str(),
         ),
         Task::Script { file } => run_script(rt, file),
-        Task::Start(asked) => start(rt, asked),
+        Task::Start(asked) => {
+            start(rt, asked)?;
+            Ok(ExitCode::SUCCESS)
+        }
     }
 }
 

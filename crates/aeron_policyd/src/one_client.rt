@@ -1,31 +1,41 @@
-//! A driver that runs, with one client.
+//! A driver starts with one client, does its work, and stops.
 
+ghost use Rattle.driver_core.specs.Soundness.{AreSettings};
 ghost use Rattle.media_driver.specs.Parts.{AreNamed};
 
 use crate::fault::Fault;
 use crate::machine::Machine;
+use crate::publishing::Publishing;
 use crate::running::try_out;
+use crate::station::{Chores, OwnDriver, Station};
+use crate::subscribing::Subscribing;
+use crate::watched::{Notes, Watched};
 use driver_core::{Peer, Settings};
-use media_driver::{AttachFault, Client, Driver, DriverNaming, MachineClock, Parts};
+use media_driver::{AttachFault, Driver, DriverNaming, MachineClock, Parts};
 use media_wire::Udp;
 use policy_core::Policy;
-use std::alloc::Global;
+use std::alloc::AllocError;
 use std::marker::Brand;
+use std::sync::Arc;
 
 /// How many sockets may be open at once: the send address and an endpoint for each subscription.
 const SOCKETS: usize = 513;
 
-/// The driver of this process.
-pub(crate) type OwnDriver<N, R> = Driver<N, R, MachineClock<R>>;
-
-/// Its client.
-pub(crate) type OwnClient<N, R> = Client<N, MachineClock<R>>;
-
 /// What is done with the driver and its client.
 #[derive(Drop)]
-pub(crate) enum Work {
+pub(crate) enum Task {
     /// The client sends itself a message, and each of its waits ends after so many tries.
     TryOut { tries: u64 },
+    Publish(Publishing),
+    Subscribe(Subscribing),
+}
+
+/// What is done, for whom, and what beside it.
+#[derive(Drop)]
+pub(crate) struct Work {
+    pub(crate) principal: u32,
+    pub(crate) chores: Chores,
+    pub(crate) task: Task,
 }
 
 /// Why no client attached.
@@ -36,51 +46,69 @@ fn refused(fault: AttachFault) -> Fault {
     }
 }
 
-/// Does the work.
+/// Does the task.
 fn perform<N: DriverNaming + Send + Sync + 'static, R: Machine>(
-    rt: R,
-    driver: &mut OwnDriver<N, R>,
-    client: &mut OwnClient<N, R>,
-    work: Work,
+    station: &mut Station<N, R>,
+    task: &Task,
 ) -> Result<(), Fault> {
-    match work {
-        Work::TryOut { tries } => try_out(&rt, client, tries),
+    match task {
+        Task::TryOut { tries } => try_out(&station.rt, &mut station.client, *tries),
+        Task::Publish(asked) => station.publish(asked),
+        Task::Subscribe(asked) => station.subscribe(asked),
     }
 }
 
-/// A client of this principal attaches, and the work is done. Then the driver stops, whatever came of it.
+/// A client attaches, and the task is done. Then the driver stops, whatever came of it.
 fn attached<N: DriverNaming + Send + Sync + 'static, R: Machine>(
     rt: R,
     driver: OwnDriver<N, R>,
-    principal: u32,
+    notes: Arc<Notes>,
     work: Work,
 ) -> Result<(), Fault> {
     let mut driver = driver;
-    let mut clients = Vec::new(rt.alloc());
-    let done = match driver.client(principal) {
+    let Work {
+        principal,
+        chores,
+        task,
+    } = work;
+    match driver.client(principal) {
         Ok(client) => {
-            let mut client = client;
-            let done = perform(rt, &mut driver, &mut client, work);
+            let mut station = Station::new(rt, driver, client, notes, chores);
+            let done = perform(&mut station, &task);
+            let (driver, client) = station.into_parts();
+            let mut clients = Vec::new(rt.alloc());
             let _ = clients.push(client);
+            driver.stop(clients);
             done
         }
-        Err(fault) => Err(refused(fault)),
+        Err(fault) => {
+            driver.stop(Vec::new(rt.alloc()));
+            Err(refused(fault))
+        }
+    }
+}
+
+/// The sockets of the system, with notes of what goes over them.
+fn watched<R: Machine>(rt: R) -> Result<(Watched<Udp<R>>, Arc<Notes>), AllocError> {
+    let wire = Udp::new(rt.alloc(), rt, SOCKETS)?;
+    let notes = match Arc::new(rt.alloc(), Notes::new()) {
+        Ok(notes) => notes,
+        Err(_) => return Err(AllocError),
     };
-    driver.stop(clients);
-    done
+    let theirs = Arc::try_clone(&notes)?;
+    Ok((Watched::new(wire, theirs), notes))
 }
 
 /// A driver starts from these parts.
 fn started<N: DriverNaming + Send + Sync + 'static, R: Machine>(
     rt: R,
     parts: Parts,
-    principal: u32,
     work: Work,
 ) -> Result<(), Fault>
     requires { AreNamed N.home N.client_ledger N.client_parts N.slot_ledger N.slot_parts N.book parts }
 {
-    let wire = match Udp::new(rt.alloc(), rt, SOCKETS) {
-        Ok(wire) => wire,
+    let (wire, notes) = match watched(rt) {
+        Ok(made) => made,
         Err(_) => {
             parts.end(&rt);
             return Err(Fault::NO_MEMORY);
@@ -88,18 +116,24 @@ fn started<N: DriverNaming + Send + Sync + 'static, R: Machine>(
     };
     let clock = MachineClock::new(rt);
     let started: Result<OwnDriver<N, R>, _> = Driver::start(rt, rt.alloc(), parts, wire, clock);
-    attached(rt, started?, principal, work)
+    match started {
+        Ok(driver) => attached(rt, driver, notes, work),
+        Err(fault) => Err(Fault::Start(fault)),
+    }
 }
 
-/// Starts a driver with sockets of the system, and one client of this principal, with which the work is done.
+/// Starts a driver with sockets of the system and one client, and does the work with them.
 pub(crate) fn with_client<R: Machine>(
     rt: R,
     settings: Settings,
     policy: Policy,
     peers: &[Peer],
-    principal: u32,
     work: Work,
-) -> Result<(), Fault> {
-    let parts = Parts::make(&rt, rt.alloc(), settings, policy, peers)?;
-    started::<Brand, R>(rt, parts, principal, work)
+) -> Result<(), Fault>
+    requires { AreSettings settings }
+{
+    match Parts::make(&rt, rt.alloc(), settings, policy, peers) {
+        Ok(parts) => started::<Brand, R>(rt, parts, work),
+        Err(fault) => Err(Fault::Make(fault)),
+    }
 }

@@ -3,6 +3,7 @@
 use crate::fault::Fault;
 use driver_core::{Refusal, Reply};
 use media_driver::ClientReply;
+use std::fmt;
 
 /// What a command that adds a subscription or a publication is answered.
 #[derive(Clone, Copy)]
@@ -10,6 +11,19 @@ pub(crate) enum Answered {
     /// It stands, under this registration id.
     Ready(u64),
     Refused(Refusal),
+}
+
+/// A refusal in words: the verdict's, or the code's.
+#[derive(Clone, Copy, Debug)]
+pub struct RefusalText(pub Refusal);
+
+impl fmt::Display for RefusalText {
+    fn fmt<W: fmt::Write>(&self, f: &mut fmt::Formatter<W>) -> fmt::Result {
+        match self.0 {
+            Refusal::Denied(verdict) => write!(f, "{verdict}"),
+            refusal => f.write_str(refusal.code().text().unwrap_or("")),
+        }
+    }
 }
 
 /// What a reply says of the command of this correlation id; `None` where it is of something else.

@@ -2,8 +2,8 @@
 
 use crate::fault::Fault;
 use crate::machine::Machine;
-use crate::one_client::OwnClient;
 use crate::replies::{Answered, answer_in, say};
+use crate::station::OwnClient;
 use media_driver::{DriverNaming, OfferFault, PollFault};
 use std::fmt::Write;
 use std::thread;

@@ -1,0 +1,207 @@
+//! A wire that notes what goes over it: how far a subscriber has come, and what was lost and sent again.
+
+ghost use Rattle.media_wire.specs.Events.{Event};
+ghost use Rattle.std.specs.Prelude.{List};
+
+use channel_uri::Address;
+use frame_codec::{Datagram, Flags, Frames, Packet, Setup, StatusMessage, position};
+use media_wire::{Wire, WireFault};
+use std::sync::Arc;
+use std::sync::atomic::{AtomicU64, Ordering};
+
+/// What went over a wire so far, as threads share it.
+#[derive(Drop)]
+pub(crate) struct Notes {
+    /// How many NAKs came.
+    naks: AtomicU64,
+    /// How many NAKs went.
+    asked: AtomicU64,
+    /// How many datagrams of data went again.
+    resent: AtomicU64,
+    /// How many datagrams came that are none of the protocol.
+    bad: AtomicU64,
+    /// How many sends and reads failed.
+    failed: AtomicU64,
+    /// Up to which position a subscriber has taken the last stream that was announced.
+    consumed: AtomicU64,
+}
+
+/// One more.
+fn count(number: &AtomicU64) {
+    number.fetch_add(1, Ordering::SeqCst);
+}
+
+impl Notes {
+    pub(crate) fn new() -> Notes {
+        Notes {
+            naks: AtomicU64::new(0),
+            asked: AtomicU64::new(0),
+            resent: AtomicU64::new(0),
+            bad: AtomicU64::new(0),
+            failed: AtomicU64::new(0),
+            consumed: AtomicU64::new(0),
+        }
+    }
+
+    pub(crate) fn naks(&self) -> u64 {
+        self.naks.load(Ordering::SeqCst)
+    }
+
+    pub(crate) fn asked(&self) -> u64 {
+        self.asked.load(Ordering::SeqCst)
+    }
+
+    pub(crate) fn resent(&self) -> u64 {
+        self.resent.load(Ordering::SeqCst)
+    }
+
+    pub(crate) fn bad(&self) -> u64 {
+        self.bad.load(Ordering::SeqCst)
+    }
+
+    pub(crate) fn failed(&self) -> u64 {
+        self.failed.load(Ordering::SeqCst)
+    }
+
+    pub(crate) fn consumed(&self) -> u64 {
+        self.consumed.load(Ordering::SeqCst)
+    }
+}
+
+/// What is known of the streams that are sent.
+#[derive(Drop)]
+struct Watch {
+    notes: Arc<Notes>,
+    /// The last SETUP that was sent: it announces the stream whose consumption is noted.
+    setup: Option<Setup>,
+    /// The greatest position at which data was sent.
+    reached: u64,
+}
+
+impl Watch {
+    /// The position of a byte of the stream that was announced.
+    fn position_of(&self, session: i32, stream: i32, term: i32, offset: u32) -> Option<u64> {
+        let setup = self.setup?;
+        if setup.session_id == session && setup.stream_id == stream {
+            let term_length = setup.term_length.cast_unsigned();
+            Some(position(setup.initial_term_id, term, offset, term_length))
+        } else {
+            None
+        }
+    }
+
+    /// Data is sent: again, where it stands before data that was sent.
+    fn note_data(&mut self, frames: Frames<'_>) {
+        let mut frames = frames;
+        let Some(frame) = frames.next() else {
+            return;
+        };
+        let place = frame.header.place;
+        let Some(at) = self.position_of(
+            place.session_id,
+            place.stream_id,
+            place.term_id,
+            place.term_offset,
+        ) else {
+            return;
+        };
+        if at < self.reached {
+            count(&self.notes.resent);
+        } else {
+            self.reached = at;
+        }
+    }
+
+    /// A datagram was sent.
+    fn note_sent(&mut self, bytes: &[u8]) {
+        match Datagram::read(bytes) {
+            Ok(Packet::Data(frames)) => self.note_data(frames),
+            Ok(Packet::Setup(setup)) => self.setup = Some(setup),
+            Ok(Packet::Nak(_)) => count(&self.notes.asked),
+            _ => {}
+        }
+    }
+
+    /// A subscriber says how far it has come.
+    fn note_status(&self, status: &StatusMessage) {
+        if status.flags.asks_for_setup() {
+            return;
+        }
+        let Some(at) = self.position_of(
+            status.session_id,
+            status.stream_id,
+            status.consumption_term_id,
+            status.consumption_term_offset,
+        ) else {
+            return;
+        };
+        if at > self.notes.consumed() {
+            self.notes.consumed.store(at, Ordering::SeqCst);
+        }
+    }
+
+    /// A datagram came.
+    fn note_read(&self, bytes: &[u8]) {
+        match Datagram::read(bytes) {
+            Ok(Packet::Sm(status)) => self.note_status(&status),
+            Ok(Packet::Nak(_)) => count(&self.notes.naks),
+            Ok(_) => {}
+            Err(_) => count(&self.notes.bad),
+        }
+    }
+}
+
+/// A wire that notes what goes over it. Its calls are those of the wire within.
+#[derive(Drop)]
+pub(crate) struct Watched<W> {
+    wire: W,
+    watch: Watch,
+}
+
+impl<W> Watched<W> {
+    pub(crate) fn new(wire: W, notes: Arc<Notes>) -> Watched<W> {
+        Watched {
+            wire,
+            watch: Watch {
+                notes,
+                setup: None,
+                reached: 0,
+            },
+        }
+    }
+}
+
+impl<W: Wire> Wire for Watched<W> {
+    ghost went = { λ watched events. W.went watched.wire events };
+
+    fn send(&mut self, local: &Address, to: &Address, bytes: &[u8]) -> Result<(), WireFault> {
+        let sent = self.wire.send(local, to, bytes);
+        match sent {
+            Ok(()) => self.watch.note_sent(bytes),
+            Err(_) => count(&self.watch.notes.failed),
+        }
+        sent
+    }
+
+    fn recv(
+        &mut self,
+        local: &Address,
+        buffer: &mut [u8],
+    ) -> Result<Option<(usize, Address)>, WireFault> {
+        let read = self.wire.recv(local, buffer);
+        match read {
+            Ok(Some((length, _))) => self.watch.note_read(&buffer[..length]),
+            Ok(None) => {}
+            Err(_) => count(&self.watch.notes.failed),
+        }
+        read
+    }
+
+    fn turn_ended(&mut self) {
+        self.wire.turn_ended();
+    }
+
+    fn failures(&self) -> u64 {
+        self.wire.failures()
+    }
+}
