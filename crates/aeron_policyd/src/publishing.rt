@@ -57,10 +57,7 @@ impl Progress {
             bytes: self.bytes,
             position: self.position,
             consumed: station.notes.consumed(),
-            naks: station.notes.naks(),
-            resent: station.notes.resent(),
-            bad: station.notes.bad(),
-            failed: station.notes.failed(),
+            losses: station.losses(station.notes.naks()),
         };
         let _ = eprintln!(station.rt; "{sent}");
     }

@@ -6,6 +6,7 @@ use crate::files::policy_bytes;
 use crate::machine::Machine;
 use crate::watched::Notes;
 use media_driver::{Client, ClientReply, Clock, Driver, DriverNaming, MachineClock, ReloadFault};
+use message_lines::Losses;
 use std::sync::Arc;
 use std::time::Duration;
 use std::{str, thread};
@@ -112,6 +113,16 @@ impl<N: DriverNaming + Send + Sync + 'static, R: Machine> Station<N, R> {
     /// The machine's clock, in nanoseconds.
     pub(crate) fn now(&self) -> u64 {
         MachineClock::new(self.rt).now()
+    }
+
+    /// What was lost so far, with so many NAKs.
+    pub(crate) fn losses(&self, naks: u64) -> Losses {
+        Losses {
+            naks,
+            resent: self.notes.resent(),
+            bad: self.notes.bad(),
+            failed: self.notes.failed(),
+        }
     }
 
     /// The next reply to the client.

@@ -170,9 +170,7 @@ impl<N: DriverNaming + Send + Sync + 'static, R: Machine> Station<N, R> {
             bytes: inbox.bytes,
             position: inbox.position,
             images: images as u64,
-            naks: self.notes.asked(),
-            bad: self.notes.bad(),
-            failed: self.notes.failed(),
+            losses: self.losses(self.notes.asked()),
         };
         let _ = eprintln!(self.rt; "{received}");
     }

@@ -1,7 +1,34 @@
-ghost use Rattle.message_lines.specs.Figures.{received_text, sent_text};
+ghost use Rattle.message_lines.specs.Figures.{losses_text, received_text, sent_text};
 ghost use Rattle.std.specs.Prelude.{◌≡◌, Some};
 
 use std::fmt;
+
+/// What was lost so far, and made good.
+#[derive(Clone, Copy, Debug, PartialEq, Eq)]
+pub struct Losses {
+    /// How many NAKs came, or went.
+    pub naks: u64,
+    /// How many datagrams were sent again.
+    pub resent: u64,
+    /// How many datagrams came that are none of the protocol.
+    pub bad: u64,
+    /// How many sends and reads failed.
+    pub failed: u64,
+}
+
+impl fmt::Display for Losses {
+    ghost output = { λ losses. Some (losses_text losses) };
+
+    fn fmt<W: fmt::Write>(&self, f: &mut fmt::Formatter<W>) -> fmt::Result {
+        let Losses {
+            naks,
+            resent,
+            bad,
+            failed,
+        } = self;
+        write!(f, "naks {naks} resent {resent} bad {bad} failed {failed}")
+    }
+}
 
 /// What a publisher sent so far.
 #[derive(Clone, Copy, Debug, PartialEq, Eq)]
@@ -14,14 +41,7 @@ pub struct Sent {
     pub position: u64,
     /// Up to which position a subscriber has taken them.
     pub consumed: u64,
-    /// How many NAKs came.
-    pub naks: u64,
-    /// How many datagrams were sent again.
-    pub resent: u64,
-    /// How many datagrams came that are none of the protocol.
-    pub bad: u64,
-    /// How many sends and reads failed.
-    pub failed: u64,
+    pub losses: Losses,
 }
 
 impl fmt::Display for Sent {
@@ -33,14 +53,11 @@ impl fmt::Display for Sent {
             bytes,
             position,
             consumed,
-            naks,
-            resent,
-            bad,
-            failed,
+            losses,
         } = self;
         write!(
             f,
-            "sent {messages} messages {bytes} bytes position {position} consumed {consumed} naks {naks} resent {resent} bad {bad} failed {failed}"
+            "sent {messages} messages {bytes} bytes position {position} consumed {consumed} {losses}"
         )
     }
 }
@@ -56,12 +73,7 @@ pub struct Received {
     pub position: u64,
     /// How many streams it reads now.
     pub images: u64,
-    /// How many NAKs it sent.
-    pub naks: u64,
-    /// How many datagrams came that are none of the protocol.
-    pub bad: u64,
-    /// How many sends and reads failed.
-    pub failed: u64,
+    pub losses: Losses,
 }
 
 impl fmt::Display for Received {
@@ -73,13 +85,11 @@ impl fmt::Display for Received {
             bytes,
             position,
             images,
-            naks,
-            bad,
-            failed,
+            losses,
         } = self;
         write!(
             f,
-            "received {messages} messages {bytes} bytes position {position} images {images} naks {naks} bad {bad} failed {failed}"
+            "received {messages} messages {bytes} bytes position {position} images {images} {losses}"
         )
     }
 }

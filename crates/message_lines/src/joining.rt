@@ -1,6 +1,5 @@
-ghost use Rattle.message_lines.specs.Joining.{joined};
-ghost use Rattle.std.specs.Option.{option_map};
-ghost use Rattle.std.specs.Prelude.{◌≡◌, None, OnErr, OnOk, option_copied};
+ghost use Rattle.message_lines.specs.Joining.{held, joined, whole};
+ghost use Rattle.std.specs.Prelude.{◌≡◌, ◌++◌, None, IfOk, OnErr, OnOk, option_copied};
 
 use crate::LONGEST;
 use std::alloc::{AllocError, Global};
@@ -21,6 +20,25 @@ impl Model for Joiner {
     ghost Value = { Option (List ℕ) };
 
     ghost view = { λ joiner. held joiner.is_open joiner.bytes.items };
+}
+
+/// More bytes come after those that are there. `false`, and what is there then is of no use, where they are too many.
+///
+/// # Errors
+/// Where there is no memory for them.
+fn extend(bytes: &mut Vec<u8>, more: &[u8]) -> Result<bool, AllocError>
+    ensures { IfOk result (λ fits. held fits bytes.new.items ≡ whole (bytes.old.items ++ more.now)) }
+{
+    if more.len() > LONGEST {
+        return Ok(false);
+    }
+    if bytes.len() > LONGEST - more.len() {
+        return Ok(false);
+    }
+    match bytes.extend_from_slice(more) {
+        Ok(()) => Ok(true),
+        Err(_) => Err(AllocError),
+    }
 }
 
 impl Joiner {
@@ -44,22 +62,12 @@ impl Joiner {
     {
         if begins {
             self.bytes.clear();
-            self.is_open = true;
-        }
-        if !self.is_open {
+        } else if !self.is_open {
             return Ok(());
         }
-        if payload.len() > LONGEST - self.bytes.len().min(LONGEST) {
-            self.is_open = false;
-            return Ok(());
-        }
-        match self.bytes.extend_from_slice(payload) {
-            Ok(()) => Ok(()),
-            Err(_) => {
-                self.is_open = false;
-                Err(AllocError)
-            }
-        }
+        self.is_open = false;
+        self.is_open = extend(&mut self.bytes, payload)?;
+        Ok(())
     }
 
     /// What is joined so far, where a message has begun: the whole message, once its last fragment came.

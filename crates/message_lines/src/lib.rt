@@ -7,7 +7,7 @@ mod figures;
 mod joining;
 
 pub use cutting::{Cut, first_message};
-pub use figures::{Received, Sent};
+pub use figures::{Losses, Received, Sent};
 pub use joining::Joiner;
 
 /// How long a message is at most, in bytes.
