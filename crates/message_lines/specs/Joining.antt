@@ -1,5 +1,5 @@
 -- How the fragments of messages are joined. Own rules.
-use Rattle.std.specs.Prelude.{ℕ, ◌-◌, nat_le, Bool, true, false, List, [], ◌++◌, Option, Some, None, length, min, if◌then◌else◌}
+use Rattle.std.specs.Prelude.{ℕ, nat_le, Bool, true, false, List, ◌++◌, Option, Some, None, length, if◌then◌else◌}
 
 -- what is held of a message: nothing where none has begun
 abbrev pub held : Bool → List ℕ → Option (List ℕ)
