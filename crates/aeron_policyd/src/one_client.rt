@@ -9,7 +9,7 @@ use crate::publishing::Publishing;
 use crate::running::try_out;
 use crate::station::{Chores, OwnDriver, Station};
 use crate::subscribing::Subscribing;
-use crate::watched::{Notes, Watched};
+use crate::watched::{Notes, Reception, Watched};
 use driver_core::{Peer, Settings};
 use media_driver::{AttachFault, Driver, DriverNaming, MachineClock, Parts};
 use media_wire::Udp;
@@ -35,6 +35,8 @@ pub(crate) enum Task {
 pub(crate) struct Work {
     pub(crate) principal: u32,
     pub(crate) chores: Chores,
+    /// Where the driver receives, if it only does.
+    pub(crate) reception: Option<Reception>,
     pub(crate) task: Task,
 }
 
@@ -69,6 +71,7 @@ fn attached<N: DriverNaming + Send + Sync + 'static, R: Machine>(
     let Work {
         principal,
         chores,
+        reception: _,
         task,
     } = work;
     match driver.client(principal) {
@@ -89,14 +92,17 @@ fn attached<N: DriverNaming + Send + Sync + 'static, R: Machine>(
 }
 
 /// The sockets of the system, with notes of what goes over them.
-fn watched<R: Machine>(rt: R) -> Result<(Watched<Udp<R>>, Arc<Notes>), AllocError> {
+fn watched<R: Machine>(
+    rt: R,
+    reception: Option<Reception>,
+) -> Result<(Watched<Udp<R>>, Arc<Notes>), AllocError> {
     let wire = Udp::new(rt.alloc(), rt, SOCKETS)?;
     let notes = match Arc::new(rt.alloc(), Notes::new()) {
         Ok(notes) => notes,
         Err(_) => return Err(AllocError),
     };
     let theirs = Arc::try_clone(&notes)?;
-    Ok((Watched::new(wire, theirs), notes))
+    Ok((Watched::new(wire, theirs, reception), notes))
 }
 
 /// A driver starts from these parts.
@@ -107,7 +113,7 @@ fn started<N: DriverNaming + Send + Sync + 'static, R: Machine>(
 ) -> Result<(), Fault>
     requires { AreNamed N.home N.client_ledger N.client_parts N.slot_ledger N.slot_parts N.book parts }
 {
-    let (wire, notes) = match watched(rt) {
+    let (wire, notes) = match watched(rt, work.reception) {
         Ok(made) => made,
         Err(_) => {
             parts.end(&rt);

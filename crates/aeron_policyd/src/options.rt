@@ -14,9 +14,6 @@ use std::alloc::{AllocError, Global};
 /// The port from which a publisher's driver sends where no other is chosen.
 pub(crate) const PUBLISHER: u16 = 40_000;
 
-/// The port from which a subscriber's driver sends where no other is chosen.
-pub(crate) const SUBSCRIBER: u16 = 40_001;
-
 /// The settings that words `KEY=VALUE` choose.
 pub(crate) fn settings_of(alloc: Global, words: &[&str]) -> Result<Settings, Fault>
     ensures { IfOk result (λ settings. AreSettings settings) }
@@ -81,18 +78,6 @@ pub(crate) fn publisher_address(endpoint: Option<Address>) -> Address {
     Address {
         octets,
         port: PUBLISHER,
-    }
-}
-
-/// The address from which a subscriber's driver sends: on the host of the endpoint, which is its own.
-pub(crate) fn subscriber_address(endpoint: Option<Address>) -> Address {
-    let octets = match endpoint {
-        Some(endpoint) => endpoint.octets,
-        None => [127, 0, 0, 1],
-    };
-    Address {
-        octets,
-        port: SUBSCRIBER,
     }
 }
 

@@ -51,7 +51,7 @@ impl Progress {
     }
 
     /// The line that says so.
-    fn print<N: DriverNaming, R: Machine>(&self, station: &Station<N, R>) {
+    fn print<N: DriverNaming + Send + Sync + 'static, R: Machine>(&self, station: &Station<N, R>) {
         let sent = Sent {
             messages: self.messages,
             bytes: self.bytes,

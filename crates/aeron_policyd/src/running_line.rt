@@ -23,10 +23,69 @@ cannot read file, read failed, too long, the first fault of the policy, write fa
 for a command line that is at fault.";
 
 /// What `publish` says.
-const PUBLISH: &str = "PUBLISH HELP";
+const PUBLISH: &str = "\
+Example: what goes through shared memory reaches no other process.
+
+  $ aeron_policyd publish --policy open.toml aeron:ipc 10
+  aeron_policyd: aeron:ipc reaches no other process
+
+On one terminal a subscriber waits for two lines, and prints them:
+
+  aeron_policyd subscribe --policy open.toml --count 2 'aeron:udp?endpoint=127.0.0.1:40123' 10
+
+On another one, two lines are sent:
+
+  printf 'hello\\nworld\\n' | aeron_policyd publish --policy open.toml 'aeron:udp?endpoint=127.0.0.1:40123' 10
+
+A driver starts, on threads of its own and with UDP sockets, and one client attaches to it and adds the publication. Each
+line of standard input is offered as a message, without its line feed. While nobody subscribes, or a subscriber is behind,
+a message waits. At the end the driver goes on until a subscriber has taken all, or for --linger seconds. Then the last
+line on standard error says what went:
+
+  sent 2 messages 10 bytes position 128 consumed 128 naks 0 resent 0 bad 0 failed 0
+
+It gives the position after the last message, and the one up to which a subscriber said that it took them; how many NAKs
+came, and how many datagrams of data were sent again; how many datagrams came that are none of the protocol, and how many
+sends and reads failed. --stats prints that line every second.
+
+The driver sends from `send-address`. Where no --setting names another one, that is 127.0.0.1:40000, or 0.0.0.0:40000 where
+the endpoint is on another host. Each publisher of a host needs an address of its own. The policy is asked about the acts
+publish, offer and send of the client's principal, and about retransmit of the principal that --peer binds to the
+subscriber's endpoint; an address that nobody is bound to is nobody's. Sessions begin at a number that is drawn at each
+start, if no setting `first-session` is given.
+
+Status: 0; 1 after `aeron_policyd: FAULT` on standard error; 2 for a command line that is at fault. Faults are those of
+`run`, and: unknown principal; setting N: bad key or value; peer N: bad address or principal; aeron:ipc reaches no other
+process; cannot open ADDR; the refusal of the publication or of an offer, such as `denied by rule 3 in policy 1`; no
+subscriber, or back pressure, after --wait seconds; message too long; greatest position reached; queue full; no client;
+client gone; no look.";
 
 /// What `subscribe` says.
-const SUBSCRIBE: &str = "SUBSCRIBE HELP";
+const SUBSCRIBE: &str = "\
+Example: a spy reads what the driver of its own process publishes, and nothing else.
+
+  $ aeron_policyd subscribe --policy open.toml 'aeron-spy:aeron:udp?endpoint=127.0.0.1:40123' 10
+  aeron_policyd: a spy reads its own driver alone
+
+The help of `publish` has two terminals that talk.
+
+A driver starts, on threads of its own and with UDP sockets, and one client attaches to it and adds the subscription. Each
+message that comes is printed on a line, at once; its fragments are joined. It ends after --count messages, with
+--until-gone when the last publisher that it heard has been silent for `image-liveness`, or when it is interrupted: then
+nothing is lost but what was not printed yet. At the end a line on standard error says what came, as --stats does every
+second:
+
+  received 2 messages 10 bytes position 128 images 1 naks 0 resent 0 bad 0 failed 0
+
+It gives the position after the last fragment, how many streams are read, how many NAKs were sent, how many datagrams came
+that are none of the protocol, and how many sends and reads failed.
+
+The driver reads at the channel's endpoint, which has to be an address of this host, and sends from there. Each subscriber
+of a host needs an endpoint of its own. The policy is asked about the acts subscribe, image and receive of the client's
+principal. With subscribe and without image nothing comes, and no fault says so.
+
+Status: 0; 1 after `aeron_policyd: FAULT` on standard error; 2 for a command line that is at fault. Faults are those of
+`publish`, and: a spy reads its own driver alone; the denial of a poll.";
 
 /// What `publish` and `subscribe` have in common.
 #[derive(Clone, Copy)]

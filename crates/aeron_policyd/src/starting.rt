@@ -7,22 +7,18 @@ use crate::fault::Fault;
 use crate::files::policy_bytes;
 use crate::machine::Machine;
 use crate::one_client::{Task, Work, with_client};
-use crate::options::{
-    endpoint_of, owned, peers_of, publisher_address, settings_of, subscriber_address,
-};
+use crate::options::{endpoint_of, owned, peers_of, publisher_address, settings_of};
 use crate::publishing::Publishing;
 use crate::replies::say;
 use crate::running_line::{Start, Talk};
 use crate::station::{Chores, SECOND};
 use crate::subscribing::Subscribing;
+use crate::watched::Reception;
 use channel_uri::Address;
 use driver_core::Settings;
 use message_lines::Cut;
 use policy_query::{policy_in, principals};
 use std::net::{Ipv4Addr, SocketAddrV4, UdpSocket};
-
-/// The principal of `run`'s client: p1.
-const FIRST: u32 = 1;
 
 /// So many seconds, in nanoseconds.
 fn seconds(count: u64) -> u64 {
@@ -90,7 +86,13 @@ fn chores_of<R: Machine>(
 }
 
 /// Starts a driver under the policy in the file, and does the task.
-fn begin<R: Machine>(rt: &R, talk: &Talk<'_>, settings: Settings, task: Task) -> Result<(), Fault>
+fn begin<R: Machine>(
+    rt: &R,
+    talk: &Talk<'_>,
+    settings: Settings,
+    reception: Option<Reception>,
+    task: Task,
+) -> Result<(), Fault>
     requires { AreSettings settings }
 {
     let names = principals(rt.alloc())?;
@@ -104,6 +106,7 @@ fn begin<R: Machine>(rt: &R, talk: &Talk<'_>, settings: Settings, task: Task) ->
     let work = Work {
         principal,
         chores,
+        reception,
         task,
     };
     with_client(*rt, settings, policy, peers.as_slice(), work)
@@ -127,7 +130,7 @@ fn publish<R: Machine>(
         wait: seconds(wait),
         linger: seconds(linger),
     });
-    begin(rt, talk, settings, task)
+    begin(rt, talk, settings, None, task)
 }
 
 /// Messages that come are printed.
@@ -139,11 +142,17 @@ fn subscribe<R: Machine>(
     until_gone: bool,
 ) -> Result<(), Fault> {
     let endpoint = endpoint_of(talk.channel)?;
-    let settings = settings_for(rt, talk.settings, subscriber_address(endpoint))?;
-    can_open(rt, settings.send_address)?;
-    if let Some(endpoint) = endpoint {
-        can_open(rt, endpoint)?;
-    }
+    let settings = settings_for(rt, talk.settings, publisher_address(endpoint))?;
+    let reception = match endpoint {
+        Some(endpoint) => {
+            can_open(rt, endpoint)?;
+            Some(Reception {
+                endpoint,
+                send_address: settings.send_address,
+            })
+        }
+        None => None,
+    };
     let task = Task::Subscribe(Subscribing {
         channel: owned(rt.alloc(), talk.channel)?,
         stream: talk.stream,
@@ -152,7 +161,7 @@ fn subscribe<R: Machine>(
         until_gone,
         status_interval: settings.status_interval,
     });
-    begin(rt, talk, settings, task)
+    begin(rt, talk, settings, reception, task)
 }
 
 /// Tries a driver with one client that sends itself a message.
@@ -167,7 +176,7 @@ fn run<R: Machine>(rt: &R, policy: &str, tries: u64) -> Result<(), Fault> {
         reload_every: None,
         stats: false,
     };
-    begin(rt, &talk, Settings::default(), Task::TryOut { tries })?;
+    begin(rt, &talk, Settings::default(), None, Task::TryOut { tries })?;
     say(rt, "stopped")
 }
 

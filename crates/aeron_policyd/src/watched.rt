@@ -1,7 +1,7 @@
 //! A wire that notes what goes over it: how far a subscriber has come, and what was lost and sent again.
 
-ghost use Rattle.media_wire.specs.Events.{Event};
-ghost use Rattle.std.specs.Prelude.{List};
+ghost use Rattle.media_wire.specs.Events.{Event, counted};
+ghost use Rattle.std.specs.Prelude.{◌≡◌, ◌+◌, ◌-◌, ◌^◌, List, min};
 
 use channel_uri::Address;
 use frame_codec::{Datagram, Flags, Frames, Packet, Setup, StatusMessage, position};
@@ -151,15 +151,29 @@ impl Watch {
     }
 }
 
-/// A wire that notes what goes over it. Its calls are those of the wire within.
+/// Where a driver that only receives does so.
+#[derive(Clone, Copy)]
+pub(crate) struct Reception {
+    /// Where the datagrams of its subscription arrive.
+    pub(crate) endpoint: Address,
+    /// From where the driver would send.
+    pub(crate) send_address: Address,
+}
+
+/// A wire that notes what goes over it.
+///
+/// What a driver that only receives sends, NAKs and status messages, goes out from the endpoint at which it reads: a
+/// publisher sends again to the address that the NAK came from. Its own send address is not used, and nothing comes there.
 #[derive(Drop)]
 pub(crate) struct Watched<W> {
     wire: W,
     watch: Watch,
+    reception: Option<Reception>,
+    failures: u64,
 }
 
 impl<W> Watched<W> {
-    pub(crate) fn new(wire: W, notes: Arc<Notes>) -> Watched<W> {
+    pub(crate) fn new(wire: W, notes: Arc<Notes>, reception: Option<Reception>) -> Watched<W> {
         Watched {
             wire,
             watch: Watch {
@@ -167,20 +181,48 @@ impl<W> Watched<W> {
                 setup: None,
                 reached: 0,
             },
+            reception,
+            failures: 0,
         }
+    }
+
+    /// From where a datagram goes out.
+    fn source(&self, local: &Address) -> Address {
+        match self.reception {
+            Some(reception) => reception.endpoint,
+            None => *local,
+        }
+    }
+
+    /// Whether nothing is read at this address.
+    fn is_unused(&self, local: &Address) -> bool {
+        match self.reception {
+            Some(reception) => reception.send_address.is(local),
+            None => false,
+        }
+    }
+
+    fn fail(&mut self) -> WireFault
+        ensures { self.new.failures ≡ min (self.old.failures + 1) (2 ^ 64 - 1) }
+    {
+        count(&self.watch.notes.failed);
+        self.failures = self.failures.saturating_add(1);
+        WireFault
     }
 }
 
 impl<W: Wire> Wire for Watched<W> {
-    ghost went = { λ watched events. W.went watched.wire events };
+    ghost went = { λ watched events. watched.failures ≡ counted events };
 
     fn send(&mut self, local: &Address, to: &Address, bytes: &[u8]) -> Result<(), WireFault> {
-        let sent = self.wire.send(local, to, bytes);
-        match sent {
-            Ok(()) => self.watch.note_sent(bytes),
-            Err(_) => count(&self.watch.notes.failed),
+        let source = self.source(local);
+        match self.wire.send(&source, to, bytes) {
+            Ok(()) => {
+                self.watch.note_sent(bytes);
+                Ok(())
+            }
+            Err(_) => Err(self.fail()),
         }
-        sent
     }
 
     fn recv(
@@ -188,20 +230,27 @@ impl<W: Wire> Wire for Watched<W> {
         local: &Address,
         buffer: &mut [u8],
     ) -> Result<Option<(usize, Address)>, WireFault> {
-        let read = self.wire.recv(local, buffer);
-        match read {
-            Ok(Some((length, _))) => self.watch.note_read(&buffer[..length]),
-            Ok(None) => {}
-            Err(_) => count(&self.watch.notes.failed),
+        if self.is_unused(local) {
+            return Ok(None);
         }
-        read
+        match self.wire.recv(local, buffer) {
+            Ok(Some((length, from))) => {
+                self.watch.note_read(&buffer[..length]);
+                Ok(Some((length, from)))
+            }
+            Ok(None) => Ok(None),
+            Err(_) => Err(self.fail()),
+        }
     }
 
-    fn turn_ended(&mut self) {
+    fn turn_ended(&mut self)
+        ensures same { self.new.failures ≡ self.old.failures }
+        ensures kept { (events : List Event) → self.old.failures ≡ counted events → self.new.failures ≡ counted events }
+    {
         self.wire.turn_ended();
     }
 
     fn failures(&self) -> u64 {
-        self.wire.failures()
+        self.failures
     }
 }
