@@ -21,10 +21,10 @@ pub(crate) fn settings_of(alloc: Global, words: &[&str]) -> Result<Settings, Fau
     let mut choices = Choices::new(alloc);
     for (place, word) in words.iter().enumerate() {
         let Some((key, value)) = word.split_once('=') else {
-            return Err(Fault::BadSetting(place + 1));
+            return Err(Fault::BadSetting(place.saturating_add(1)));
         };
         if !choices.choose(Text::new(alloc, key)?, value)? {
-            return Err(Fault::BadSetting(place + 1));
+            return Err(Fault::BadSetting(place.saturating_add(1)));
         }
     }
     Ok(choices.settings)
@@ -44,10 +44,10 @@ pub(crate) fn peers_of(alloc: Global, names: &Names, words: &[&str]) -> Result<V
     let mut peers: Vec<Peer> = Vec::new(alloc);
     for (place, word) in words.iter().enumerate() {
         let Some(peer) = peer_of(names, word) else {
-            return Err(Fault::BadPeer(place + 1));
+            return Err(Fault::BadPeer(place.saturating_add(1)));
         };
         if place >= 256 || peers.iter().any(|known| known.address.is(&peer.address)) {
-            return Err(Fault::BadPeer(place + 1));
+            return Err(Fault::BadPeer(place.saturating_add(1)));
         }
         peers.push(peer)?;
     }

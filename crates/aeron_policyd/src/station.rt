@@ -23,8 +23,14 @@ pub(crate) const SECOND: u64 = 1_000_000_000;
 /// How often a wait yields to other threads before it sleeps.
 const YIELDS: u32 = 500;
 
-/// How long it sleeps then, in microseconds.
-const SLEEP: u64 = 100;
+/// How often it sleeps shortly then, before it sleeps longer.
+const NAPS: u32 = 1_000;
+
+/// How long it sleeps shortly, in microseconds.
+const NAP: u64 = 100;
+
+/// How long it sleeps in the end, in microseconds.
+const SLEEP: u64 = 1_000;
 
 /// What is asked for beside the messages.
 #[derive(Drop)]
@@ -68,6 +74,8 @@ pub(crate) fn report<R: Machine>(rt: &R, line: &str) {
 pub(crate) fn pause<R: Machine>(rt: &R, waited: u32) {
     if waited < YIELDS {
         thread::yield_now();
+    } else if waited < YIELDS + NAPS {
+        thread::sleep(rt, Duration::from_micros(NAP));
     } else {
         thread::sleep(rt, Duration::from_micros(SLEEP));
     }
