@@ -1,12 +1,12 @@
 //! A client asks for a subscription or a publication, and waits for the answer.
 
 use crate::fault::Fault;
-use crate::machine::Machine;
+use crate::machine::{Disk, Machine};
 use crate::replies::{Answered, RefusalText, answer_in};
 use crate::station::{Station, pause};
 use media_driver::DriverNaming;
 
-impl<N: DriverNaming + Send + Sync + 'static, R: Machine> Station<N, R> {
+impl<N: DriverNaming + Send + Sync + 'static, R: Machine, F: Disk> Station<N, R, F> {
     /// The registration that the command of this correlation id is answered by. A driver answers each command.
     fn registration(&mut self, command: u64) -> Result<u64, Fault> {
         let rt = self.rt;

@@ -1,21 +1,20 @@
 //! What a driver that runs takes of the machine.
 
-use std::net::Net;
-use std::rt::{Env, Files};
+use std::io::StdinLock;
+use std::net::{Net, TcpListener, TcpStream};
+use std::rt::Files;
 use std::sync::Wait;
 use std::thread::Threads;
 use std::time::Clock;
 
-/// All that the program takes of the machine: its words, files, standard streams, memory and clock, and for a driver its
-/// threads and sockets. It is handed on to threads.
-pub(crate) trait Machine: Env
-    + Files
-    + Input
+/// What the program takes of the machine for a driver: its standard streams, memory and clock, threads and sockets. It is
+/// handed on to threads, so the types that it gives are named.
+pub(crate) trait Machine: Input<Reader = StdinLock<'static>>
     + Print
     + Eprint
     + AllocGlobal
     + Clock
-    + Net
+    + Net<Listener = TcpListener, Stream = TcpStream>
     + Threads
     + Wait
     + Copy
@@ -25,14 +24,12 @@ pub(crate) trait Machine: Env
     + 'static {}
 
 impl<
-    R: Env
-        + Files
-        + Input
+    R: Input<Reader = StdinLock<'static>>
         + Print
         + Eprint
         + AllocGlobal
         + Clock
-        + Net
+        + Net<Listener = TcpListener, Stream = TcpStream>
         + Threads
         + Wait
         + Copy
@@ -41,3 +38,8 @@ impl<
         + Sync
         + 'static,
 > Machine for R {}
+
+/// What the program takes of the machine for files. No thread has it but the first.
+pub(crate) trait Disk: Files + AllocGlobal + Copy + Drop {}
+
+impl<F: Files + AllocGlobal + Copy + Drop> Disk for F {}

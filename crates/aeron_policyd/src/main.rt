@@ -24,7 +24,7 @@ mod watched;
 use crate::command_line::{Task, command, task_in};
 use crate::fault::Fault;
 use crate::files::{open, policy_bytes};
-use crate::machine::Machine;
+use crate::machine::{Disk, Machine};
 use crate::starting::start;
 use clap::ArgMatches;
 use clap::error::ErrorKind;
@@ -32,14 +32,14 @@ use driver_script::script::Ended;
 use driver_script::{MayFail, script};
 use policy_query::{check, decide};
 use std::process::ExitCode;
-use std::rt::Files;
+use std::rt::{Env, Files};
 use std::{env, io};
 
 /// The status of a command line that is at fault.
 const USAGE: u8 = 2;
 
 /// The words of the command line; `None` where one is not UTF-8.
-fn words<R: Machine>(rt: &R) -> Result<Option<Vec<String>>, Fault> {
+fn words<R: Env + AllocGlobal>(rt: &R) -> Result<Option<Vec<String>>, Fault> {
     match env::args(rt) {
         Ok(words) => Ok(Some(words.collect(rt.alloc())?)),
         Err(error) if error.kind() == io::ErrorKind::OutOfMemory => Err(Fault::NO_MEMORY),
@@ -99,8 +99,8 @@ fn print_line<R: Print>(rt: &R, line: &str) -> Result<ExitCode, Fault> {
 }
 
 /// Runs the script in a file to standard output.
-fn run_script<R: Files + Print + AllocGlobal>(rt: &R, path: &str) -> Result<ExitCode, Fault> {
-    let mut file = MayFail(open(rt, path)?);
+fn run_script<R: Machine, F: Disk>(rt: &R, files: &F, path: &str) -> Result<ExitCode, Fault> {
+    let mut file = MayFail(open(files, path)?);
     let ended = script::run(rt.alloc(), &mut file, &mut MayFail(io::writer(rt)))?;
     Ok(match ended {
         Ended::Done => ExitCode::SUCCESS,
@@ -109,9 +109,9 @@ fn run_script<R: Files + Print + AllocGlobal>(rt: &R, path: &str) -> Result<Exit
 }
 
 /// Does a task.
-fn perform<R: Machine>(rt: &R, task: Task<'_>) -> Result<ExitCode, Fault> {
+fn perform<R: Machine, F: Disk>(rt: &R, files: &F, task: Task<'_>) -> Result<ExitCode, Fault> {
     match task {
-        Task::Check { policy } => print_line(rt, checked_in(rt, policy)?.as_str()),
+        Task::Check { policy } => print_line(rt, checked_in(files, policy)?.as_str()),
         Task::Decide {
             policy,
             principal,
@@ -120,43 +120,47 @@ fn perform<R: Machine>(rt: &R, task: Task<'_>) -> Result<ExitCode, Fault> {
             stream,
         } => print_line(
             rt,
-            verdict_in(rt, policy, principal, act, channel, stream)?.as_str(),
+            verdict_in(files, policy, principal, act, channel, stream)?.as_str(),
         ),
-        Task::Script { file } => run_script(rt, file),
+        Task::Script { file } => run_script(rt, files, file),
         Task::Start(asked) => {
-            start(rt, asked)?;
+            start(rt, files, asked)?;
             Ok(ExitCode::SUCCESS)
         }
     }
 }
 
 /// Does what the words of the command line were found to say.
-fn obey<R: Machine>(rt: &R, matches: &ArgMatches<'_>) -> Result<ExitCode, Fault> {
+fn obey<R: Machine, F: Disk>(
+    rt: &R,
+    files: &F,
+    matches: &ArgMatches<'_>,
+) -> Result<ExitCode, Fault> {
     match task_in(matches) {
-        Some(task) => perform(rt, task),
+        Some(task) => perform(rt, files, task),
         None => Ok(ExitCode::from(USAGE)),
     }
 }
 
 /// Does what the words of the command line say.
-fn answer<R: Machine>(rt: &R, words: &[String]) -> Result<ExitCode, Fault> {
+fn answer<R: Machine, F: Disk>(rt: &R, files: &F, words: &[String]) -> Result<ExitCode, Fault> {
     match command(rt.alloc())?.try_get_matches_from(words) {
-        Ok(matches) => obey(rt, &matches),
+        Ok(matches) => obey(rt, files, &matches),
         Err(error) => explain(rt, &error),
     }
 }
 
 /// Does what the command line says.
-fn serve<R: Machine>(rt: &R) -> Result<ExitCode, Fault> {
-    let Some(words) = words(rt)? else {
+fn serve<R: Machine, F: Disk + Env>(rt: &R, files: &F) -> Result<ExitCode, Fault> {
+    let Some(words) = words(files)? else {
         let _ = rt.eprintln("error: invalid UTF-8 was detected in one or more arguments");
         return Ok(ExitCode::from(USAGE));
     };
-    answer(rt, words.as_slice())
+    answer(rt, files, words.as_slice())
 }
 
 fn main(rt: HostRuntime) -> ExitCode {
-    match serve(&rt) {
+    match serve(&rt, &rt) {
         Ok(status) => status,
         Err(fault) => {
             let _ = eprintln!(rt; "aeron_policyd: {fault}");

@@ -4,7 +4,7 @@ ghost use Rattle.driver_core.specs.Soundness.{AreSettings};
 ghost use Rattle.media_driver.specs.Parts.{AreNamed};
 
 use crate::fault::Fault;
-use crate::machine::Machine;
+use crate::machine::{Disk, Machine};
 use crate::publishing::Publishing;
 use crate::running::try_out;
 use crate::station::{Chores, OwnDriver, Station};
@@ -49,8 +49,8 @@ fn refused(fault: AttachFault) -> Fault {
 }
 
 /// Does the task.
-fn perform<N: DriverNaming + Send + Sync + 'static, R: Machine>(
-    station: &mut Station<N, R>,
+fn perform<N: DriverNaming + Send + Sync + 'static, R: Machine, F: Disk>(
+    station: &mut Station<N, R, F>,
     task: &Task,
 ) -> Result<(), Fault> {
     match task {
@@ -61,8 +61,9 @@ fn perform<N: DriverNaming + Send + Sync + 'static, R: Machine>(
 }
 
 /// A client attaches, and the task is done. Then the driver stops, whatever came of it.
-fn attached<N: DriverNaming + Send + Sync + 'static, R: Machine>(
+fn attached<N: DriverNaming + Send + Sync + 'static, R: Machine, F: Disk>(
     rt: R,
+    files: F,
     driver: OwnDriver<N, R>,
     notes: Arc<Notes>,
     work: Work,
@@ -76,7 +77,7 @@ fn attached<N: DriverNaming + Send + Sync + 'static, R: Machine>(
     } = work;
     match driver.client(principal) {
         Ok(client) => {
-            let mut station = Station::new(rt, driver, client, notes, chores);
+            let mut station = Station::new(rt, files, driver, client, notes, chores);
             let done = perform(&mut station, &task);
             let (driver, client) = station.into_parts();
             let mut clients = Vec::new(rt.alloc());
@@ -106,8 +107,9 @@ fn watched<R: Machine>(
 }
 
 /// A driver starts from these parts.
-fn started<N: DriverNaming + Send + Sync + 'static, R: Machine>(
+fn started<N: DriverNaming + Send + Sync + 'static, R: Machine, F: Disk>(
     rt: R,
+    files: F,
     parts: Parts,
     work: Work,
 ) -> Result<(), Fault>
@@ -123,14 +125,15 @@ fn started<N: DriverNaming + Send + Sync + 'static, R: Machine>(
     let clock = MachineClock::new(rt);
     let started: Result<OwnDriver<N, R>, _> = Driver::start(rt, rt.alloc(), parts, wire, clock);
     match started {
-        Ok(driver) => attached(rt, driver, notes, work),
+        Ok(driver) => attached(rt, files, driver, notes, work),
         Err(fault) => Err(Fault::Start(fault)),
     }
 }
 
 /// Starts a driver with sockets of the system and one client, and does the work with them.
-pub(crate) fn with_client<R: Machine>(
+pub(crate) fn with_client<R: Machine, F: Disk>(
     rt: R,
+    files: F,
     settings: Settings,
     policy: Policy,
     peers: &[Peer],
@@ -139,7 +142,7 @@ pub(crate) fn with_client<R: Machine>(
     requires { AreSettings settings }
 {
     match Parts::make(&rt, rt.alloc(), settings, policy, peers) {
-        Ok(parts) => started::<Brand, R>(rt, parts, work),
+        Ok(parts) => started::<Brand, R, F>(rt, files, parts, work),
         Err(fault) => Err(Fault::Make(fault)),
     }
 }

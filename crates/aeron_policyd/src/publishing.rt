@@ -2,7 +2,7 @@
 
 use crate::fault::Fault;
 use crate::input::Input;
-use crate::machine::Machine;
+use crate::machine::{Disk, Machine};
 use crate::station::{Station, pause};
 use media_driver::{DriverNaming, OfferFault};
 use message_lines::{Cut, Sent};
@@ -51,7 +51,10 @@ impl Progress {
     }
 
     /// The line that says so.
-    fn print<N: DriverNaming + Send + Sync + 'static, R: Machine>(&self, station: &Station<N, R>) {
+    fn print<N: DriverNaming + Send + Sync + 'static, R: Machine, F: Disk>(
+        &self,
+        station: &Station<N, R, F>,
+    ) {
         let sent = Sent {
             messages: self.messages,
             bytes: self.bytes,
@@ -110,7 +113,7 @@ fn wait_on<R: Machine>(
     Ok(())
 }
 
-impl<N: DriverNaming + Send + Sync + 'static, R: Machine> Station<N, R> {
+impl<N: DriverNaming + Send + Sync + 'static, R: Machine, F: Disk> Station<N, R, F> {
     /// The first message that is left is offered, if there is one. Whether anything was done.
     fn offer_next(
         &mut self,

@@ -5,7 +5,7 @@ ghost use Rattle.std.specs.Prelude.{IfOk};
 
 use crate::fault::Fault;
 use crate::files::policy_bytes;
-use crate::machine::Machine;
+use crate::machine::{Disk, Machine};
 use crate::one_client::{Task, Work, with_client};
 use crate::options::{endpoint_of, owned, peers_of, publisher_address, settings_of};
 use crate::publishing::Publishing;
@@ -86,8 +86,9 @@ fn chores_of<R: Machine>(
 }
 
 /// Starts a driver under the policy in the file, and does the task.
-fn begin<R: Machine>(
+fn begin<R: Machine, F: Disk>(
     rt: &R,
+    files: &F,
     talk: &Talk<'_>,
     settings: Settings,
     reception: Option<Reception>,
@@ -96,7 +97,7 @@ fn begin<R: Machine>(
     requires { AreSettings settings }
 {
     let names = principals(rt.alloc())?;
-    let text = policy_bytes(rt, talk.policy)?;
+    let text = policy_bytes(files, talk.policy)?;
     let policy = policy_in(rt.alloc(), text.as_slice(), &names)?;
     let Some(principal) = names.number_of(talk.principal) else {
         return Err(Fault::UnknownPrincipal);
@@ -109,12 +110,13 @@ fn begin<R: Machine>(
         reception,
         task,
     };
-    with_client(*rt, settings, policy, peers.as_slice(), work)
+    with_client(*rt, *files, settings, policy, peers.as_slice(), work)
 }
 
 /// Standard input goes out as messages.
-fn publish<R: Machine>(
+fn publish<R: Machine, F: Disk>(
     rt: &R,
+    files: &F,
     talk: &Talk<'_>,
     by: Cut,
     wait: u64,
@@ -130,12 +132,13 @@ fn publish<R: Machine>(
         wait: seconds(wait),
         linger: seconds(linger),
     });
-    begin(rt, talk, settings, None, task)
+    begin(rt, files, talk, settings, None, task)
 }
 
 /// Messages that come are printed.
-fn subscribe<R: Machine>(
+fn subscribe<R: Machine, F: Disk>(
     rt: &R,
+    files: &F,
     talk: &Talk<'_>,
     count: Option<u64>,
     raw: bool,
@@ -161,11 +164,11 @@ fn subscribe<R: Machine>(
         until_gone,
         status_interval: settings.status_interval,
     });
-    begin(rt, talk, settings, reception, task)
+    begin(rt, files, talk, settings, reception, task)
 }
 
 /// Tries a driver with one client that sends itself a message.
-fn run<R: Machine>(rt: &R, policy: &str, tries: u64) -> Result<(), Fault> {
+fn run<R: Machine, F: Disk>(rt: &R, files: &F, policy: &str, tries: u64) -> Result<(), Fault> {
     let talk = Talk {
         policy,
         principal: "p1",
@@ -176,25 +179,32 @@ fn run<R: Machine>(rt: &R, policy: &str, tries: u64) -> Result<(), Fault> {
         reload_every: None,
         stats: false,
     };
-    begin(rt, &talk, Settings::default(), None, Task::TryOut { tries })?;
+    begin(
+        rt,
+        files,
+        &talk,
+        Settings::default(),
+        None,
+        Task::TryOut { tries },
+    )?;
     say(rt, "stopped")
 }
 
 /// Does what a subcommand that starts a driver is asked to do.
-pub(crate) fn start<R: Machine>(rt: &R, asked: Start<'_>) -> Result<(), Fault> {
+pub(crate) fn start<R: Machine, F: Disk>(rt: &R, files: &F, asked: Start<'_>) -> Result<(), Fault> {
     match asked {
-        Start::Run { policy, tries } => run(rt, policy, tries),
+        Start::Run { policy, tries } => run(rt, files, policy, tries),
         Start::Publish {
             talk,
             by,
             wait,
             linger,
-        } => publish(rt, &talk, by, wait, linger),
+        } => publish(rt, files, &talk, by, wait, linger),
         Start::Subscribe {
             talk,
             count,
             raw,
             until_gone,
-        } => subscribe(rt, &talk, count, raw, until_gone),
+        } => subscribe(rt, files, &talk, count, raw, until_gone),
     }
 }

@@ -3,7 +3,7 @@
 
 use crate::fault::Fault;
 use crate::files::policy_bytes;
-use crate::machine::Machine;
+use crate::machine::{Disk, Machine};
 use crate::watched::Notes;
 use media_driver::{Client, ClientReply, Clock, Driver, DriverNaming, MachineClock, ReloadFault};
 use message_lines::Losses;
@@ -56,11 +56,12 @@ struct Due {
 }
 
 /// A driver with its one client.
-pub(crate) struct Station<N: DriverNaming, R: Machine> {
+pub(crate) struct Station<N: DriverNaming, R: Machine, F: Disk> {
     pub(crate) rt: R,
     pub(crate) driver: OwnDriver<N, R>,
     pub(crate) client: OwnClient<N, R>,
     pub(crate) notes: Arc<Notes>,
+    files: F,
     chores: Chores,
     due: Due,
 }
@@ -81,14 +82,15 @@ pub(crate) fn pause<R: Machine>(rt: &R, waited: u32) {
     }
 }
 
-impl<N: DriverNaming + Send + Sync + 'static, R: Machine> Station<N, R> {
+impl<N: DriverNaming + Send + Sync + 'static, R: Machine, F: Disk> Station<N, R, F> {
     pub(crate) fn new(
         rt: R,
+        files: F,
         driver: OwnDriver<N, R>,
         client: OwnClient<N, R>,
         notes: Arc<Notes>,
         chores: Chores,
-    ) -> Station<N, R> {
+    ) -> Station<N, R, F> {
         let now = MachineClock::new(rt).now();
         let reload = now.saturating_add(chores.reload_every.unwrap_or(u64::MAX));
         Station {
@@ -96,6 +98,7 @@ impl<N: DriverNaming + Send + Sync + 'static, R: Machine> Station<N, R> {
             driver,
             client,
             notes,
+            files,
             chores,
             due: Due {
                 keepalive: now,
@@ -112,6 +115,7 @@ impl<N: DriverNaming + Send + Sync + 'static, R: Machine> Station<N, R> {
             driver,
             client,
             notes: _,
+            files: _,
             chores: _,
             due: _,
         } = self;
@@ -174,7 +178,7 @@ impl<N: DriverNaming + Send + Sync + 'static, R: Machine> Station<N, R> {
             return Ok(());
         }
         self.due.reload = now.saturating_add(every);
-        match policy_bytes(&self.rt, self.chores.policy.as_str()) {
+        match policy_bytes(&self.files, self.chores.policy.as_str()) {
             Ok(bytes) => {
                 if bytes.as_slice() != self.chores.text.as_slice() {
                     self.put_in_force(bytes.as_slice())?;

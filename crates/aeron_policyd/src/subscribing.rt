@@ -1,7 +1,7 @@
 //! `subscribe`: the messages that come are printed.
 
 use crate::fault::Fault;
-use crate::machine::Machine;
+use crate::machine::{Disk, Machine};
 use crate::station::{SECOND, Station, pause};
 use driver_core::Reply;
 use driver_steps::FragmentCopies;
@@ -162,7 +162,7 @@ impl Inbox {
     }
 }
 
-impl<N: DriverNaming + Send + Sync + 'static, R: Machine> Station<N, R> {
+impl<N: DriverNaming + Send + Sync + 'static, R: Machine, F: Disk> Station<N, R, F> {
     /// The line that says what came.
     fn print_received(&self, inbox: &Inbox, images: usize) {
         let received = Received {
