@@ -1,3 +1,4 @@
+use crate::running_line::{self, Start};
 use clap::{Arg, ArgMatches, Command, value_parser};
 use std::alloc::{AllocError, Global};
 
@@ -181,6 +182,8 @@ pub enum Task<'a> {
     Script {
         file: &'a str,
     },
+    /// To start a driver.
+    Start(Start<'a>),
 }
 
 /// The argument that names a policy's file.
@@ -260,10 +263,13 @@ pub(crate) fn command<'a>(alloc: Global) -> Result<Command<'a>, AllocError> {
         .subcommand_required(true);
     let command = with(command, check(alloc))?;
     let command = with(command, decide(alloc))?;
-    with(command, script(alloc))
+    let command = with(command, script(alloc))?;
+    let command = with(command, running_line::run(alloc))?;
+    let command = with(command, running_line::publish(alloc))?;
+    with(command, running_line::subscribe(alloc))
 }
 
-fn decide_task<'a>(of: &ArgMatches<'a>) -> Option<Task<'a>> {
+fn decide_task<'m, 'a>(of: &'m ArgMatches<'a>) -> Option<Task<'m>> {
     Some(Task::Decide {
         policy: of.get_str("POLICY")?,
         principal: of.get_str("PRINCIPAL")?,
@@ -274,7 +280,7 @@ fn decide_task<'a>(of: &ArgMatches<'a>) -> Option<Task<'a>> {
 }
 
 /// What the words ask for, once they were found to be of the form.
-pub(crate) fn task_in<'a>(matches: &ArgMatches<'a>) -> Option<Task<'a>> {
+pub(crate) fn task_in<'m, 'a>(matches: &'m ArgMatches<'a>) -> Option<Task<'m>> {
     let (name, of) = matches.subcommand()?;
     if name == "check" {
         let policy = of.get_str("POLICY")?;
@@ -287,5 +293,8 @@ pub(crate) fn task_in<'a>(matches: &ArgMatches<'a>) -> Option<Task<'a>> {
         let file = of.get_str("FILE")?;
         return Some(Task::Script { file });
     }
-    None
+    match running_line::start_in(name, of) {
+        Some(start) => Some(Task::Start(start)),
+        None => None,
+    }
 }

@@ -1,7 +1,11 @@
+use crate::replies::RefusalText;
+use channel_uri::Address;
 use driver_script::RunFault;
+use media_driver::{MakeFault, PushFault, StartFault};
+use policy_core::Verdict;
 use policy_query::DecideFault;
 use policy_text::PolicyFault;
-use std::alloc::AllocError;
+use std::alloc::{AllocError, AllocFailed};
 use thiserror::Error;
 
 /// Why the program gave up.
@@ -15,12 +19,52 @@ pub enum Fault {
     Policy(PolicyFault),
     #[error("{0}")]
     Decide(DecideFault),
+    #[error("{0}")]
+    Make(MakeFault),
+    #[error("{0}")]
+    Start(StartFault),
+    #[error("no thread")]
+    NoThread,
+    #[error("no client")]
+    NoClient,
+    #[error("queue full")]
+    QueueFull,
+    #[error("unknown principal")]
+    UnknownPrincipal,
+    #[error("setting {0}: bad key or value")]
+    BadSetting(usize),
+    #[error("peer {0}: bad address or principal")]
+    BadPeer(usize),
+    #[error("aeron:ipc reaches no other process")]
+    Ipc,
+    #[error("a spy reads its own driver alone")]
+    Spy,
+    #[error("cannot open {0}")]
+    CannotOpen(Address),
+    #[error("{0}")]
+    Refused(RefusalText),
+    #[error("{0}")]
+    Denied(Verdict),
+    #[error("no subscriber")]
+    NoSubscriber,
+    #[error("back pressure")]
+    BackPressure,
+    #[error("message too long")]
+    TooLongMessage,
+    #[error("greatest position reached")]
+    MaxPosition,
+    #[error("no look")]
+    NoLook,
+    #[error("client gone")]
+    Closed,
 }
 
 impl Fault {
     pub const NO_MEMORY: Fault = Fault::Run(RunFault::NoMemory);
 
     pub const WRITE: Fault = Fault::Run(RunFault::Write);
+
+    pub const READ: Fault = Fault::Run(RunFault::Read);
 }
 
 impl From<RunFault> for Fault {
@@ -38,6 +82,33 @@ impl From<PolicyFault> for Fault {
 impl From<DecideFault> for Fault {
     fn from(fault: DecideFault) -> Fault {
         Fault::Decide(fault)
+    }
+}
+
+impl From<MakeFault> for Fault {
+    fn from(fault: MakeFault) -> Fault {
+        Fault::Make(fault)
+    }
+}
+
+impl From<StartFault> for Fault {
+    fn from(fault: StartFault) -> Fault {
+        Fault::Start(fault)
+    }
+}
+
+impl<T: Drop> From<AllocFailed<T>> for Fault {
+    fn from(_error: AllocFailed<T>) -> Fault {
+        Fault::NO_MEMORY
+    }
+}
+
+impl From<PushFault> for Fault {
+    fn from(fault: PushFault) -> Fault {
+        match fault {
+            PushFault::QueueFull => Fault::QueueFull,
+            PushFault::NoMemory => Fault::NO_MEMORY,
+        }
     }
 }
 

@@ -4,19 +4,36 @@
 //! the program ends with: 0, or 1 after a fault or a bad line of a script, or 2 where the command line is at fault.
 #![tactic(auto)]
 
+mod asking;
 mod command_line;
 mod fault;
+mod files;
+mod input;
+mod machine;
+mod one_client;
+mod options;
+mod publishing;
+mod replies;
+mod running;
+mod running_line;
+mod starting;
+mod station;
+mod subscribing;
+mod watched;
 
 use crate::command_line::{Task, command, task_in};
 use crate::fault::Fault;
+use crate::files::{open, policy_bytes};
+use crate::machine::{Disk, Machine};
+use crate::starting::start;
 use clap::ArgMatches;
 use clap::error::ErrorKind;
 use driver_script::script::Ended;
-use driver_script::{MayFail, read_input, script};
+use driver_script::{MayFail, script};
 use policy_query::{check, decide};
 use std::process::ExitCode;
 use std::rt::{Env, Files};
-use std::{env, fs, io};
+use std::{env, io};
 
 /// The status of a command line that is at fault.
 const USAGE: u8 = 2;
@@ -45,24 +62,9 @@ fn explain<R: Print + Eprint>(rt: &R, error: &clap::Error) -> Result<ExitCode, F
     })
 }
 
-/// Opens a file to read.
-fn open<R: Files + AllocGlobal>(rt: &R, path: &str) -> Result<R::File, Fault> {
-    match fs::open(rt, path) {
-        Ok(file) => Ok(file),
-        Err(error) if error.kind() == io::ErrorKind::OutOfMemory => Err(Fault::NO_MEMORY),
-        Err(_) => Err(Fault::CannotRead),
-    }
-}
-
-/// All bytes of a policy's file.
-fn policy_in<R: Files + AllocGlobal>(rt: &R, path: &str) -> Result<Vec<u8>, Fault> {
-    let mut file = MayFail(open(rt, path)?);
-    Ok(read_input(rt.alloc(), &mut file)?)
-}
-
 /// The line that says how many rules the policy in a file has.
 fn checked_in<R: Files + AllocGlobal>(rt: &R, path: &str) -> Result<String, Fault> {
-    let policy = policy_in(rt, path)?;
+    let policy = policy_bytes(rt, path)?;
     let checked = check(rt.alloc(), policy.as_slice())?;
     Ok(checked.to_string(rt.alloc())?)
 }
@@ -76,7 +78,7 @@ fn verdict_in<R: Files + AllocGlobal>(
     channel: &str,
     stream: i32,
 ) -> Result<String, Fault> {
-    let policy = policy_in(rt, path)?;
+    let policy = policy_bytes(rt, path)?;
     let verdict = decide(
         rt.alloc(),
         policy.as_slice(),
@@ -97,8 +99,8 @@ fn print_line<R: Print>(rt: &R, line: &str) -> Result<ExitCode, Fault> {
 }
 
 /// Runs the script in a file to standard output.
-fn run_script<R: Files + Print + AllocGlobal>(rt: &R, path: &str) -> Result<ExitCode, Fault> {
-    let mut file = MayFail(open(rt, path)?);
+fn run_script<R: Machine, F: Disk>(rt: &R, files: &F, path: &str) -> Result<ExitCode, Fault> {
+    let mut file = MayFail(open(files, path)?);
     let ended = script::run(rt.alloc(), &mut file, &mut MayFail(io::writer(rt)))?;
     Ok(match ended {
         Ended::Done => ExitCode::SUCCESS,
@@ -107,9 +109,9 @@ fn run_script<R: Files + Print + AllocGlobal>(rt: &R, path: &str) -> Result<Exit
 }
 
 /// Does a task.
-fn perform<R: Files + Print + AllocGlobal>(rt: &R, task: Task<'_>) -> Result<ExitCode, Fault> {
+fn perform<R: Machine, F: Disk>(rt: &R, files: &F, task: Task<'_>) -> Result<ExitCode, Fault> {
     match task {
-        Task::Check { policy } => print_line(rt, checked_in(rt, policy)?.as_str()),
+        Task::Check { policy } => print_line(rt, checked_in(files, policy)?.as_str()),
         Task::Decide {
             policy,
             principal,
@@ -118,45 +120,47 @@ fn perform<R: Files + Print + AllocGlobal>(rt: &R, task: Task<'_>) -> Result<Exi
             stream,
         } => print_line(
             rt,
-            verdict_in(rt, policy, principal, act, channel, stream)?.as_str(),
+            verdict_in(files, policy, principal, act, channel, stream)?.as_str(),
         ),
-        Task::Script { file } => run_script(rt, file),
+        Task::Script { file } => run_script(rt, files, file),
+        Task::Start(asked) => {
+            start(rt, files, asked)?;
+            Ok(ExitCode::SUCCESS)
+        }
     }
 }
 
 /// Does what the words of the command line were found to say.
-fn obey<R: Files + Print + AllocGlobal>(
+fn obey<R: Machine, F: Disk>(
     rt: &R,
+    files: &F,
     matches: &ArgMatches<'_>,
 ) -> Result<ExitCode, Fault> {
     match task_in(matches) {
-        Some(task) => perform(rt, task),
+        Some(task) => perform(rt, files, task),
         None => Ok(ExitCode::from(USAGE)),
     }
 }
 
 /// Does what the words of the command line say.
-fn answer<R: Files + Print + Eprint + AllocGlobal>(
-    rt: &R,
-    words: &[String],
-) -> Result<ExitCode, Fault> {
+fn answer<R: Machine, F: Disk>(rt: &R, files: &F, words: &[String]) -> Result<ExitCode, Fault> {
     match command(rt.alloc())?.try_get_matches_from(words) {
-        Ok(matches) => obey(rt, &matches),
+        Ok(matches) => obey(rt, files, &matches),
         Err(error) => explain(rt, &error),
     }
 }
 
 /// Does what the command line says.
-fn serve<R: Env + Files + Print + Eprint + AllocGlobal>(rt: &R) -> Result<ExitCode, Fault> {
-    let Some(words) = words(rt)? else {
+fn serve<R: Machine, F: Disk + Env>(rt: &R, files: &F) -> Result<ExitCode, Fault> {
+    let Some(words) = words(files)? else {
         let _ = rt.eprintln("error: invalid UTF-8 was detected in one or more arguments");
         return Ok(ExitCode::from(USAGE));
     };
-    answer(rt, words.as_slice())
+    answer(rt, files, words.as_slice())
 }
 
 fn main(rt: HostRuntime) -> ExitCode {
-    match serve(&rt) {
+    match serve(&rt, &rt) {
         Ok(status) => status,
         Err(fault) => {
             let _ = eprintln!(rt; "aeron_policyd: {fault}");

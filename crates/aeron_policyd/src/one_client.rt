@@ -1,0 +1,148 @@
+//! A driver starts with one client, does its work, and stops.
+
+ghost use Rattle.driver_core.specs.Soundness.{AreSettings};
+ghost use Rattle.media_driver.specs.Parts.{AreNamed};
+
+use crate::fault::Fault;
+use crate::machine::{Disk, Machine};
+use crate::publishing::Publishing;
+use crate::running::try_out;
+use crate::station::{Chores, OwnDriver, Station};
+use crate::subscribing::Subscribing;
+use crate::watched::{Notes, Reception, Watched};
+use driver_core::{Peer, Settings};
+use media_driver::{AttachFault, Driver, DriverNaming, MachineClock, Parts};
+use media_wire::Udp;
+use policy_core::Policy;
+use std::alloc::AllocError;
+use std::marker::Brand;
+use std::sync::Arc;
+
+/// How many sockets may be open at once: the send address and an endpoint for each subscription.
+const SOCKETS: usize = 513;
+
+/// What is done with the driver and its client.
+#[derive(Drop)]
+pub(crate) enum Task {
+    /// The client sends itself a message, and each of its waits ends after so many tries.
+    TryOut { tries: u64 },
+    Publish(Publishing),
+    Subscribe(Subscribing),
+}
+
+/// What is done, for whom, and what beside it.
+#[derive(Drop)]
+pub(crate) struct Work {
+    pub(crate) principal: u32,
+    pub(crate) chores: Chores,
+    /// Where the driver receives, if it only does.
+    pub(crate) reception: Option<Reception>,
+    pub(crate) task: Task,
+}
+
+/// Why no client attached.
+fn refused(fault: AttachFault) -> Fault {
+    match fault {
+        AttachFault::NoMemory => Fault::NO_MEMORY,
+        AttachFault::Full | AttachFault::Stopped => Fault::NoClient,
+    }
+}
+
+/// Does the task.
+fn perform<N: DriverNaming + Send + Sync + 'static, R: Machine, F: Disk>(
+    station: &mut Station<N, R, F>,
+    task: &Task,
+) -> Result<(), Fault> {
+    match task {
+        Task::TryOut { tries } => try_out(&station.rt, &mut station.client, *tries),
+        Task::Publish(asked) => station.publish(asked),
+        Task::Subscribe(asked) => station.subscribe(asked),
+    }
+}
+
+/// A client attaches, and the task is done. Then the driver stops, whatever came of it.
+fn attached<N: DriverNaming + Send + Sync + 'static, R: Machine, F: Disk>(
+    rt: R,
+    files: F,
+    driver: OwnDriver<N, R>,
+    notes: Arc<Notes>,
+    work: Work,
+) -> Result<(), Fault> {
+    let mut driver = driver;
+    let Work {
+        principal,
+        chores,
+        reception: _,
+        task,
+    } = work;
+    match driver.client(principal) {
+        Ok(client) => {
+            let mut station = Station::new(rt, files, driver, client, notes, chores);
+            let done = perform(&mut station, &task);
+            let (driver, client) = station.into_parts();
+            let mut clients = Vec::new(rt.alloc());
+            let _ = clients.push(client);
+            driver.stop(clients);
+            done
+        }
+        Err(fault) => {
+            driver.stop(Vec::new(rt.alloc()));
+            Err(refused(fault))
+        }
+    }
+}
+
+/// The sockets of the system, with notes of what goes over them.
+fn watched<R: Machine>(
+    rt: R,
+    reception: Option<Reception>,
+) -> Result<(Watched<Udp<R>>, Arc<Notes>), AllocError> {
+    let wire = Udp::new(rt.alloc(), rt, SOCKETS)?;
+    let notes = match Arc::new(rt.alloc(), Notes::new()) {
+        Ok(notes) => notes,
+        Err(_) => return Err(AllocError),
+    };
+    let theirs = Arc::try_clone(&notes)?;
+    Ok((Watched::new(wire, theirs, reception), notes))
+}
+
+/// A driver starts from these parts.
+fn started<N: DriverNaming + Send + Sync + 'static, R: Machine, F: Disk>(
+    rt: R,
+    files: F,
+    parts: Parts,
+    work: Work,
+) -> Result<(), Fault>
+    requires { AreNamed N.home N.client_ledger N.client_parts N.slot_ledger N.slot_parts N.book parts }
+{
+    let (wire, notes) = match watched(rt, work.reception) {
+        Ok(made) => made,
+        Err(_) => {
+            parts.end(&rt);
+            return Err(Fault::NO_MEMORY);
+        }
+    };
+    let clock = MachineClock::new(rt);
+    let started: Result<OwnDriver<N, R>, _> = Driver::start(rt, rt.alloc(), parts, wire, clock);
+    match started {
+        Ok(driver) => attached(rt, files, driver, notes, work),
+        Err(fault) => Err(Fault::Start(fault)),
+    }
+}
+
+/// Starts a driver with sockets of the system and one client, and does the work with them.
+pub(crate) fn with_client<R: Machine, F: Disk>(
+    rt: R,
+    files: F,
+    settings: Settings,
+    policy: Policy,
+    peers: &[Peer],
+    work: Work,
+) -> Result<(), Fault>
+    requires { AreSettings settings }
+{
+    match Parts::make(&rt, rt.alloc(), settings, policy, peers) {
+        Ok(parts) => started::<Brand, R, F>(rt, files, parts, work),
+        Err(fault) => Err(Fault::Make(fault)),
+    }
+}

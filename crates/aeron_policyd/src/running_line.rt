@@ -1,0 +1,362 @@
+//! The words of the subcommands that start a driver: `run`.
+
+use clap::{Arg, ArgAction, ArgMatches, Command, value_parser};
+use message_lines::Cut;
+use std::alloc::{AllocError, Global};
+
+/// What `run` says.
+const RUN: &str = "\
+Example: p1 may do all that it asks for, so it receives the five bytes that it sends.
+
+  $ aeron_policyd run --policy open.toml --turns 1000000
+  subscription ready
+  publication ready
+  received 68656c6c6f
+  stopped
+
+A driver starts, on threads of its own and with UDP sockets, and one client of p1 attaches to it. The client subscribes to
+`aeron:ipc`, stream 1001, publishes there, offers `hello` and polls. Where its subscription or its publication is refused,
+the refusal stands in place of `ready`. Each wait is given up after N tries, between which other threads may run.
+
+Status: 0, whatever the policy denies and whatever came of the waits; 1 after `aeron_policyd: FAULT` on standard error:
+cannot read file, read failed, too long, the first fault of the policy, write failed, no memory, no pass or no thread; 2
+for a command line that is at fault.";
+
+/// What `publish` says.
+const PUBLISH: &str = "\
+Example: what goes through shared memory reaches no other process.
+
+  $ aeron_policyd publish --policy open.toml aeron:ipc 10
+  aeron_policyd: aeron:ipc reaches no other process
+
+On one terminal a subscriber waits for two lines, and prints them:
+
+  aeron_policyd subscribe --policy open.toml --count 2 'aeron:udp?endpoint=127.0.0.1:40123' 10
+
+On another one, two lines are sent:
+
+  printf 'hello\\nworld\\n' | aeron_policyd publish --policy open.toml 'aeron:udp?endpoint=127.0.0.1:40123' 10
+
+A driver starts, on threads of its own and with UDP sockets, and one client attaches to it and adds the publication. Each
+line of standard input is offered as a message, without its line feed. While nobody subscribes, or a subscriber is behind,
+a message waits. At the end the driver goes on until a subscriber has taken all, or for --linger seconds. Then the last
+line on standard error says what went:
+
+  sent 2 messages 10 bytes position 128 consumed 128 naks 0 resent 0 bad 0 failed 0
+
+It gives the position after the last message, and the one up to which a subscriber said that it took them; how many NAKs
+came, and how many datagrams of data were sent again; how many datagrams came that are none of the protocol, and how many
+sends and reads failed. --stats prints that line every second.
+
+The driver sends from `send-address`. Where no --setting names another one, that is 127.0.0.1:40000, or 0.0.0.0:40000 where
+the endpoint is on another host. Each publisher of a host needs an address of its own. The policy is asked about the acts
+publish, offer and send of the client's principal, and about retransmit of the principal that --peer binds to the
+subscriber's endpoint; an address that nobody is bound to is nobody's. Sessions begin at a number that is drawn at each
+start, if no setting `first-session` is given.
+
+Status: 0; 1 after `aeron_policyd: FAULT` on standard error; 2 for a command line that is at fault. Faults are those of
+`run`, and: unknown principal; setting N: bad key or value; peer N: bad address or principal; aeron:ipc reaches no other
+process; cannot open ADDR; the refusal of the publication or of an offer, such as `denied by rule 3 in policy 1`; no
+subscriber, or back pressure, after --wait seconds; message too long; greatest position reached; queue full; no client;
+client gone; no look.";
+
+/// What `subscribe` says.
+const SUBSCRIBE: &str = "\
+Example: a spy reads what the driver of its own process publishes, and nothing else.
+
+  $ aeron_policyd subscribe --policy open.toml 'aeron-spy:aeron:udp?endpoint=127.0.0.1:40123' 10
+  aeron_policyd: a spy reads its own driver alone
+
+The help of `publish` has two terminals that talk.
+
+A driver starts, on threads of its own and with UDP sockets, and one client attaches to it and adds the subscription. Each
+message that comes is printed on a line, at once; its fragments are joined. It ends after --count messages, with
+--until-gone when the last publisher that it heard has been silent for `image-liveness`, or when it is interrupted: then
+nothing is lost but what was not printed yet. At the end a line on standard error says what came, as --stats does every
+second:
+
+  received 2 messages 10 bytes position 128 images 1 naks 0 resent 0 bad 0 failed 0
+
+It gives the position after the last fragment, how many streams are read, how many NAKs were sent, how many datagrams came
+that are none of the protocol, and how many sends and reads failed.
+
+The driver reads at the channel's endpoint, which has to be an address of this host, and sends from there. Each subscriber
+of a host needs an endpoint of its own. The policy is asked about the acts subscribe, image and receive of the client's
+principal. With subscribe and without image nothing comes, and no fault says so.
+
+Status: 0; 1 after `aeron_policyd: FAULT` on standard error; 2 for a command line that is at fault. Faults are those of
+`publish`, and: a spy reads its own driver alone; the denial of a poll.";
+
+/// What `publish` and `subscribe` have in common.
+#[derive(Clone, Copy)]
+pub struct Talk<'a> {
+    /// The policy's file.
+    pub policy: &'a str,
+    /// For whom the client acts.
+    pub principal: &'a str,
+    /// Words `KEY=VALUE`.
+    pub settings: &'a [&'a str],
+    /// Words `ADDR=PRINCIPAL`.
+    pub peers: &'a [&'a str],
+    pub channel: &'a str,
+    pub stream: i32,
+    /// After how many seconds the policy's file is read again, if it is.
+    pub reload_every: Option<u64>,
+    /// Whether figures are printed every second.
+    pub stats: bool,
+}
+
+/// What a subcommand that starts a driver is asked to do.
+#[derive(Clone, Copy)]
+pub enum Start<'a> {
+    /// To try a driver with one client that sends itself a message.
+    Run {
+        policy: &'a str,
+        tries: u64,
+    },
+    /// To send standard input as messages.
+    Publish {
+        talk: Talk<'a>,
+        by: Cut,
+        /// How many seconds a message may wait.
+        wait: u64,
+        /// How many seconds the last messages may wait to be consumed.
+        linger: u64,
+    },
+    /// To print messages that come.
+    Subscribe {
+        talk: Talk<'a>,
+        count: Option<u64>,
+        raw: bool,
+        until_gone: bool,
+    },
+}
+
+/// The option that names a policy's file.
+fn policy_option<'a>(alloc: Global) -> Arg<'a> {
+    Arg::new(alloc, "policy")
+        .long("policy")
+        .value_name("POLICY")
+        .required(true)
+        .help("The policy's file, of at most 16,777,216 bytes")
+}
+
+fn turns<'a>(alloc: Global) -> Arg<'a> {
+    Arg::new(alloc, "turns")
+        .long("turns")
+        .value_name("N")
+        .required(true)
+        .value_parser(value_parser!(u64))
+        .help("After how many tries each wait is given up")
+}
+
+/// The words of `run`.
+pub(crate) fn run<'a>(alloc: Global) -> Result<Command<'a>, AllocError> {
+    Command::new(alloc, "run")
+        .about("Starts a driver with one client, which sends itself a message")
+        .after_help(RUN)
+        .arg(policy_option(alloc))?
+        .arg(turns(alloc))
+}
+
+fn principal<'a>(alloc: Global) -> Arg<'a> {
+    Arg::new(alloc, "as")
+        .long("as")
+        .value_name("PRINCIPAL")
+        .default_value("p1")
+        .help("For whom the client acts: nobody, or p1 to p63")
+}
+
+fn setting<'a>(alloc: Global) -> Arg<'a> {
+    Arg::new(alloc, "setting")
+        .long("setting")
+        .value_name("KEY=VALUE")
+        .action(ArgAction::Append)
+        .help(
+            "A setting of the driver, as a script's `set` has it; may be given again for other keys",
+        )
+}
+
+fn peer<'a>(alloc: Global) -> Arg<'a> {
+    Arg::new(alloc, "peer")
+        .long("peer")
+        .value_name("ADDR=PRINCIPAL")
+        .action(ArgAction::Append)
+        .help(
+            "Who sends from this address is this principal; may be given again for other addresses",
+        )
+}
+
+fn reload_every<'a>(alloc: Global) -> Arg<'a> {
+    Arg::new(alloc, "reload-every")
+        .long("reload-every")
+        .value_name("SECONDS")
+        .value_parser(value_parser!(u64).range(1..=1_000_000_000))
+        .help(
+            "Reads the policy's file again after so many seconds each time, and puts it in force where it changed",
+        )
+}
+
+fn stats<'a>(alloc: Global) -> Arg<'a> {
+    Arg::new(alloc, "stats")
+        .long("stats")
+        .action(ArgAction::SetTrue)
+        .help("Prints figures every second, on standard error")
+}
+
+fn channel<'a>(alloc: Global) -> Arg<'a> {
+    Arg::new(alloc, "CHANNEL")
+        .required(true)
+        .help("The channel, such as aeron:udp?endpoint=127.0.0.1:40123")
+}
+
+fn stream<'a>(alloc: Global) -> Arg<'a> {
+    Arg::new(alloc, "STREAM")
+        .required(true)
+        .value_parser(value_parser!(i32).range(0..))
+        .help("The stream, 0 to 2147483647")
+}
+
+/// The words that `publish` and `subscribe` have in common.
+fn with_talk<'a>(alloc: Global, command: Command<'a>) -> Result<Command<'a>, AllocError> {
+    command
+        .arg(policy_option(alloc))?
+        .arg(principal(alloc))?
+        .arg(setting(alloc))?
+        .arg(peer(alloc))?
+        .arg(reload_every(alloc))?
+        .arg(stats(alloc))?
+        .arg(channel(alloc))?
+        .arg(stream(alloc))
+}
+
+fn bytes<'a>(alloc: Global) -> Arg<'a> {
+    Arg::new(alloc, "bytes")
+        .long("bytes")
+        .value_name("N")
+        .value_parser(value_parser!(u64).range(1..=16_777_216))
+        .help("Each N bytes are a message, in place of each line")
+}
+
+fn wait<'a>(alloc: Global) -> Arg<'a> {
+    Arg::new(alloc, "wait")
+        .long("wait")
+        .value_name("SECONDS")
+        .default_value("10")
+        .value_parser(value_parser!(u64).range(0..=1_000_000_000))
+        .help("How long a message may wait for a subscriber, or for one that is behind")
+}
+
+fn linger<'a>(alloc: Global) -> Arg<'a> {
+    Arg::new(alloc, "linger")
+        .long("linger")
+        .value_name("SECONDS")
+        .default_value("5")
+        .value_parser(value_parser!(u64).range(0..=1_000_000_000))
+        .help("How long the last messages may wait until a subscriber has taken them")
+}
+
+/// The words of `publish`.
+pub(crate) fn publish<'a>(alloc: Global) -> Result<Command<'a>, AllocError> {
+    let command = Command::new(alloc, "publish")
+        .about("Sends standard input to subscribers, each line as a message")
+        .after_help(PUBLISH);
+    with_talk(alloc, command)?
+        .arg(bytes(alloc))?
+        .arg(wait(alloc))?
+        .arg(linger(alloc))
+}
+
+fn count<'a>(alloc: Global) -> Arg<'a> {
+    Arg::new(alloc, "count")
+        .long("count")
+        .value_name("N")
+        .value_parser(value_parser!(u64).range(1..))
+        .help("Ends after N messages")
+}
+
+fn raw<'a>(alloc: Global) -> Arg<'a> {
+    Arg::new(alloc, "raw")
+        .long("raw")
+        .action(ArgAction::SetTrue)
+        .help("Prints messages as they are, with no line feed after each")
+}
+
+fn until_gone<'a>(alloc: Global) -> Arg<'a> {
+    Arg::new(alloc, "until-gone")
+        .long("until-gone")
+        .action(ArgAction::SetTrue)
+        .help("Ends when no publisher that it heard is there any more")
+}
+
+/// The words of `subscribe`.
+pub(crate) fn subscribe<'a>(alloc: Global) -> Result<Command<'a>, AllocError> {
+    let command = Command::new(alloc, "subscribe")
+        .about("Prints the messages of publishers, each on a line")
+        .after_help(SUBSCRIBE);
+    with_talk(alloc, command)?
+        .arg(count(alloc))?
+        .arg(raw(alloc))?
+        .arg(until_gone(alloc))
+}
+
+/// What `publish` and `subscribe` have in common.
+fn talk_in<'m, 'a>(of: &'m ArgMatches<'a>) -> Option<Talk<'m>> {
+    Some(Talk {
+        policy: of.get_str("policy")?,
+        principal: of.get_str("as")?,
+        settings: of.get_strs("setting").unwrap_or(&[]),
+        peers: of.get_strs("peer").unwrap_or(&[]),
+        channel: of.get_str("CHANNEL")?,
+        stream: of.get_one::<i32>("STREAM")?,
+        reload_every: of.get_one::<u64>("reload-every"),
+        stats: of.get_flag("stats"),
+    })
+}
+
+/// How `publish` cuts its input.
+fn cut_in(of: &ArgMatches<'_>) -> Cut {
+    match of.get_one::<u64>("bytes") {
+        Some(length) => Cut::Pieces(length as usize),
+        None => Cut::Lines,
+    }
+}
+
+fn publish_in<'m, 'a>(of: &'m ArgMatches<'a>) -> Option<Start<'m>> {
+    Some(Start::Publish {
+        talk: talk_in(of)?,
+        by: cut_in(of),
+        wait: of.get_one::<u64>("wait")?,
+        linger: of.get_one::<u64>("linger")?,
+    })
+}
+
+fn subscribe_in<'m, 'a>(of: &'m ArgMatches<'a>) -> Option<Start<'m>> {
+    Some(Start::Subscribe {
+        talk: talk_in(of)?,
+        count: of.get_one::<u64>("count"),
+        raw: of.get_flag("raw"),
+        until_gone: of.get_flag("until-gone"),
+    })
+}
+
+fn run_in<'m, 'a>(of: &'m ArgMatches<'a>) -> Option<Start<'m>> {
+    Some(Start::Run {
+        policy: of.get_str("policy")?,
+        tries: of.get_one::<u64>("turns")?,
+    })
+}
+
+/// What the words of a subcommand that starts a driver ask for, once they were found to be of the form.
+pub(crate) fn start_in<'m, 'a>(name: &str, of: &'m ArgMatches<'a>) -> Option<Start<'m>> {
+    if name == "run" {
+        return run_in(of);
+    }
+    if name == "publish" {
+        return publish_in(of);
+    }
+    if name == "subscribe" {
+        return subscribe_in(of);
+    }
+    None
+}

@@ -1,0 +1,256 @@
+//! A wire that notes what goes over it: how far a subscriber has come, and what was lost and sent again.
+
+ghost use Rattle.media_wire.specs.Events.{Event, counted};
+ghost use Rattle.std.specs.Prelude.{◌≡◌, ◌+◌, ◌-◌, ◌^◌, List, min};
+
+use channel_uri::Address;
+use frame_codec::{Datagram, Flags, Frames, Packet, Setup, StatusMessage, position};
+use media_wire::{Wire, WireFault};
+use std::sync::Arc;
+use std::sync::atomic::{AtomicU64, Ordering};
+
+/// What went over a wire so far, as threads share it.
+#[derive(Drop)]
+pub(crate) struct Notes {
+    /// How many NAKs came.
+    naks: AtomicU64,
+    /// How many NAKs went.
+    asked: AtomicU64,
+    /// How many datagrams of data went again.
+    resent: AtomicU64,
+    /// How many datagrams came that are none of the protocol.
+    bad: AtomicU64,
+    /// How many sends and reads failed.
+    failed: AtomicU64,
+    /// Up to which position a subscriber has taken the last stream that was announced.
+    consumed: AtomicU64,
+}
+
+/// One more.
+fn count(number: &AtomicU64) {
+    number.fetch_add(1, Ordering::SeqCst);
+}
+
+impl Notes {
+    pub(crate) fn new() -> Notes {
+        Notes {
+            naks: AtomicU64::new(0),
+            asked: AtomicU64::new(0),
+            resent: AtomicU64::new(0),
+            bad: AtomicU64::new(0),
+            failed: AtomicU64::new(0),
+            consumed: AtomicU64::new(0),
+        }
+    }
+
+    pub(crate) fn naks(&self) -> u64 {
+        self.naks.load(Ordering::SeqCst)
+    }
+
+    pub(crate) fn asked(&self) -> u64 {
+        self.asked.load(Ordering::SeqCst)
+    }
+
+    pub(crate) fn resent(&self) -> u64 {
+        self.resent.load(Ordering::SeqCst)
+    }
+
+    pub(crate) fn bad(&self) -> u64 {
+        self.bad.load(Ordering::SeqCst)
+    }
+
+    pub(crate) fn failed(&self) -> u64 {
+        self.failed.load(Ordering::SeqCst)
+    }
+
+    pub(crate) fn consumed(&self) -> u64 {
+        self.consumed.load(Ordering::SeqCst)
+    }
+}
+
+/// What is known of the streams that are sent.
+#[derive(Drop)]
+struct Watch {
+    notes: Arc<Notes>,
+    /// The last SETUP that was sent: it announces the stream whose consumption is noted.
+    setup: Option<Setup>,
+    /// The greatest position at which data was sent.
+    reached: u64,
+}
+
+impl Watch {
+    /// The position of a byte of the stream that was announced.
+    fn position_of(&self, session: i32, stream: i32, term: i32, offset: u32) -> Option<u64> {
+        let setup = self.setup?;
+        if setup.session_id == session && setup.stream_id == stream {
+            let term_length = setup.term_length.cast_unsigned();
+            Some(position(setup.initial_term_id, term, offset, term_length))
+        } else {
+            None
+        }
+    }
+
+    /// Data is sent: again, where it stands before data that was sent.
+    fn note_data(&mut self, frames: Frames<'_>) {
+        let mut frames = frames;
+        let Some(frame) = frames.next() else {
+            return;
+        };
+        let place = frame.header.place;
+        let Some(at) = self.position_of(
+            place.session_id,
+            place.stream_id,
+            place.term_id,
+            place.term_offset,
+        ) else {
+            return;
+        };
+        if at < self.reached {
+            count(&self.notes.resent);
+        } else {
+            self.reached = at;
+        }
+    }
+
+    /// A datagram was sent.
+    fn note_sent(&mut self, bytes: &[u8]) {
+        match Datagram::read(bytes) {
+            Ok(Packet::Data(frames)) => self.note_data(frames),
+            Ok(Packet::Setup(setup)) => self.setup = Some(setup),
+            Ok(Packet::Nak(_)) => count(&self.notes.asked),
+            _ => {}
+        }
+    }
+
+    /// A subscriber says how far it has come.
+    fn note_status(&self, status: &StatusMessage) {
+        if status.flags.asks_for_setup() {
+            return;
+        }
+        let Some(at) = self.position_of(
+            status.session_id,
+            status.stream_id,
+            status.consumption_term_id,
+            status.consumption_term_offset,
+        ) else {
+            return;
+        };
+        if at > self.notes.consumed() {
+            self.notes.consumed.store(at, Ordering::SeqCst);
+        }
+    }
+
+    /// A datagram came.
+    fn note_read(&self, bytes: &[u8]) {
+        match Datagram::read(bytes) {
+            Ok(Packet::Sm(status)) => self.note_status(&status),
+            Ok(Packet::Nak(_)) => count(&self.notes.naks),
+            Ok(_) => {}
+            Err(_) => count(&self.notes.bad),
+        }
+    }
+}
+
+/// Where a driver that only receives does so.
+#[derive(Clone, Copy)]
+pub(crate) struct Reception {
+    /// Where the datagrams of its subscription arrive.
+    pub(crate) endpoint: Address,
+    /// From where the driver would send.
+    pub(crate) send_address: Address,
+}
+
+/// A wire that notes what goes over it.
+///
+/// What a driver that only receives sends, NAKs and status messages, goes out from the endpoint at which it reads: a
+/// publisher sends again to the address that the NAK came from. Its own send address is not used, and nothing comes there.
+#[derive(Drop)]
+pub(crate) struct Watched<W> {
+    wire: W,
+    watch: Watch,
+    reception: Option<Reception>,
+    failures: u64,
+}
+
+impl<W> Watched<W> {
+    pub(crate) fn new(wire: W, notes: Arc<Notes>, reception: Option<Reception>) -> Watched<W> {
+        Watched {
+            wire,
+            watch: Watch {
+                notes,
+                setup: None,
+                reached: 0,
+            },
+            reception,
+            failures: 0,
+        }
+    }
+
+    /// From where a datagram goes out.
+    fn source(&self, local: &Address) -> Address {
+        match self.reception {
+            Some(reception) => reception.endpoint,
+            None => *local,
+        }
+    }
+
+    /// Whether nothing is read at this address.
+    fn is_unused(&self, local: &Address) -> bool {
+        match self.reception {
+            Some(reception) => reception.send_address.is(local),
+            None => false,
+        }
+    }
+
+    fn fail(&mut self) -> WireFault
+        ensures { self.new.failures ≡ min (self.old.failures + 1) (2 ^ 64 - 1) }
+    {
+        count(&self.watch.notes.failed);
+        self.failures = self.failures.saturating_add(1);
+        WireFault
+    }
+}
+
+impl<W: Wire> Wire for Watched<W> {
+    ghost went = { λ watched events. watched.failures ≡ counted events };
+
+    fn send(&mut self, local: &Address, to: &Address, bytes: &[u8]) -> Result<(), WireFault> {
+        let source = self.source(local);
+        match self.wire.send(&source, to, bytes) {
+            Ok(()) => {
+                self.watch.note_sent(bytes);
+                Ok(())
+            }
+            Err(_) => Err(self.fail()),
+        }
+    }
+
+    fn recv(
+        &mut self,
+        local: &Address,
+        buffer: &mut [u8],
+    ) -> Result<Option<(usize, Address)>, WireFault> {
+        if self.is_unused(local) {
+            return Ok(None);
+        }
+        match self.wire.recv(local, buffer) {
+            Ok(Some((length, from))) => {
+                self.watch.note_read(&buffer[..length]);
+                Ok(Some((length, from)))
+            }
+            Ok(None) => Ok(None),
+            Err(_) => Err(self.fail()),
+        }
+    }
+
+    fn turn_ended(&mut self)
+        ensures same { self.new.failures ≡ self.old.failures }
+        ensures kept { (events : List Event) → self.old.failures ≡ counted events → self.new.failures ≡ counted events }
+    {
+        self.wire.turn_ended();
+    }
+
+    fn failures(&self) -> u64 {
+        self.failures
+    }
+}

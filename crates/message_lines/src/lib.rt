@@ -1,0 +1,14 @@
+//! What a program says that sends messages from its standard input and prints those that it receives: input is cut into
+//! messages, fragments are joined to messages, and what went by is counted in a line.
+#![tactic(auto)]
+
+mod cutting;
+mod figures;
+mod joining;
+
+pub use cutting::{Cut, first_message};
+pub use figures::{Losses, Received, Sent};
+pub use joining::Joiner;
+
+/// How long a message is at most, in bytes.
+pub const LONGEST: usize = 16_777_216;
