@@ -9,7 +9,8 @@ use crate::publishing::Publishing;
 use crate::running::try_out;
 use crate::station::{Chores, OwnDriver, Station};
 use crate::subscribing::Subscribing;
-use crate::watched::{Notes, Reception, Watched};
+use crate::watched::{Notes, Watched};
+use channel_uri::Address;
 use driver_core::{Peer, Settings};
 use media_driver::{AttachFault, Driver, DriverNaming, MachineClock, Parts};
 use media_wire::Udp;
@@ -35,8 +36,8 @@ pub(crate) enum Task {
 pub(crate) struct Work {
     pub(crate) principal: u32,
     pub(crate) chores: Chores,
-    /// Where the driver receives, if it only does.
-    pub(crate) reception: Option<Reception>,
+    /// The address from which the driver would send, if it only receives.
+    pub(crate) unused: Option<Address>,
     pub(crate) task: Task,
 }
 
@@ -72,7 +73,7 @@ fn attached<N: DriverNaming + Send + Sync + 'static, R: Machine, F: Disk>(
     let Work {
         principal,
         chores,
-        reception: _,
+        unused: _,
         task,
     } = work;
     match driver.client(principal) {
@@ -95,7 +96,7 @@ fn attached<N: DriverNaming + Send + Sync + 'static, R: Machine, F: Disk>(
 /// The sockets of the system, with notes of what goes over them.
 fn watched<R: Machine>(
     rt: R,
-    reception: Option<Reception>,
+    unused: Option<Address>,
 ) -> Result<(Watched<Udp<R>>, Arc<Notes>), AllocError> {
     let wire = Udp::new(rt.alloc(), rt, SOCKETS)?;
     let notes = match Arc::new(rt.alloc(), Notes::new()) {
@@ -103,7 +104,7 @@ fn watched<R: Machine>(
         Err(_) => return Err(AllocError),
     };
     let theirs = Arc::try_clone(&notes)?;
-    Ok((Watched::new(wire, theirs, reception), notes))
+    Ok((Watched::new(wire, theirs, unused), notes))
 }
 
 /// A driver starts from these parts.
@@ -115,7 +116,7 @@ fn started<N: DriverNaming + Send + Sync + 'static, R: Machine, F: Disk>(
 ) -> Result<(), Fault>
     requires { AreNamed N.home N.client_ledger N.client_parts N.slot_ledger N.slot_parts N.book parts }
 {
-    let (wire, notes) = match watched(rt, work.reception) {
+    let (wire, notes) = match watched(rt, work.unused) {
         Ok(made) => made,
         Err(_) => {
             parts.end(&rt);

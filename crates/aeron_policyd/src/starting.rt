@@ -13,7 +13,6 @@ use crate::replies::say;
 use crate::running_line::{Start, Talk};
 use crate::station::{Chores, SECOND};
 use crate::subscribing::Subscribing;
-use crate::watched::Reception;
 use channel_uri::Address;
 use driver_core::Settings;
 use message_lines::Cut;
@@ -91,7 +90,7 @@ fn begin<R: Machine, F: Disk>(
     files: &F,
     talk: &Talk<'_>,
     settings: Settings,
-    reception: Option<Reception>,
+    unused: Option<Address>,
     task: Task,
 ) -> Result<(), Fault>
     requires { AreSettings settings }
@@ -107,7 +106,7 @@ fn begin<R: Machine, F: Disk>(
     let work = Work {
         principal,
         chores,
-        reception,
+        unused,
         task,
     };
     with_client(*rt, *files, settings, policy, peers.as_slice(), work)
@@ -146,16 +145,10 @@ fn subscribe<R: Machine, F: Disk>(
 ) -> Result<(), Fault> {
     let endpoint = endpoint_of(talk.channel)?;
     let settings = settings_for(rt, talk.settings, publisher_address(endpoint))?;
-    let reception = match endpoint {
-        Some(endpoint) => {
-            can_open(rt, endpoint)?;
-            Some(Reception {
-                endpoint,
-                send_address: settings.send_address,
-            })
-        }
-        None => None,
-    };
+    if let Some(endpoint) = endpoint {
+        can_open(rt, endpoint)?;
+    }
+    let unused = Some(settings.send_address);
     let task = Task::Subscribe(Subscribing {
         channel: owned(rt.alloc(), talk.channel)?,
         stream: talk.stream,
@@ -164,7 +157,7 @@ fn subscribe<R: Machine, F: Disk>(
         until_gone,
         status_interval: settings.status_interval,
     });
-    begin(rt, files, talk, settings, reception, task)
+    begin(rt, files, talk, settings, unused, task)
 }
 
 /// Tries a driver with one client that sends itself a message.

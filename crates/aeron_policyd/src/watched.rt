@@ -151,29 +151,18 @@ impl Watch {
     }
 }
 
-/// Where a driver that only receives does so.
-#[derive(Clone, Copy)]
-pub(crate) struct Reception {
-    /// Where the datagrams of its subscription arrive.
-    pub(crate) endpoint: Address,
-    /// From where the driver would send.
-    pub(crate) send_address: Address,
-}
-
 /// A wire that notes what goes over it.
-///
-/// What a driver that only receives sends, NAKs and status messages, goes out from the endpoint at which it reads: a
-/// publisher sends again to the address that the NAK came from. Its own send address is not used, and nothing comes there.
 #[derive(Drop)]
 pub(crate) struct Watched<W> {
     wire: W,
     watch: Watch,
-    reception: Option<Reception>,
+    /// The address from which a driver would send that only receives: no socket is opened there.
+    unused: Option<Address>,
     failures: u64,
 }
 
 impl<W> Watched<W> {
-    pub(crate) fn new(wire: W, notes: Arc<Notes>, reception: Option<Reception>) -> Watched<W> {
+    pub(crate) fn new(wire: W, notes: Arc<Notes>, unused: Option<Address>) -> Watched<W> {
         Watched {
             wire,
             watch: Watch {
@@ -181,23 +170,15 @@ impl<W> Watched<W> {
                 setup: None,
                 reached: 0,
             },
-            reception,
+            unused,
             failures: 0,
-        }
-    }
-
-    /// From where a datagram goes out.
-    fn source(&self, local: &Address) -> Address {
-        match self.reception {
-            Some(reception) => reception.endpoint,
-            None => *local,
         }
     }
 
     /// Whether nothing is read at this address.
     fn is_unused(&self, local: &Address) -> bool {
-        match self.reception {
-            Some(reception) => reception.send_address.is(local),
+        match &self.unused {
+            Some(unused) => unused.is(local),
             None => false,
         }
     }
@@ -215,8 +196,7 @@ impl<W: Wire> Wire for Watched<W> {
     ghost went = { λ watched events. watched.failures ≡ counted events };
 
     fn send(&mut self, local: &Address, to: &Address, bytes: &[u8]) -> Result<(), WireFault> {
-        let source = self.source(local);
-        match self.wire.send(&source, to, bytes) {
+        match self.wire.send(local, to, bytes) {
             Ok(()) => {
                 self.watch.note_sent(bytes);
                 Ok(())
@@ -233,12 +213,12 @@ impl<W: Wire> Wire for Watched<W> {
         if self.is_unused(local) {
             return Ok(None);
         }
-        match self.wire.recv(local, buffer) {
-            Ok(Some((length, from))) => {
-                self.watch.note_read(&buffer[..length]);
-                Ok(Some((length, from)))
-            }
-            Ok(None) => Ok(None),
+        let read = self.wire.recv(local, buffer);
+        if let Ok(Some((length, _))) = read {
+            self.watch.note_read(&buffer[..length]);
+        }
+        match read {
+            Ok(read) => Ok(read),
             Err(_) => Err(self.fail()),
         }
     }
