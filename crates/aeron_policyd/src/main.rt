@@ -31,8 +31,13 @@ use clap::error::ErrorKind;
 use driver_script::script::Ended;
 use driver_script::{MayFail, script};
 use policy_query::{check, decide};
+use std::io::StdinLock;
+use std::net::{Net, TcpListener, TcpStream};
 use std::process::ExitCode;
 use std::rt::{Env, Files};
+use std::sync::Wait;
+use std::thread::Threads;
+use std::time::Clock;
 use std::{env, io};
 
 /// The status of a command line that is at fault.
@@ -150,8 +155,27 @@ fn answer<R: Machine, F: Disk>(rt: &R, files: &F, words: &[String]) -> Result<Ex
     }
 }
 
-/// Does what the command line says.
-fn serve<R: Machine, F: Disk + Env>(rt: &R, files: &F) -> Result<ExitCode, Fault> {
+/// Does what the command line says. The types that the machine gives are named here too, where the machine is known.
+fn serve<
+    R: Input
+        + Print
+        + Eprint
+        + AllocGlobal
+        + Clock
+        + Net
+        + Threads
+        + Wait
+        + Copy
+        + Drop
+        + Send
+        + Sync
+        + 'static,
+    F: Disk + Env,
+>(rt: &R, files: &F) -> Result<ExitCode, Fault>
+where
+    R: Input<Reader = StdinLock<'static>>,
+    R: Net<Listener = TcpListener, Stream = TcpStream>,
+{
     let Some(words) = words(files)? else {
         let _ = rt.eprintln("error: invalid UTF-8 was detected in one or more arguments");
         return Ok(ExitCode::from(USAGE));
