@@ -7,6 +7,8 @@
 #include <stdio.h>
 #include <stdlib.h>
 #include <string.h>
+#include <sys/syscall.h>
+#include <unistd.h>
 
 static void *(*next_malloc)(size_t);
 static void *(*next_calloc)(size_t, size_t);
@@ -46,14 +48,24 @@ __attribute__((constructor)) static void begin(void) {
 }
 
 __attribute__((destructor)) static void end(void) {
+    static int ended;
     const char *name = getenv("REFUSE_SEEN");
     FILE *file;
+    if (ended) return;
+    ended = 1;
     counting = 0;
     file = name ? fopen(name, "w") : NULL;
     if (file) {
         fprintf(file, "%lu\n", seen);
         fclose(file);
     }
+}
+
+/* A program that has threads ends by this call, and runs no destructor. */
+void _exit(int status) {
+    end();
+    syscall(SYS_exit_group, status);
+    for (;;) {}
 }
 
 static int is_refused(void) {
