@@ -3,8 +3,8 @@
 //! An event of the conductor is a client that attaches, a command of one, a policy that is put in force, time that goes on,
 //! or the SETUP of a remote publisher, by which an image may come. `Registry::plan` decides it and says what goes out, as
 //! an `Entry`; the registry stays as it is. `Registry::apply` does an entry, in place and without memory. `Registry::step`
-//! is both, and `Registry::command` the same of a command's bytes where they lie. What goes out is `outcome_of`, and what
-//! is left is `state_after`, two total functions on the registry as plain data. After each event the images go that no
+//! is both. What goes out is `outcome_of`, and what is left is `state_after`, two total functions on the registry as plain
+//! data. After each event the images go that no
 //! subscription reads.
 //!
 //! `Registry::list` and `Registry::value` show a client counters, `Registry::offering` and `Registry::receiving` say what it

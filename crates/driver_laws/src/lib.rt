@@ -80,7 +80,7 @@ pub fn images_are_read()
     ensures { ImagesAreRead }
 {}
 
-/// In every registry no image is unread, so a keepalive of a client that is there takes no memory (`Registry::command`).
+/// In every registry no image is unread: `Readers::unread` answers none.
 pub fn no_image_is_unread()
     ensures { NoImageIsUnread }
 {}
