@@ -4,8 +4,7 @@
 //! or the SETUP of a remote publisher, by which an image may come. `Registry::plan` decides it and says what goes out, as
 //! an `Entry`; the registry stays as it is. `Registry::apply` does an entry, in place and without memory. `Registry::step`
 //! is both. What goes out is `outcome_of`, and what is left is `state_after`, two total functions on the registry as plain
-//! data. After each event the images go that no
-//! subscription reads.
+//! data. After each event the images go that no subscription reads.
 //!
 //! `Registry::list` and `Registry::value` show a client counters, `Registry::offering` and `Registry::receiving` say what it
 //! asks of a log, `Registry::image_for` which image a datagram is for, `Registry::publication_for` and `Registry::resending`
