@@ -8,9 +8,6 @@ use crate::reading::{ImageFrame, Run};
 use log_pairs::{Fragment, FragmentCopies, PolledFrame, PolledFrames};
 use std::alloc::AllocError;
 
-/// The fragments that a poll gives, in order. The log lends their bytes.
-pub type Fragments<'a> = log_pairs::Fragments<Run<'a>>;
-
 /// A frame as a poll comes to it.
 fn polled_frame<'a>(frame: &ImageFrame<'a>) -> PolledFrame<Fragment<'a>>
     ensures { polled_by fetched_of result ≡ polled_frame frame.now }

@@ -103,6 +103,18 @@ impl Table {
         }
     }
 
+    /// Where the first frame begins that is no pad, from a position on that is whole; without one, where what is whole ends.
+    pub(crate) fn data_from(&self, position: u64) -> u64 {
+        let mut at = position;
+        for _ in 0..self.cells.len() {
+            if self.cell(at) != Cell::Pad {
+                return at;
+            }
+            at = at.saturating_add(64);
+        }
+        at
+    }
+
     /// Where frames are no longer taken.
     fn reach(&self) -> u64 {
         self.base.saturating_add(WINDOW)

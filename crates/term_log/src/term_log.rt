@@ -17,7 +17,7 @@ use crate::appender::Appender;
 use crate::cutting::size_of;
 use crate::ident::{Ident, LogKind};
 use crate::offer::Offer;
-use crate::polling::{Fragments, copies_from, end_of, fragments_from};
+use crate::polling::copies_from;
 use crate::ranges::FramesOver;
 use crate::reading::Frames;
 use crate::room::LogRoom;
@@ -271,35 +271,10 @@ impl TermLog {
         self.pairs.advance(subscription, position);
     }
 
-    /// The fragments that a poll of a subscription gives, over the ends of terms: those from its position on, at most so
-    /// many. None where it does not read the log. Nothing is passed yet: [`TermLog::poll`] does that, once they were taken.
-    pub fn fragments(&self, subscription: u64, limit: usize) -> Fragments<'_>
-        ensures { Fetches self.now subscription limit result }
-    {
-        match self.pair_position(subscription) {
-            Some(position) => fragments_from(&self.appender, position, limit),
-            None => fragments_from(&self.appender, self.appender.tail(), 0),
-        }
-    }
-
-    /// A subscription is polled: it has read the frames from its position on, until so many fragments were given or there
-    /// are no more. Pads do not count, and one behind the last fragment is left.
-    pub fn poll(&mut self, subscription: u64, limit: usize)
-        ensures kept { self.new.kept ≡ self.old.kept }
-        ensures sender { self.new.sender ≡ self.old.sender }
-        ensures whole { Carries self.old self.new (λ w. (polled w subscription limit).after) }
-    {
-        match self.pair_position(subscription) {
-            Some(position) => {
-                let end = end_of(&self.appender, position, limit);
-                self.advance(subscription, end);
-            }
-            None => {}
-        }
-    }
-
-    /// As [`TermLog::poll`], with copies of the fragments that it gives, those of [`TermLog::fragments`]: each frame is looked
-    /// at once, and the memory for all copies is taken at once.
+    /// A subscription is polled: it has read the frames from its position on, over the ends of terms, until so many fragments
+    /// were given or there are no more. Pads do not count, and one after the last fragment is left. The answer has copies of
+    /// the fragments; none where the subscription does not read the log. Each frame is looked at once, and the memory for all
+    /// copies is taken at once.
     ///
     /// # Errors
     /// Nothing is changed where there is no memory for the copies.
