@@ -156,7 +156,7 @@ impl ImageLog {
         self.base + window_of(self.ident.term_length)
     }
 
-    /// A heartbeat told of the sender's position.
+    /// A heartbeat reported the sender's position.
     pub fn beat(&mut self, position: u64)
         ensures { self.new ≡ record self.old {
           rebuilt = record self.old.rebuilt { greatest = max self.old.rebuilt.greatest position };
@@ -179,9 +179,9 @@ impl ImageLog {
         }
     }
 
-    /// The frames from a position on, one behind the other, up to the contiguous position or the end of the position's term: as many as take
-    /// at most so many bytes of a datagram, and none behind a pad. A pad takes 32 bytes there, a data frame as many as
-    /// it takes positions.
+    /// The frames from a position on, one after another, up to the contiguous position or the end of the position's term: as
+    /// many as take at most so many bytes of a datagram, and none after a pad. A pad takes 32 bytes there, a data frame as many
+    /// as it takes positions.
     pub fn frames_from(&self, position: u64, bytes: usize) -> Frames<'_>
         requires { position ≤ contiguous_of self.now.rebuilt }
         ensures frames { result ≡ frames_of self.now.rebuilt position bytes }
@@ -335,7 +335,7 @@ impl ImageLog {
         Run::new(&self.store, index, self.store.rank(self.contiguous))
     }
 
-    /// Copies of the fragments that a poll gives from a position on, and the position behind the frames that it passes. What
+    /// Copies of the fragments that a poll gives from a position on, and the position after the frames that it passes. What
     /// stands before the bytes of a copy takes no more than the header of its frame does.
     fn copies_from(
         &self,
@@ -396,7 +396,7 @@ impl ImageLog {
         now.saturating_sub(self.moment) > limit
     }
 
-    /// How far above the base frames may begin: what a status message tells beside the base.
+    /// How far above the base frames may begin: what a status message says beside the base.
     pub fn window(&self) -> u32
         ensures { result ≡ window_of self.now.rebuilt.ident.term_length }
     {

@@ -318,7 +318,7 @@ fn clear(out: &mut [u8])
     out.fill(0);
 }
 
-/// An insert for which there is room. A frame that comes in order goes behind all others.
+/// An insert for which there is room. A frame that comes in order goes after all others.
 #[tactic(auto, using(std::proofs::lemmas::List::Edits::insert_end))]
 fn put_in(places: &mut VecDeque<Place>, at: usize, place: Place)
     requires { (at ≤ deque_len places.old) × (deque_len places.old < deque_capacity places.old) }

@@ -8,7 +8,7 @@ use crate::copies::FragmentCopies;
 use crate::fragment::PolledFrame;
 use std::alloc::{AllocError, Global};
 
-/// Where the frames of a log are read from a position on, one behind the other.
+/// Where the frames of a log are read from a position on, one after another.
 pub trait PolledFrames: Drop {
     /// A fragment of a message, whose bytes the log lends.
     type Fragment: Drop;
@@ -22,12 +22,12 @@ pub trait PolledFrames: Drop {
     fn next_frame(&mut self) -> Option<PolledFrame<Self::Fragment>>
         ensures { YieldsFirstBy (polled_by fetched) frames self.old result self.new };
 
-    /// Puts a copy of a fragment behind others.
+    /// Puts a copy of a fragment after others.
     fn copy(fragment: &Self::Fragment, copies: &mut FragmentCopies) -> Result<(), AllocError>
         ensures { OnOk result (copies.new ≡ copies.old ++ fetched fragment.now ∷ []) };
 }
 
-/// Copies of the fragments that a poll gives, and the position behind the frames that it passes, the first of which begins at
+/// Copies of the fragments that a poll gives, and the position after the frames that it passes, the first of which begins at
 /// `position`. `room` is taken for the copies at once, in bytes.
 ///
 /// # Errors

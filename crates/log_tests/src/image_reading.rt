@@ -110,7 +110,7 @@ fn end_at(copies: &FragmentCopies, ends: &[u64]) -> bool {
     same && count == ends.len()
 }
 
-/// Polls, and says whether that gave fragments that end at these positions, and is told apart from one that gives others.
+/// Polls, and says whether that gave fragments that end at these positions, and is not taken for one that gives others.
 pub(crate) fn gives(
     alloc: Global,
     log: &mut ImageLog,

@@ -103,7 +103,7 @@ fn gives_back(log: ImageLog, at: usize) -> bool {
     is_one_frame(lease.bytes(), at)
 }
 
-// Bytes that are no frame of the stream, or not at their header's position, are told.
+// Bytes that are no frame of the stream, or not at their header's position, are noticed.
 fn frames_of_others_are_told() -> bool {
     let mut frame = [0; 35];
     frame[0] = 35;
@@ -259,7 +259,7 @@ const FALLS_SILENT: [(Step, bool); 6] = [
 ];
 
 // What is whole is read frame by frame: up to the contiguous position or the end of a term, within so many bytes, and
-// nothing behind a pad, which takes 32 of them.
+// nothing after a pad, which takes 32 of them.
 const WHOLE_IS_READ: [(Step, bool); 17] = [
     (Step::Takes(0, Cell::Long(1)), true),
     (Step::Takes(64, Cell::Long(1)), true),
@@ -299,7 +299,7 @@ const NAMED_READ_ON: [(Step, bool); 15] = [
     (Step::StandsAt(4, Some(128)), true),
 ];
 
-// A poll is given as many fragments as it asks for of what is whole. A pad does not count, and one behind the last
+// A poll is given as many fragments as it asks for of what is whole. A pad does not count, and one after the last
 // fragment is left.
 const POLLS_GIVE_WHOLE: [(Step, bool); 20] = [
     (Step::Takes(0, Cell::Long(7)), true),
@@ -368,7 +368,7 @@ const NAK_AND_STATUS_TIMING: [(Step, bool); 1] = [(Step::AnswersInTime, true)];
 
 const BEAT_IS_HEARD: [(Step, bool); 1] = [(Step::HearsBeat, true)];
 
-// Other answers are told. What is filled is one frame too few, and then has another reader.
+// Other answers are noticed. What is filled is one frame too few, and then has another reader.
 const OTHER_ANSWERS: [(Step, bool); 10] = [
     (Step::Inserts(0, 1, Insert::Taken), true),
     (Step::Inserts(0, 1, Insert::Overlap), false),
@@ -405,7 +405,7 @@ const LATER_LOG: [(Step, bool); 2] = [
     (Step::Inserts(64, 7, Insert::Taken), true),
 ];
 
-// The gap without a frame behind it goes to the greatest position heard of, but within the window.
+// The gap without a frame after it goes to the greatest position heard of, but within the window.
 const GAP_GOES_ON: [(Step, bool); 8] = [
     (Step::Inserts(0, 1, Insert::Below), true),
     (Step::GapIs(None), true),

@@ -73,7 +73,7 @@ const THIRD_OF_THREE: [u8; 32] = [
     0, 0, 0,
 ];
 
-/// The frame with `x` that begins at offset 65,408, and behind it the header of a pad of 64 positions.
+/// The frame with `x` that begins at offset 65,408, and after it the header of a pad of 64 positions.
 const TERM_END: [u8; 96] = [
     33, 0, 0, 0, 0, 0xC0, 1, 0, 0x80, 0xFF, 0, 0, 1, 0, 0, 0, 10, 0, 0, 0, 0, 0, 0, 0, 0, 0, 0, 0,
     0, 0, 0, 0, b'x', 0, 0, 0, 0, 0, 0, 0, 0, 0, 0, 0, 0, 0, 0, 0, 0, 0, 0, 0, 0, 0, 0, 0, 0, 0, 0,

@@ -139,7 +139,7 @@ fn lay_out(out: &mut [u8; 64], place: &TermPlace, cell: Cell) -> usize
     }
 }
 
-/// Hands in `steps` frames, and says whether each answer, and what the log tells behind it, were those of the table,
+/// Hands in `steps` frames, and says whether each answer, and what the log says after it, were those of the table,
 /// and each answer was given a good many times; nothing without memory. Subscription 1 reads the log all the while.
 pub(crate) fn agree(alloc: Global, log: &mut ImageLog, steps: u32) -> Option<bool> {
     match Table::new(alloc, 16_384) {
@@ -148,7 +148,7 @@ pub(crate) fn agree(alloc: Global, log: &mut ImageLog, steps: u32) -> Option<boo
     }
 }
 
-/// Hands in `steps` frames, and says whether each answer, and what the log tells behind it, were those of the table.
+/// Hands in `steps` frames, and says whether each answer, and what the log says after it, were those of the table.
 /// Subscription 1 reads the log all the while.
 pub(crate) fn go_on(alloc: Global, log: &mut ImageLog, table: &mut Table, steps: u32) -> bool {
     let mut word: u64 = 1;
@@ -181,7 +181,7 @@ fn step(alloc: Global, log: &mut ImageLog, table: &mut Table, choice: u64) -> bo
     (answer == wanted) & read & is_like(log, table)
 }
 
-// Whether the log tells what the table does.
+// Whether the log says what the table does.
 fn is_like(log: &ImageLog, table: &Table) -> bool {
     (log.contiguous() == table.contiguous) & (log.base() == table.base) & table.has_gap(log.gap())
 }

@@ -40,7 +40,7 @@ due_of pace now w =
 
 -- ---- its bytes
 
--- a SETUP tells where the sender stands, by term and offset
+-- a SETUP says where the sender stands, by term and offset
 abbrev pub setup_at : Ident → ℕ → Setup
 setup_at i position = record {
   flags = no_flags;
@@ -58,11 +58,11 @@ setup_at i position = record {
 abbrev pub beat_flags : Bool → Flags
 beat_flags lingers = record { bits = if lingers then 224 else 192 }
 
--- a heartbeat tells where the sender stands
+-- a heartbeat says where the sender stands
 abbrev pub beat_of : Bool → Ident → ℕ → List ℕ
 beat_of lingers i position = beat_bytes (beat_flags lingers) (place_at i position)
 
--- the frames that the sender's next datagram has, one behind the other
+-- the frames that the sender's next datagram has, one after another
 abbrev pub frames_bytes : Whole → List ℕ
 frames_bytes w = sent_bytes (all_given w.ident w.sender.position (next_frames w))
 

@@ -60,7 +60,7 @@ abbrev pub datagram_with : List Given → Option (List ℕ)
 datagram_with [] = None
 datagram_with (g ∷ gs) = Some (sent_bytes (g ∷ gs))
 
--- a run is copied, and what is behind it is left
+-- a run is copied, and what is after it is left
 pub record Copies (run old new : List Given) (copy : List ℕ) : Type 0 where
   pub copy_is : copy ≡ sent_bytes run
   pub left : new ≡ drop (length run) old

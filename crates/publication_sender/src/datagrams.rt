@@ -14,7 +14,7 @@ use term_log::{FramesOver, LogFrame};
 #[derive(Clone, Copy, Debug)]
 struct Ahead<'a> {
     next: Option<LogFrame<'a>>,
-    /// Those behind it.
+    /// Those after it.
     later: FramesOver<'a>,
 }
 

@@ -55,7 +55,7 @@ fn room_for(left: u64, limit: usize, mtu: u32) -> usize {
 }
 
 /// Copies of the fragments that a poll gives from a position on that is held, a frame's start or the tail, and the position
-/// behind the frames that it passes.
+/// after the frames that it passes.
 pub(crate) fn copies_from(
     log: &Appender,
     alloc: Global,
