@@ -85,12 +85,15 @@ fn pause(idle: u64) -> u64 {
 /// first, then yields to other threads, and then sleeps, twice as long each time, up to a millisecond.
 #[derive(Clone, Copy, Debug)]
 pub struct Backoff<C> {
-    clock: C,
+    /// By which an agent sleeps.
+    pub clock: C,
 }
 
 impl<C> Backoff<C> {
-    /// An agent sleeps by this clock.
-    pub fn new(clock: C) -> Backoff<C> {
+    /// The gate by which an agent sleeps by this clock.
+    pub fn new(clock: C) -> Backoff<C>
+        ensures { result.clock ≡ clock }
+    {
         Backoff { clock }
     }
 }

@@ -1,7 +1,8 @@
 //! The rings by which clients get their replies.
 
 ghost use Rattle.media_agents.specs.Mails.{IsReplyOf, Posts};
-ghost use Rattle.std.specs.Prelude.{◌≡◌, []};
+ghost use Rattle.rtrb.specs.Ring.{sent};
+ghost use Rattle.std.specs.Prelude.{◌≡◌};
 
 use crate::mail::{ClientReply, Mail};
 use crate::naming::DriverNaming;
@@ -32,7 +33,7 @@ impl<N: DriverNaming> Model for Ring<N> {
 impl<N: DriverNaming> Ring<N> {
     /// A ring that is no client's yet.
     pub fn new(mails: Producer<Mail<N>, Global>) -> Ring<N>
-        ensures { (result.client ≡ 0) × (result.lost ≡ 0) }
+        ensures { result ≡ record { client = 0; lost = 0; sent = sent mails } }
     {
         Ring {
             client: 0,
@@ -68,9 +69,20 @@ pub struct Rings<N: DriverNaming> {
     rings: Vec<Ring<N>>,
 }
 
+impl<N: DriverNaming> Model for Rings<N> {
+    ghost use Rattle.media_agents.specs.Mails.{RingState};
+    ghost use Rattle.std.specs.Prelude.{List};
+
+    ghost Value = { List RingState };
+
+    ghost view = { λ rings. rings.rings.items };
+}
+
 impl<N: DriverNaming> Rings<N> {
     /// These rings, numbered from 0.
-    pub fn new(rings: Vec<Ring<N>>) -> Rings<N> {
+    pub fn new(rings: Vec<Ring<N>>) -> Rings<N>
+        ensures { result ≡ rings.items }
+    {
         Rings { rings }
     }
 
