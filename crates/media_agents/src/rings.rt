@@ -1,8 +1,8 @@
 //! The rings by which clients get their replies.
 
-ghost use Rattle.media_agents.specs.Mails.{IsReplyOf, Posts};
+ghost use Rattle.media_agents.specs.Mails.{IsReplyOf, Posts, PostsTo, RingState, assigned};
 ghost use Rattle.rtrb.specs.Ring.{sent};
-ghost use Rattle.std.specs.Prelude.{◌≡◌};
+ghost use Rattle.std.specs.Prelude.{◌≡◌, ◌≢◌, ◌<◌, All, IfNone, IfSome, Some, length, slice_get};
 
 use crate::mail::{ClientReply, Mail};
 use crate::naming::DriverNaming;
@@ -42,6 +42,13 @@ impl<N: DriverNaming> Ring<N> {
         }
     }
 
+    /// Whose ring it is.
+    fn client(&self) -> u64
+        ensures { result ≡ self.now.client }
+    {
+        self.client
+    }
+
     /// From now on it is that client's, of whose replies none was dropped.
     fn assign(&mut self, client: u64)
         ensures { self.new ≡ record self.old { client = client; lost = 0 } }
@@ -61,6 +68,20 @@ impl<N: DriverNaming> Ring<N> {
             self.lost = self.lost.saturating_add(1);
         }
     }
+}
+
+/// The number of a client's ring, if it has one.
+fn ring_of<N: DriverNaming>(rings: &[Ring<N>], client: u64) -> Option<usize>
+    ensures found { IfSome result (λ place. (ring : RingState) × (slice_get rings.now place ≡ Some ring) × (ring.client ≡ client)) }
+    ensures within { IfSome result (λ place. place < length rings.now) }
+    ensures none { IfNone result (All (λ (ring : RingState). ring.client ≢ client) rings.now) }
+{
+    for place in 0..rings.len() {
+        if rings[place].client() == client {
+            return Some(place);
+        }
+    }
+    None
 }
 
 /// The rings of a driver's clients.
@@ -87,7 +108,9 @@ impl<N: DriverNaming> Rings<N> {
     }
 
     /// The ring of that number is that client's from now on.
-    pub(crate) fn assign(&mut self, ring: u16, client: u64) {
+    pub(crate) fn assign(&mut self, ring: u16, client: u64)
+        ensures { self.new ≡ assigned ring client self.old }
+    {
         if let Some(ring) = self.rings.get_mut(ring as usize) {
             ring.assign(client);
         }
@@ -97,12 +120,10 @@ impl<N: DriverNaming> Rings<N> {
     pub(crate) fn post(&mut self, receipt: &Receipt, client: u64, reply: ClientReply)
         requires ours { receipt.now.book ≡ N.book }
         requires held { IsReplyOf receipt.now client reply }
+        ensures { PostsTo receipt.now client reply self.old self.new }
     {
-        for ring in &mut self.rings {
-            if ring.client == client {
-                ring.post(receipt, reply);
-                return;
-            }
+        if let Some(place) = ring_of(self.rings.as_slice(), client) {
+            self.rings[place].post(receipt, reply);
         }
     }
 }

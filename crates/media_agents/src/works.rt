@@ -4,7 +4,7 @@ ghost use Rattle.driver_core.specs.Conduct.{state_after};
 ghost use Rattle.driver_core.specs.Soundness.{IsSound};
 ghost use Rattle.media_agents.specs.Answering.{Answers, IsAnswer};
 ghost use Rattle.media_agents.specs.Asking.{IsRowClosed};
-ghost use Rattle.media_agents.specs.Mails.{TellsAll};
+ghost use Rattle.media_agents.specs.Mails.{PostsEach, TellsAll};
 ghost use Rattle.media_agents.specs.Turns.{events_in};
 ghost use Rattle.published_registry.specs.Histories.{IsPlannedOn, registry_of};
 ghost use Rattle.std.specs.Prelude.{◌≡◌, ◌+◌, ◌<◌, ◌^◌, ◌++◌, ◌∷◌, [], length, All, IfOk, OnErr, OnOk};
@@ -87,6 +87,7 @@ fn publish<N: DriverNaming, R: Wait>(
 fn deliver<N: DriverNaming>(rings: &mut Rings<N>, receipt: &Receipt, replies: &[Message])
     requires ours { receipt.now.book ≡ N.book }
     requires held { TellsAll receipt.now.entries replies.now }
+    ensures { PostsEach receipt.now replies.now rings.old rings.new }
 {
     for message in replies {
         rings.post(receipt, message.client, ClientReply::Of(message.reply));
