@@ -1,4 +1,4 @@
--- The turns of an agent, as its gate is told of them. Own rules.
+-- The turns of an agent, as they are counted for its gate. Own rules.
 use Rattle.std.specs.Prelude.{ℕ, ◌+◌, ◌-◌, ◌^◌, Bool, if◌then◌else◌, min}
 use Rattle.media_agents.specs.declared.gate.Turn.{Turn}
 

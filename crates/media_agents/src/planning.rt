@@ -67,7 +67,7 @@ fn make_ready(
     })
 }
 
-/// Plans the event, where the logs reach that far and these images are silent, and takes all memory that it will want.
+/// Plans the event, where the logs reach that far and these images are silent, and takes all memory that it will need.
 fn plan_with(
     alloc: Global,
     registry: &Registry,
@@ -123,7 +123,7 @@ pub(crate) fn foresee<N: Naming, L: Logs<N>, R: Wait>(
     })
 }
 
-/// The pairs that come are joined to their logs, each behind its lock, and the event is planned with how far these logs reach
+/// The pairs that come are joined to their logs, each under its lock, and the event is planned with how far these logs reach
 /// then. So a reply names the position at which its pair really begins, although clients go on offering.
 pub(crate) fn plan_joined<N: Naming, L: Logs<N>, R: Wait>(
     rt: &R,
