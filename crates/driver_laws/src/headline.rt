@@ -89,21 +89,21 @@ pub fn steps_are_decided()
 
 /// An offer by any registry that the run went through goes on to the log that the client's registration is with, where that is
 /// still open, exactly where the first rule of that registry's policy that matches, or the default, allows it; else the
-/// verdict is told and nothing changes. The log is one of frames that were appended: no number is drawn again.
+/// verdict is answered and nothing changes. The log is one of frames that were appended: no number is drawn again.
 pub fn offers_by_any_registry_are_granted_exactly()
     ensures { OffersByAnyRegistryAreGrantedExactly }
 {}
 
 /// A poll by any registry that the run went through is given the fragments from where the subscription stands, where that is the
 /// client's own and reads the log by that registry and still has a position in it, exactly where the first rule of that
-/// registry's policy that matches, or the default, allows it; else the verdict is told, or that it is gone, and nothing
+/// registry's policy that matches, or the default, allows it; else the verdict is answered, or that it is gone, and nothing
 /// changes.
 pub fn polls_by_any_registry_are_granted_exactly()
     ensures { PollsByAnyRegistryAreGrantedExactly }
 {}
 
 /// A turn of the sender by any registry that the run went through cuts the one datagram that is due of the publication's log,
-/// where that is still open, and tells it for each destination that the publication has by that registry, with the verdict of
+/// where that is still open, and reports it for each destination that the publication has by that registry, with the verdict of
 /// that registry's policy on its maker.
 pub fn sends_by_any_registry_are_granted_exactly()
     ensures { SendsByAnyRegistryAreGrantedExactly }
@@ -111,13 +111,13 @@ pub fn sends_by_any_registry_are_granted_exactly()
 
 /// A NAK by any registry that the run went through goes on to the gate of the log of the publication that has its session and
 /// stream there, where that is still open, exactly where the first rule of that registry's policy that matches, or the default,
-/// allows the principal at the address that asks; else the verdict is told and nothing changes. Nothing but a NAK is answered
+/// allows the principal at the address that asks; else the verdict is answered and nothing changes. Nothing but a NAK is answered
 /// by what is sent again, and that goes to who asks.
 pub fn naks_by_any_registry_are_granted_exactly()
     ensures { NaksByAnyRegistryAreGrantedExactly }
 {}
 
-/// A look at counters by any registry that the run went through is told exactly what that registry's policy shows the client:
+/// A look at counters by any registry that the run went through is answered exactly what that registry's policy shows the client:
 /// the first rule of it that matches, or the default. Nothing is changed.
 pub fn looks_by_any_registry_are_shown_exactly()
     ensures { LooksByAnyRegistryAreShownExactly }
