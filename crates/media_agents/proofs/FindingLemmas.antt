@@ -39,7 +39,7 @@ module _ {A B : Type 0} (of : A → B) (p : A → Bool) where
       ap (take n) (sym (append-nil before))
       ∙ ap (λ (b : Bool). take n (before ++ map of (cond b (one ∷ []) []))) (sym is)
 
-  -- one row more, behind those that were there first
+  -- one row more, after those that were there first
   pub list_more : (n : ℕ) (first : List B) (rows : List A) (at : ℕ) (one : A) (old new : List B) → at < length rows
       → one ≡ get_or rows at one
       → old ≡ take n (first ++ map of (filter p (take at rows)))

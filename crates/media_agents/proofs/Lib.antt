@@ -1,7 +1,9 @@
+pub mod AnswerLemmas
 pub mod AskingLemmas
 pub mod FindingLemmas
 pub mod ImageLemmas
 pub mod LookLemmas
+pub mod PostingLemmas
 pub mod RowLemmas
 pub mod TrafficLemmas
 pub mod TurnLemmas

@@ -265,7 +265,7 @@ tried_are_from local (it ∷ letters) (event ∷ events) all tried =
     (tried_is_from local it event (All-head (λ (it : Letter). it.from ≡ local) it letters all) tried.0)
     (tried_are_from local letters events (All-tail (λ (it : Letter). it.from ≡ local) it letters all) tried.1)
 
--- what an answer tells to send is sent from there
+-- the datagrams of an answer are sent from there
 pub told_from : (local : Address) (answer : Answer) (old new : List Event → Type 0)
     → GoesOn (AreTried (letters_of local answer)) old new → GoesOn (AreSentFrom local) old new
 told_from local answer old new =

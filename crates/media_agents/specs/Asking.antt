@@ -1,4 +1,4 @@
--- What logs answer the conductor, each asked behind the lock of its slot. Own rules.
+-- What logs answer the conductor, each asked under the lock of its slot. Own rules.
 use Rattle.std.specs.Prelude.{◌≡◌, ℕ, ◌++◌, Bool, true, false, List, [], ◌∷◌, Option, Some, None, take}
 use Rattle.std.specs.Option.{option_map}
 use Rattle.driver_core.specs.declared.event.End.{End}

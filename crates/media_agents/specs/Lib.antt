@@ -1,4 +1,5 @@
 pub mod Agents
+pub mod Answering
 pub mod Asking
 pub mod Desks
 pub mod Finding

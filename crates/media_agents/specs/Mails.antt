@@ -1,5 +1,5 @@
 -- Which entry a reply is of, and what a ring takes. Own rules.
-use Rattle.std.specs.Prelude.{◌≡◌, ℕ, ◌+◌, ◌-◌, ◌^◌, ◌⊎◌, List, [], ◌∷◌, ◌++◌, Contains, min}
+use Rattle.std.specs.Prelude.{◌≡◌, ◌≢◌, ℕ, ◌+◌, ◌-◌, ◌^◌, ◌⊎◌, List, [], ◌∷◌, ◌++◌, All, Contains, Option, Some, None, min, slice_get, slice_set}
 use Rattle.driver_core.specs.declared.entry.Entry.{Entry}
 use Rattle.driver_core.specs.declared.replies.Message.{Message}
 use Rattle.media_agents.specs.declared.mail.ClientReply.{ClientReply}
@@ -43,3 +43,34 @@ abbrev pub Posts : Known → ClientReply → RingState → RingState → Type 0
 Posts receipt reply old new =
     (new ≡ record old { sent = old.sent ++ record { client = old.client; lost = old.lost; receipt = receipt; reply = reply } ∷ [] })
     ⊎ (new ≡ record old { lost = min (old.lost + 1) (2 ^ 64 - 1) })
+
+-- ---- the rings of all clients, by their numbers
+
+abbrev pub assigned_in : Option RingState → ℕ → ℕ → List RingState → List RingState
+assigned_in None place client rings = rings
+assigned_in (Some ring) place client rings = slice_set rings place (record ring { client = client; lost = 0 })
+
+-- the ring of that number, if there is one, is that client's, of whose replies none was dropped
+abbrev pub assigned : ℕ → ℕ → List RingState → List RingState
+assigned place client rings = assigned_in (slice_get rings place) place client rings
+
+-- the reply goes to one ring of that client
+pub record PostsAt (receipt : Known) (client : ℕ) (reply : ClientReply) (old new : List RingState) : Type 0 where
+  pub place : ℕ
+  pub ring : RingState
+  pub left : RingState
+  pub found : slice_get old place ≡ Some ring
+  pub own : ring.client ≡ client
+  pub posts : Posts receipt reply ring left
+  pub new_is : new ≡ slice_set old place left
+
+-- so it does, unless no ring is that client's
+abbrev pub PostsTo : Known → ℕ → ClientReply → List RingState → List RingState → Type 0
+PostsTo receipt client reply old new =
+    PostsAt receipt client reply old new ⊎ (All (λ (ring : RingState). ring.client ≢ client) old × (new ≡ old))
+
+-- so do all these replies of an entry, each once and in their order
+abbrev pub PostsEach : Known → List Message → List RingState → List RingState → Type 0
+PostsEach receipt [] old new = new ≡ old
+PostsEach receipt (message ∷ messages) old new =
+    (next : List RingState) × PostsTo receipt message.client (Of message.reply) old next × PostsEach receipt messages next new

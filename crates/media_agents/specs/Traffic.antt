@@ -74,8 +74,8 @@ pub record Sends (local : Address) (events : List Event) : Type 0 where
   pub reads_out : ReadsOut (IsAt local) local heard
   pub sends : AreSentFrom local told
 
--- Of these images, one after another, is told: what goes out for an image goes out from the address at which it reads, and
--- nothing else goes out.
+-- For these images, one after another, datagrams go out: each image's from the address at which it reads, and nothing else
+-- goes out.
 abbrev pub SentEach : List ImageAt → List Event → Type 0
 SentEach [] events = events ≡ []
 SentEach (image ∷ later) events =
@@ -109,7 +109,7 @@ letters_out local bytes outlets = map (λ outlet. letter local outlet.to bytes) 
 abbrev pub letters_to : Address → Address → List (List ℕ) → List Letter
 letters_to local to datagrams = map (letter local to) datagrams
 
--- the datagrams that a step's answer tells to send, in their order: one that the sender cut, to each destination that it may
+-- the datagrams of a step's answer, in their order: one that the sender cut, to each destination that it may
 -- go to; what is sent again, to who asks; and what the receiver reports, to the publisher
 abbrev pub letters_of : Address → Answer → List Letter
 letters_of local (Cut bytes outlets) = letters_out local bytes outlets

@@ -41,7 +41,8 @@ impl Aftermath {
         registry: &Registry,
         outcome: &Outcome,
     ) -> Result<Aftermath, AllocError>
-        ensures { IfOk result (λ aftermath. aftermath.replies ≡ outcome.now.replies) }
+        ensures response { IfOk result (λ aftermath. aftermath.response ≡ outcome.now.response) }
+        ensures replies { IfOk result (λ aftermath. aftermath.replies ≡ outcome.now.replies) }
     {
         Ok(Aftermath {
             response: outcome.response,

@@ -2,6 +2,7 @@
 
 ghost use Rattle.driver_core.specs.declared.event.Event.TheVariants.{Tick};
 ghost use Rattle.media_agents.specs.Turns.{Turned, events_in};
+ghost use Rattle.published_registry.specs.Histories.{registry_of};
 ghost use Rattle.std.specs.Prelude.{◌≡◌};
 
 use crate::gate::{Agent, Gate, Turn};
@@ -9,7 +10,7 @@ use crate::naming::DriverNaming;
 use crate::turning::turn;
 use crate::works::Works;
 use command_queue::{Known, Taker};
-use driver_core::Event;
+use driver_core::{Event, Registry};
 use std::marker::Model;
 use std::sync::{Arc, Wait};
 
@@ -72,8 +73,10 @@ impl<N: DriverNaming, G: Gate + Drop> Conductor<N, G> {
         misses
     }
 
-    /// Ends the driver: each log closes, and nobody gets a look at the registry any more.
-    pub fn end<R: Wait>(self, rt: &R) {
+    /// Ends the driver and gives its last registry: nobody gets a look at it any more, and each of its logs closes.
+    pub fn end<R: Wait>(self, rt: &R) -> Registry
+        ensures { result ≡ registry_of self.history }
+    {
         let Conductor {
             taker: _,
             known: _,
@@ -81,6 +84,6 @@ impl<N: DriverNaming, G: Gate + Drop> Conductor<N, G> {
             gate: _,
             turn: _,
         } = self;
-        works.end(rt);
+        works.end(rt)
     }
 }

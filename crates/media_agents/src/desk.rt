@@ -1,26 +1,15 @@
-//! What the owner of a driver asks the conductor: one question at a time.
+//! Where the owner of a driver asks the conductor: one question at a time.
 
-ghost use Rattle.media_agents.specs.Desks.{given};
-ghost use Rattle.std.specs.Option.{option_map};
+ghost use Rattle.media_agents.specs.Answering.{IsAnswer};
 ghost use Rattle.std.specs.Prelude.{◌≡◌, None, Some};
 
+use crate::answering::{Answered, Question};
 use crate::naming::DriverNaming;
 use driver_core::Response;
 use published_registry::Receipt;
-use std::marker::{Model, PhantomData};
+use std::marker::Model;
 
-/// What a question was answered, with the receipt of its entry.
-#[derive(Drop)]
-pub struct Answered<N: DriverNaming> {
-    /// None where there was no memory for it: then no entry was made.
-    pub response: Option<Response>,
-    pub receipt: Receipt,
-    pub of: PhantomData<N>,
-    pub ghost ours: { receipt.book ≡ N.book },
-}
-
-/// Where a question lies until it is answered: a client that attaches, or a policy that is put in force. It stands behind a
-/// lock.
+/// Where a question is until it is answered: a client that attaches, or a policy that is put in force. A lock guards it.
 #[derive(Drop)]
 pub struct Desk<N: DriverNaming> {
     /// The ring that a client gets that attaches.
@@ -29,12 +18,11 @@ pub struct Desk<N: DriverNaming> {
 }
 
 impl<N: DriverNaming> Model for Desk<N> {
-    ghost use Rattle.media_agents.specs.Desks.{DeskState, given};
-    ghost use Rattle.std.specs.Option.{option_map};
+    ghost use Rattle.media_agents.specs.Desks.{DeskState};
 
     ghost Value = { DeskState };
 
-    ghost view = { λ desk. record { ring = desk.ring; answered = option_map (λ it. given it.response it.receipt) desk.answered } };
+    ghost view = { λ desk. record { ring = desk.ring; answered = desk.answered } };
 }
 
 impl<N: DriverNaming> Desk<N> {
@@ -58,7 +46,7 @@ impl<N: DriverNaming> Desk<N> {
 
     /// The answer, once there is one: it is there no longer.
     pub fn take(&mut self) -> Option<Answered<N>>
-        ensures answer { option_map (λ it. given it.response it.receipt) result ≡ self.old.answered }
+        ensures answer { result ≡ self.old.answered }
         ensures left { self.new ≡ record self.old { answered = None } }
     {
         self.answered.take()
@@ -71,15 +59,17 @@ impl<N: DriverNaming> Desk<N> {
         self.ring
     }
 
-    /// The question is answered.
-    pub(crate) fn answer(&mut self, response: Option<Response>, receipt: Receipt)
-        requires { receipt.book ≡ N.book }
-        ensures { self.new ≡ record self.old { answered = Some (given response receipt) } }
+    /// The question is answered: by the response of its entry, or by none where there was no memory.
+    pub(crate) fn answer(
+        &mut self,
+        question: Question,
+        response: Option<Response>,
+        receipt: Receipt,
+    )
+        requires ours { receipt.book ≡ N.book }
+        requires answer { IsAnswer question response receipt }
+        ensures { self.new ≡ record self.old { answered = Some (record { question = question; response = response; receipt = receipt }) } }
     {
-        self.answered = Some(Answered {
-            response,
-            receipt,
-            of: PhantomData,
-        });
+        self.answered = Some(Answered::new(question, response, receipt));
     }
 }

@@ -1,7 +1,7 @@
 //! What each turn of an agent passes before it does anything.
 
-ghost use Rattle.media_agents.specs.Passing.{next_turn};
-ghost use Rattle.std.specs.Prelude.{◌≡◌};
+ghost use Rattle.media_agents.specs.Passing.{next_turn, pause_after, rest_after};
+ghost use Rattle.std.specs.Prelude.{◌≡◌, ◌<◌};
 
 use std::time::{Clock, Duration};
 use std::{hint, thread};
@@ -68,16 +68,37 @@ const SHORTEST: u64 = 1_000;
 /// How long an agent sleeps at most, in nanoseconds.
 const LONGEST: u64 = 1_000_000;
 
-/// How long an agent sleeps after so many idle turns, in nanoseconds; none where it spins or yields.
-fn pause(idle: u64) -> u64 {
-    if idle < YIELDS {
-        return 0;
-    }
-    let doubled = idle - YIELDS;
-    if doubled < 10 {
-        (SHORTEST << doubled).min(LONGEST)
+/// How an agent rests before a turn.
+#[derive(Clone, Copy, Debug, PartialEq, Eq)]
+pub enum Rest {
+    Nothing,
+    Spin,
+    Yield,
+    /// It sleeps for so many nanoseconds.
+    Sleep(u64),
+}
+
+/// How long an agent sleeps after so many idle turns, in nanoseconds.
+fn pause_after(idle: u64) -> u64
+    requires { 15 < idle }
+    ensures { result ≡ pause_after idle }
+{
+    let doubled = (idle - YIELDS - 1).min(10);
+    (SHORTEST << doubled).min(LONGEST)
+}
+
+/// How an agent rests after so many idle turns.
+fn rest_after(idle: u64) -> Rest
+    ensures { result ≡ rest_after idle }
+{
+    if idle == 0 {
+        Rest::Nothing
+    } else if idle <= SPINS {
+        Rest::Spin
+    } else if idle <= YIELDS {
+        Rest::Yield
     } else {
-        LONGEST
+        Rest::Sleep(pause_after(idle))
     }
 }
 
@@ -85,27 +106,28 @@ fn pause(idle: u64) -> u64 {
 /// first, then yields to other threads, and then sleeps, twice as long each time, up to a millisecond.
 #[derive(Clone, Copy, Debug)]
 pub struct Backoff<C> {
-    clock: C,
+    /// By which an agent sleeps.
+    pub clock: C,
 }
 
 impl<C> Backoff<C> {
-    /// An agent sleeps by this clock.
-    pub fn new(clock: C) -> Backoff<C> {
+    /// The gate by which an agent sleeps by this clock.
+    pub fn new(clock: C) -> Backoff<C>
+        ensures { result.clock ≡ clock }
+    {
         Backoff { clock }
     }
 }
 
 impl<C: Clock> Gate for Backoff<C> {
     fn pass(&self, _agent: Agent, turn: Turn) {
-        if turn.idle == 0 {
-            return;
-        }
-        if turn.idle < SPINS {
-            hint::spin_loop();
-        } else if turn.idle < YIELDS {
-            thread::yield_now();
-        } else {
-            thread::sleep(&self.clock, Duration::from_nanos(pause(turn.idle)));
+        match rest_after(turn.idle) {
+            Rest::Nothing => {}
+            Rest::Spin => hint::spin_loop(),
+            Rest::Yield => thread::yield_now(),
+            Rest::Sleep(nanoseconds) => {
+                thread::sleep(&self.clock, Duration::from_nanos(nanoseconds));
+            }
         }
     }
 }

@@ -2,6 +2,7 @@
 #![tactic(auto)]
 
 mod aftermath;
+mod answering;
 mod clock;
 mod conductor;
 mod desk;
@@ -25,9 +26,10 @@ mod telling;
 mod turning;
 mod works;
 
+pub use answering::{Answered, Question};
 pub use clock::Clock;
 pub use conductor::Conductor;
-pub use desk::{Answered, Desk};
+pub use desk::Desk;
 pub use gate::{Agent, Backoff, Gate, Turn};
 pub use listing::ImageAt;
 pub use mail::{ClientReply, Mail};

@@ -17,7 +17,7 @@ pub struct ImageAt {
     pub endpoint: Address,
 }
 
-/// Puts one behind the others, where there is room.
+/// Puts one after the others, where there is room.
 pub(crate) fn add<T: Drop, const N: usize>(rows: &mut Rows<T, N>, one: T)
     ensures { rows.new ≡ take N (rows.old ++ one ∷ []) }
 {

@@ -58,8 +58,8 @@ fn join_one<N: Naming, L: Logs<N>, R: Wait>(
     })
 }
 
-/// Those that come read their logs from now on, and how far each log reaches is told. A log that is not there yet is passed
-/// over.
+/// Those that come read their logs from now on, and the answer is how far each log reaches. A log that is
+/// not there yet is passed over.
 pub(crate) fn join<N: Naming, L: Logs<N>, R: Wait>(
     rt: &R,
     alloc: Global,

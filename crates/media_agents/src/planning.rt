@@ -56,6 +56,7 @@ fn make_ready(
     memory: LogMemory,
 ) -> Result<Planned, AllocError>
     ensures entry { IfOk result (λ planned. planned.entry ≡ entry) }
+    ensures response { IfOk result (λ planned. planned.aftermath.response ≡ entry.outcome.response) }
     ensures replies { IfOk result (λ planned. planned.aftermath.replies ≡ entry.outcome.replies) }
 {
     let aftermath = Aftermath::of(alloc, registry, &entry.outcome)?;
@@ -66,7 +67,7 @@ fn make_ready(
     })
 }
 
-/// Plans the event, where the logs reach that far and these images are silent, and takes all memory that it will want.
+/// Plans the event, where the logs reach that far and these images are silent, and takes all memory that it will need.
 fn plan_with(
     alloc: Global,
     registry: &Registry,
@@ -78,6 +79,7 @@ fn plan_with(
     ensures sound { IfOk result (λ ready. IsSound registry.now → IsSound (state_after registry.now ready.entry.event ready.entry.inputs)) }
     ensures event_is { IfOk result (λ ready. ready.entry.event ≡ event.now) }
     ensures inputs { IfOk result (λ ready. ready.entry.inputs ≡ record { silent = silent.now; ends = ends }) }
+    ensures response { IfOk result (λ ready. ready.aftermath.response ≡ ready.entry.outcome.response) }
     ensures replies { IfOk result (λ ready. ready.aftermath.replies ≡ ready.entry.outcome.replies) }
 {
     let entry = plan_at(alloc, registry, event, silent, ends)?;
@@ -121,7 +123,7 @@ pub(crate) fn foresee<N: Naming, L: Logs<N>, R: Wait>(
     })
 }
 
-/// The pairs that come are joined to their logs, each behind its lock, and the event is planned with how far these logs reach
+/// The pairs that come are joined to their logs, each under its lock, and the event is planned with how far these logs reach
 /// then. So a reply names the position at which its pair really begins, although clients go on offering.
 pub(crate) fn plan_joined<N: Naming, L: Logs<N>, R: Wait>(
     rt: &R,
@@ -138,6 +140,7 @@ pub(crate) fn plan_joined<N: Naming, L: Logs<N>, R: Wait>(
     ensures event_is { IfOk result (λ ready. ready.entry.event ≡ event.now) }
     ensures silent { IfOk result (λ ready. ready.entry.inputs.silent ≡ foreseen.now.silent) }
     ensures ends { IfOk result (λ ready. Gathers (Joins (L.held logs.now) registry.now foreseen.now.come) foreseen.now.come ready.entry.inputs.ends) }
+    ensures response { IfOk result (λ ready. ready.aftermath.response ≡ ready.entry.outcome.response) }
     ensures replies { IfOk result (λ ready. ready.aftermath.replies ≡ ready.entry.outcome.replies) }
 {
     let ends = join(rt, alloc, logs, registry, room, foreseen.come.as_slice())?;

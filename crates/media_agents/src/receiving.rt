@@ -81,7 +81,7 @@ fn hear_each<N: Naming, R: Wait, W: Wire>(
     (pass, worked)
 }
 
-/// One hold of an image's lock, with one look within it: what its publisher is due to be told. `None` where there is no look
+/// One hold of an image's lock, with one look within it: what is due to its publisher. `None` where there is no look
 /// or no memory.
 fn report<N: Naming, R: Wait>(
     rt: &R,
@@ -103,7 +103,7 @@ fn report<N: Naming, R: Wait>(
     }
 }
 
-/// Whether the answer tells to send anything.
+/// Whether the answer has datagrams to send.
 fn is_due(answer: &Answer) -> bool {
     match answer {
         Answer::Reported { datagrams, .. } => !datagrams.is_empty(),
@@ -161,7 +161,7 @@ fn report_each<N: Naming, R: Wait, W: Wire>(
     (pass, worked)
 }
 
-/// The receiver: it takes the datagrams of images, and tells their publishers what came.
+/// The receiver: it takes the datagrams of images, and reports to their publishers what came.
 #[derive(Drop)]
 pub struct ReceiverAgent<N: Naming, G: Gate> {
     slots: Arc<Slots<N>>,
@@ -217,7 +217,7 @@ impl<N: Naming, G: Gate + Drop> ReceiverAgent<N, G> {
     /// A turn, at the moment `now` in nanoseconds, once the gate lets it pass. At each address where subscriptions of a look
     /// take datagrams those that came are read, 1,024 at most: data and heartbeats are steps on their image, and a SETUP is
     /// pushed as an event, or lost where the queue is full. Then each image of a second look has one step, in the order of
-    /// their numbers. Each step is one hold of the log's lock, with one look within it; what it tells to send goes out from
+    /// their numbers. Each step is one hold of the log's lock, with one look within it; the datagrams of its answer go out from
     /// the address at which the image reads, once the lock is let go, and a send that fails is a datagram lost.
     pub fn turn<R: Wait, W: Wire>(&mut self, rt: &R, wire: &mut W, now: u64)
         ensures known { IsContinuedBy self.old.known self.new.known }

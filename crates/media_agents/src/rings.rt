@@ -1,7 +1,8 @@
 //! The rings by which clients get their replies.
 
-ghost use Rattle.media_agents.specs.Mails.{IsReplyOf, Posts};
-ghost use Rattle.std.specs.Prelude.{◌≡◌, []};
+ghost use Rattle.media_agents.specs.Mails.{IsReplyOf, Posts, PostsTo, RingState, assigned};
+ghost use Rattle.rtrb.specs.Ring.{sent};
+ghost use Rattle.std.specs.Prelude.{◌≡◌, ◌≢◌, ◌<◌, All, IfNone, IfSome, Some, length, slice_get};
 
 use crate::mail::{ClientReply, Mail};
 use crate::naming::DriverNaming;
@@ -32,13 +33,20 @@ impl<N: DriverNaming> Model for Ring<N> {
 impl<N: DriverNaming> Ring<N> {
     /// A ring that is no client's yet.
     pub fn new(mails: Producer<Mail<N>, Global>) -> Ring<N>
-        ensures { (result.client ≡ 0) × (result.lost ≡ 0) }
+        ensures { result ≡ record { client = 0; lost = 0; sent = sent mails } }
     {
         Ring {
             client: 0,
             lost: 0,
             mails,
         }
+    }
+
+    /// Whose ring it is.
+    fn client(&self) -> u64
+        ensures { result ≡ self.now.client }
+    {
+        self.client
     }
 
     /// From now on it is that client's, of whose replies none was dropped.
@@ -62,20 +70,47 @@ impl<N: DriverNaming> Ring<N> {
     }
 }
 
+/// The number of a client's ring, if it has one.
+fn ring_of<N: DriverNaming>(rings: &[Ring<N>], client: u64) -> Option<usize>
+    ensures found { IfSome result (λ place. (ring : RingState) × (slice_get rings.now place ≡ Some ring) × (ring.client ≡ client)) }
+    ensures within { IfSome result (λ place. place < length rings.now) }
+    ensures none { IfNone result (All (λ (ring : RingState). ring.client ≢ client) rings.now) }
+{
+    for place in 0..rings.len() {
+        if rings[place].client() == client {
+            return Some(place);
+        }
+    }
+    None
+}
+
 /// The rings of a driver's clients.
 #[derive(Drop)]
 pub struct Rings<N: DriverNaming> {
     rings: Vec<Ring<N>>,
 }
 
+impl<N: DriverNaming> Model for Rings<N> {
+    ghost use Rattle.media_agents.specs.Mails.{RingState};
+    ghost use Rattle.std.specs.Prelude.{List};
+
+    ghost Value = { List RingState };
+
+    ghost view = { λ rings. rings.rings.items };
+}
+
 impl<N: DriverNaming> Rings<N> {
     /// These rings, numbered from 0.
-    pub fn new(rings: Vec<Ring<N>>) -> Rings<N> {
+    pub fn new(rings: Vec<Ring<N>>) -> Rings<N>
+        ensures { result ≡ rings.items }
+    {
         Rings { rings }
     }
 
     /// The ring of that number is that client's from now on.
-    pub(crate) fn assign(&mut self, ring: u16, client: u64) {
+    pub(crate) fn assign(&mut self, ring: u16, client: u64)
+        ensures { self.new ≡ assigned ring client self.old }
+    {
         if let Some(ring) = self.rings.get_mut(ring as usize) {
             ring.assign(client);
         }
@@ -85,12 +120,10 @@ impl<N: DriverNaming> Rings<N> {
     pub(crate) fn post(&mut self, receipt: &Receipt, client: u64, reply: ClientReply)
         requires ours { receipt.now.book ≡ N.book }
         requires held { IsReplyOf receipt.now client reply }
+        ensures { PostsTo receipt.now client reply self.old self.new }
     {
-        for ring in &mut self.rings {
-            if ring.client == client {
-                ring.post(receipt, reply);
-                return;
-            }
+        if let Some(place) = ring_of(self.rings.as_slice(), client) {
+            self.rings[place].post(receipt, reply);
         }
     }
 }

@@ -176,7 +176,7 @@ impl<N: Naming, G: Gate + Drop> SenderAgent<N, G> {
     /// A turn, at the moment `now` in nanoseconds, once the gate lets it pass. The datagrams that came to the address that it
     /// sends from are read, 1,024 at most: a NAK or a status message is a step on its publication. Then each publication over
     /// datagrams of a look has one step, in the order of their numbers. Each step is one hold of the log's lock, with one look
-    /// within it; what it tells to send goes out once the lock is let go, and a send that fails is a datagram lost.
+    /// within it; the datagrams of its answer go out once the lock is let go, and a send that fails is a datagram lost.
     pub fn turn<R: Wait, W: Wire>(&mut self, rt: &R, wire: &mut W, now: u64)
         ensures known { IsContinuedBy self.old.known self.new.known }
         ensures local { self.new.local ≡ self.old.local }

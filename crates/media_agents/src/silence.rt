@@ -11,7 +11,7 @@ use std::alloc::{AllocError, Global};
 use std::sync::Wait;
 use stream_registry::Source;
 
-/// The number of the row's log, if it is that of an image which is silent: it is asked behind its lock.
+/// The number of the row's log, if it is that of an image which is silent: it is asked under its lock.
 fn silent_one<N: Naming, L: Logs<N>, R: Wait>(
     rt: &R,
     logs: &L,
@@ -29,7 +29,7 @@ fn silent_one<N: Naming, L: Logs<N>, R: Wait>(
     }
 }
 
-/// The images of which nothing was heard for longer than the liveness, each asked behind its lock, at the conductor's moment
+/// The images of which nothing was heard for longer than the liveness, each asked under its lock, at the conductor's moment
 /// once it took a tick of the moment `now` in nanoseconds.
 fn silent_at<N: Naming, L: Logs<N>, R: Wait>(
     rt: &R,

@@ -10,7 +10,7 @@ use log_slots::{LogSlot, Naming, Slot};
 use std::sync::{Mutex, Wait};
 use stream_registry::Source;
 
-/// Which log, and behind which lock it is.
+/// Which log, and which lock guards it.
 #[derive(Clone, Copy, Debug, PartialEq, Eq)]
 pub struct LogAt {
     pub source: u64,
@@ -32,7 +32,7 @@ impl LogAt {
     }
 }
 
-/// The logs of a driver as the conductor gets at them, each behind the lock of its slot. A slot that is not there is as one in
+/// The logs of a driver as the conductor gets at them, each under the lock of its slot. A slot that is not there is as one in
 /// which no log is open.
 pub trait Logs<N: Naming> {
     /// In one hold of the lock of that log's slot this was found there, and that was left. What is said over any logs can know

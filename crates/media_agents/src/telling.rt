@@ -1,4 +1,4 @@
-//! What a step tells to send goes over the wire, once no lock is held.
+//! The datagrams of a step's answer go over the wire, once no lock is held.
 
 ghost use Rattle.media_agents.specs.Traffic.{AreTried, GoesOn, letters_of, letters_out, letters_to};
 ghost use Rattle.std.specs.Prelude.{◌∷◌, []};
@@ -37,7 +37,7 @@ fn send_all<W: Wire>(wire: &mut W, local: &Address, to: &Address, datagrams: &[B
     }
 }
 
-/// Sends what a step's answer tells to send, from the address `local`.
+/// Sends the datagrams of a step's answer, from the address `local`.
 pub(crate) fn tell<W: Wire>(wire: &mut W, local: &Address, answer: &Answer)
     ensures { GoesOn (AreTried (letters_of local.now answer.now)) (W.went wire.old) (W.went wire.new) }
 {

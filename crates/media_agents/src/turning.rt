@@ -23,7 +23,7 @@ pub trait Conducts<E> {
         ensures { MatchBool result (history self.new ≡ history self.old ++ event ∷ []) (history self.new ≡ history self.old) };
 }
 
-/// Takes the events that lie in the queue, for as long as the history has a number left. What is known of the queue decides
+/// Takes the events that are in the queue, for as long as the history has a number left. What is known of the queue decides
 /// nothing: whatever it is, the answers fit it.
 fn take_all<E: Drop, C: Conducts<E>, R: Wait>(
     rt: &R,
@@ -51,7 +51,7 @@ fn take_all<E: Drop, C: Conducts<E>, R: Wait>(
     misses
 }
 
-/// A turn: the events that lie in the queue, and then the tick. Once the history is at its last number none of them is taken.
+/// A turn: the events that are in the queue, and then the tick. Once the history is at its last number none of them is taken.
 pub fn turn<E: Drop, C: Conducts<E>, R: Wait>(
     rt: &R,
     taker: &mut Taker<E>,

@@ -2,12 +2,15 @@
 
 ghost use Rattle.driver_core.specs.Conduct.{state_after};
 ghost use Rattle.driver_core.specs.Soundness.{IsSound};
-ghost use Rattle.media_agents.specs.Mails.{TellsAll};
+ghost use Rattle.media_agents.specs.Answering.{Answers, IsAnswer};
+ghost use Rattle.media_agents.specs.Asking.{IsRowClosed};
+ghost use Rattle.media_agents.specs.Mails.{PostsEach, TellsAll};
 ghost use Rattle.media_agents.specs.Turns.{events_in};
 ghost use Rattle.published_registry.specs.Histories.{IsPlannedOn, registry_of};
-ghost use Rattle.std.specs.Prelude.{◌≡◌, ◌+◌, ◌<◌, ◌^◌, ◌++◌, ◌∷◌, [], length, IfOk, OnErr, OnOk};
+ghost use Rattle.std.specs.Prelude.{◌≡◌, ◌+◌, ◌<◌, ◌^◌, ◌++◌, ◌∷◌, [], length, All, IfOk, OnErr, OnOk};
 
 use crate::aftermath::Aftermath;
+use crate::answering::Question;
 use crate::desk::Desk;
 use crate::following::{close_live, follow, open_next};
 use crate::mail::ClientReply;
@@ -15,10 +18,10 @@ use crate::naming::DriverNaming;
 use crate::pairing::settle;
 use crate::planning::{Foreseen, Planned, foresee, plan_joined};
 use crate::rings::Rings;
-use crate::slots::Slots;
+use crate::slots::{Logs, Slots};
 use crate::turning::Conducts;
 use command_codec::Command;
-use driver_core::{Entry, Event, Message, Response};
+use driver_core::{Entry, Event, Message, Registry, Response};
 use log_slots::{LogMemory, Region};
 use published_registry::{Publisher, Receipt};
 use rows::Rows;
@@ -84,10 +87,26 @@ fn publish<N: DriverNaming, R: Wait>(
 fn deliver<N: DriverNaming>(rings: &mut Rings<N>, receipt: &Receipt, replies: &[Message])
     requires ours { receipt.now.book ≡ N.book }
     requires held { TellsAll receipt.now.entries replies.now }
+    ensures { PostsEach receipt.now replies.now rings.old rings.new }
 {
     for message in replies {
         rings.post(receipt, message.client, ClientReply::Of(message.reply));
     }
+}
+
+/// The registry is shown to nobody any more, and then each log that it has closes.
+fn end_with<N: DriverNaming, L: Logs<N>, R: Wait>(
+    rt: &R,
+    publisher: Publisher,
+    region: &mut Region<N>,
+    logs: &L,
+) -> Registry
+    ensures registry { result ≡ registry_of publisher }
+    ensures closed { All (IsRowClosed (L.held logs.now)) result.streams.sources }
+{
+    let registry = publisher.end(rt);
+    close_live(rt, region, logs, &registry);
+    registry
 }
 
 impl<N: DriverNaming> Works<N> {
@@ -162,8 +181,10 @@ impl<N: DriverNaming> Works<N> {
         requires room { length self.old.entries + 1 < 2 ^ 64 }
         requires planned { IsPlannedOn (registry_of self.old) ready.entry }
         requires sound { IsSound (state_after (registry_of self.old) ready.entry.event ready.entry.inputs) }
+        requires response { ready.aftermath.response ≡ ready.entry.outcome.response }
         requires replies { ready.aftermath.replies ≡ ready.entry.outcome.replies }
         ensures done { IfOk result (λ answered. self.new ≡ record self.old { entries = self.old.entries ++ ready.entry ∷ [] }) }
+        ensures response { IfOk result (λ answered. answered.0 ≡ ready.entry.outcome.response) }
         ensures receipt { IfOk result (λ answered. answered.1 ≡ record { book = self.new.book; entries = self.new.entries }) }
         ensures err { OnErr result (self.new ≡ self.old) }
     {
@@ -202,6 +223,7 @@ impl<N: DriverNaming> Works<N> {
     ) -> Result<(Response, Receipt), AllocError>
         requires room { length self.old.entries + 1 < 2 ^ 64 }
         ensures done { OnOk result (events_in self.new.entries ≡ events_in self.old.entries ++ event.now ∷ []) }
+        ensures answer { IfOk result (λ answered. Answers event.now answered.0 answered.1.entries) }
         ensures ours { IfOk result (λ answered. answered.1.book ≡ N.book) }
         ensures err { OnErr result (self.new ≡ self.old) }
     {
@@ -237,6 +259,7 @@ impl<N: DriverNaming> Works<N> {
     fn take<R: Wait>(&mut self, rt: &R, event: &Event) -> Result<(Response, Receipt), AllocError>
         requires room { length self.old.entries + 1 < 2 ^ 64 }
         ensures done { OnOk result (events_in self.new.entries ≡ events_in self.old.entries ++ event.now ∷ []) }
+        ensures answer { IfOk result (λ answered. Answers event.now answered.0 answered.1.entries) }
         ensures ours { IfOk result (λ answered. answered.1.book ≡ N.book) }
         ensures err { OnErr result (self.new ≡ self.old) }
     {
@@ -254,16 +277,23 @@ impl<N: DriverNaming> Works<N> {
         taken
     }
 
-    /// A client that attached gets its ring, and the owner of the driver what it asked.
-    fn report<R: Wait>(&mut self, rt: &R, response: Option<Response>, receipt: Receipt)
-        requires { receipt.book ≡ N.book }
+    /// A client that attached gets its ring, and the owner of the driver the answer.
+    fn report<R: Wait>(
+        &mut self,
+        rt: &R,
+        question: Question,
+        response: Option<Response>,
+        receipt: Receipt,
+    )
+        requires ours { receipt.book ≡ N.book }
+        requires answer { IsAnswer question response receipt }
         ensures { self.new ≡ self.old }
     {
         let mut desk = self.desk.lock(rt);
         if let Some(Response::Attached(client)) = response {
             self.rings.assign(desk.ring(), client);
         }
-        desk.answer(response, receipt);
+        desk.answer(question, response, receipt);
     }
 
     /// What is answered to an event for which there was no memory: the client gets a reply that no entry holds, with the
@@ -272,32 +302,31 @@ impl<N: DriverNaming> Works<N> {
         ensures { self.new ≡ self.old }
     {
         let receipt = self.publisher().receipt();
-        match event {
-            Event::Attach { .. } | Event::Reload { .. } => self.report(rt, None, receipt),
-            Event::Command { client, bytes, .. } => {
-                let correlation = Command::correlation_of(bytes.as_slice());
-                self.rings
-                    .post(&receipt, *client, ClientReply::NoMemory { correlation });
-            }
-            Event::Tick { .. } | Event::Setup { .. } => {}
+        if let Event::Command { client, bytes, .. } = event {
+            let correlation = Command::correlation_of(bytes.as_slice());
+            self.rings
+                .post(&receipt, *client, ClientReply::NoMemory { correlation });
+        } else if let Some(question) = Question::of(event) {
+            self.report(rt, question, None, receipt);
         }
     }
 
-    /// What is answered to an event itself once its entry is shown. Its replies went out before.
+    /// An event that is a question is answered with the response of its entry, once that is shown. Its replies went out before.
     fn answer<R: Wait>(&mut self, rt: &R, event: &Event, response: Response, receipt: Receipt)
-        requires { receipt.book ≡ N.book }
+        requires ours { receipt.book ≡ N.book }
+        requires answer { Answers event.now response receipt.entries }
         ensures { self.new ≡ self.old }
     {
-        match event {
-            Event::Attach { .. } | Event::Reload { .. } => {
-                self.report(rt, Some(response), receipt);
-            }
-            Event::Command { .. } | Event::Tick { .. } | Event::Setup { .. } => {}
+        if let Some(question) = Question::of(event) {
+            self.report(rt, question, Some(response), receipt);
         }
     }
 
-    /// Ends the driver: each log closes, and nobody gets a look any more. It waits until each look has ended.
-    pub fn end<R: Wait>(self, rt: &R) {
+    /// Ends the driver and gives its last registry: nobody gets a look at it any more, and each of its logs closes. It waits
+    /// until each look has ended.
+    pub fn end<R: Wait>(self, rt: &R) -> Registry
+        ensures { result ≡ registry_of self }
+    {
         let Works {
             publisher,
             rings: _,
@@ -308,10 +337,7 @@ impl<N: DriverNaming> Works<N> {
             alloc: _,
         } = self;
         match publisher {
-            Some(publisher) => {
-                let registry = publisher.end(rt);
-                close_live(rt, &mut region, &*slots, &registry);
-            }
+            Some(publisher) => end_with(rt, publisher, &mut region, &*slots),
             None => unreachable!(),
         }
     }

@@ -1,6 +1,6 @@
 -- What a client's offer and poll are answered: the answer of a step on one log, by the registry that the client saw last. Of an
--- answer that the log is closed, that the subscription does not read it, or that there was no look, nothing is said: what lies
--- behind a lock is known to whoever holds it, and a slot with no log answers so. Own rules.
+-- answer that the log is closed, that the subscription does not read it, or that there was no look, nothing is said: what a
+-- lock guards is known to whoever holds it, and a slot with no log answers so. Own rules.
 use Rattle.std.specs.Prelude.{◌≡◌, ℕ, ◌+◌, ◌⊎◌, List, Option, Some, None, Result, Ok, Err, IfSome}
 use Rattle.any_log.specs.Whole.{HasWhole}
 use Rattle.driver_core.specs.State.{State}
@@ -17,26 +17,26 @@ use Rattle.media_driver.specs.declared.faults.OfferFault.TheVariants as offers
 use Rattle.media_driver.specs.declared.faults.PollFault.{PollFault}
 use Rattle.media_driver.specs.declared.faults.PollFault.TheVariants as polls
 
--- this may lie behind a lock: a log that is open lies in that region, is made for what the slot says, and stands for a whole
+-- a lock may guard this: a log that is open lies in that region, is made for what the slot says, and stands for a whole
 -- log
 pub record IsLocked (home : Home) (slot : SlotLog) : Type 0 where
   pub own : IsSlot home slot.source slot.session slot.stream slot.log
   pub whole : IfSome slot.log (λ (held : HeldLog). HasWhole held.log)
 
--- the log that lay behind a lock moved so, and that is the answer; where none was open, it is the one for that
+-- the log that a lock guards moved so, and that is the answer; where none was open, it is the one for that
 pub record IsStep (home : Home) (move : WholeLog → Move) (absent answer : Answer) : Type 0 where
   pub slot : SlotLog
   pub locked : IsLocked home slot
   pub new : Option HeldLog
   pub moves : Moves move absent slot.log new answer
 
--- the log that lay behind a lock gives something by such a move
+-- the log that a lock guards gives something by such a move
 pub record IsGiving (home : Home) (move : WholeLog → Move) : Type 0 where
   pub slot : SlotLog
   pub locked : IsLocked home slot
   pub gives : GivesIn move slot.log
 
--- how a step is answered that gives this; `None` where no step on a log was taken, or none that the answer tells of
+-- how a step is answered that gives this; `None` where no step on a log was taken, or none that the answer speaks of
 abbrev pub offer_answer : Result ℕ OfferFault → Option Answer
 offer_answer (Ok position) = Some (OfferedAs (offered.At position))
 offer_answer (Err (offers.Denied verdict)) = Some (IsDenied verdict)

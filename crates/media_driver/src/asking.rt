@@ -3,7 +3,7 @@
 ghost use Rattle.std.specs.Prelude.{◌≡◌, ◌++◌, ◌∷◌, []};
 
 use driver_core::Event;
-use media_agents::{Answered, Desk, DriverNaming, EventSender};
+use media_agents::{Answered, Desk, DriverNaming, EventSender, Question};
 use std::sync::{Mutex, Wait};
 use std::thread;
 
@@ -22,28 +22,38 @@ fn push<R: Wait>(rt: &R, queue: &mut EventSender, event: Event)
     unreachable!()
 }
 
-/// Waits until the conductor answers.
-fn wait_for_answer<N: DriverNaming, R: Wait>(rt: &R, desk: &Mutex<Desk<N>>) -> Answered<N> {
+/// Waits until the conductor answers that question. An answer to another one is let go.
+fn wait_for_answer<N: DriverNaming, R: Wait>(
+    rt: &R,
+    desk: &Mutex<Desk<N>>,
+    question: Question,
+) -> Answered<N>
+    ensures { result.question ≡ question }
+{
     for _ in rt.forever() {
         if let Some(answered) = desk.lock(rt).take() {
-            return answered;
+            if answered.question() == question {
+                return answered;
+            }
         }
         thread::yield_now();
     }
     unreachable!()
 }
 
-/// Asks the conductor a question, once, and waits for the answer. A client that attaches by it gets that ring.
+/// Asks the conductor a question, once, as that event, and waits for its answer. A client that attaches by it gets that ring.
 pub(crate) fn ask<N: DriverNaming, R: Wait>(
     rt: &R,
     desk: &Mutex<Desk<N>>,
     queue: &mut EventSender,
     ring: u16,
+    question: Question,
     event: Event,
 ) -> Answered<N>
-    ensures { queue.new ≡ record queue.old { sent = queue.old.sent ++ event ∷ [] } }
+    ensures pushed { queue.new ≡ record queue.old { sent = queue.old.sent ++ event ∷ [] } }
+    ensures question { result.question ≡ question }
 {
     desk.lock(rt).ask(ring);
     push(rt, queue, event);
-    wait_for_answer(rt, desk)
+    wait_for_answer(rt, desk, question)
 }

@@ -13,7 +13,7 @@ use crate::seat::Seat;
 use crate::seats::FreeSeat;
 use driver_core::{Event, Response};
 use log_slots::Totals;
-use media_agents::{Clock, DriverNaming, Slots};
+use media_agents::{Clock, DriverNaming, Question, Slots};
 use published_registry::Receipt;
 use std::alloc::AllocError;
 use std::sync::{Arc, Mutex, Wait};
@@ -73,14 +73,14 @@ impl<N: DriverNaming, R: Threads + Wait, C: Clock + Copy> Driver<N, R, C> {
         client
     }
 
-    /// A client attaches that acts for this principal. It has seen the registry after its attach. It waits until the queue
-    /// takes the event, and the conductor answers it.
+    /// A client attaches that acts for this principal. Its number is the one under which the entry of its attach has it, and it
+    /// has seen the registry after that entry. It waits until the queue takes the event, and the conductor answers it.
     ///
     /// # Errors
     /// `Full` where 64 clients are out, and then nothing is asked; the others as the conductor answers.
     pub fn client(&mut self, principal: u32) -> Result<Client<N, C>, AttachFault>
         ensures attached { IfOk result (λ client. (client.correlation ≡ 0) × (client.counted ≡ 0)) }
-        ensures done { IfOk result (λ _. Attaches principal self.old self.new) }
+        ensures done { IfOk result (λ client. Attaches principal client.number client.known self.old self.new) }
         ensures full { 64 ≤ self.old.out → IsErrOf result IsFull }
         ensures err { IfErr result (λ fault. AttachFails principal fault self.old self.new) }
     {
@@ -92,17 +92,17 @@ impl<N: DriverNaming, R: Threads + Wait, C: Clock + Copy> Driver<N, R, C> {
         };
         let ring = self.kept.seats.next();
         let now = self.clock.now();
-        let event = Event::Attach { now, principal };
         let answered = ask(
             &self.rt,
             &self.kept.common.desk,
             &mut self.kept.queue,
             ring,
-            event,
+            Question::Attach { now, principal },
+            Event::Attach { now, principal },
         );
-        match answered.response {
+        match answered.response() {
             Some(Response::Attached(number)) => {
-                Ok(self.admit(handles, number, &answered.receipt))
+                Ok(self.admit(handles, number, answered.receipt()))
             }
             Some(Response::Stopped) => Err(AttachFault::Stopped),
             Some(_) => Err(AttachFault::Full),

@@ -1,5 +1,7 @@
 //! The machine's clock.
 
+ghost use Rattle.std.specs.Prelude.{◌≡◌};
+
 use media_agents::Clock;
 use std::time;
 
@@ -7,12 +9,15 @@ use std::time;
 /// moment that was read.
 #[derive(Clone, Copy, Debug)]
 pub struct MachineClock<C> {
-    clock: C,
+    /// The machine's own.
+    pub clock: C,
 }
 
 impl<C> MachineClock<C> {
     /// The clock of that machine.
-    pub fn new(clock: C) -> MachineClock<C> {
+    pub fn new(clock: C) -> MachineClock<C>
+        ensures { result.clock ≡ clock }
+    {
         MachineClock { clock }
     }
 }

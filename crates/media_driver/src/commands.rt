@@ -209,7 +209,7 @@ impl<N: DriverNaming, C: Clock> Client<N, C> {
         self.push(rt, Body::RemoveCounter(Removal { registration }))
     }
 
-    /// Tells the driver that the client is there still (CLIENT_KEEPALIVE).
+    /// Says to the driver that the client is still there (CLIENT_KEEPALIVE).
     pub fn keepalive<R: Wait>(&mut self, rt: &R) -> Result<u64, PushFault>
         ensures { Commands self.old self.new bodies.ClientKeepalive result }
     {

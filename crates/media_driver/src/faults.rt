@@ -68,7 +68,7 @@ pub enum OfferFault {
     NotConnected,
     /// The log is at its greatest position (-5).
     MaxPosition,
-    /// The slowest reader is too far behind (-2).
+    /// The slowest reader has too much left to read (-2).
     BackPressured,
     /// The rest of the term was too short and is passed: offer again (-3).
     AdminAction,

@@ -170,12 +170,14 @@ impl Parts {
         }
     }
 
-    /// Lets the parts go without a driver.
-    pub fn end<R: Wait>(self, rt: &R) {
+    /// Lets the parts go without a driver, and gives the registry that was opened.
+    pub fn end<R: Wait>(self, rt: &R) -> Registry
+        ensures { result ≡ self.opening }
+    {
         let Parts {
             publisher,
             pieces: _,
         } = self;
-        drop(publisher.end(rt));
+        publisher.end(rt)
     }
 }

@@ -1,4 +1,4 @@
-//! All that a driver wants beside its parts is taken before a thread begins.
+//! All memory that a driver needs beside its parts is taken before a thread begins.
 
 ghost use Rattle.media_driver.specs.Parts.{AreFresh};
 ghost use Rattle.std.specs.Prelude.{◌≡◌, ◌+◌, [], IfOk, OnOk, length};
@@ -36,7 +36,7 @@ fn make_wires<W: Wire + Drop, R: Wait + Copy + Drop>(
     Ok(Wires { ours, theirs })
 }
 
-/// What a thread begins with: what takes turns on it, and what tells it to end.
+/// What a thread begins with: what takes turns on it, and what says that it is to end.
 #[derive(Drop)]
 pub(crate) struct Ready<T: Drop> {
     pub(crate) turns: T,
@@ -197,7 +197,7 @@ pub(crate) struct Prepared<N: DriverNaming, G: Gate + Drop, W: Wire + Drop> {
     pub(crate) agents: Agents<N, G, W>,
 }
 
-/// Takes the memory that a driver wants beside its parts.
+/// Takes the memory that a driver needs beside its parts.
 pub(crate) fn prepare<N: DriverNaming, R: Wait + Copy + Drop, G: Gate + Drop, W: Wire + Drop>(
     rt: R,
     alloc: Global,

@@ -10,7 +10,7 @@ use crate::asking::ask;
 use crate::driver::Driver;
 use crate::faults::ReloadFault;
 use driver_core::{Event, Response};
-use media_agents::{Clock, DriverNaming};
+use media_agents::{Clock, DriverNaming, Question};
 use policy_core::Policy;
 use policy_text::PolicyFault;
 use published_registry::Receipt;
@@ -36,7 +36,7 @@ impl<N: DriverNaming, R: Threads + Wait, C: Clock + Copy> Driver<N, R, C> {
     /// The text's fault, and then nothing is asked; else as the conductor answers.
     pub fn reload(&mut self, text: &str) -> Result<Receipt, ReloadFault>
         ensures ours { IfOk result (λ receipt. receipt.book ≡ N.book) }
-        ensures done { IfOk result (λ _. Reloads text.now self.old self.new) }
+        ensures done { IfOk result (λ receipt. Reloads text.now receipt self.old self.new) }
         ensures err { IfErr result (λ fault. ReloadFails text.now fault self.old self.new) }
     {
         let policy = match policy_in(self.alloc, text) {
@@ -45,16 +45,16 @@ impl<N: DriverNaming, R: Threads + Wait, C: Clock + Copy> Driver<N, R, C> {
             Err(fault) => return Err(ReloadFault::Policy(fault)),
         };
         let now = self.clock.now();
-        let event = Event::Reload { now, policy };
         let answered = ask(
             &self.rt,
             &self.kept.common.desk,
             &mut self.kept.queue,
             0,
-            event,
+            Question::Reload { now },
+            Event::Reload { now, policy },
         );
-        match answered.response {
-            Some(Response::PolicyInForce(_)) => Ok(answered.receipt),
+        match answered.response() {
+            Some(Response::PolicyInForce(_)) => Ok(answered.receipt().again()),
             Some(_) => Err(ReloadFault::Full),
             None => Err(ReloadFault::NoMemory),
         }

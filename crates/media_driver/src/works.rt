@@ -45,7 +45,7 @@ pub(crate) struct Conducting<N: DriverNaming, R: Wait + Drop, G: Gate + Drop> {
 impl<N: DriverNaming, R: Wait + Drop, G: Gate + Drop> Drop for Conducting<N, R, G> {
     fn drop(self) {
         let Self { rt, conductor } = self;
-        conductor.end(&rt);
+        drop(conductor.end(&rt));
     }
 }
 
