@@ -4,6 +4,7 @@ pub mod AttachingLemmas
 pub mod ClientComingLemmas
 pub mod ClosedLogLemmas
 pub mod ClosingLemmas
+pub mod CountedLemmas
 pub mod DecisionLemmas
 pub mod DenialLemmas
 pub mod DenialTextLemmas
@@ -36,6 +37,7 @@ pub mod PairCountLemmas
 pub mod PublicationLemmas
 pub mod PublishingLemmas
 pub mod PublishingOnlyLemmas
+pub mod ReadWidthLemmas
 pub mod RefusalLemmas
 pub mod ReloadLemmas
 pub mod RemovalLemmas
@@ -51,4 +53,5 @@ pub mod SubscribingLemmas
 pub mod SubscribingOnlyLemmas
 pub mod UniqueImageLemmas
 pub mod UniquePublicationLemmas
+pub mod WidthLemmas
 pub mod WorldLemmas

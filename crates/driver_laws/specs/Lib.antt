@@ -28,4 +28,5 @@ pub mod StepActs
 pub mod SubscribingLaws
 pub mod UniqueImageLaws
 pub mod UniquePublicationLaws
+pub mod WidthLaws
 pub mod WorldLaws
