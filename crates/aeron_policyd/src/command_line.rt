@@ -217,9 +217,9 @@ fn check<'a>(alloc: Global) -> Result<Command<'a>, AllocError> {
 }
 
 pub(crate) fn principal<'a>(alloc: Global) -> Arg<'a> {
-    Arg::new(alloc, "PRINCIPAL")
-        .required(true)
-        .help("Who asks: nobody, p1 to p63, or a name that --names gives")
+    Arg::new(alloc, "PRINCIPAL").required(true).help(
+        "Who asks: nobody, p1 to p63, or a name that --names gives",
+    )
 }
 
 pub(crate) fn act<'a>(alloc: Global) -> Arg<'a> {

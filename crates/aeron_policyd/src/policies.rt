@@ -23,11 +23,7 @@ fn directory_in<F: Disk>(files: &F, names: Option<&str>) -> Result<Directory, Fa
 /// The policy in a file.
 fn source_in<F: Disk>(files: &F, path: &str, directory: &Directory) -> Result<Source, Fault> {
     let bytes = file_bytes(files, path)?;
-    Ok(Source::read(
-        files.alloc(),
-        bytes.as_slice(),
-        directory.names(),
-    )?)
+    Ok(Source::read(files.alloc(), bytes.as_slice(), directory.names())?)
 }
 
 /// Who asks, and what.
