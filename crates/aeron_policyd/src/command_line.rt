@@ -1,3 +1,4 @@
+use crate::policy_words::{Asking, asking_in, names_file, with_policies};
 use crate::running_line::{self, Start};
 use clap::{Arg, ArgMatches, Command, value_parser};
 use std::alloc::{AllocError, Global};
@@ -55,8 +56,15 @@ Example: a policy of two rules, and one whose first rule ends its range of strea
 A policy is TOML: `version = 1`, `default = \"allow\"` or `\"deny\"`, and any `[[rule]]` with `name`, `principal`, `act`,
 `channel`, `allow` and perhaps `stream = [LOW, HIGH]`. Principals are `nobody` and `p1` to `p63`, or `*` for everybody.
 
+With --names FILE principals have the names of that file, whose lines are `principal NAME NUMBER` as in a script.
+
+  $ aeron_policyd check named.toml
+  aeron_policyd: rule 1: unknown principal
+  $ aeron_policyd check --names desk.names named.toml
+  ok: 1 rules
+
 Status: 0; 1 after `aeron_policyd: FAULT` on standard error: cannot read file, read failed, too long, the first fault of
-the policy, write failed, or no memory; 2 for a command line that is at fault.";
+the names or of the policy, write failed, or no memory; 2 for a command line that is at fault.";
 
 /// What `decide` says.
 const DECIDE: &str = "\
@@ -74,9 +82,14 @@ Example: rule 1 of the policy denies everybody streams 10 to 20; rule 2 allows p
 The first rule that matches decides, whatever the others say; where none does, the default stands. Acts are publish,
 publish-exclusive, subscribe, spy, destination, counter, terminate, offer, image, receive, send, retransmit and list.
 
+With --names FILE principals have the names of that file, whose lines are `principal NAME NUMBER` as in a script.
+
+  $ aeron_policyd decide --names desk.names named.toml gateway publish aeron:ipc 1010
+  allowed by rule 1 in policy 1
+
 Status: 0; 1 after `aeron_policyd: FAULT` on standard error, the first of: cannot read file, read failed, too long, a
-fault of the policy, unknown principal, unknown act, invalid channel; or write failed, or no memory; 2 for a command
-line that is at fault.";
+fault of the names or of the policy, unknown principal, unknown act, invalid channel; or write failed, or no memory; 2
+for a command line that is at fault.";
 
 /// Two scripts with their answers.
 const SCRIPT: &str = "\
@@ -182,12 +195,14 @@ pub enum Task<'a> {
     Script {
         file: &'a str,
     },
+    /// To answer what is asked of the policy in a file.
+    Ask(Asking<'a>),
     /// To start a driver.
     Start(Start<'a>),
 }
 
 /// The argument that names a policy's file.
-fn policy_file<'a>(alloc: Global) -> Arg<'a> {
+pub(crate) fn policy_file<'a>(alloc: Global) -> Arg<'a> {
     Arg::new(alloc, "POLICY")
         .required(true)
         .help("The policy's file, of at most 16,777,216 bytes")
@@ -197,28 +212,29 @@ fn check<'a>(alloc: Global) -> Result<Command<'a>, AllocError> {
     Command::new(alloc, "check")
         .about("Says how many rules a policy has, or its first fault")
         .after_help(CHECK)
-        .arg(policy_file(alloc))
+        .arg(policy_file(alloc))?
+        .arg(names_file(alloc))
 }
 
-fn principal<'a>(alloc: Global) -> Arg<'a> {
-    Arg::new(alloc, "PRINCIPAL")
-        .required(true)
-        .help("Who asks: nobody, or p1 to p63")
+pub(crate) fn principal<'a>(alloc: Global) -> Arg<'a> {
+    Arg::new(alloc, "PRINCIPAL").required(true).help(
+        "Who asks: nobody, p1 to p63, or a name that --names gives",
+    )
 }
 
-fn act<'a>(alloc: Global) -> Arg<'a> {
+pub(crate) fn act<'a>(alloc: Global) -> Arg<'a> {
     Arg::new(alloc, "ACT")
         .required(true)
         .help("What is asked, one of the acts below")
 }
 
-fn channel<'a>(alloc: Global) -> Arg<'a> {
+pub(crate) fn channel<'a>(alloc: Global) -> Arg<'a> {
     Arg::new(alloc, "CHANNEL").required(true).help(
         "On which channel, such as aeron:ipc; aeron:counter where a counter is meant",
     )
 }
 
-fn stream<'a>(alloc: Global) -> Arg<'a> {
+pub(crate) fn stream<'a>(alloc: Global) -> Arg<'a> {
     Arg::new(alloc, "STREAM")
         .required(true)
         .value_parser(value_parser!(i32).range(0..))
@@ -233,7 +249,8 @@ fn decide<'a>(alloc: Global) -> Result<Command<'a>, AllocError> {
         .arg(principal(alloc))?
         .arg(act(alloc))?
         .arg(channel(alloc))?
-        .arg(stream(alloc))
+        .arg(stream(alloc))?
+        .arg(names_file(alloc))
 }
 
 fn script<'a>(alloc: Global) -> Result<Command<'a>, AllocError> {
@@ -247,7 +264,7 @@ fn script<'a>(alloc: Global) -> Result<Command<'a>, AllocError> {
 }
 
 /// Adds a subcommand, if there was memory for it.
-fn with<'a>(
+pub(crate) fn with<'a>(
     command: Command<'a>,
     subcommand: Result<Command<'a>, AllocError>,
 ) -> Result<Command<'a>, AllocError> {
@@ -263,6 +280,7 @@ pub(crate) fn command<'a>(alloc: Global) -> Result<Command<'a>, AllocError> {
         .subcommand_required(true);
     let command = with(command, check(alloc))?;
     let command = with(command, decide(alloc))?;
+    let command = with_policies(alloc, command)?;
     let command = with(command, script(alloc))?;
     let command = with(command, running_line::run(alloc))?;
     let command = with(command, running_line::publish(alloc))?;
@@ -279,22 +297,35 @@ fn decide_task<'m, 'a>(of: &'m ArgMatches<'a>) -> Option<Task<'m>> {
     })
 }
 
-/// What the words ask for, once they were found to be of the form.
-pub(crate) fn task_in<'m, 'a>(matches: &'m ArgMatches<'a>) -> Option<Task<'m>> {
-    let (name, of) = matches.subcommand()?;
-    if name == "check" {
-        let policy = of.get_str("POLICY")?;
-        return Some(Task::Check { policy });
-    }
-    if name == "decide" {
-        return decide_task(of);
-    }
+fn check_task<'m, 'a>(of: &'m ArgMatches<'a>) -> Option<Task<'m>> {
+    let policy = of.get_str("POLICY")?;
+    Some(Task::Check { policy })
+}
+
+fn script_task<'m, 'a>(of: &'m ArgMatches<'a>) -> Option<Task<'m>> {
+    let file = of.get_str("FILE")?;
+    Some(Task::Script { file })
+}
+
+/// What the words of the subcommand ask for.
+fn subcommand_task<'m, 'a>(name: &str, of: &'m ArgMatches<'a>) -> Option<Task<'m>> {
     if name == "script" {
-        let file = of.get_str("FILE")?;
-        return Some(Task::Script { file });
+        return script_task(of);
     }
     match running_line::start_in(name, of) {
         Some(start) => Some(Task::Start(start)),
-        None => None,
+        None => Some(Task::Ask(asking_in(name, of)?)),
     }
+}
+
+/// What the words ask for, once they were found to be of the form.
+pub(crate) fn task_in<'m, 'a>(matches: &'m ArgMatches<'a>) -> Option<Task<'m>> {
+    let (name, of) = matches.subcommand()?;
+    if name == "check" && of.get_str("names").is_none() {
+        return check_task(of);
+    }
+    if name == "decide" && of.get_str("names").is_none() {
+        return decide_task(of);
+    }
+    subcommand_task(name, of)
 }

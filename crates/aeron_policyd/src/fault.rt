@@ -1,10 +1,11 @@
 use crate::replies::RefusalText;
-use channel_uri::Address;
+use channel_uri::{Address, UriError};
 use driver_script::RunFault;
 use media_driver::{MakeFault, PushFault, StartFault};
 use policy_core::Verdict;
 use policy_query::DecideFault;
 use policy_text::PolicyFault;
+use policy_tools::{CasesFault, NamesFault};
 use std::alloc::{AllocError, AllocFailed};
 use thiserror::Error;
 
@@ -19,6 +20,12 @@ pub enum Fault {
     Policy(PolicyFault),
     #[error("{0}")]
     Decide(DecideFault),
+    #[error("invalid channel: {0}")]
+    Channel(UriError),
+    #[error("{0}")]
+    Names(NamesFault),
+    #[error("{0}")]
+    Cases(CasesFault),
     #[error("{0}")]
     Make(MakeFault),
     #[error("{0}")]
@@ -82,6 +89,18 @@ impl From<PolicyFault> for Fault {
 impl From<DecideFault> for Fault {
     fn from(fault: DecideFault) -> Fault {
         Fault::Decide(fault)
+    }
+}
+
+impl From<NamesFault> for Fault {
+    fn from(fault: NamesFault) -> Fault {
+        Fault::Names(fault)
+    }
+}
+
+impl From<CasesFault> for Fault {
+    fn from(fault: CasesFault) -> Fault {
+        Fault::Cases(fault)
     }
 }
 

@@ -14,8 +14,8 @@ pub(crate) fn open<R: Files + AllocGlobal>(rt: &R, path: &str) -> Result<R::File
     }
 }
 
-/// All bytes of a policy's file.
-pub(crate) fn policy_bytes<R: Files + AllocGlobal>(rt: &R, path: &str) -> Result<Vec<u8>, Fault> {
+/// All bytes of a file.
+pub(crate) fn file_bytes<R: Files + AllocGlobal>(rt: &R, path: &str) -> Result<Vec<u8>, Fault> {
     let mut file = MayFail(open(rt, path)?);
     Ok(read_input(rt.alloc(), &mut file)?)
 }

@@ -1,7 +1,8 @@
 //! `aeron_policyd`: the shared part of an Aeron media driver under a channel policy, on the command line.
 //!
-//! The work is done in `driver_script` and `policy_query`. Here are the words of the command line, the file, and what
-//! the program ends with: 0, or 1 after a fault or a bad line of a script, or 2 where the command line is at fault.
+//! The work is done in `driver_script`, `policy_query` and `policy_tools`. Here are the words of the command line, the
+//! files, and what the program ends with: 0, or 1 after a fault, a bad line of a script or a case that fails, or 2 where
+//! the command line is at fault.
 #![tactic(auto)]
 
 mod asking;
@@ -12,6 +13,8 @@ mod input;
 mod machine;
 mod one_client;
 mod options;
+mod policies;
+mod policy_words;
 mod publishing;
 mod replies;
 mod running;
@@ -23,8 +26,9 @@ mod watched;
 
 use crate::command_line::{Task, command, task_in};
 use crate::fault::Fault;
-use crate::files::{open, policy_bytes};
+use crate::files::{file_bytes, open};
 use crate::machine::{Disk, Machine};
+use crate::policies::answer_asking;
 use crate::starting::start;
 use clap::ArgMatches;
 use clap::error::ErrorKind;
@@ -69,7 +73,7 @@ fn explain<R: Print + Eprint>(rt: &R, error: &clap::Error) -> Result<ExitCode, F
 
 /// The line that says how many rules the policy in a file has.
 fn checked_in<R: Files + AllocGlobal>(rt: &R, path: &str) -> Result<String, Fault> {
-    let policy = policy_bytes(rt, path)?;
+    let policy = file_bytes(rt, path)?;
     let checked = check(rt.alloc(), policy.as_slice())?;
     Ok(checked.to_string(rt.alloc())?)
 }
@@ -83,7 +87,7 @@ fn verdict_in<R: Files + AllocGlobal>(
     channel: &str,
     stream: i32,
 ) -> Result<String, Fault> {
-    let policy = policy_bytes(rt, path)?;
+    let policy = file_bytes(rt, path)?;
     let verdict = decide(
         rt.alloc(),
         policy.as_slice(),
@@ -98,6 +102,14 @@ fn verdict_in<R: Files + AllocGlobal>(
 /// Prints a line that answers the command line.
 fn print_line<R: Print>(rt: &R, line: &str) -> Result<ExitCode, Fault> {
     match rt.println(line) {
+        Ok(()) => Ok(ExitCode::SUCCESS),
+        Err(_) => Err(Fault::WRITE),
+    }
+}
+
+/// Prints lines that answer the command line.
+fn print_text<R: Print>(rt: &R, text: &str) -> Result<ExitCode, Fault> {
+    match rt.print(text) {
         Ok(()) => Ok(ExitCode::SUCCESS),
         Err(_) => Err(Fault::WRITE),
     }
@@ -128,6 +140,7 @@ fn perform<R: Machine, F: Disk>(rt: &R, files: &F, task: Task<'_>) -> Result<Exi
             verdict_in(files, policy, principal, act, channel, stream)?.as_str(),
         ),
         Task::Script { file } => run_script(rt, files, file),
+        Task::Ask(asking) => answer_asking(rt, files, asking),
         Task::Start(asked) => {
             start(rt, files, asked)?;
             Ok(ExitCode::SUCCESS)

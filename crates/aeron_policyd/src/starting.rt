@@ -4,7 +4,7 @@ ghost use Rattle.driver_core.specs.Soundness.{AreSettings};
 ghost use Rattle.std.specs.Prelude.{IfOk};
 
 use crate::fault::Fault;
-use crate::files::policy_bytes;
+use crate::files::file_bytes;
 use crate::machine::{Disk, Machine};
 use crate::one_client::{Task, Work, with_client};
 use crate::options::{endpoint_of, owned, peers_of, publisher_address, settings_of};
@@ -96,7 +96,7 @@ fn begin<R: Machine, F: Disk>(
     requires { AreSettings settings }
 {
     let names = principals(rt.alloc())?;
-    let text = policy_bytes(files, talk.policy)?;
+    let text = file_bytes(files, talk.policy)?;
     let policy = policy_in(rt.alloc(), text.as_slice(), &names)?;
     let Some(principal) = names.number_of(talk.principal) else {
         return Err(Fault::UnknownPrincipal);

@@ -2,7 +2,7 @@
 //! there, the policy's file is read again, and figures are printed, each in its time.
 
 use crate::fault::Fault;
-use crate::files::policy_bytes;
+use crate::files::file_bytes;
 use crate::machine::{Disk, Machine};
 use crate::watched::Notes;
 use media_driver::{Client, ClientReply, Clock, Driver, DriverNaming, MachineClock, ReloadFault};
@@ -178,7 +178,7 @@ impl<N: DriverNaming + Send + Sync + 'static, R: Machine, F: Disk> Station<N, R,
             return Ok(());
         }
         self.due.reload = now.saturating_add(every);
-        match policy_bytes(&self.files, self.chores.policy.as_str()) {
+        match file_bytes(&self.files, self.chores.policy.as_str()) {
             Ok(bytes) => {
                 if bytes.as_slice() != self.chores.text.as_slice() {
                     self.put_in_force(bytes.as_slice())?;

@@ -1,0 +1,188 @@
+//! The words that ask what a policy says: `show`, `explain` and `test`, and `check` and `decide` with `--names`.
+
+use crate::command_line::{act, channel, policy_file, principal, stream, with};
+use clap::{Arg, ArgMatches, Command};
+use std::alloc::{AllocError, Global};
+
+/// What `show` says.
+const SHOW: &str = "\
+Example: a verdict says `rule 2`; which one is that?
+
+  $ aeron_policyd show policy.toml
+  1  the house keeps streams 10 to 20  *   *                        *          10..20  deny
+  2  p1 reads in this host             p1  subscribe,image,receive  aeron:ipc  *       allow
+  default deny
+
+The columns are the rule's number, its name, its principal, its acts, its pattern, its streams and its word; `*` is every
+one. The first rule that matches decides; where none does, the default stands.
+
+With --names FILE principals have the names of that file, whose lines are `principal NAME NUMBER` as in a script, in place
+of p1 to p63. A principal that has no name there is written by its number, as `#7`.
+
+Status: 0; 1 after `aeron_policyd: FAULT` on standard error: those of `check`, or a fault of the names, as `names: line 3:
+bad line`; 2 for a command line that is at fault.";
+
+/// What `explain` says.
+const EXPLAIN: &str = "\
+Example: may p1 subscribe to `aeron:ipc`, stream 9, may p2, and why?
+
+  $ aeron_policyd explain policy.toml p1 subscribe aeron:ipc 9
+  allowed by rule 2 in policy 1
+  rule 2, p1 reads in this host: decides
+  rule 1, the house keeps streams 10 to 20: the stream does not match
+  $ aeron_policyd explain policy.toml p2 subscribe aeron:ipc 9
+  denied by default in policy 1
+  no rule matches
+  rule 1, the house keeps streams 10 to 20: the stream does not match
+  rule 2, p1 reads in this host: the principal does not match
+  $ aeron_policyd explain policy.toml p1 subscribe 'aeron:udp?endpoint=10.0.0.1:99999' 9
+  aeron_policyd: invalid channel: bad value of endpoint
+
+The first line is what `decide` says. Of each rule before the one that decides, the first part that does not match is
+named: the principal, the act, the medium or a key of the channel, or the stream.
+
+Status: 0, whatever the policy decides; 1 after `aeron_policyd: FAULT` on standard error: those of `decide`, a fault of the
+names, or `invalid channel:` with its cause; 2 for a command line that is at fault.";
+
+/// What `test` says.
+const TEST: &str = "\
+Example: four questions with the answers that are wanted, one of which the policy does not give.
+
+  $ cat wanted.cases
+  # PRINCIPAL ACT CHANNEL STREAM allow|deny [by RULE | by default]
+  p1 subscribe aeron:ipc 9 allow
+  p1 subscribe aeron:ipc 10 deny by 1
+  p2 subscribe aeron:ipc 9 deny by default
+  p2 subscribe aeron:ipc 10 deny by default
+  $ aeron_policyd test policy.toml wanted.cases
+  line 5: p2 subscribe aeron:ipc 10 deny by default: denied by rule 1 in policy 1
+  3 passed, 1 failed
+
+A case is a question, the word that is wanted, and perhaps by what: the number of a rule, or the default. Words have spaces
+between them, one or more. Empty lines, and those that begin with `#`, say nothing.
+
+Status: 0 where each case passes; 1 where one fails, and after `aeron_policyd: FAULT` on standard error: those of `check`, a
+fault of the names, or the first line that is no case, as `cases: line 5: unknown act`; 2 for a command line that is at
+fault.";
+
+/// What is asked of a policy.
+#[derive(Clone, Copy)]
+pub enum Asked<'a> {
+    /// How many rules it has.
+    Check,
+    /// Its rules.
+    Show,
+    /// What it decides of a question.
+    Decide(Question<'a>),
+    /// What it decides of a question, and why.
+    Explain(Question<'a>),
+    /// Whether it gives the answers that the cases in a file want.
+    Test(&'a str),
+}
+
+/// The words of a question.
+#[derive(Clone, Copy)]
+pub struct Question<'a> {
+    pub principal: &'a str,
+    pub act: &'a str,
+    pub channel: &'a str,
+    pub stream: i32,
+}
+
+/// A question about the policy in a file.
+#[derive(Clone, Copy)]
+pub struct Asking<'a> {
+    /// The policy's file.
+    pub policy: &'a str,
+    /// The file of the names of principals, where one is given.
+    pub names: Option<&'a str>,
+    pub asked: Asked<'a>,
+}
+
+/// The option that names the file of names.
+pub(crate) fn names_file<'a>(alloc: Global) -> Arg<'a> {
+    Arg::new(alloc, "names")
+        .long("names")
+        .value_name("FILE")
+        .help("Names of principals, lines `principal NAME NUMBER`, in place of p1 to p63")
+}
+
+fn show<'a>(alloc: Global) -> Result<Command<'a>, AllocError> {
+    Command::new(alloc, "show")
+        .about("Lists the rules of a policy with their numbers")
+        .after_help(SHOW)
+        .arg(policy_file(alloc))?
+        .arg(names_file(alloc))
+}
+
+fn explain<'a>(alloc: Global) -> Result<Command<'a>, AllocError> {
+    Command::new(alloc, "explain")
+        .about("Says what a policy decides of a question, and why")
+        .after_help(EXPLAIN)
+        .arg(policy_file(alloc))?
+        .arg(principal(alloc))?
+        .arg(act(alloc))?
+        .arg(channel(alloc))?
+        .arg(stream(alloc))?
+        .arg(names_file(alloc))
+}
+
+fn test<'a>(alloc: Global) -> Result<Command<'a>, AllocError> {
+    let cases = Arg::new(alloc, "CASES")
+        .required(true)
+        .help("The file of the cases, of at most 16,777,216 bytes");
+    Command::new(alloc, "test")
+        .about("Says which of the wanted answers a policy does not give")
+        .after_help(TEST)
+        .arg(policy_file(alloc))?
+        .arg(cases)?
+        .arg(names_file(alloc))
+}
+
+/// Adds the words that ask what a policy says.
+pub(crate) fn with_policies<'a>(
+    alloc: Global,
+    command: Command<'a>,
+) -> Result<Command<'a>, AllocError> {
+    let command = with(command, show(alloc))?;
+    let command = with(command, explain(alloc))?;
+    with(command, test(alloc))
+}
+
+fn question_in<'m, 'a>(of: &'m ArgMatches<'a>) -> Option<Question<'m>> {
+    Some(Question {
+        principal: of.get_str("PRINCIPAL")?,
+        act: of.get_str("ACT")?,
+        channel: of.get_str("CHANNEL")?,
+        stream: of.get_one::<i32>("STREAM")?,
+    })
+}
+
+fn asked_in<'m, 'a>(name: &str, of: &'m ArgMatches<'a>) -> Option<Asked<'m>> {
+    if name == "check" {
+        return Some(Asked::Check);
+    }
+    if name == "show" {
+        return Some(Asked::Show);
+    }
+    if name == "decide" {
+        return Some(Asked::Decide(question_in(of)?));
+    }
+    if name == "explain" {
+        return Some(Asked::Explain(question_in(of)?));
+    }
+    if name == "test" {
+        return Some(Asked::Test(of.get_str("CASES")?));
+    }
+    None
+}
+
+/// What the words of such a subcommand ask, if it is one.
+pub(crate) fn asking_in<'m, 'a>(name: &str, of: &'m ArgMatches<'a>) -> Option<Asking<'m>> {
+    let asked = asked_in(name, of)?;
+    Some(Asking {
+        policy: of.get_str("POLICY")?,
+        names: of.get_str("names"),
+        asked,
+    })
+}
