@@ -1,0 +1,146 @@
+-- The texts of a document are those of its policy's patterns.
+use Rattle.std.proofs.Common.{◌≡◌, ℕ, ◌+◌, Bool, true, false, not, cond, List, [], ◌∷◌, Option, Some, None, Result, Ok, Err, refl, sym, ap, ◌∙◌, subst, codes, nat_lt, unwrap_or, slice_get, get_or, zero, suc}
+use Rattle.std.specs.Prelude.{ℤ, is_some}
+use Rattle.toml.specs.Data.{Data, Items, no_items, item, Members, get_member, as_array, as_table}
+use Rattle.channel_uri.specs.declared.error.UriError.{UriError}
+use Rattle.channel_uri.specs.declared.pattern.Pattern.{Pattern}
+use Rattle.channel_uri.specs.Pattern.{pattern_of}
+use Rattle.policy_core.specs.declared.acts.Acts.{Acts}
+use Rattle.policy_core.specs.declared.rule.Principals.{Principals}
+use Rattle.policy_core.specs.declared.rule.Rule.{Rule}
+use Rattle.policy_core.specs.RuleList.{Rules}
+use Rattle.policy_text.specs.declared.fault.PolicyFault.{PolicyFault}
+use Rattle.policy_text.specs.declared.fault.PolicyFault.TheVariants.{BadField, BadVersion, TooManyRules}
+use Rattle.policy_text.specs.declared.fault.Field.TheVariants.{Unknown, Rule as RuleField}
+use Rattle.toml.specs.Parse.{parse_document}
+use Rattle.policy_query.specs.Deciding.{policy_in}
+use Rattle.std.specs.Str.{is_utf8}
+use Rattle.policy_text.specs.Document.{default_of, is_version_1, is_document_key, listed_rules, policy_at, policy_from, policy_of, rule_at, rules_at, rules_from, rules_of}
+use Rattle.policy_text.specs.Fault.{◌>>=◌, needed}
+use Rattle.policy_text.specs.Fields.{is_rule_key, acts_of, allow_of, channel_from, channel_of, name_of, pattern_from, principal_of, rule_of, stream_of}
+use Rattle.policy_text.specs.Members.{all_items, all_keys, items_len, text_at}
+use Rattle.policy_text.specs.Names.{Known}
+use Rattle.policy_tools.specs.Source.{AreTexts, text_in, texts_at, texts_from, texts_in, texts_of}
+
+-- what came first is there, where there is an answer
+bound : {A B : Type 0} (first : Result A PolicyFault) (next : A → Result B PolicyFault) (b : B) → (first >>= next) ≡ Ok b → (a : A) × (first ≡ Ok a) × (next a ≡ Ok b)
+bound (Err fault) next b is = absurd (cc)
+bound (Ok a) next b is = (a, refl, is)
+
+kept_on : {B : Type 0} (test : Bool) (fault : PolicyFault) (next : Result B PolicyFault) (b : B) → cond test (Err fault) next ≡ Ok b → next ≡ Ok b
+kept_on true fault next b is = absurd (cc)
+kept_on false fault next b is = is
+
+there : {A : Type 0} (fault : PolicyFault) (option : Option A) (a : A) → needed fault option ≡ Ok a → option ≡ Some a
+there fault None a is = absurd (cc)
+there fault (Some b) a is = cc
+
+-- ---- one rule
+
+pattern_there : (number : ℕ) (read : Result Pattern UriError) (pattern : Pattern) → pattern_from number read ≡ Ok pattern → read ≡ Ok pattern
+pattern_there number (Ok other) pattern is = cc
+pattern_there number (Err error) pattern is = absurd (cc)
+
+text_there : (number : ℕ) (text : Option (List ℕ)) (pattern : Pattern) → channel_from number text ≡ Ok pattern → pattern_of (unwrap_or text []) ≡ Ok pattern
+text_there number None pattern is = absurd (cc)
+text_there number (Some text) pattern is = pattern_there number (pattern_of text) pattern is
+
+-- of what is read one after the other
+rule_parts : (name : Result (List ℕ) PolicyFault) (principals : Result Principals PolicyFault) (acts : Result Acts PolicyFault) (channel : Result Pattern PolicyFault)
+    (range : Result (ℤ × ℤ) PolicyFault) (allow : Result Bool PolicyFault) (rule : Rule) →
+    (name >>= λ n. principals >>= λ p. acts >>= λ a. channel >>= λ c. range >>= λ r. allow >>= λ w.
+    Ok (record { name = n; principals = p; acts = a; channel = c; low = r.0; high = r.1; allow = w })) ≡ Ok rule → channel ≡ Ok rule.channel
+rule_parts (Err f) principals acts channel range allow rule is = absurd (cc)
+rule_parts (Ok n) (Err f) acts channel range allow rule is = absurd (cc)
+rule_parts (Ok n) (Ok p) (Err f) channel range allow rule is = absurd (cc)
+rule_parts (Ok n) (Ok p) (Ok a) (Err f) range allow rule is = absurd (cc)
+rule_parts (Ok n) (Ok p) (Ok a) (Ok c) (Err f) allow rule is = absurd (cc)
+rule_parts (Ok n) (Ok p) (Ok a) (Ok c) (Ok r) (Err f) rule is = absurd (cc)
+rule_parts (Ok n) (Ok p) (Ok a) (Ok c) (Ok r) (Ok w) rule is =
+    let same : record { name = n; principals = p; acts = a; channel = c; low = r.0; high = r.1; allow = w } ≡ rule = cc in
+    ap (λ (x : Rule). Ok x.channel) same
+
+channel_stands : (names : Known) (number : ℕ) (table : Members) (rule : Rule) → rule_of names number table ≡ Ok rule → channel_of number table ≡ Ok rule.channel
+unfolding rule_of
+channel_stands names number table rule is =
+    rule_parts (name_of number table) (principal_of names number table) (acts_of number table) (channel_of number table) (stream_of number table) (allow_of number table) rule
+    (kept_on (not (all_keys is_rule_key table)) (BadField number Unknown) _ rule is)
+
+rule_text : (names : Known) (number : ℕ) (value : Data) (rule : Rule) → rule_at names number value ≡ Ok rule → pattern_of (text_in (as_table value)) ≡ Ok rule.channel
+rule_text names number value rule is =
+    let table = bound (needed (BadField 0 RuleField) (as_table value)) (λ t. rule_of names number t) rule is in
+    let stands : as_table value ≡ Some table.0 = there (BadField 0 RuleField) (as_table value) table.0 table.1 in
+    subst (λ (t : Option Members). pattern_of (text_in t) ≡ Ok rule.channel) (sym stands)
+    (text_there number (text_at (codes "channel") table.0) rule.channel (channel_stands names number table.0 rule table.2))
+
+-- ---- all rules
+
+items_texts : (names : Known) (number : ℕ) (items : Items) (rules : List Rule) → rules_from names number items ≡ Ok rules → AreTexts (texts_of items) rules
+items_texts names number no_items rules is = let none : [] ≡ rules = cc in subst (λ (r : List Rule). AreTexts [] r) none refl
+items_texts names number (item value items) rules is =
+    let rule = bound (rule_at names number value) (λ r. rules_from names (number + 1) items >>= λ more. Ok (r ∷ more)) rules is in
+    let more = bound (rules_from names (number + 1) items) (λ more. Ok (rule.0 ∷ more)) rules rule.2 in
+    let whole : rule.0 ∷ more.0 ≡ rules = let e = more.2 in cc in
+    subst (λ (r : List Rule). AreTexts (text_in (as_table value) ∷ texts_of items) r) whole
+    (rw (rule_text names number value rule.0 rule.1, items_texts names (number + 1) items more.0 more.1) refl)
+
+listed : (names : Known) (items : Items) (rules : List Rule) → listed_rules names items ≡ Ok rules → rules_from names 1 items ≡ Ok rules
+listed names items rules is =
+    kept_on (nat_lt 1024 (items_len items)) TooManyRules (rules_from names 1 items) rules
+    (kept_on (not (all_items (λ value. is_some (as_table value)) items)) (BadField 0 RuleField) _ rules is)
+
+at_texts : (names : Known) (value : Option Data) (rules : List Rule) → rules_at names value ≡ Ok rules → AreTexts (texts_at value) rules
+at_texts names None rules is = let none : [] ≡ rules = cc in subst (λ (r : List Rule). AreTexts [] r) none refl
+at_texts names (Some value) rules is =
+    let items = bound (needed (BadField 0 RuleField) (as_array value)) (λ items. listed_rules names items) rules is in
+    let stands : as_array value ≡ Some items.0 = there (BadField 0 RuleField) (as_array value) items.0 items.1 in
+    subst (λ (o : Option Items). AreTexts (texts_from o) rules) (sym stands)
+    (items_texts names 1 items.0 rules (listed names items.0 rules items.2))
+
+policy_parts : (default : Result Bool PolicyFault) (rules : Result (List Rule) PolicyFault) (policy : Rules) →
+    (default >>= λ d. rules >>= λ r. Ok (record { rules = r; default_allows = d })) ≡ Ok policy → rules ≡ Ok policy.rules
+policy_parts (Err f) rules policy is = absurd (cc)
+policy_parts (Ok d) (Err f) policy is = absurd (cc)
+policy_parts (Ok d) (Ok r) policy is =
+    let same : record { rules = r; default_allows = d } ≡ policy = cc in
+    ap (λ (p : Rules). Ok p.rules) same
+
+document_texts : (names : Known) (table : Members) (policy : Rules) → policy_from names table ≡ Ok policy → AreTexts (texts_in table) policy.rules
+unfolding policy_from
+document_texts names table policy is =
+    at_texts names (get_member (codes "rule") table) policy.rules
+    (policy_parts (default_of table) (rules_of names table) policy
+    (kept_on (not (all_keys is_document_key table)) (BadField 0 Unknown) _ policy (kept_on (not (is_version_1 table)) BadVersion _ policy is)))
+
+pub read_texts : (names : Known) (text : List ℕ) (table : Members) (policy : Rules) → policy_of names text ≡ Ok policy → parse_document text ≡ Some table →
+    AreTexts (texts_in table) policy.rules
+unfolding policy_of
+read_texts names text table policy read is =
+    document_texts names table policy (subst (λ (t : Option Members). policy_at names t ≡ Ok policy) is read)
+
+pub read_not : (names : Known) (text : List ℕ) (policy : Rules) → policy_of names text ≡ Ok policy → parse_document text ≡ None → ⊥
+unfolding policy_of
+read_not names text policy read is = let e : policy_at names None ≡ Ok policy = subst (λ (t : Option Members). policy_at names t ≡ Ok policy) is read in cc
+
+-- a policy's bytes are a text
+pub bytes_read : (names : Known) (bytes : List ℕ) (policy : Rules) (text : Bool) → policy_in names bytes ≡ Ok policy → is_utf8 bytes ≡ text → (text ≡ true) × (policy_of names bytes ≡ Ok policy)
+unfolding policy_in
+bytes_read names bytes policy true read is = (refl, rw is at read)
+bytes_read names bytes policy false read is = let e = rw is at read in absurd (cc)
+
+none_stands : (at : ℕ) (rule : Rule) → slice_get [] at ≡ Some rule → ⊥
+none_stands zero rule stands = cc
+none_stands (suc at) rule stands = cc
+
+-- the text of a rule's pattern
+pub text_stands : (texts : List (List ℕ)) (rules : List Rule) (at : ℕ) (rule : Rule) (text : List ℕ) → AreTexts texts rules → slice_get rules at ≡ Some rule →
+    text ≡ get_or texts at text → pattern_of text ≡ Ok rule.channel
+text_stands texts [] at rule text are stands is = absurd (none_stands at rule stands)
+text_stands [] (first ∷ rules) at rule text are stands is = absurd (cc)
+text_stands (t ∷ texts) (first ∷ rules) zero rule text are stands is =
+    let same : first ≡ rule = cc in
+    let here : pattern_of t ≡ Ok first.channel = cc in
+    ap pattern_of is ∙ (here ∙ ap (λ (r : Rule). Ok r.channel) same)
+text_stands (t ∷ texts) (first ∷ rules) (suc at) rule text are stands is =
+    let rest : AreTexts texts rules = cc in
+    text_stands texts rules at rule text rest stands is

@@ -1,0 +1,184 @@
+ghost use Rattle.policy_query.specs.Deciding.{principals, principals_to};
+ghost use Rattle.policy_text.specs.Names.{number_of};
+ghost use Rattle.policy_tools.specs.Directory.{first_of, name_of};
+ghost use Rattle.std.specs.Prelude.{◌≡◌, ◌++◌, ◌∷◌, [], IfOk, option_copied};
+
+use byte_strings::Text;
+use policy_text::Names;
+use std::alloc::{AllocError, Global};
+use std::error::Error;
+use std::marker::Model;
+use std::{fmt, str};
+
+/// The names of principals, by which policies and questions speak of them, and by which answers do.
+#[derive(Debug, Drop)]
+pub struct Directory {
+    given: Vec<(Text, u32)>,
+    names: Names,
+}
+
+impl Model for Directory {
+    ghost use Rattle.policy_text.specs.Names.{Known};
+    ghost use Rattle.std.specs.Prelude.{◌≡◌};
+
+    ghost Value = { Known };
+
+    ghost view = { λ directory. directory.names };
+
+    ghost invariant = { λ directory. directory.given.items ≡ directory.names };
+}
+
+/// Why a file gives no names.
+#[derive(Clone, Copy, Debug, PartialEq, Eq)]
+pub enum NamesFault {
+    /// This line, counted from 1, is none of `principal NAME NUMBER`, of a comment, and of nothing; or its name was given
+    /// before.
+    BadLine(u32),
+    /// The file is not UTF-8.
+    NotText,
+    /// There is no memory for the names.
+    NoMemory,
+}
+
+impl From<AllocError> for NamesFault {
+    fn from(_error: AllocError) -> NamesFault {
+        NamesFault::NoMemory
+    }
+}
+
+impl fmt::Display for NamesFault {
+    fn fmt<W: fmt::Write>(&self, f: &mut fmt::Formatter<W>) -> fmt::Result {
+        match self {
+            NamesFault::BadLine(line) => write!(f, "names: line {line}: bad line"),
+            NamesFault::NotText => f.write_str("names: not text"),
+            NamesFault::NoMemory => f.write_str("no memory"),
+        }
+    }
+}
+
+impl Error for NamesFault {}
+
+/// The name and the number of a line `principal NAME NUMBER`.
+fn named(line: &str) -> Option<(&str, u32)> {
+    let rest = line.strip_prefix("principal ")?;
+    let (name, number) = rest.split_once(' ')?;
+    if name.is_empty() || name == "*" || !is_decimal(number) {
+        return None;
+    }
+    match number.parse::<u32>() {
+        Ok(number) => Some((name, number)),
+        Err(_) => None,
+    }
+}
+
+/// Whether the text is one or more digits.
+pub(crate) fn is_decimal(text: &str) -> bool {
+    !text.is_empty() && text.bytes().all(|byte| byte >= b'0' && byte <= b'9')
+}
+
+/// Whether the line says nothing: it is empty, or a comment.
+pub(crate) fn is_blank(line: &str) -> bool {
+    line.is_empty() || line.starts_with("#")
+}
+
+impl Directory {
+    /// `nobody` and `p1` to `p63`.
+    #[tactic(auto, unfolding(policy_query::specs::Deciding::principals))]
+    pub fn usual(alloc: Global) -> Result<Directory, AllocError>
+        ensures { IfOk result (λ directory. directory ≡ principals) }
+    {
+        let mut directory = Directory::new(alloc);
+        let mut count = 0;
+        'names: while count < 63 {
+            count += 1;
+            let name = Text::from(format!(in alloc; "p{count}")?);
+            directory = directory.with(alloc, name, count)?;
+        }
+        Ok(directory)
+    }
+
+    /// `nobody` alone.
+    fn new(alloc: Global) -> Directory
+        ensures { result ≡ [] }
+    {
+        Directory {
+            given: Vec::new(alloc),
+            names: Names::new(alloc),
+        }
+    }
+
+    /// These names, and one more.
+    fn with(self, alloc: Global, name: Text, number: u32) -> Result<Directory, AllocError>
+        ensures { IfOk result (λ directory. directory ≡ self ++ (name, number) ∷ []) }
+    {
+        let Directory {
+            mut given,
+            mut names,
+        } = self;
+        names.add(name.copy(alloc)?, number)?;
+        given.push((name, number))?;
+        Ok(Directory { given, names })
+    }
+
+    /// The names of a file: lines `principal NAME NUMBER` as in a script, beside `nobody`, which is 0. Empty lines, and
+    /// those that begin with `#`, say nothing.
+    ///
+    /// # Errors
+    /// The first line that is none of these.
+    pub fn read(alloc: Global, bytes: &[u8]) -> Result<Directory, NamesFault> {
+        let Ok(text) = str::from_utf8(bytes) else {
+            return Err(NamesFault::NotText);
+        };
+        let mut directory = Directory::new(alloc);
+        let mut number: u32 = 0;
+        for line in text.lines() {
+            number = number.saturating_add(1);
+            if is_blank(line) {
+                continue;
+            }
+            let Some((name, principal)) = directory.new_name(line) else {
+                return Err(NamesFault::BadLine(number));
+            };
+            directory = directory.with(alloc, Text::new(alloc, name)?, principal)?;
+        }
+        Ok(directory)
+    }
+
+    /// The name and the number of a line, where the name was not given before.
+    fn new_name<'a>(&self, line: &'a str) -> Option<(&'a str, u32)> {
+        let (name, number) = named(line)?;
+        if self.number_of(name).is_some() {
+            return None;
+        }
+        Some((name, number))
+    }
+
+    /// The names, for those who read a policy.
+    pub fn names(&self) -> &Names
+        ensures { result.now ≡ self.now }
+    {
+        &self.names
+    }
+
+    /// The number of a name.
+    pub fn number_of(&self, name: &str) -> Option<u32>
+        ensures { result ≡ number_of name.now self.now }
+    {
+        self.names.number_of(name)
+    }
+
+    /// The first name of a number; `None` where it has none.
+    pub fn name_of(&self, number: u32) -> Option<&str>
+        ensures { option_copied result ≡ name_of number self.now }
+    {
+        if number == 0 {
+            return Some("nobody");
+        }
+        for (name, other) in &self.given {
+            if *other == number {
+                return Some(name.as_str());
+            }
+        }
+        None
+    }
+}
