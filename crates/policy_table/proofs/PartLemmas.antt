@@ -1,6 +1,6 @@
 -- Streams below one, and from it on.
-use Rattle.std.proofs.Common.{◌≡◌, ℕ, ℤ, pos, negsuc, ◌+◌, ◌≤ℤ◌, ◌<ℤ◌, ◌+ℤ◌, true, false, refl, ⊎_elim, arith}
-use Rattle.std.proofs.lemmas.Bool.{and_parts, cases_Bool}
+use Rattle.std.proofs.Common.{◌≡◌, ℕ, ℤ, pos, negsuc, ◌+◌, ◌-◌, ◌<◌, ◌≤◌, ◌≤ℤ◌, ◌<ℤ◌, ◌+ℤ◌, true, false, refl, ap, ⊎_elim, arith}
+use Rattle.std.proofs.lemmas.Bool.{and_parts, cases_Bool, cases_eq}
 use Rattle.std.proofs.lemmas.Int.{ints}
 use Rattle.std.specs.Prelude.{int_le, int_lt}
 use Rattle.policy_table.specs.Scope.{is_stream, is_within}
@@ -41,9 +41,34 @@ next_part low high next stream order is =
 
 pub last_part : (low stream : ℤ) → is_stream stream ≡ true → one_if (int_lt stream low) + one_if (is_within low (pos 2147483647) stream) ≡ 1
 last_part low stream h =
-    let parts = and_parts _ _ h in
+    let upper : int_le stream (pos 2147483647) ≡ true = (and_parts (int_le (negsuc 2147483647) stream) (int_le stream (pos 2147483647)) h).1 in
     ⊎_elim
-    (λ from. let above = le_true low stream from in rw (le_lt_false stream low above, from, parts.1) refl)
+    (λ from. let above = le_true low stream from in rw (le_lt_false stream low above, from, upper) refl)
     (λ before. let under = le_false low stream before in rw (lt_true stream low under, within_false_low low (pos 2147483647) stream under) refl)
     (cases_Bool (int_le low stream))
 
+-- how many streams are left
+pub left_of : ℤ → ℕ
+left_of (pos n) = 2147483647 - n
+left_of (negsuc n) = 2147483648 + n
+
+less_above : (low next : ℕ) → low < next → next ≤ 2147483647 → 2147483647 - next < 2147483647 - low
+less_above low next order within = omega arith
+
+less_across : (low next : ℕ) → 2147483647 - next < 2147483648 + low
+less_across low next = omega arith
+
+less_below : (low next : ℕ) → next < low → 2147483648 + next < 2147483648 + low
+less_below low next order = omega arith
+
+pub left_less : (low high next : ℤ) → low ≤ℤ high → high <ℤ pos 2147483647 → next ≡ high +ℤ pos 1 → left_of next < left_of low
+left_less (pos l) high (pos n) order within step = less_above l n (omega (arith, ints)) (omega (arith, ints))
+left_less (pos l) high (negsuc n) order within step = absurd (omega (arith, ints))
+left_less (negsuc l) high (pos n) order within step = less_across l n
+left_less (negsuc l) high (negsuc n) order within step = less_below l n (omega (arith, ints))
+
+-- a stream of 32 bits that is not the highest
+pub below_last : (high : ℤ) → high ≤ℤ pos 2147483647 → (high ≡ pos 2147483647 → ⊥) → high <ℤ pos 2147483647
+below_last (pos n) order not_end =
+    ⊎_elim (λ (e : n ≡ 2147483647). absurd (not_end (ap pos e))) (λ (ne : n ≡ 2147483647 → ⊥). omega (arith, ints)) (cases_eq n 2147483647)
+below_last (negsuc n) order not_end = omega (arith, ints)

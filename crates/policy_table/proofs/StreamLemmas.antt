@@ -32,8 +32,7 @@ ends_before rule low high end before until ahead within = record {
   ahead = ahead;
   within = within;
   alike = λ stream h.
-      let parts = and_parts _ _ h in
-      let above : stream ≤ℤ end = le_true stream end parts.1 in
+      let above : stream ≤ℤ end = le_true stream end (and_parts (int_le low stream) (int_le stream end) h).1 in
       rw (lt_false rule.low stream (omega (arith, ints)), lt_false rule.low low before) refl;
 }
 

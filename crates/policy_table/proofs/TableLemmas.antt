@@ -1,8 +1,8 @@
 -- Blocks that are added to a table.
-use Rattle.std.proofs.Common.{◌≡◌, ℕ, ℤ, pos, negsuc, ◌+◌, ◌<◌, ◌≤◌, ◌≤ℤ◌, ◌<ℤ◌, ◌+ℤ◌, Bool, true, false, cond, not, ◌&&◌, ◌||◌, ◌-◌, List, [], ◌∷◌, ◌++◌, length, get_or, take, refl, sym, ap, ◌∙◌, subst, ⊎_elim, arith, eqb, ltb, All, tt}
+use Rattle.std.proofs.Common.{◌≡◌, ℕ, ℤ, pos, negsuc, ◌+◌, ◌<◌, ◌≤◌, ◌≤ℤ◌, ◌<ℤ◌, ◌+ℤ◌, Bool, true, false, cond, not, ◌&&◌, ◌||◌, ◌-◌, List, [], ◌∷◌, ◌++◌, length, get_or, take, refl, sym, ap, ◌∙◌, subst, ⊎_elim, arith, eqb, ltb}
 use Rattle.std.proofs.lemmas.Bool.{cases_Bool, cases_order, eq-eqb, false≢true, le-ltb, lt-ltb, ne_eqb}
 use Rattle.std.proofs.lemmas.List.{take_all}
-use Rattle.std.proofs.lemmas.List.Elements.{All-append}
+use Rattle.std.proofs.lemmas.List.Elements.{All-nil, All-push}
 use Rattle.std.proofs.lemmas.List.Sums.{sum_by-append, sum_by_more}
 use Rattle.std.specs.List.{count_by, list_any}
 use Rattle.std.specs.Prelude.{int_lt}
@@ -21,7 +21,7 @@ use Rattle.policy_table.specs.declared.scope.Asker.{Asker}
 use Rattle.policy_table.specs.declared.scope.Asker.TheVariants.{One, Others}
 use Rattle.policy_table.specs.declared.scope.Scope.{Scope}
 use Rattle.policy_table.specs.declared.stretch.Stretch.{Stretch}
-use Rattle.policy_table.proofs.NamedLemmas.{none_among}
+use Rattle.policy_table.proofs.NamedLemmas.{none_among, some_among}
 use Rattle.policy_table.proofs.PartLemmas.{before_lowest, last_part, next_part}
 
 -- ---- one after the other
@@ -69,7 +69,7 @@ pub block_added : (policy : Rules) (scope : Scope) (stretch : Stretch) (block : 
     → block.scope ≡ up_to scope stretch.high → block.rules.items ≡ stretch.rules.items
     → AddsBlocks policy (λ question. one_if (is_in policy.rules (up_to scope stretch.high) question)) blocks (blocks ++ block ∷ [])
 block_added policy scope stretch block blocks is same rules = record {
-  decides = λ all. All-append (Decides policy) blocks (block ∷ []) all (decides_from policy scope stretch block is same rules, tt);
+  decides = λ all. All-push (Decides policy) blocks block all (decides_from policy scope stretch block is same rules);
   times = λ question _. block_times policy.rules blocks block question
       ∙ ap (λ (s : Scope). times_in policy.rules blocks question + one_if (is_in policy.rules s question)) same;
 }
@@ -114,11 +114,6 @@ lane_ends policy scope stretch block first blocks before is same rules end =
     (λ question h. lane_whole (is_of_lane policy.rules scope.asker scope.act question) _ _
     (subst (λ (z : ℤ). one_if (int_lt question.stream scope.low) + one_if (is_within scope.low z question.stream) ≡ 1) (sym end) (last_part scope.low question.stream h)))
 
--- how many streams are left
-pub left_of : ℤ → ℕ
-left_of (pos n) = 2147483647 - n
-left_of (negsuc n) = 2147483648 + n
-
 -- ---- an asker
 
 pub act_small : (act : Act) → act_number act < 13
@@ -136,15 +131,20 @@ act_small Send = omega arith
 act_small Retransmit = omega arith
 act_small ListOf = omega arith
 
+next_same : (number own : ℕ) → own ≡ number → one_if (ltb own number) + one_if (eqb number own) ≡ one_if (ltb own (number + 1))
+next_same number own same = rw (le-ltb own number (omega arith), eq-eqb number own (sym same), lt-ltb own (number + 1) (omega arith)) refl
+
+next_below : (number own : ℕ) → own < number → one_if (ltb own number) + one_if (eqb number own) ≡ one_if (ltb own (number + 1))
+next_below number own below =
+    rw (lt-ltb own number below, ne_eqb number own (λ (e : number ≡ own). absurd (omega arith)), lt-ltb own (number + 1) (omega arith)) refl
+
+next_above : (number own : ℕ) → number < own → one_if (ltb own number) + one_if (eqb number own) ≡ one_if (ltb own (number + 1))
+next_above number own above =
+    rw (le-ltb own number (omega arith), ne_eqb number own (λ (e : number ≡ own). absurd (omega arith)), le-ltb own (number + 1) (omega arith)) refl
+
 next_number : (number own : ℕ) → one_if (ltb own number) + one_if (eqb number own) ≡ one_if (ltb own (number + 1))
 next_number number own =
-    ⊎_elim
-    (λ same. rw (le-ltb own number (omega arith), eq-eqb number own (sym same), lt-ltb own (number + 1) (omega arith)) refl)
-    (λ apart. ⊎_elim
-    (λ below. rw (lt-ltb own number below, ne_eqb number own (λ e. absurd (omega arith)), lt-ltb own (number + 1) (omega arith)) refl)
-    (λ above. rw (le-ltb own number (omega arith), ne_eqb number own (λ e. absurd (omega arith)), le-ltb own (number + 1) (omega arith)) refl)
-    apart)
-    (cases_order own number)
+    ⊎_elim (next_same number own) (λ apart. ⊎_elim (next_below number own) (next_above number own) apart) (cases_order own number)
 
 -- the requests of an asker, of the acts below this number
 abbrev pub of_asker_below : List Rule → Asker → ℕ → Question → ℕ
@@ -188,32 +188,29 @@ one_if_is : (b : Bool) → one_if b ≡ cond b 1 0
 one_if_is true = refl
 one_if_is false = refl
 
-pub named_goes_on : (policy : Rules) (named : List ℕ) (at : ℕ) (first old new : List Block) → at < length named
+pub named_goes_on : (policy : Rules) (named : List ℕ) (at number d : ℕ) (first old new : List Block) → at < length named → number ≡ get_or named at d
     → AddsBlocks policy (of_named (take at named)) first old
-    → AddsBlocks policy (λ question. one_if (is_asker policy.rules (One (get_or named at 0)) question.principal)) old new
+    → AddsBlocks policy (λ question. one_if (is_asker policy.rules (One number) question.principal)) old new
     → AddsBlocks policy (of_named (take (at + 1) named)) first new
-named_goes_on policy named at first old new inside before more =
+named_goes_on policy named at number d first old new inside is before more =
     adds_then policy _ _ _ first old new before more
     (λ question _.
     let test = λ (other : ℕ). cond (eqb other question.principal) 1 0 in
-    ap (λ n. of_named (take at named) question + n) (one_if_is (eqb (get_or named at 0) question.principal)) ∙ sym (sum_by_more test named at 0 inside))
-
-some_among : (numbers : List ℕ) (number : ℕ) → is_among numbers number ≡ true → 1 ≤ count_by (λ other. eqb other number) numbers
-some_among [] number h = absurd (false≢true h)
-some_among (one ∷ numbers) number h =
-    ⊎_elim
-    (λ here. rw here (omega arith))
-    (λ past. rw past (some_among numbers number (ap (λ b. b || is_among numbers number) (sym past) ∙ h)))
-    (cases_Bool (eqb one number))
+    ap (λ (n : ℕ). of_named (take at named) question + n) (one_if_is (eqb number question.principal) ∙ ap test is) ∙ sym (sum_by_more test named at d inside))
 
 named_or_other : (named : List ℕ) (rules : List Rule) (number : ℕ) → AddsNamed [] named (is_named rules)
     → count_by (λ other. eqb other number) named + one_if (not (is_named rules number)) ≡ 1
 named_or_other named rules number adds =
     let few = adds.once number (omega arith) in
     let all : is_among named number ≡ is_named rules number = adds.all number in
+    let count = count_by (λ other. eqb other number) named in
     ⊎_elim
-    (λ yes. let some = some_among named number (all ∙ yes) in rw yes (omega arith))
-    (λ no. rw (no, none_among named number (all ∙ no)) refl)
+    (λ (yes : is_named rules number ≡ true).
+    let some = some_among named number (all ∙ yes) in
+    let one : count + 0 ≡ 1 = omega (arith, few, some) in
+    ap (λ (b : Bool). count + one_if (not b)) yes ∙ one)
+    (λ (no : is_named rules number ≡ false).
+    ap (λ (n : ℕ). n + one_if (not (is_named rules number))) (none_among named number (all ∙ no)) ∙ ap (λ (b : Bool). 0 + one_if (not b)) no)
     (cases_Bool (is_named rules number))
 
 pub table_is : (policy : Rules) (named : List ℕ) (at : ℕ) (middle blocks : List Block) → length named ≤ at → AddsNamed [] named (is_named policy.rules)
@@ -224,11 +221,11 @@ table_is policy named at middle blocks all adds before others =
     let whole = adds_then policy _ _ (λ _. 1) [] middle blocks before others
     (λ question _. ap (λ numbers. of_named numbers question + one_if (is_asker policy.rules Others question.principal)) (take_all at named all)
     ∙ named_or_other named policy.rules question.principal adds) in
-    record { decides = whole.decides tt; once = λ question s. whole.times question s }
+    record { decides = whole.decides (All-nil (Decides policy)); once = λ question s. whole.times question s }
 
 pub table_of_is : (policy : Rules) (principal : ℕ) (blocks : List Block)
     → AddsBlocks policy (λ question. one_if (is_asker policy.rules (One principal) question.principal)) [] blocks → IsTableOf policy principal blocks
 table_of_is policy principal blocks adds = record {
-  decides = adds.decides tt;
-  once = λ question same s. adds.times question s ∙ ap one_if (eq-eqb principal question.principal (sym same));
+  decides = adds.decides (All-nil (Decides policy));
+  once = λ question same s. adds.times question s ∙ ap (λ (b : Bool). 0 + one_if b) (eq-eqb principal question.principal (sym same));
 }

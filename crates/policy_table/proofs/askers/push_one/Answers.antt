@@ -1,5 +1,4 @@
-use Rattle.std.proofs.Common.{◌≡◌, ◌∙◌, List, ℕ, ap, false, sym, subst}
-use Rattle.std.proofs.lemmas.Bool.{not-true}
+use Rattle.std.proofs.Common.{◌≡◌, ◌∙◌, List, ℕ, ap, eqb, false, sym, subst}
 use Rattle.policy_core.specs.declared.rule.Principals.{Principals}
 use Rattle.policy_table.specs.Scope.{AddsNamed, is_among, names}
 use Rattle.policy_table.proofs.NamedLemmas.{named_one}
@@ -9,6 +8,6 @@ pub returns-in_ok-push : goal.returns-in_ok-push
 returns-in_ok-push c =
     let old = c.args.named.now.items in
     let number = c.in-One.number in
-    let none : is_among old number ≡ false = ap (λ (l : List ℕ). is_among l number) (sym c.deref.ensures.value) ∙ sym c.is_among.ensures ∙ not-true _ c.if-not-is_among.true in
+    let none : is_among old number ≡ false = ap (λ (l : List ℕ). is_among l number) (sym c.deref.ensures.value) ∙ sym c.is_among.ensures ∙ c.if-not-is_among.true in
     subst (λ (p : Principals). AddsNamed old c.push.new.self.items (λ principal. names principal p)) (sym c.in-One.is)
-    (subst (λ (l : List ℕ). AddsNamed old l (λ other. names other _)) (sym c.push.ensures.items) (named_one old number none))
+    (subst (λ (l : List ℕ). AddsNamed old l (λ other. eqb number other)) (sym c.in_ok-push.ensures.items) (named_one old number none))

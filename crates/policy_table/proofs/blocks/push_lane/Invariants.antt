@@ -1,5 +1,6 @@
 use Rattle.policy_table.specs.Table.{AddsBlocks}
-use Rattle.policy_table.proofs.TableLemmas.{left_of, of_lane_below}
+use Rattle.policy_table.proofs.PartLemmas.{left_of}
+use Rattle.policy_table.proofs.TableLemmas.{of_lane_below}
 use Rattle.policy_table.proofs.blocks.push_lane.Given as goal
 
 -- the requests on streams below the next one are in the blocks

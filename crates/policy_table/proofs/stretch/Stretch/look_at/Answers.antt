@@ -1,5 +1,4 @@
 use Rattle.std.proofs.Common.{◌≡◌, false, true, SFits, w32, refl, sym, ◌∙◌, rules}
-use Rattle.std.proofs.lemmas.Bool.{not-false, not-true}
 use Rattle.std.proofs.lemmas.Int.{to_z-of_z}
 use Rattle.policy_table.specs.Scope.{speaks_to}
 use Rattle.policy_table.specs.Stretch.{in_range}
@@ -12,9 +11,10 @@ returns-then-not-holds c =
     let fits : SFits w32 end = search rules in
     let low_fits : SFits w32 c.args.scope.now.low = search rules in
     let high_fits : SFits w32 c.args.self.now.high = search rules in
+    let held : c.holds.result ≡ in_range c.args.rule.now c.args.scope.now.low = search rules in
     let ends = simp to_z-of_z at c.end_of-self.ensures in
     looks_past c.args.rule.now c.args.place c.args.scope.now c.args.self.now _ end ends (to_z-of_z w32 end fits) refl
-    (sym c.holds.ensures ∙ not-true _ c.if-not-holds.true)
+    (sym held ∙ c.if-not-holds.true)
 
 pub returns : goal.returns
 returns c =
@@ -22,7 +22,8 @@ returns c =
     let fits : SFits w32 end = search rules in
     let low_fits : SFits w32 c.args.scope.now.low = search rules in
     let high_fits : SFits w32 c.args.self.now.high = search rules in
+    let held : c.holds.result ≡ in_range c.args.rule.now c.args.scope.now.low = search rules in
     let ends = simp to_z-of_z at c.end_of-self.ensures in
     looks_in c.args.rule.now c.args.place c.args.scope.now c.args.self.now _ end c.is_any.result ends (to_z-of_z w32 end fits)
-    c.push.ensures.items (sym c.speaks_to.ensures ∙ not-false _ c.if-not-speaks_to.false) (sym c.holds.ensures ∙ not-false _ c.if-not-holds.false)
+    c.in_ok-push.ensures.items (sym c.speaks_to.ensures ∙ c.if-not-speaks_to.false) (sym held ∙ c.if-not-holds.false)
     c.is_any.ensures
