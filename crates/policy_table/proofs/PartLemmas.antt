@@ -62,6 +62,7 @@ less_below : (low next : ℕ) → next < low → 2147483648 + next < 2147483648 
 less_below low next order = omega arith
 
 pub left_less : (low high next : ℤ) → low ≤ℤ high → high <ℤ pos 2147483647 → next ≡ high +ℤ pos 1 → left_of next < left_of low
+unfolding left_of
 left_less (pos l) high (pos n) order within step = less_above l n (omega (arith, ints)) (omega (arith, ints))
 left_less (pos l) high (negsuc n) order within step = absurd (omega (arith, ints))
 left_less (negsuc l) high (pos n) order within step = less_across l n
