@@ -47,10 +47,11 @@ ends_inside rule low high end from to until ahead within = record {
       let below = le_true low stream parts.0 in
       let above = le_true stream end parts.1 in
       rw (
-      true_le rule.low stream (omega (arith, ints)),
-      true_le stream rule.high (omega (arith, ints)),
-      true_le rule.low low from,
-      true_le low rule.high to)
+        true_le rule.low stream (omega (arith, ints)),
+        true_le stream rule.high (omega (arith, ints)),
+        true_le rule.low low from,
+        true_le low rule.high to,
+      )
       refl;
 }
 

@@ -88,11 +88,7 @@ pub fn table(alloc: Global, policy: &Policy) -> Result<Vec<Block>, AllocError>
 }
 
 /// What one principal may do: each of its requests is in exactly one of the blocks.
-pub fn table_of(
-    alloc: Global,
-    policy: &Policy,
-    principal: u32,
-) -> Result<Vec<Block>, AllocError>
+pub fn table_of(alloc: Global, policy: &Policy, principal: u32) -> Result<Vec<Block>, AllocError>
     ensures { IfOk result (λ blocks. IsTableOf policy.now principal blocks.items) }
 {
     let mut blocks = Vec::new(alloc);

@@ -9,5 +9,5 @@ mod blocks;
 mod scope;
 mod stretch;
 
-pub use scope::{Asker, Scope};
 pub use blocks::{Block, table, table_of};
+pub use scope::{Asker, Scope};

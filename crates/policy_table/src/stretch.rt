@@ -55,12 +55,7 @@ fn is_any(pattern: &Pattern) -> bool
 
 impl Stretch {
     /// Looks at one more rule, the one at this place. Whether it covers every channel, so that those after it decide nothing.
-    fn look_at(
-        &mut self,
-        rule: &Rule,
-        place: usize,
-        scope: &Scope,
-    ) -> Result<bool, AllocError>
+    fn look_at(&mut self, rule: &Rule, place: usize, scope: &Scope) -> Result<bool, AllocError>
         requires { scope.now.low ≤ℤ self.old.high }
         ensures { IfOk result (λ last. Looks rule.now place scope.now self.old self.new last) }
     {

@@ -26,4 +26,3 @@ returns-then-low-rule-2 c =
     let ahead : c.args.low ≤ℤ end = c.least-then-low-rule-2.ensures.greatest c.args.low (omega (arith, ints, c.if-low-rule-2.true)) (omega (arith, ints, c.requires.le)) in
     subst (λ (z : ℤ). EndsAt c.args.rule.now c.args.low c.args.high z) (sym (to_z-of_z w32 end fits))
     (ends_inside c.args.rule.now c.args.low c.args.high end (omega (arith, ints, c.if-low-rule.false)) (omega (arith, ints, c.if-low-rule-2.true)) (omega (arith, ints)) ahead (omega (arith, ints)))
-
