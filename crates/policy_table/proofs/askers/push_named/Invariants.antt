@@ -1,0 +1,7 @@
+use Rattle.std.proofs.Common.{take}
+use Rattle.policy_table.specs.Scope.{AddsNamed, is_named}
+use Rattle.policy_table.proofs.askers.push_named.Given as goal
+
+-- the principals that the rules so far name are put in
+abbrev pub invariant-loop-at : goal.invariant-loop-at
+invariant-loop-at l = AddsNamed l.initial.named.items l.named.items (is_named (take l.at l.rules))
