@@ -1,4 +1,4 @@
-//! What is asked of the policy in a file, answered by `policy_tools`.
+//! What is asked of the policy in a file, answered by `policy_tools` and `policy_table`.
 
 use crate::fault::Fault;
 use crate::files::file_bytes;
@@ -8,6 +8,7 @@ use crate::{print_line, print_text};
 use channel_uri::Channel;
 use policy_core::{Act, Request};
 use policy_query::{Checked, DecideFault};
+use policy_table::{table, table_of, table_text};
 use policy_tools::{Directory, Report, Source, cases_in, explain, explained, show};
 use std::process::ExitCode;
 
@@ -140,6 +141,24 @@ fn print_rules<R: Machine>(
     print_text(rt, text.as_str())
 }
 
+/// Prints who may do what under the policy.
+fn print_table<R: Machine>(
+    rt: &R,
+    source: &Source,
+    principal: Option<&str>,
+    directory: &Directory,
+) -> Result<ExitCode, Fault> {
+    let blocks = match principal {
+        Some(name) => match directory.number_of(name) {
+            Some(number) => table_of(rt.alloc(), source.policy(), number)?,
+            None => return Err(Fault::UnknownPrincipal),
+        },
+        None => table(rt.alloc(), source.policy())?,
+    };
+    let text = table_text(rt.alloc(), source, blocks.as_slice(), directory)?;
+    print_text(rt, text.as_str())
+}
+
 /// Answers what is asked of the policy in a file.
 pub(crate) fn answer_asking<R: Machine, F: Disk>(
     rt: &R,
@@ -154,5 +173,6 @@ pub(crate) fn answer_asking<R: Machine, F: Disk>(
         Asked::Decide(question) => print_verdict(rt, &source, &question, &directory),
         Asked::Explain(question) => print_explanation(rt, &source, &question, &directory),
         Asked::Test(path) => run_cases(rt, files, &source, path, &directory),
+        Asked::Table { principal } => print_table(rt, &source, principal, &directory),
     }
 }

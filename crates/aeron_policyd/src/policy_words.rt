@@ -1,4 +1,5 @@
-//! The words that ask what a policy says: `show`, `explain` and `test`, and `check` and `decide` with `--names`.
+//! The words that ask what a policy says: `show`, `explain`, `test` and `table`, and `check` and
+//! `decide` with `--names`.
 
 use crate::command_line::{act, channel, policy_file, principal, stream, with};
 use clap::{Arg, ArgMatches, Command};
@@ -65,6 +66,25 @@ Status: 0 where each case passes; 1 where one fails, and after `aeron_policyd: F
 fault of the names, or the first line that is no case, as `cases: line 5: unknown act`; 2 for a command line that is at
 fault.";
 
+/// What `table` says.
+const TABLE: &str = "\
+Example: what may p1 do?
+
+  $ aeron_policyd table policy.toml --principal p1
+  p1  publish,publish-exclusive,spy,destination,counter,terminate,offer,send,retransmit,list  *    *          10..20  deny   rule 1
+  p1  subscribe,image,receive                                                                 ipc  aeron:ipc  ..9     allow  rule 2
+  p1  subscribe,image,receive                                                                 *    *          10..20  deny   rule 1
+  p1  subscribe,image,receive                                                                 ipc  aeron:ipc  21..    allow  rule 2
+  4 rows
+
+A row has the principal, the acts, the medium, the pattern, the streams, the word and the rule. Rows of one principal, act
+and stream interval stand in order: the first whose pattern covers a channel decides it. What only the default decides is
+left out. Without --principal the rows of each principal that a rule names follow one another, and at last those of all
+others.
+
+Status: 0; 1 after `aeron_policyd: FAULT` on standard error: those of `check`, a fault of the names, or unknown principal;
+2 for a command line that is at fault.";
+
 /// What is asked of a policy.
 #[derive(Clone, Copy)]
 pub enum Asked<'a> {
@@ -78,6 +98,8 @@ pub enum Asked<'a> {
     Explain(Question<'a>),
     /// Whether it gives the answers that the cases in a file want.
     Test(&'a str),
+    /// Who may do what under it; of one principal, if one is named.
+    Table { principal: Option<&'a str> },
 }
 
 /// The words of a question.
@@ -139,6 +161,19 @@ fn test<'a>(alloc: Global) -> Result<Command<'a>, AllocError> {
         .arg(names_file(alloc))
 }
 
+fn table<'a>(alloc: Global) -> Result<Command<'a>, AllocError> {
+    let principal = Arg::new(alloc, "principal")
+        .long("principal")
+        .value_name("PRINCIPAL")
+        .help("Shows the rows of this principal alone");
+    Command::new(alloc, "table")
+        .about("Says who may do what under a policy")
+        .after_help(TABLE)
+        .arg(policy_file(alloc))?
+        .arg(principal)?
+        .arg(names_file(alloc))
+}
+
 /// Adds the words that ask what a policy says.
 pub(crate) fn with_policies<'a>(
     alloc: Global,
@@ -146,7 +181,8 @@ pub(crate) fn with_policies<'a>(
 ) -> Result<Command<'a>, AllocError> {
     let command = with(command, show(alloc))?;
     let command = with(command, explain(alloc))?;
-    with(command, test(alloc))
+    let command = with(command, test(alloc))?;
+    with(command, table(alloc))
 }
 
 fn question_in<'m, 'a>(of: &'m ArgMatches<'a>) -> Option<Question<'m>> {
@@ -156,6 +192,14 @@ fn question_in<'m, 'a>(of: &'m ArgMatches<'a>) -> Option<Question<'m>> {
         channel: of.get_str("CHANNEL")?,
         stream: of.get_one::<i32>("STREAM")?,
     })
+}
+
+fn listing_in<'m, 'a>(name: &str, of: &'m ArgMatches<'a>) -> Option<Asked<'m>> {
+    if name == "table" {
+        let principal = of.get_str("principal");
+        return Some(Asked::Table { principal });
+    }
+    None
 }
 
 fn asked_in<'m, 'a>(name: &str, of: &'m ArgMatches<'a>) -> Option<Asked<'m>> {
@@ -174,7 +218,7 @@ fn asked_in<'m, 'a>(name: &str, of: &'m ArgMatches<'a>) -> Option<Asked<'m>> {
     if name == "test" {
         return Some(Asked::Test(of.get_str("CASES")?));
     }
-    None
+    listing_in(name, of)
 }
 
 /// What the words of such a subcommand ask, if it is one.
