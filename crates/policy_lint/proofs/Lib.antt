@@ -1,0 +1,4 @@
+pub mod HeldLemmas
+pub mod HidingLemmas
+pub mod OverLemmas
+pub mod PushLemmas
