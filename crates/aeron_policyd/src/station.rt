@@ -1,4 +1,4 @@
-//! A driver of this process with its one client, and what is done for them beside the messages: the client tells that it is
+//! A driver of this process with its one client, and what is done for them beside the messages: the client says that it is
 //! there, the policy's file is read again, and figures are printed, each in its time.
 
 use crate::fault::Fault;
@@ -143,7 +143,7 @@ impl<N: DriverNaming + Send + Sync + 'static, R: Machine, F: Disk> Station<N, R,
         Some(mail.reply())
     }
 
-    /// The client tells that it is there, four times within the time that it may be silent.
+    /// The client says that it is there, four times within the time that it may be silent.
     fn keep_alive(&mut self, now: u64) -> Result<(), Fault> {
         if now >= self.due.keepalive {
             self.due.keepalive = now.saturating_add(self.chores.liveness / 4);

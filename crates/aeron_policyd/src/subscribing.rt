@@ -26,7 +26,7 @@ pub(crate) struct Subscribing {
     pub(crate) raw: bool,
     /// Whether it ends when the last stream that it read is gone.
     pub(crate) until_gone: bool,
-    /// How long it takes at most until a publisher is told how far this subscriber has come, in nanoseconds.
+    /// How long it takes at most until a publisher learns how far this subscriber has come, in nanoseconds.
     pub(crate) status_interval: u64,
 }
 
@@ -256,7 +256,7 @@ impl<N: DriverNaming + Send + Sync + 'static, R: Machine, F: Disk> Station<N, R,
         unreachable!()
     }
 
-    /// Prints what comes. At the end the driver runs for as long as it may take until the publisher is told of it.
+    /// Prints what comes. At the end the driver runs for as long as it may take until the publisher has learned of it.
     pub(crate) fn subscribe(&mut self, asked: &Subscribing) -> Result<(), Fault> {
         let subscription = self.subscription(asked.channel.as_str(), asked.stream)?;
         let mut images = Images {

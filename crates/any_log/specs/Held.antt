@@ -54,7 +54,7 @@ pub record Lies (old new : AnyLog) : Type 0 where
   pub place_is : place_held new ≡ place_held old
   pub made_is : made_held new ≡ made_held old
 
--- the position behind the last frame of a publication; up to which a remote stream is whole
+-- the position after the last frame of a publication; up to which a remote stream is whole
 abbrev pub reach_held : AnyLog → ℕ
 reach_held (Term log) = log.kept.tail
 reach_held (Image log) = contiguous_of log.rebuilt

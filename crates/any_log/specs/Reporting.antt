@@ -1,4 +1,4 @@
--- What the receiver of a remote stream tells its publisher (Aeron Transport Protocol Specification, loss recovery, and flow
+-- What the receiver of a remote stream reports to its publisher (Aeron Transport Protocol Specification, loss recovery, and flow
 -- and congestion control). A publication of this driver has no publisher elsewhere.
 use Rattle.std.specs.Prelude.{◌≡◌, ℕ, Bool, true, false, List, [], ◌∷◌, Option, Some, None}
 use Rattle.any_log.specs.declared.any_log.AnyLog.{AnyLog}
@@ -11,7 +11,7 @@ abbrev pub report_of : ℕ → ℕ → Receiving → AnyWhole → Option (List (
 report_of now id receiver (whole w) = None
 report_of now id receiver (rebuilt r) = Some (datagrams_of r.ident id (due_of receiver r now))
 
--- what is due counts as told
+-- what is due counts as reported
 abbrev pub after_report : ℕ → Receiving → AnyWhole → AnyWhole
 after_report now receiver (whole w) = whole w
 after_report now receiver (rebuilt r) = rebuilt (log_after receiver r now)

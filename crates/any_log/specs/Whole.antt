@@ -27,7 +27,7 @@ StandsFor (Term log) (rebuilt r) = ⊥
 StandsFor (Image log) (whole w) = ⊥
 StandsFor (Image log) (rebuilt r) = log.rebuilt ≡ r
 
--- some whole log stands behind what is held, so that whatever is said of each such log is said of one
+-- what is held stands for some whole log, so that whatever is said of each such log is said of one
 pub record HasWhole (log : AnyLog) : Type 0 where
   pub whole : AnyWhole
   pub stands : StandsFor log whole

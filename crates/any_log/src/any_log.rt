@@ -23,7 +23,7 @@ pub enum AnyLog {
 }
 
 impl AnyLog {
-    /// How far the log reaches: the position behind the last frame of a publication, or up to which a remote stream is
+    /// How far the log reaches: the position after the last frame of a publication, or up to which a remote stream is
     /// whole.
     pub fn reach(&self) -> u64
         ensures { result ≡ reach_held self.now }
@@ -102,7 +102,7 @@ impl AnyLog {
     }
 
     /// A subscription is polled: it has read the frames from its position on, until so many fragments were given or there
-    /// are no more. Pads do not count, and one behind the last fragment is left. The answer are copies of the fragments; none
+    /// are no more. Pads do not count, and one after the last fragment is left. The answer has copies of the fragments; none
     /// where it does not read the log. Each frame is looked at once, and the memory for all copies is taken at once.
     ///
     /// # Errors
@@ -148,7 +148,7 @@ impl AnyLog {
         }
     }
 
-    /// A heartbeat of the stream came at a moment, in nanoseconds, and tells where its sender is. The log of a publication
+    /// A heartbeat of the stream came at a moment, in nanoseconds, and says where its sender is. The log of a publication
     /// takes none.
     pub fn receive_beat(&mut self, now: u64, place: &TermPlace)
         ensures whole { Carries self.old self.new (beaten now place.now) }

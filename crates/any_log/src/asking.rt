@@ -69,7 +69,7 @@ fn reply(
 impl AnyLog {
     /// A status message of the log's session and stream came at a moment, in nanoseconds. With the flag that asks for a SETUP
     /// it does only that; one that names a position that was not sent is dropped; else the log is connected, and may be sent
-    /// as far as the receiver has room. The log of a remote stream is told nothing, which `None` says.
+    /// as far as the receiver has room. The log of a remote stream hears nothing, which `None` says.
     pub fn hear_status(&mut self, now: u64, message: &StatusMessage) -> Option<StatusAnswer>
         ensures hears { Hears self.old message.now result }
         ensures whole { Carries self.old self.new (after_status now message.now) }

@@ -1,4 +1,4 @@
-//! What the receiver of a remote stream tells its publisher.
+//! What the receiver of a remote stream reports to its publisher.
 
 ghost use Rattle.any_log.specs.Held.{Lies};
 ghost use Rattle.any_log.specs.Reporting.{IsToReport, Receives, Reports, after_report, are_some};
@@ -65,7 +65,7 @@ fn datagrams_of(
 
 impl AnyLog {
     /// The receiver of a remote stream, whose id is `receiver_id`, has a turn at a moment, in nanoseconds: the answer is the
-    /// datagrams that are due, the NAK first, which count as told from then on. A publication has no publisher elsewhere,
+    /// datagrams that are due, the NAK first, which count as reported from then on. A publication has no publisher elsewhere,
     /// which `None` says.
     ///
     /// # Errors

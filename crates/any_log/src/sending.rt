@@ -38,7 +38,7 @@ impl AnyLog {
         }
     }
 
-    /// The log moves on by a datagram that was cut at a moment, in nanoseconds, as [`AnyLog::next_datagram`] told it, whoever
+    /// The log moves on by a datagram that was cut at a moment, in nanoseconds, as [`AnyLog::next_datagram`] gave it, whoever
     /// gets it.
     #[inline(always)]
     pub fn pass(&mut self, now: u64, cut: &Cut)

@@ -50,7 +50,7 @@ impl Audit {
         })
     }
 
-    /// Adds a decision behind the others. Where 4,096 are kept already, the oldest one is dropped. This takes no memory.
+    /// Adds a decision after the others. Where 4,096 are kept already, the oldest one is dropped. This takes no memory.
     #[tactic(auto, unfolding(crate::specs::Audit::kept_of, crate::specs::Audit::pushed))]
     pub fn push(&mut self, decision: Decision)
         ensures exact { self.new ≡ pushed self.old decision }

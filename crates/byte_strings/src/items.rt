@@ -47,7 +47,7 @@ impl<T> Items<T> {
         self.values.is_empty()
     }
 
-    /// Puts a value behind the others.
+    /// Puts a value after the others.
     pub fn push(&mut self, value: T) -> Result<(), AllocError>
     where
         T: Drop,

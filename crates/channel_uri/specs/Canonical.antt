@@ -9,7 +9,7 @@ abbrev pub mark_of : Bool → List ℕ
 mark_of true = codes "?"
 mark_of false = codes "|"
 
--- each pair behind its mark
+-- each pair after its mark
 abbrev pub pairs_text : Bool → List Pair → List ℕ
 pairs_text first [] = []
 pairs_text first (pair ∷ pairs) = mark_of first ++ (pair.0 ++ (codes "=" ++ (pair.1 ++ pairs_text false pairs)))

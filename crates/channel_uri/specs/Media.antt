@@ -8,7 +8,7 @@ name_of Udp = codes "udp"
 name_of Ipc = codes "ipc"
 name_of Counter = codes "counter"
 
--- media are told apart by number
+-- media differ by number
 abbrev pub media_number : Media → ℕ
 media_number Udp = 0
 media_number Ipc = 1

@@ -6,7 +6,7 @@ use Rattle.channel_uri.specs.Keys.{Pair, put}
 use Rattle.channel_uri.specs.Syntax.{cut, halves_from, pair_of, pair_read}
 use Rattle.channel_uri.specs.Table.{Stored}
 
--- the first piece, and the text behind the `|` after it, where there is one
+-- the first piece, and the text after the `|` that follows it, where there is one
 abbrev pub first_piece : List ℕ → List ℕ × Option (List ℕ)
 first_piece text = halves_from text (cut 124 text)
 

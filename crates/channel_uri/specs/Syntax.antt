@@ -1,5 +1,5 @@
--- The syntax that channels and patterns share (Aeron wiki, channel configuration): behind the scheme `aeron:` a medium,
--- and behind a `?` the pairs `key=value`, with `|` between them.
+-- The syntax that channels and patterns share (Aeron wiki, channel configuration): after the scheme `aeron:` a medium,
+-- and after a `?` the pairs `key=value`, with `|` between them.
 use Rattle.std.specs.Prelude.{ℕ, ◌-◌, Bool, true, false, List, [], ◌∷◌, ◌++◌, Option, Some, None, Result, Ok, Err, ◌==◌, nat_eq, nat_lt, length, take, drop, codes, if◌then◌else◌}
 use Rattle.std.specs.List.{starts_with, ends_with, slice_split, position_or_len, before_first, after_first}
 use Rattle.std.specs.Str.{bytes_eq}
@@ -13,7 +13,7 @@ abbrev pub ◌>>=◌ : {A B : Type 0} → Result A UriError → (A → Result B 
 Ok value >>= next = next value
 Err error >>= next = Err error
 
--- what stands before and behind the first byte `mark`
+-- what stands before and after the first byte `mark`
 abbrev pub cut : ℕ → List ℕ → Option (List ℕ × List ℕ)
 cut mark text =
     if nat_lt (position_or_len (λ b. b == mark) text) (length text)
@@ -25,12 +25,12 @@ abbrev pub before_end : List ℕ → List ℕ → Option (List ℕ)
 before_end end text =
     if ends_with nat_eq text end then Some (take (length text - length end) text) else None
 
--- whether the text asks for a spy, and what stands behind that prefix
+-- whether the text asks for a spy, and what follows that prefix
 abbrev pub unspied : List ℕ → Bool × List ℕ
 unspied text =
     if starts_with nat_eq text (codes "aeron-spy:") then (true, drop 10 text) else (false, text)
 
--- what stands behind the scheme
+-- what follows the scheme
 abbrev pub behind_scheme : List ℕ → Result (List ℕ) UriError
 behind_scheme text =
     if starts_with nat_eq text (codes "aeron:") then Ok (drop 6 text) else Err NoScheme
@@ -43,7 +43,7 @@ halves_from text (Some sides) = (sides.0, Some sides.1)
 abbrev pub halves : List ℕ → List ℕ × Option (List ℕ)
 halves text = halves_from text (cut 63 text)
 
--- a pair: a key that isn't empty, up to the first `=`, and the value behind it
+-- a pair: a key that isn't empty, up to the first `=`, and the value after it
 abbrev pub pair_from : List ℕ → Option (List ℕ × List ℕ) → Result Pair UriError
 pair_from piece None = if length piece == 0 then Err EmptyKey else Err KeyWithoutValue
 pair_from piece (Some pair) = if length pair.0 == 0 then Err EmptyKey else Ok pair
@@ -75,7 +75,7 @@ pairs_of (piece ∷ pieces) = pair_of piece >>= λ pair. pairs_of pieces >>= λ 
 abbrev pub kept_of : List Pair → List (List ℕ) → Result (List Pair) UriError
 kept_of keys pieces = pairs_of pieces >>= λ pairs. Ok (kept keys pairs)
 
--- the keys of the text behind the `?`; none where there is no `?`
+-- the keys of the text after the `?`; none where there is no `?`
 unfoldable pub keys_of : Option (List ℕ) → Result (List Pair) UriError
 keys_of None = Ok []
 keys_of (Some text) = kept_of [] (slice_split (λ b. b == 124) text)

@@ -19,7 +19,7 @@ nothing_stored = record { pairs = []; used = 0 }
 abbrev pub pair_in : List ℕ → Span → Pair
 pair_in text span = (slice_range text span.key span.value, slice_range text span.value span.end)
 
--- the span is of two texts, one behind the other
+-- the span is of two texts, one after another
 pub record IsIn (text : List ℕ) (span : Span) : Type 0 where
   pub key_first : span.key ≤ span.value
   pub value_next : span.value ≤ span.end
@@ -47,7 +47,7 @@ abbrev pub placed : {A : Type 0} → Result ℕ ℕ → List A → A → List A
 placed (Ok at) xs x = slice_set xs at x
 placed (Err at) xs x = insert xs at x
 
--- the place is among so many, or behind them
+-- the place is among so many, or after them
 abbrev pub IsPlace : Result ℕ ℕ → ℕ → Type 0
 IsPlace (Ok at) count = at < count
 IsPlace (Err at) count = at ≤ count

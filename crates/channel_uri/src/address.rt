@@ -19,7 +19,7 @@ pub struct Address {
 /// How long the longest text of an address is: `255.255.255.255:65535`.
 const LONGEST: usize = 21;
 
-/// Appends one of the four numbers, and the mark behind it.
+/// Appends one of the four numbers, and the mark after it.
 fn push_octet(text: &mut ArrayString<LONGEST>, octet: u8, mark: &str)
     requires mark { length mark.now ≡ 1 }
     requires room { length text.old.bytes + 4 ≤ 21 }

@@ -58,7 +58,7 @@ impl Channel {
     ghost use Rattle.channel_uri.specs.Channel.{denotes, counter_shape, endpoint_shape, ipc_shape};
     ghost use Rattle.channel_uri.specs.Place.{is_at_text, spot_of, spot_at};
 
-    /// Reads a channel's text: `aeron:udp` or `aeron:ipc`, for a spy of `udp` behind `aeron-spy:`, and then perhaps a
+    /// Reads a channel's text: `aeron:udp` or `aeron:ipc`, for a spy of `udp` after `aeron-spy:`, and then perhaps a
     /// `?` and pairs `key=value` with `|` between them. A repeated key keeps its last value; in `endpoint` and `control` a
     /// leading `localhost:` is read as `127.0.0.1:`. Each value that is kept follows the rule of its key. It takes no memory.
     ///
@@ -249,7 +249,7 @@ fn mark_of(first: bool) -> &'static str
     if first { "?" } else { "|" }
 }
 
-/// Appends each pair behind its mark.
+/// Appends each pair after its mark.
 fn push_pairs(text: &mut String, keys: &Keys) -> Result<(), AllocError>
     ensures { OnOk result (string_bytes text.new ≡ string_bytes text.old ++ pairs_text true keys.now) }
 {

@@ -51,7 +51,7 @@ impl Keys {
         Keys { table }
     }
 
-    /// Takes the keys of the text behind the `?` in place of its own; none where there is no `?`. It takes no memory.
+    /// Takes the keys of the text after the `?` in place of its own; none where there is no `?`. It takes no memory.
     pub(crate) fn read(&mut self, text: Option<&str>) -> Result<(), UriError>
         requires { IfSome text (λ some. length some.now ≤ 1024) }
         ensures { Equals (λ _. self.new) result (keys_of (option_copied text.entry)) }

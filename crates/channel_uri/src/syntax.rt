@@ -9,7 +9,7 @@ use crate::error::UriError;
 use crate::keys::Keys;
 use crate::table::Table;
 
-/// What stands before and behind the first `mark`.
+/// What stands before and after the first `mark`.
 pub(crate) fn cut(text: &str, mark: char) -> Option<(&str, &str)>
     requires { mark < 128 }
     ensures { option_map (λ sides. (sides.0.now, sides.1.now)) result ≡ cut mark text.now }
@@ -24,7 +24,7 @@ pub(crate) fn before_end<'a>(end: &str, text: &'a str) -> Option<&'a str>
     text.strip_suffix(end)
 }
 
-/// Whether the text asks for a spy, and what stands behind that prefix.
+/// Whether the text asks for a spy, and what follows that prefix.
 pub(crate) fn unspied(text: &str) -> (bool, &str)
     ensures parts { (result.0, result.1.now) ≡ unspied text.now }
     ensures shorter { length result.1.now ≤ length text.now }
@@ -35,7 +35,7 @@ pub(crate) fn unspied(text: &str) -> (bool, &str)
     }
 }
 
-/// What stands behind the scheme.
+/// What follows the scheme.
 pub(crate) fn behind_scheme(text: &str) -> Result<&str, UriError>
     ensures rest { Equals (λ rest. rest.now) result (behind_scheme text.now) }
     ensures shorter { IfOk result (λ rest. length rest.now ≤ length text.now) }
@@ -96,7 +96,7 @@ fn value_read<'a>(key: &str, value: &'a str) -> (&'static str, &'a str)
     ("", value)
 }
 
-/// The first piece, and the text behind the `|` after it, where there is one.
+/// The first piece, and the text after the `|` that follows it, where there is one.
 fn first_piece(text: &str) -> (&str, Option<&str>)
     ensures { (result.0.now, option_copied result.1) ≡ first_piece text.now }
 {
@@ -118,7 +118,7 @@ fn put_piece(table: &mut Table, piece: &str) -> Result<(), UriError>
     Ok(())
 }
 
-/// Puts the keys of the text behind the `?` into a table that has none yet; there are none where there is no `?`.
+/// Puts the keys of the text after the `?` into a table that has none yet; there are none where there is no `?`.
 #[tactic(auto, unfolding(crate::specs::Syntax::keys_of))]
 pub(crate) fn put_keys(table: &mut Table, text: Option<&str>) -> Result<(), UriError>
     requires fits { IfSome text (λ some. length some.now ≤ 1024) }
@@ -134,7 +134,7 @@ pub(crate) fn put_keys(table: &mut Table, text: Option<&str>) -> Result<(), UriE
     Ok(())
 }
 
-/// The keys of the text behind the `?`; none where there is no `?`.
+/// The keys of the text after the `?`; none where there is no `?`.
 pub(crate) fn keys_of(text: Option<&str>) -> Result<Keys, UriError>
     requires { IfSome text (λ some. length some.now ≤ 1024) }
     ensures { Equals (λ keys. keys) result (keys_of (option_copied text.entry)) }

@@ -11,7 +11,7 @@ use std::str;
 /// Among so many keys at most one is found sooner by going through them than by halving.
 const FEW: usize = 8;
 
-/// Where a key and its value stand, one behind the other.
+/// Where a key and its value stand, one after another.
 #[derive(Clone, Copy, Debug, Default)]
 pub(crate) struct Span {
     key: u16,
@@ -74,7 +74,7 @@ fn place(text: &str, spans: &[Span], key: &str) -> Result<usize, usize>
     Err(low)
 }
 
-/// The value of the key, which is compared with one key behind the other. Keys of other lengths are told apart at once.
+/// The value of the key, which is compared with one key after the other. A key of another length is passed over at once.
 #[inline]
 fn first_of<'a>(text: &'a str, spans: &[Span], key: &str) -> Option<&'a str>
     requires { AllByRecursion (IsIn text.now) spans.now }

@@ -19,7 +19,7 @@ opened liveness = record { liveness = liveness; rows = []; last = 0 }
 abbrev pub has_room : ClientList → Bool
 has_room clients = nat_lt (length clients.rows) 64 && nat_lt clients.last 18446744073709551615
 
--- what a client that comes is told: its id, which is the next one
+-- the answer to a client that comes: its id, which is the next one
 unfoldable pub admission : ClientList → Result ℕ AdmitError
 admission clients = if has_room clients then Ok (clients.last + 1) else Err Full
 

@@ -62,7 +62,7 @@ kind_in bodies.ClientClose = kinds.ClientClose
 kind_in (bodies.TerminateDriver fields) = kinds.TerminateDriver
 kind_in (bodies.SetCounter fields) = kinds.SetCounter
 
--- what the bytes behind a command's head ask for
+-- what the bytes after a command's head ask for
 unfoldable pub fields_of : Kind → List ℕ → Result Body CommandFault
 fields_of kinds.AddPublication bytes = add_publication_of bytes >>= λ fields. Ok (bodies.AddPublication fields)
 fields_of kinds.RemovePublication bytes = removal_of bytes >>= λ fields. Ok (bodies.RemovePublication fields)
@@ -140,7 +140,7 @@ command_of bytes = do
 unfoldable pub command_bytes : Command → List ℕ
 command_bytes c = number_bytes 4 (kind_number (kind_in c.body)) ++ number_bytes 8 c.client ++ number_bytes 8 c.correlation ++ fields_bytes c.body
 
--- the correlation id that an error tells of, whether the bytes are a command or not
+-- the correlation id that an error names, whether the bytes are a command or not
 unfoldable pub correlation_of : List ℕ → ℕ
 correlation_of bytes = if nat_lt (length bytes) 20 then 0 else number_in 8 (drop 12 bytes)
 

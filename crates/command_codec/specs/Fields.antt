@@ -1,4 +1,4 @@
--- The fields of commands and replies: numbers with the lowest byte first, and byte strings and texts behind their length.
+-- The fields of commands and replies: numbers with the lowest byte first, and byte strings and texts after their length.
 -- (The layouts are this project's own.)
 use Rattle.std.specs.Prelude.{ℕ, ℤ, ◌<◌, ◌≤◌, ◌≡◌, true, nat_lt, if◌then◌else◌, List, ◌++◌, length, take, drop, slice_index, Result, Ok, Err}
 use Rattle.std.specs.Char.{is_ascii}
@@ -27,7 +27,7 @@ signed_at w n bytes = number_at n bytes >>= λ x. Ok (cast_signed w x.0, x.1)
 abbrev pub longest : ℕ
 longest = 0x7FFFFFFF
 
--- Bytes behind their length, which is a signed number of 32 bits, neither negative nor above the greatest. (Read without
+-- Bytes after their length, which is a signed number of 32 bits, neither negative nor above the greatest. (Read without
 -- its sign, a negative one is above the longest, and so above whichever greatest.)
 unfoldable pub bytes_at : ℕ → List ℕ → Result (List ℕ × List ℕ) CommandFault
 bytes_at greatest bytes = do
@@ -66,7 +66,7 @@ number_bytes n x = little_bytes n x
 abbrev pub signed_bytes : Width → ℕ → ℤ → List ℕ
 signed_bytes w n z = number_bytes n (cast_unsigned w z)
 
--- bytes behind their length. (Of a length of 2 ^ 32 and above the lowest four bytes are written.)
+-- bytes after their length. (Of a length of 2 ^ 32 and above the lowest four bytes are written.)
 abbrev pub with_length : List ℕ → List ℕ
 with_length bytes = number_bytes 4 (length bytes) ++ bytes
 

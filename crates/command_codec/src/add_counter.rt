@@ -25,7 +25,7 @@ pub struct AddCounter {
 impl AddCounter {
     ghost use Rattle.command_codec.specs.AddCounter.{add_counter_bytes, add_counter_of};
 
-    /// The fields behind a command's head.
+    /// The fields after a command's head.
     #[tactic(auto, unfolding(crate::specs::AddCounter::add_counter_of))]
     pub(crate) fn read(bytes: &[u8]) -> Result<AddCounter, CommandFault>
         ensures { result ≡ add_counter_of bytes.now }

@@ -17,7 +17,7 @@ pub struct AddPublication {
 impl AddPublication {
     ghost use Rattle.command_codec.specs.AddPublication.{add_publication_bytes, add_publication_of};
 
-    /// The fields behind a command's head, the channel where it lies.
+    /// The fields after a command's head, the channel where it lies.
     #[tactic(auto, unfolding(crate::specs::AddPublication::add_publication_of))]
     pub(crate) fn seen(bytes: &[u8]) -> Result<(i32, &str), CommandFault>
         ensures { Equals (λ fields. record { stream = fields.0; channel = fields.1.now }) result (add_publication_of bytes.now) }
@@ -28,7 +28,7 @@ impl AddPublication {
         Ok((stream, channel))
     }
 
-    /// The fields behind a command's head.
+    /// The fields after a command's head.
     pub(crate) fn read(alloc: Global, bytes: &[u8]) -> Result<AddPublication, CommandFault>
         ensures exact { Gives result (add_publication_of bytes.now) }
         ensures without_memory { takes_memory (λ _. true) (add_publication_of bytes.now) ≡ false

@@ -19,7 +19,7 @@ pub struct AddSubscription {
 impl AddSubscription {
     ghost use Rattle.command_codec.specs.AddSubscription.{add_subscription_bytes, add_subscription_of};
 
-    /// The fields behind a command's head, the channel where it lies.
+    /// The fields after a command's head, the channel where it lies.
     #[tactic(auto, unfolding(crate::specs::AddSubscription::add_subscription_of))]
     pub(crate) fn seen(bytes: &[u8]) -> Result<(u64, i32, &str), CommandFault>
         ensures { Equals (λ fields. record { registration_correlation = fields.0; stream = fields.1; channel = fields.2.now }) result (add_subscription_of bytes.now) }
@@ -31,7 +31,7 @@ impl AddSubscription {
         Ok((registration_correlation, stream, channel))
     }
 
-    /// The fields behind a command's head.
+    /// The fields after a command's head.
     pub(crate) fn read(alloc: Global, bytes: &[u8]) -> Result<AddSubscription, CommandFault>
         ensures exact { Gives result (add_subscription_of bytes.now) }
         ensures without_memory { takes_memory (λ _. true) (add_subscription_of bytes.now) ≡ false

@@ -26,7 +26,7 @@ pub struct AvailableImage {
 impl AvailableImage {
     ghost use Rattle.command_codec.specs.AvailableImage.{available_image_bytes, available_image_of};
 
-    /// The fields behind a reply's type.
+    /// The fields after a reply's type.
     #[tactic(auto, unfolding(crate::specs::AvailableImage::available_image_of))]
     pub(crate) fn read(alloc: Global, bytes: &[u8]) -> Result<AvailableImage, CommandFault>
         ensures exact { Gives result (available_image_of bytes.now) }

@@ -14,7 +14,7 @@ pub struct ClientTimeout {
 impl ClientTimeout {
     ghost use Rattle.command_codec.specs.ClientTimeout.{client_timeout_bytes, client_timeout_of};
 
-    /// The fields behind a reply's type.
+    /// The fields after a reply's type.
     #[tactic(auto, unfolding(crate::specs::ClientTimeout::client_timeout_of))]
     pub(crate) fn read(bytes: &[u8]) -> Result<ClientTimeout, CommandFault>
         ensures { result ≡ client_timeout_of bytes.now }

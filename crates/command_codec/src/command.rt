@@ -225,7 +225,7 @@ impl Command {
         Ok(Bytes::from(out))
     }
 
-    /// The correlation id that an error about these bytes tells of, also where they are no command: what stands in
+    /// The correlation id that an error about these bytes names, also where they are no command: what stands in
     /// its place, or 0 where the bytes end before it does.
     #[tactic(auto, unfolding(crate::specs::Command::correlation_of))]
     pub fn correlation_of(bytes: &[u8]) -> u64

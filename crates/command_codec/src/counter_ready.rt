@@ -16,7 +16,7 @@ pub struct CounterReady {
 impl CounterReady {
     ghost use Rattle.command_codec.specs.CounterReady.{counter_ready_bytes, counter_ready_of};
 
-    /// The fields behind a reply's type.
+    /// The fields after a reply's type.
     #[tactic(auto, unfolding(crate::specs::CounterReady::counter_ready_of))]
     pub(crate) fn read(bytes: &[u8]) -> Result<CounterReady, CommandFault>
         ensures { result ≡ counter_ready_of bytes.now }

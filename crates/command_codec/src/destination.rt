@@ -18,7 +18,7 @@ pub struct Destination {
 impl Destination {
     ghost use Rattle.command_codec.specs.Destination.{destination_bytes, destination_of};
 
-    /// The fields behind a command's head.
+    /// The fields after a command's head.
     #[tactic(auto, unfolding(crate::specs::Destination::destination_of))]
     pub fn read(alloc: Global, bytes: &[u8]) -> Result<Destination, CommandFault>
         ensures exact { Gives result (destination_of bytes.now) }

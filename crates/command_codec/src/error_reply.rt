@@ -20,7 +20,7 @@ pub struct ErrorReply {
 impl ErrorReply {
     ghost use Rattle.command_codec.specs.ErrorReply.{error_bytes, error_of};
 
-    /// The fields behind a reply's type.
+    /// The fields after a reply's type.
     #[tactic(auto, unfolding(crate::specs::ErrorReply::error_of))]
     pub(crate) fn read(alloc: Global, bytes: &[u8]) -> Result<ErrorReply, CommandFault>
         ensures exact { Gives result (error_of bytes.now) }

@@ -85,7 +85,7 @@ fn ascii_text(bytes: &[u8]) -> Option<&str>
     }
 }
 
-/// Bytes behind their length, and the bytes after them.
+/// Bytes that follow their length, and the bytes after them.
 #[tactic(auto, unfolding(crate::specs::Fields::bytes_at))]
 pub fn bytes_at(bytes: &[u8], greatest: u32) -> Result<(&[u8], &[u8]), CommandFault>
     ensures exact { Equals (λ x. (x.0.now, x.1.now)) result (bytes_at greatest bytes.now) }
@@ -103,7 +103,7 @@ pub fn bytes_at(bytes: &[u8], greatest: u32) -> Result<(&[u8], &[u8]), CommandFa
     Ok(rest.split_at(size))
 }
 
-/// A text of ASCII behind its length, and the bytes after it.
+/// A text of ASCII that follows its length, and the bytes after it.
 #[tactic(auto, unfolding(crate::specs::Fields::text_at))]
 pub fn text_at(bytes: &[u8], greatest: u32) -> Result<(&str, &[u8]), CommandFault>
     ensures exact { Equals (λ x. (x.0.now, x.1.now)) result (text_at greatest bytes.now) }
@@ -181,7 +181,7 @@ pub fn put_i64(out: &mut Vec<u8>, number: i64) -> Result<(), AllocError>
     put_u64(out, number.cast_unsigned())
 }
 
-/// Writes bytes behind their length at the end.
+/// Writes the length of bytes and then the bytes at the end.
 #[tactic(auto, unfolding(crate::specs::Fields::number_bytes))]
 pub fn put_bytes(out: &mut Vec<u8>, bytes: &[u8]) -> Result<(), AllocError>
     ensures { OnOk result (out.new.items ≡ out.old.items ++ with_length bytes.now) }
@@ -192,7 +192,7 @@ pub fn put_bytes(out: &mut Vec<u8>, bytes: &[u8]) -> Result<(), AllocError>
     out.extend_from_slice(bytes)
 }
 
-/// Writes a text behind its length at the end.
+/// Writes the length of a text and then the text at the end.
 pub fn put_text(out: &mut Vec<u8>, text: &Text) -> Result<(), AllocError>
     ensures { OnOk result (out.new.items ≡ out.old.items ++ with_length text.now) }
 {

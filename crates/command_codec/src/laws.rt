@@ -27,7 +27,7 @@ pub fn destinations_read_back()
     ensures { DestinationsReadBack }
 {}
 
-/// The correlation id that an error tells of is the command's, where the bytes are a command.
+/// The correlation id that an error names is the command's, where the bytes are a command.
 #[tactic(auto, using(crate::proofs::CommandLemmas::correlation_in_place))]
 pub fn correlation_is_in_place()
     ensures { (bytes : List ℕ) (command : Command) → command_of bytes ≡ Ok command

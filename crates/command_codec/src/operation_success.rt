@@ -14,7 +14,7 @@ pub struct OperationSuccess {
 impl OperationSuccess {
     ghost use Rattle.command_codec.specs.OperationSuccess.{operation_success_bytes, operation_success_of};
 
-    /// The fields behind a reply's type.
+    /// The fields after a reply's type.
     #[tactic(auto, unfolding(crate::specs::OperationSuccess::operation_success_of))]
     pub(crate) fn read(bytes: &[u8]) -> Result<OperationSuccess, CommandFault>
         ensures { result ≡ operation_success_of bytes.now }

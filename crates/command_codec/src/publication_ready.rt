@@ -20,7 +20,7 @@ pub struct PublicationReady {
 impl PublicationReady {
     ghost use Rattle.command_codec.specs.PublicationReady.{publication_ready_bytes, publication_ready_of};
 
-    /// The fields behind a reply's type.
+    /// The fields after a reply's type.
     #[tactic(auto, unfolding(crate::specs::PublicationReady::publication_ready_of))]
     pub(crate) fn read(bytes: &[u8]) -> Result<PublicationReady, CommandFault>
         ensures { result ≡ publication_ready_of bytes.now }

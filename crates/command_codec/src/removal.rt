@@ -15,7 +15,7 @@ pub struct Removal {
 impl Removal {
     ghost use Rattle.command_codec.specs.Removal.{removal_bytes, removal_of};
 
-    /// The fields behind a command's head.
+    /// The fields after a command's head.
     #[tactic(auto, unfolding(crate::specs::Removal::removal_of))]
     pub(crate) fn read(bytes: &[u8]) -> Result<Removal, CommandFault>
         ensures { result ≡ removal_of bytes.now }

@@ -15,7 +15,7 @@ use crate::unavailable_image::UnavailableImage;
 use byte_strings::Bytes;
 use std::alloc::{AllocError, Global};
 
-/// What the driver tells a client.
+/// What the driver answers or reports to a client.
 #[derive(Debug, PartialEq, Eq, Drop)]
 pub enum Reply {
     Error(ErrorReply),

@@ -15,7 +15,7 @@ pub struct SetCounter {
 impl SetCounter {
     ghost use Rattle.command_codec.specs.SetCounter.{set_counter_bytes, set_counter_of};
 
-    /// The fields behind a command's head.
+    /// The fields after a command's head.
     #[tactic(auto, unfolding(crate::specs::SetCounter::set_counter_of))]
     pub(crate) fn read(bytes: &[u8]) -> Result<SetCounter, CommandFault>
         ensures { result ≡ set_counter_of bytes.now }

@@ -16,7 +16,7 @@ pub struct SubscriptionReady {
 impl SubscriptionReady {
     ghost use Rattle.command_codec.specs.SubscriptionReady.{subscription_ready_bytes, subscription_ready_of};
 
-    /// The fields behind a reply's type.
+    /// The fields after a reply's type.
     #[tactic(auto, unfolding(crate::specs::SubscriptionReady::subscription_ready_of))]
     pub(crate) fn read(bytes: &[u8]) -> Result<SubscriptionReady, CommandFault>
         ensures { result ≡ subscription_ready_of bytes.now }

@@ -19,7 +19,7 @@ pub struct TerminateDriver {
 impl TerminateDriver {
     ghost use Rattle.command_codec.specs.TerminateDriver.{terminate_driver_bytes, terminate_driver_of};
 
-    /// The fields behind a command's head.
+    /// The fields after a command's head.
     #[tactic(auto, unfolding(crate::specs::TerminateDriver::terminate_driver_of))]
     pub(crate) fn read(alloc: Global, bytes: &[u8]) -> Result<TerminateDriver, CommandFault>
         ensures exact { Gives result (terminate_driver_of bytes.now) }

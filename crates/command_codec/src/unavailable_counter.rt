@@ -14,7 +14,7 @@ pub struct UnavailableCounter {
 impl UnavailableCounter {
     ghost use Rattle.command_codec.specs.UnavailableCounter.{unavailable_counter_bytes, unavailable_counter_of};
 
-    /// The fields behind a reply's type.
+    /// The fields after a reply's type.
     #[tactic(auto, unfolding(crate::specs::UnavailableCounter::unavailable_counter_of))]
     pub(crate) fn read(bytes: &[u8]) -> Result<UnavailableCounter, CommandFault>
         ensures { result ≡ unavailable_counter_of bytes.now }

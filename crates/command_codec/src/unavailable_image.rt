@@ -18,7 +18,7 @@ pub struct UnavailableImage {
 impl UnavailableImage {
     ghost use Rattle.command_codec.specs.UnavailableImage.{unavailable_image_bytes, unavailable_image_of};
 
-    /// The fields behind a reply's type.
+    /// The fields after a reply's type.
     #[tactic(auto, unfolding(crate::specs::UnavailableImage::unavailable_image_of))]
     pub(crate) fn read(bytes: &[u8]) -> Result<UnavailableImage, CommandFault>
         ensures { result ≡ unavailable_image_of bytes.now }

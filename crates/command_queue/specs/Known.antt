@@ -11,10 +11,10 @@ module _ {E : Type 0} where
   abbrev pub IsKnown : TableId → Pass (Letter E) (View E) → Type 0
   IsKnown queue known = (known.table_id ≡ queue) × (known.me.1 ≡ [])
 
-  -- what it tells
+  -- what it says
   abbrev pub facts_of : Pass (Letter E) (View E) → Facts E
   facts_of known = (view known).facts
 
-  -- it is of this queue, and tells just this
+  -- it is of this queue, and says just this
   abbrev pub Tells : TableId → Facts E → Pass (Letter E) (View E) → Type 0
   Tells queue facts known = IsKnown queue known × (facts_of known ≡ facts)

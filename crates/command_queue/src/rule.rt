@@ -1,4 +1,4 @@
-// The rule under which a queue is kept, and what each step tells. No value of these types is made.
+// The rule under which a queue is kept, and what each step says. No value of these types is made.
 use crate::known::Facts;
 use crate::letter::Letter;
 use crossbeam_queue::protocol::{Join, Lesson, Outcome, Protocol, Split};
@@ -51,7 +51,7 @@ impl<E> Split<View<E>> for Hires {
     ghost right = { hired };
 }
 
-// A sender tells what it sent so far.
+// A sender says what it sent so far.
 pub struct TellsSent;
 
 impl<E> Split<View<E>> for TellsSent {
@@ -63,7 +63,7 @@ impl<E> Split<View<E>> for TellsSent {
     ghost right = { λ view. knowing (at_least view.number view.sent) };
 }
 
-// A sender ends, and tells what it sent in all.
+// A sender ends, and says what it sent in all.
 pub struct Ends;
 
 impl<E> Split<View<E>> for Ends {
@@ -75,7 +75,7 @@ impl<E> Split<View<E>> for Ends {
     ghost right = { λ view. knowing (in_all view.number view.sent) };
 }
 
-// The taker tells what it took so far.
+// The taker says what it took so far.
 pub struct TellsTaken;
 
 impl<E> Split<View<E>> for TellsTaken {
@@ -87,7 +87,7 @@ impl<E> Split<View<E>> for TellsTaken {
     ghost right = { λ view. knowing (were_taken view.taken) };
 }
 
-// What is known is told on.
+// What is known is passed on.
 pub struct Copies;
 
 impl<E> Split<View<E>> for Copies {

@@ -15,7 +15,7 @@ abbrev pub Ascend : List ℕ → Type 0
 Ascend starts = (i j : ℕ) → i < j → j < length starts → slice_index starts i < slice_index starts j
 
 -- the starts of the intervals: the line's own, and where the range of one of the first `end` rules starts, and where the
--- streams behind it do
+-- streams after it do
 pub record AreStarts (rules : List Rule) (end : ℕ) (starts : List ℕ) : Type 0 where
   pub ascend : Ascend starts
   pub few : length starts ≤ 1 + 2 * end
@@ -27,7 +27,7 @@ pub record AreStarts (rules : List Rule) (end : ℕ) (starts : List ℕ) : Type 
 abbrev pub is_on : List ℕ → ℕ → Rule → Bool
 is_on starts row rule = nat_le (on_line rule.low) (slice_index starts row) && nat_le (slice_index starts row) (on_line rule.high)
 
--- behind the starts below `at`, and before the others
+-- after the starts below `at`, and before the others
 pub record IsPlace (starts : List ℕ) (at place : ℕ) : Type 0 where
   pub within : place ≤ length starts
   pub before : (row : ℕ) → row < place → slice_index starts row < at

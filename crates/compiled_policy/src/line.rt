@@ -3,7 +3,7 @@ ghost use Rattle.std.specs.Prelude.{◌≡◌, ◌+◌, ◌<◌, ◌≤◌, ℕ,
 
 use policy_core::Rule;
 
-/// How many intervals there are at most: before the ranges of 1,024 rules, in them and behind them.
+/// How many intervals there are at most: before the ranges of 1,024 rules, in them and after them.
 pub(crate) const INTERVALS: usize = 2049;
 
 /// Where a stream stands on the line of streams, from the lowest of 32 bits on.
@@ -25,7 +25,7 @@ pub(crate) fn start_of(rule: &Rule) -> u64
     on_line(rule.low)
 }
 
-/// Where the streams behind the rule's range start on the line.
+/// Where the streams after the rule's range start on the line.
 pub(crate) fn end_of(rule: &Rule) -> u64
     ensures { result ≡ on_line rule.now.high + 1 }
 {
@@ -62,7 +62,7 @@ fn cut(starts: &mut Vec<u64>, at: u64)
     }
 }
 
-/// Starts an interval where the range of each rule starts, and behind it. It takes no memory.
+/// Starts an interval where the range of each rule starts, and after it. It takes no memory.
 pub(crate) fn cut_by(starts: &mut Vec<u64>, rules: &[Rule])
     requires few { length rules.now ≤ 1024 }
     requires room { 2049 ≤ vec_capacity starts.old }

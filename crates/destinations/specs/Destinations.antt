@@ -40,7 +40,7 @@ has_room destinations source =
     nat_lt (length (of destinations.rows source)) 32
     && (nat_lt (length destinations.rows) 8192 && nat_lt destinations.last 18446744073709551615)
 
--- what an address that is named for a log is told: its number, which is the next one, unless the log has it already
+-- the answer to an address that is named for a log: its number, which is the next one, unless the log has it already
 unfoldable pub adding : DestinationList → ℕ → Address → Result ℕ DestinationFault
 adding destinations source address =
     if has destinations.rows source address then Err Conflict

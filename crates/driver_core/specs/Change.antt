@@ -1,4 +1,4 @@
--- What an event leaves, and what it tells.
+-- What an event leaves, and what it reports.
 use Rattle.driver_core.specs.declared.outcome.Outcome.{Outcome}
 use Rattle.driver_core.specs.State.{State}
 

@@ -27,7 +27,7 @@ drafted s (Setup now local from setup) inputs = set_up (at_moment s now) local f
 unfoldable pub conduct : State → Event → Inputs → Change
 conduct s event inputs = dropping s (renewed s inputs (drafted s event inputs))
 
--- what the event tells
+-- what the event reports
 abbrev pub outcome_of : State → Event → Inputs → Outcome
 outcome_of s event inputs = (conduct s event inputs).outcome
 

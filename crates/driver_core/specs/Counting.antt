@@ -72,7 +72,7 @@ set_counter s client correlation fields =
     then valued s client correlation fields
     else refused s [] client.number correlation UnknownCounter
 
--- it goes, and its owner is told behind the command's own reply
+-- it goes, and its owner is notified after the command's own reply
 unfoldable pub uncounted : State → Client → ℕ → ℕ → Draft
 uncounted s client correlation number =
     told (record s { counters = without s.counters client.number number }) []

@@ -10,8 +10,8 @@ use Rattle.driver_core.specs.State.{State}
 use Rattle.policy_core.specs.declared.decision.Decision.{Decision}
 use Rattle.stream_registry.specs.declared.lingering.LogPlace.{LogPlace}
 
--- what an event's own rule leaves, and what it tells: its answer, its replies, those behind the replies of images, what was
--- decided, and which logs open and close
+-- what an event's own rule leaves, and what it reports: its answer, its replies, those after the replies of images, what
+-- was decided, and which logs open and close
 pub record Draft : Type 0 where
   pub after : State
   pub response : Response
@@ -21,7 +21,7 @@ pub record Draft : Type 0 where
   pub opens : Option LogPlace
   pub closes : List LogPlace
 
--- the event is answered, and nobody else is told anything
+-- the event is answered, and nobody is notified
 unfoldable pub answered : State → Response → Draft
 answered after response = record {
   after = after;
@@ -33,7 +33,7 @@ answered after response = record {
   closes = [];
 }
 
--- these replies, the later ones behind those of images, after these decisions
+-- these replies, the later ones after those of images, and these decisions before them
 unfoldable pub told : State → List Decision → List Message → List Message → Draft
 told after decisions replies later = record {
   after = after;

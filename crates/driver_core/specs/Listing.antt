@@ -24,7 +24,7 @@ use Rattle.stream_registry.specs.Origins.{is_published}
 
 -- ---- what is listed
 
--- what is told of a counter in a list
+-- what a list says of a counter
 abbrev pub row_of : Counter → ListedCounter
 row_of counter = record {
   number = counter.number;
@@ -41,7 +41,7 @@ registered_with s source = pos (min (registrations_of s.streams source) 92233720
 abbrev pub read_by : State → ℕ → ℤ
 read_by s source = pos (min (length (filter (is_of_source source) (pairs_of s))) 9223372036854775807)
 
--- which counter tells of the log
+-- which counter reports on the log
 abbrev pub type_of : Source → ℤ
 type_of source = if is_published source then pos 10001 else pos 10002
 
@@ -104,7 +104,7 @@ abbrev pub list_by : State → Option Client → Listed
 list_by s None = listed_as.WrongClient
 list_by s (Some client) = listed_as.Counters (listed_to s client.principal)
 
--- a client that is there is told the counters that it may see
+-- a client that is there is answered with the counters that it may see
 unfoldable pub list : State → ℕ → Listed
 list s client = list_by s (client_at s.clients.rows client)
 
@@ -137,6 +137,6 @@ abbrev pub value_for : State → ℕ → Option Client → Shown
 value_for s number None = shown_as.WrongClient
 value_for s number (Some client) = value_by s client.principal number (counter_at s.counters number)
 
--- a client that is there is told the counter's value, or by what it is denied
+-- a client that is there is answered with the counter's value, or by what it is denied
 unfoldable pub value : State → ℕ → ℕ → Shown
 value s client number = value_for s number (client_at s.clients.rows client)

@@ -1,4 +1,4 @@
--- Which policy is in force behind an event. Own rules.
+-- Which policy is in force after an event. Own rules.
 use Rattle.std.specs.Prelude.{◌≡◌, ◌⊎◌, ◌<◌}
 use Rattle.driver_core.specs.State.{State}
 

@@ -29,7 +29,7 @@ channel_kept None = Err NoScheme
 channel_kept (Some (Ok channel)) = Ok channel.value
 channel_kept (Some (Err fault)) = Err fault
 
--- the channel behind the reference
+-- the channel to which the reference leads
 abbrev pub channel_lent : Result (Bor Shape) UriError → Result Shape UriError
 channel_lent (Ok channel) = Ok channel.now
 channel_lent (Err fault) = Err fault

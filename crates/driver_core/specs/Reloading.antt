@@ -11,7 +11,7 @@ use Rattle.policy_core.specs.RuleList.{Rules}
 unfoldable pub in_force : State → Rules → State
 in_force s policy = record s { policy = policy; epoch = s.epoch + 1 }
 
--- its number is told
+-- its number is the answer
 unfoldable pub reloaded : State → Rules → Draft
 reloaded s policy = answered (in_force s policy) (PolicyInForce (s.epoch + 1))
 

@@ -1,4 +1,4 @@
--- After each event the pairs are those of the lists and the policy in force. What that closes and opens is told.
+-- After each event the pairs are those of the lists and the policy in force. What that closes and opens is reported.
 use Rattle.std.specs.Prelude.{ℕ, ◌==◌, List, [], ◌∷◌, ◌++◌, filter, find, map, Option, Some, None, if◌then◌else◌}
 use Rattle.std.specs.List.{flat_map}
 use Rattle.driver_core.specs.declared.outcome.Outcome.{Outcome}
@@ -31,9 +31,9 @@ source_at logs number = find (λ log. log.number == number) logs
 abbrev pub subscription_at : List Subscription → ℕ → Option Subscription
 subscription_at subscriptions number = find (λ subscription. subscription.number == number) subscriptions
 
--- ---- what clients are told
+-- ---- what is reported to clients
 
--- a subscription that went in the same event is told nothing
+-- nothing is reported to a subscription that went in the same event
 abbrev pub unavailable_to : Pair → Option Subscription → List Message
 unavailable_to pair None = []
 unavailable_to pair (Some subscription) =
@@ -46,7 +46,7 @@ unavailable_to pair (Some subscription) =
 unfoldable pub unavailable_for : State → Pair → List Message
 unavailable_for s pair = unavailable_to pair (subscription_at s.streams.subscriptions pair.subscription)
 
--- how far the log of that source reaches; one that no log tells of begins
+-- how far the log of that source reaches; one that is not reported begins
 abbrev pub position_by : ℕ → Option End → ℕ
 position_by begin None = begin
 position_by begin (Some end) = end.position
@@ -74,7 +74,7 @@ available_for s ends pair =
 unfoldable pub images_told : State → Inputs → List Pair → List Pair → List Message
 images_told s inputs gone come = flat_map (unavailable_for s) gone ++ flat_map (available_for s inputs.ends) come
 
--- ---- what is told to those who audit
+-- ---- what is reported to those who audit
 
 -- what the policy in force decides on the pair of a subscription
 abbrev pub image_decision : State → Subscription → ℕ → Decision
@@ -147,23 +147,23 @@ outcome_kept told = record {
   come = [];
 }
 
--- where these pairs go, of which is told already, and none comes
+-- where these pairs go, which are reported already, and none comes
 abbrev pub outcome_gone : Told → List Pair → Outcome
 outcome_gone told gone = record (outcome_kept told) { gone = gone }
 
--- what an event's draft tells once the pairs are renewed
+-- what an event's draft reports once the pairs are renewed
 abbrev pub outcome_by : State → Inputs → Draft → Outcome
 outcome_by before inputs draft = (renewed before inputs draft).outcome
 
 -- ---- where clients go
 
--- what is told of a pair that goes: nothing where its subscription is one of theirs
+-- what is reported of a pair that goes: nothing where its subscription is one of theirs
 abbrev pub unavailable_beside : State → List ℕ → Pair → List Message
 unavailable_beside s clients pair = if is_of_any s.streams clients pair then [] else unavailable_for s pair
 
 -- ---- where a subscription comes
 
--- what its client is told of a log that it reads
+-- what is reported to its client of a log that it reads
 abbrev pub available_on : List Source → List End → Subscription → Pair → List Message
 available_on logs ends subscription pair =
     available_to ends pair (source_at logs pair.source) (Some subscription)
@@ -173,7 +173,7 @@ abbrev pub decided_with : State → Subscription → Pair → List Decision
 decided_with s subscription pair =
     decided_to s (source_at s.streams.sources pair.source) (Some subscription)
 
--- what it tells that a subscription comes, by what its own rule tells
+-- the outcome where a subscription comes, from what the event's own rule reports
 abbrev pub outcome_coming : State → Inputs → Told → Subscription → Outcome
 outcome_coming s inputs told subscription =
     let come : List Pair = pairs_with s.clients.rows s.policy s.epoch s.streams.sources subscription in
@@ -193,7 +193,7 @@ outcome_coming s inputs told subscription =
 abbrev pub reading : State → Source → List Subscription → List Subscription
 reading s log subscriptions = filter (is_pair s.clients.rows s.policy s.epoch log) subscriptions
 
--- what the client of such a subscription is told
+-- what is reported to the client of such a subscription
 abbrev pub available_from : List End → Source → Subscription → List Message
 available_from ends log subscription = available_to ends (pair_of log subscription) (Some log) (Some subscription)
 
@@ -201,7 +201,7 @@ available_from ends log subscription = available_to ends (pair_of log subscripti
 abbrev pub decided_from : State → Subscription → List Decision
 decided_from s subscription = decided_for s subscription (principal_at s.clients.rows subscription.client)
 
--- what it tells that a log comes, by what its own rule tells
+-- the outcome where a log comes, from what the event's own rule reports
 abbrev pub outcome_opening : State → Inputs → Told → Source → Outcome
 outcome_opening s inputs told log =
     let readers : List Subscription = reading s log s.streams.subscriptions in

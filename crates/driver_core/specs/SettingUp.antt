@@ -73,7 +73,7 @@ verdict_to s subscription (Some principal) = verdict_of s.policy s.epoch (image_
 abbrev pub verdict_for : State → Subscription → Verdict
 verdict_for s subscription = verdict_to s subscription (principal_at s.clients.rows subscription.client)
 
--- by the subscriptions that it fits, by their numbers: the verdict for the first is told where none is allowed
+-- by the subscriptions that it fits, by their numbers: the verdict for the first is reported where none is allowed
 abbrev pub allowed_for : State → ImageWanted → List Subscription → Result ℕ SetupFault
 allowed_for s wanted [] = Err NoSubscription
 allowed_for s wanted (first ∷ others) =
@@ -93,13 +93,13 @@ setting_of s wanted =
 
 -- ---- the event
 
--- its number is told, and its log opens there; the pairs that it brings are told behind
+-- its number is the answer, and its log opens there; the pairs that it brings are reported after that
 unfoldable pub image_made : State → ImageWanted → ℕ → Draft
 image_made s wanted place = record (answered (with_image s wanted) (Imaged (s.last_number + 1))) {
   opens = Some (record { source = s.last_number + 1; place = place });
 }
 
--- nobody learns of a SETUP that is dropped, and no policy's decision on it is told
+-- nobody learns of a SETUP that is dropped, and no policy's decision on it is reported
 abbrev pub set_by : State → ImageWanted → Result ℕ SetupFault → Draft
 set_by s wanted (Err fault) = answered s (Dropped fault)
 set_by s wanted (Ok place) = image_made s wanted place

@@ -31,7 +31,7 @@ pub record AreSettings (settings : Settings) : Type 0 where
   pub some_pages : 0 < settings.arena_pages
   pub few_pages : settings.arena_pages ≤ 65536
 
--- the source numbers ascend, behind that number and up to the last one that was drawn
+-- the source numbers ascend, above that number and up to the last one that was drawn
 abbrev pub Ascend : ℕ → ℕ → List Source → Type 0
 Ascend before last [] = before ≤ last
 Ascend before last (log ∷ logs) =
@@ -70,7 +70,7 @@ Opens s (Some place) logs =
     × IsVacant s.streams s.settings.arena_pages (log_pages log) log.place
     × ((lower : ℕ) → lower < log.place → ¬ IsVacant s.streams s.settings.arena_pages (log_pages log) lower)
 
--- the logs behind an event are those before it but for the ones that close, and then the one that opens
+-- the logs after an event are those before it but for the ones that close, and then the one that opens
 pub record MovesLogs (s : State) (change : Change) : Type 0 where
   pub sound : IsSound change.after
   pub settings : change.after.settings ≡ s.settings

@@ -32,7 +32,7 @@ stopped_for_good s = record s {
   stopped = true;
 }
 
--- all logs close at once, and who asked is told
+-- all logs close at once, and who asked is answered
 unfoldable pub terminated : State → Client → ℕ → Draft
 terminated s client correlation = record {
   after = stopped_for_good s;

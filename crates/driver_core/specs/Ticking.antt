@@ -16,7 +16,7 @@ use Rattle.stream_registry.specs.Lingering.{closed, closing_of, is_closing}
 abbrev pub late : State → List ℕ
 late s = expired_of s.clients s.moment
 
--- what a client that is late is told, over its own handle
+-- what is reported to a client that is late, over its own handle
 abbrev pub timeout_of : ℕ → Message
 timeout_of client = record { client = client; reply = ClientTimeout client }
 
@@ -31,7 +31,7 @@ closed_past s silent = record s {
   destinations = without_sources s.destinations (numbers_of_closing s.moment silent s.streams.sources);
 }
 
--- they close, and these clients are told that they are gone
+-- they close, and it is reported to these clients that they are gone
 unfoldable pub ticked : State → List ℕ → List ℕ → Draft
 ticked s clients silent = record {
   after = closed_past s silent;

@@ -1,4 +1,4 @@
--- What an event's own rule tells: a draft but for the registry.
+-- What an event's own rule reports: a draft but for the registry.
 use Rattle.std.specs.Prelude.{ℕ, List, [], ◌∷◌, Option, None}
 use Rattle.driver_core.specs.declared.outcome.Response.{Response}
 use Rattle.driver_core.specs.declared.outcome.Response.TheVariants.{Nothing}
@@ -26,7 +26,7 @@ abbrev pub tells_answer : Response → Told
 tells_answer response =
     record { response = response; replies = []; later = []; decisions = []; opens = None; closes = [] }
 
--- replies to commands, the later ones behind those of images, after these decisions; and the log that opens
+-- replies to commands, the later ones after those of images, and these decisions before them; and the log that opens
 abbrev pub tells_replies : List Decision → List Message → List Message → Option LogPlace → Told
 tells_replies decisions replies later opens = record {
   response = Nothing;

@@ -25,7 +25,7 @@ is_closed change log = not (is_left change.outcome.closes log) || is_unread (pai
 abbrev pub closed_from : State → Change → List LogPlace
 closed_from before change = map place_of (filter (is_closed change) before.streams.sources)
 
--- Behind all that the event tells, images close that none reads. What was told and decided of their pairs stands as it is.
+-- After all that the event reports, images close that none reads. What was reported and decided of their pairs stands.
 unfoldable pub dropping : State → Change → Change
 dropping before change = record {
   after = without_unread change.after;

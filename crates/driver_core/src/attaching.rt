@@ -13,7 +13,7 @@ use crate::told::Told;
 use std::alloc::{AllocError, Global};
 
 impl Registry {
-    /// What a client is told that comes, and that each subscription has a client already. It takes no memory.
+    /// How a client that comes is answered, and that each subscription has a client already. It takes no memory.
     #[tactic(auto, unfolding(crate::specs::Attaching::attach, crate::specs::Attaching::attached, crate::specs::Draft::answered, crate::specs::State::at_moment, client_registry::specs::Clients::admission))]
     pub(crate) fn tell_attach(&self, alloc: Global) -> Told
         ensures exact { (now principal : ℕ) → result ≡ told_of (attach (at_moment self.now now) principal) }
@@ -28,8 +28,7 @@ impl Registry {
         }
     }
 
-    /// What it tells, and does outside the registry, that a client comes: it brings no images, since it has no subscription
-    /// yet.
+    /// The outcome where a client comes: it brings no images, since it has no subscription yet.
     #[inline(never)]
     pub(crate) fn outcome_of_attach(
         &self,

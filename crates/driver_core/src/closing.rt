@@ -19,7 +19,7 @@ use std::alloc::{AllocError, Global};
 use stream_registry::Pair;
 
 impl Registry {
-    /// What the command CLIENT_KEEPALIVE of a client that is there tells: nothing. It takes no memory.
+    /// What the command CLIENT_KEEPALIVE of a client that is there reports: nothing. It takes no memory.
     #[tactic(auto, unfolding(crate::specs::Closing::keep_alive, crate::specs::Draft::told))]
     pub(crate) fn tell_keep_alive(&self, alloc: Global) -> Told
         ensures { result ≡ told_of (keep_alive self.now) }
@@ -41,8 +41,8 @@ impl Registry {
         self.readers.pairs_of_client(alloc, &self.streams, client)
     }
 
-    /// What the command CLIENT_CLOSE of a client that is there tells, and does outside the registry: the pairs of its
-    /// subscriptions go, and nobody is told of them, since these are gone.
+    /// The outcome of the command CLIENT_CLOSE of a client that is there: the pairs of its subscriptions go, and they are
+    /// not reported, since these are gone.
     #[inline(never)]
     pub(crate) fn outcome_of_close(
         &self,

@@ -18,7 +18,7 @@ use policy_core::{Act, Decision, Request};
 use std::alloc::{AllocError, Global};
 use stream_registry::{Pair, Source, Subscription, Wish, fits};
 
-/// What the subscription's client is told of a log that it reads, and from which position on.
+/// The message to the subscription's client that it reads a log, and from which position on.
 fn available(ends: &[End], pair: Pair, log: &Source, wish: &Wish<'_>) -> Message
     ensures { result ∷ [] ≡ available_to ends.now pair (Some log.now) (Some (row_of wish.now)) }
 {
@@ -37,7 +37,7 @@ fn available(ends: &[End], pair: Pair, log: &Source, wish: &Wish<'_>) -> Message
 }
 
 impl Registry {
-    /// Tells the subscription's client of a log that it reads, and from which position on.
+    /// Reports to the subscription's client a log that it reads, and from which position on.
     fn push_available_on(
         &self,
         messages: &mut Items<Message>,
@@ -53,7 +53,7 @@ impl Registry {
         messages.push(available(ends, pair, log, wish))
     }
 
-    /// Tells the subscription's client of the logs that it reads.
+    /// Reports to the subscription's client the logs that it reads.
     pub(crate) fn push_all_available_on(
         &self,
         messages: &mut Items<Message>,
@@ -100,7 +100,7 @@ impl Registry {
         Ok(decisions)
     }
 
-    /// Puts what is decided on the subscription's images behind the others, where the log is there.
+    /// Puts what is decided on the subscription's images after the others, where the log is there.
     fn push_decided_with(
         &self,
         decisions: &mut Items<Decision>,
@@ -151,8 +151,8 @@ impl Registry {
         Some(decision)
     }
 
-    /// Tells of a log that comes: the clients of those of these subscriptions that read it, with what is decided on each, and
-    /// the pairs that it brings. The policy is asked once for each subscription that fits.
+    /// Reports a log that comes to the clients of those of these subscriptions that read it, with what is decided on each,
+    /// and the pairs that it brings. The policy is asked once for each subscription that fits.
     pub(crate) fn push_images_of(
         &self,
         messages: &mut Items<Message>,
@@ -182,7 +182,7 @@ impl Registry {
     }
 }
 
-/// Puts decisions behind the others.
+/// Puts decisions after the others.
 fn push_all(decisions: &mut Items<Decision>, more: &[Decision]) -> Result<(), AllocError>
     ensures { OnOk result (decisions.new ≡ decisions.old ++ more.now) }
 {

@@ -27,7 +27,8 @@ use command_codec::{Body, Command, CommandFault};
 use std::alloc::{AllocError, Global};
 use stream_registry::Pair;
 
-/// What a command tells that is done and with which these pairs go: who asked is told so, and nobody is told of the pairs.
+/// The outcome of a command that is done and with which these pairs go: who asked is answered, and the pairs are not
+/// reported.
 pub(crate) fn outcome_of_done(
     alloc: Global,
     asking: Asking,
@@ -53,7 +54,7 @@ fn refusal_for(fault: CommandFault) -> Refusal
 }
 
 impl Registry {
-    /// What the command of a client that is there tells where it changes no pair.
+    /// What the command of a client that is there reports where it changes no pair.
     #[tactic(auto, unfolding(crate::specs::Commands::requested))]
     fn tell_quiet(
         &self,
@@ -86,7 +87,7 @@ impl Registry {
         }
     }
 
-    /// What such a command tells, once the client was heard of.
+    /// What such a command reports, once the client was heard of.
     fn tell_at(
         &self,
         alloc: Global,
@@ -101,7 +102,7 @@ impl Registry {
         self.tell_quiet(alloc, asking.client, command, channel)
     }
 
-    /// What the command of a client that is there tells where it changes no pair, and does outside the registry.
+    /// The outcome of the command of a client that is there where it changes no pair.
     fn outcome_of_quiet(
         &self,
         alloc: Global,
@@ -117,7 +118,7 @@ impl Registry {
         renewal::keep_pairs(alloc, told)
     }
 
-    /// What the command of a client that is there tells, and does outside the registry.
+    /// The outcome of the command of a client that is there.
     #[tactic(auto, unfolding(crate::specs::Commands::requested))]
     fn outcome_of_requested(
         &self,
@@ -150,7 +151,7 @@ impl Registry {
         }
     }
 
-    /// What a command tells that is refused.
+    /// The outcome of a command that is refused.
     pub(crate) fn outcome_of_refused(
         &self,
         alloc: Global,
@@ -163,7 +164,7 @@ impl Registry {
         renewal::keep_pairs(alloc, told)
     }
 
-    /// What a command tells that is refused before it is known whose it is.
+    /// The outcome of a command that is refused before it is known whose it is.
     fn outcome_of_unknown(
         &self,
         alloc: Global,
@@ -178,7 +179,7 @@ impl Registry {
         renewal::keep_pairs(alloc, told)
     }
 
-    /// What the command of a handle tells, and does outside the registry.
+    /// The outcome of the command of a handle.
     #[tactic(auto, unfolding(crate::specs::Commands::asked, crate::specs::State::at_moment))]
     fn outcome_of_asked(
         &self,
@@ -210,7 +211,7 @@ impl Registry {
         }
     }
 
-    /// What a command tells that came over a handle, and does outside the registry.
+    /// The outcome of a command that came over a handle.
     #[tactic(auto, unfolding(crate::specs::Commands::command, crate::specs::Received::channel_in))]
     pub(crate) fn outcome_of_command(
         &self,

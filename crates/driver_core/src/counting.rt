@@ -46,7 +46,7 @@ impl Registry {
         Ok(decision)
     }
 
-    /// What the command ADD_COUNTER of a client that is there tells.
+    /// What the command ADD_COUNTER of a client that is there reports.
     #[tactic(auto, unfolding(crate::specs::Counting::add_counter, crate::specs::Counting::counted, crate::specs::Counting::counting_of, crate::specs::Draft::refused, crate::specs::Draft::replied, crate::specs::Draft::told, crate::specs::State::has_number))]
     pub(crate) fn tell_add_counter(
         &self,
@@ -92,7 +92,7 @@ impl Registry {
         }
     }
 
-    /// What the command SET_COUNTER of a client that is there tells.
+    /// What the command SET_COUNTER of a client that is there reports.
     #[tactic(auto, unfolding(crate::specs::Counting::set_counter, crate::specs::Counting::valued, crate::specs::Draft::refused, crate::specs::Draft::replied, crate::specs::Draft::told))]
     pub(crate) fn tell_set_counter(
         &self,
@@ -125,7 +125,7 @@ impl Registry {
         }
     }
 
-    /// What the command REMOVE_COUNTER of a client that is there tells.
+    /// What the command REMOVE_COUNTER of a client that is there reports.
     #[tactic(auto, unfolding(crate::specs::Counting::remove_counter, crate::specs::Counting::uncounted, crate::specs::Draft::refused, crate::specs::Draft::replied, crate::specs::Draft::told))]
     pub(crate) fn tell_remove_counter(
         &self,

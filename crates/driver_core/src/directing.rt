@@ -207,7 +207,7 @@ impl Registry {
         }
     }
 
-    /// What the command ADD_DESTINATION of a client that is there tells.
+    /// What the command ADD_DESTINATION of a client that is there reports.
     #[tactic(auto, unfolding(crate::specs::Directing::add_destination, crate::specs::Directing::directed, crate::specs::Draft::refused, crate::specs::Draft::replied, crate::specs::Draft::told))]
     pub(crate) fn tell_add_destination(
         &self,
@@ -284,7 +284,7 @@ impl Registry {
         }
     }
 
-    /// What the command REMOVE_DESTINATION of a client that is there tells.
+    /// What the command REMOVE_DESTINATION of a client that is there reports.
     #[tactic(auto, unfolding(crate::specs::Directing::remove_destination, crate::specs::Directing::recalled, crate::specs::Draft::refused, crate::specs::Draft::replied, crate::specs::Draft::told))]
     pub(crate) fn tell_remove_destination(
         &self,

@@ -1,7 +1,7 @@
 use crate::event::{Event, Inputs};
 use crate::outcome::Outcome;
 
-/// An event that was planned: with what the logs said at it, and all that it tells and does outside the registry.
+/// An event that was planned: with what the logs said at it, and all that it reports and does outside the registry.
 #[derive(Debug, Drop)]
 pub struct Entry {
     pub event: Event,

@@ -31,7 +31,7 @@ pub enum Event {
     Tick {
         now: u64,
     },
-    /// A remote publisher tells of its stream.
+    /// A remote publisher announces its stream.
     Setup {
         now: u64,
         /// To where the SETUP came.
@@ -86,7 +86,7 @@ pub struct End {
     pub position: u64,
 }
 
-/// What the logs tell the conductor at an event.
+/// What the logs say to the conductor at an event.
 #[derive(Debug, PartialEq, Eq, Drop)]
 pub struct Inputs {
     /// The images of which nothing was heard for too long.
@@ -96,7 +96,7 @@ pub struct Inputs {
 }
 
 impl Inputs {
-    /// What is told where there are no logs. It takes no memory.
+    /// What is said where there are no logs. It takes no memory.
     pub fn none(alloc: Global) -> Inputs
         ensures { result ≡ record { silent = []; ends = [] } }
     {
@@ -106,7 +106,7 @@ impl Inputs {
         }
     }
 
-    /// The same, told once more.
+    /// The same once more.
     pub fn copy(&self, alloc: Global) -> Result<Inputs, AllocError>
         ensures { IfOk result (λ copy. copy ≡ self.now) }
     {

@@ -1,15 +1,15 @@
 //! The registry of a driver, and what each event makes of it.
 //!
 //! An event of the conductor is a client that attaches, a command of one, a policy that is put in force, time that goes on,
-//! or the SETUP of a remote publisher, by which an image may come. `Registry::plan` decides it and tells what goes out, as
+//! or the SETUP of a remote publisher, by which an image may come. `Registry::plan` decides it and says what goes out, as
 //! an `Entry`; the registry stays as it is. `Registry::apply` does an entry, in place and without memory. `Registry::step`
-//! is both, and `Registry::command` the same of a command's bytes where they lie. What is told is `outcome_of`, and what is
-//! left is `state_after`, two total functions on the registry as plain data. Behind each event the images go that no
-//! subscription reads.
+//! is both. What goes out is `outcome_of`, and what is left is `state_after`, two total functions on the registry as plain
+//! data. After each event the images go that no subscription reads.
 //!
 //! `Registry::list` and `Registry::value` show a client counters, `Registry::offering` and `Registry::receiving` say what it
 //! asks of a log, `Registry::image_for` which image a datagram is for, `Registry::publication_for` and `Registry::resending`
-//! which publication, and who may have frames of it again, and `Registry::outlets` where the datagrams of one go. None of them changes anything.
+//! which publication, and who may have frames of it again, and `Registry::outlets` where the datagrams of one go. None of
+//! them changes anything.
 #![tactic(auto)]
 
 mod asking;

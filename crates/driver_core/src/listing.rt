@@ -10,10 +10,10 @@ use policy_core::{Act, Decision, Request};
 use std::alloc::{AllocError, Global};
 use stream_registry::Source;
 
-/// The type id of the counters that tell of publications.
+/// The type id of the counters of publications.
 const PUBLICATION_TYPE: i32 = 10001;
 
-/// The type id of the counters that tell of images.
+/// The type id of the counters of images.
 const IMAGE_TYPE: i32 = 10002;
 
 /// A counter as it is listed.
@@ -31,8 +31,7 @@ pub struct ListedCounter {
 /// What a client is shown of all counters.
 #[derive(Debug, PartialEq, Eq, Drop)]
 pub enum Listed {
-    /// The counters that the client may see, by their numbers. One that it may not see is not told from one that is not
-    /// there.
+    /// The counters that the client may see, by their numbers. One that it may not see looks as if it were not there.
     Counters(Items<ListedCounter>),
     /// The client that looks is not attached.
     WrongClient,
@@ -99,7 +98,7 @@ fn uses_of(registry: &Registry, source: &Source) -> i64
     }
 }
 
-/// The type id of the counter that tells of the log.
+/// The type id of the log's counter.
 fn type_of(source: &Source) -> i32
     ensures { result ≡ type_of source.now }
 {
@@ -206,7 +205,7 @@ fn value_under(decision: Decision, value: i64) -> Shown
     }
 }
 
-/// What a client is told of the log of this number.
+/// The value of the log of this number, as a client is answered.
 fn source_value(registry: &Registry, principal: u32, number: u64) -> Shown
     ensures { result ≡ source_value registry.now principal (source_at registry.now.streams.sources number) }
 {

@@ -14,7 +14,7 @@ use counters::Counter;
 use policy_core::{Request, Verdict};
 use stream_registry::{Source, Subscription};
 
-/// Behind every event the policy in force is the same, under the same number, or another one under a greater number.
+/// After every event the policy in force is the same, under the same number, or another one under a greater number.
 pub fn policies_only_get_newer()
     ensures { (s : State) (event : Event) (inputs : Inputs) → IsSameOrNewer s (state_after s event inputs) }
 {}

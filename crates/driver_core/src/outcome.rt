@@ -24,7 +24,7 @@ pub enum Response {
     Dropped(SetupFault),
 }
 
-/// All that an event tells and does outside the registry.
+/// All that an event reports and does outside the registry.
 #[derive(Debug, PartialEq, Eq, Drop)]
 pub struct Outcome {
     pub response: Response,

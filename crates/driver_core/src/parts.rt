@@ -1,4 +1,4 @@
-//! Parts that are made one behind the other.
+//! Parts that are made one after the other.
 
 ghost use Rattle.std.specs.Prelude.{◌≡◌, IfOk, Ok, is_ok, true};
 

@@ -233,7 +233,7 @@ impl Registry {
         self.publishing(asking.client, wanted)
     }
 
-    /// What it tells that a log is made, where the publication's own reply and decision are told.
+    /// The outcome where a log is made, from the publication's own reply and decision.
     fn outcome_of_made(
         &self,
         alloc: Global,
@@ -263,7 +263,7 @@ impl Registry {
         Ok(renewal::come_alone(alloc, told, come))
     }
 
-    /// What a publication tells that is granted, and does outside the registry.
+    /// The outcome of a publication that is granted.
     pub(crate) fn outcome_of_published(
         &self,
         alloc: Global,
@@ -292,7 +292,7 @@ impl Registry {
         }
     }
 
-    /// What a publication on a channel that such a command takes tells, and does outside the registry.
+    /// The outcome of a publication on a channel that such a command takes.
     fn outcome_of_publish(
         &self,
         alloc: Global,
@@ -308,8 +308,7 @@ impl Registry {
         }
     }
 
-    /// What the command ADD_PUBLICATION of a client that is there tells, or ADD_EXCLUSIVE_PUBLICATION, and does outside
-    /// the registry.
+    /// The outcome of the command ADD_PUBLICATION or ADD_EXCLUSIVE_PUBLICATION of a client that is there.
     #[tactic(auto, unfolding(crate::specs::Publishing::add_publication))]
     pub(crate) fn outcome_of_add_publication(
         &self,

@@ -1,6 +1,6 @@
 use policy_core::Verdict;
 
-/// Why a command is refused. Where several reasons hold, the first in this order is told.
+/// Why a command is refused. Where several reasons hold, the first in this order is the answer.
 #[derive(Clone, Copy, Debug, PartialEq, Eq)]
 pub enum Refusal {
     /// The type number is of no command.

@@ -215,7 +215,7 @@ impl Registry {
         }
     }
 
-    /// What the event tells, and does outside the registry, but for the images that close because none reads them.
+    /// The event's outcome, but for the images that close because none reads them.
     #[tactic(auto, unfolding(crate::specs::Conduct::drafted))]
     fn told(&self, alloc: Global, event: &Event, inputs: &Inputs) -> Result<Outcome, AllocError>
         ensures { IfOk result (λ outcome. outcome ≡ outcome_by self.now inputs.now (drafted self.now event.now inputs.now)) }
@@ -238,7 +238,7 @@ impl Registry {
         }
     }
 
-    /// What the event tells, and does outside the registry.
+    /// The event's outcome.
     fn outcome(&self, alloc: Global, event: &Event, inputs: &Inputs) -> Result<Outcome, AllocError>
         ensures { IfOk result (λ outcome. outcome ≡ outcome_of self.now event.now inputs.now) }
     {
@@ -255,7 +255,7 @@ impl Registry {
         self.drop_unread();
     }
 
-    /// Decides one event, with what the logs say at it; the registry stays as it is. Only this wants memory.
+    /// Decides one event, with what the logs say at it; the registry stays as it is. Only this takes memory.
     pub fn plan(&self, alloc: Global, event: &Event, inputs: &Inputs) -> Result<Entry, AllocError>
         ensures exact { IfOk result (λ entry. entry ≡ record { event = event.now; inputs = inputs.now; outcome = outcome_of self.now event.now inputs.now }) }
         ensures moves { IfOk result (λ entry. IsSound self.now → MovesLogs self.now (conduct self.now event.now inputs.now)) }
@@ -279,7 +279,7 @@ impl Registry {
     /// Takes one event, with what the logs say at it: plans it, and does it.
     ///
     /// # Errors
-    /// Where there is no memory for what the event tells, the registry stays as it was.
+    /// Where there is no memory for what the event reports, the registry stays as it was.
     pub fn step(
         &mut self,
         alloc: Global,

@@ -53,7 +53,7 @@ impl Registry {
         )
     }
 
-    /// What it tells, and does outside the registry, that a policy is to be in force for which there is room.
+    /// The outcome where a policy is to be in force for which there is room.
     fn outcome_of_reloaded(
         &self,
         alloc: Global,
@@ -70,7 +70,7 @@ impl Registry {
         Ok(renewal::outcome_from(told, turnover))
     }
 
-    /// What it tells, and does outside the registry, that a policy is to be in force.
+    /// The outcome where a policy is to be in force.
     #[inline(never)]
     pub(crate) fn outcome_of_reload(
         &self,

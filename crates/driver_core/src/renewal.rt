@@ -14,7 +14,7 @@ use policy_core::{Act, Decision, Policy, Request};
 use std::alloc::{AllocError, Global};
 use stream_registry::Pair;
 
-/// How far the log of that source reaches; one of which nothing is told begins.
+/// How far the log of that source reaches; one that is not reported begins.
 pub(crate) fn position_at(ends: &[End], begin: u64, source: u64) -> u64
     ensures { result ≡ position_at ends.now begin source }
 {
@@ -26,7 +26,7 @@ pub(crate) fn position_at(ends: &[End], begin: u64, source: u64) -> u64
     begin
 }
 
-/// Tells the client of the subscription, if that is there, that the image is gone.
+/// Reports to the client of the subscription, if that is there, that the image is gone.
 #[tactic(auto, unfolding(crate::specs::Renewal::unavailable_for))]
 pub(crate) fn tell_unavailable(
     messages: &mut Items<Message>,
@@ -49,7 +49,7 @@ pub(crate) fn tell_unavailable(
     })
 }
 
-/// Tells the client of the subscription of an image that is there now, and from which position on it reads.
+/// Reports to the client of the subscription an image that is there now, and from which position on it reads.
 #[tactic(auto, unfolding(crate::specs::Renewal::available_for))]
 fn tell_available(
     messages: &mut Items<Message>,
@@ -106,7 +106,7 @@ fn tell_all_available(
     Ok(())
 }
 
-/// Tells of the images that went, and then of those that came.
+/// Reports the images that went, and then those that came.
 #[tactic(auto, unfolding(crate::specs::Renewal::images_told))]
 fn tell_images(
     messages: &mut Items<Message>,
@@ -186,7 +186,7 @@ fn decide_images(
     decide_on_all(decisions, lists, policy, epoch, turnover.come.as_slice())
 }
 
-/// Puts messages behind the others.
+/// Puts messages after the others.
 fn append(messages: &mut Items<Message>, more: &[Message]) -> Result<(), AllocError>
     ensures { OnOk result (messages.new ≡ messages.old ++ more.now) }
 {
@@ -196,8 +196,8 @@ fn append(messages: &mut Items<Message>, more: &[Message]) -> Result<(), AllocEr
     Ok(())
 }
 
-/// Tells of the images that went and came, puts the later replies behind, and says what is decided on these images by the
-/// policy that is in force then, under the number `epoch`.
+/// Reports the images that went and came, puts the later replies after that, and says what is decided on these images by
+/// the policy that is in force then, under the number `epoch`.
 pub(crate) fn tell_turnover(
     told: &mut Told,
     lists: &Registry,
@@ -214,7 +214,7 @@ pub(crate) fn tell_turnover(
     decide_images(&mut told.decisions, lists, policy, epoch, turnover)
 }
 
-/// The outcome that is told and turned over, where the later replies are among the others already.
+/// The outcome of what is reported and turned over, where the later replies are among the others already.
 pub(crate) fn outcome_from(told: Told, turnover: Turnover) -> Outcome
     ensures { result ≡ record { response = told.response; replies = told.replies; decisions = told.decisions; opens = told.opens; closes = told.closes; gone = turnover.gone; come = turnover.come } }
 {
@@ -229,7 +229,7 @@ pub(crate) fn outcome_from(told: Told, turnover: Turnover) -> Outcome
     }
 }
 
-/// What an event tells where these pairs come, of which is told already, and none goes.
+/// The outcome where these pairs come, which are reported already, and none goes.
 pub(crate) fn come_alone(alloc: Global, told: Told, come: Items<Pair>) -> Outcome
     ensures { result ≡ record { response = told.response; replies = told.replies; decisions = told.decisions; opens = told.opens; closes = told.closes; gone = []; come = come } }
 {
@@ -237,7 +237,7 @@ pub(crate) fn come_alone(alloc: Global, told: Told, come: Items<Pair>) -> Outcom
     outcome_from(told, Turnover { gone, come })
 }
 
-/// What an event tells where these pairs go, of which is told already, and none comes.
+/// The outcome where these pairs go, which are reported already, and none comes.
 pub(crate) fn go_alone(alloc: Global, told: Told, gone: Items<Pair>) -> Result<Outcome, AllocError>
     ensures { IfOk result (λ outcome. outcome ≡ outcome_gone told gone) }
 {
@@ -247,7 +247,7 @@ pub(crate) fn go_alone(alloc: Global, told: Told, gone: Items<Pair>) -> Result<O
     Ok(outcome_from(told, Turnover { gone, come }))
 }
 
-/// What an event tells whose own rule tells this and changes no pair.
+/// The outcome where the event's own rule reports this and changes no pair.
 pub(crate) fn keep_pairs(alloc: Global, told: Told) -> Result<Outcome, AllocError>
     ensures { IfOk result (λ outcome. outcome ≡ outcome_kept told) }
 {

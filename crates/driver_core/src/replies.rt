@@ -11,7 +11,7 @@ use command_codec::{
 };
 use std::alloc::{AllocError, Global};
 
-/// What a client is told. A denial keeps its verdict: it becomes a text only where the reply is written.
+/// What is answered or reported to a client. A denial keeps its verdict: it becomes a text only where the reply is written.
 #[derive(Clone, Copy, Debug, PartialEq, Eq)]
 pub enum Reply {
     /// The command of this correlation id is refused.

@@ -65,7 +65,7 @@ impl Registry {
     }
 
     /// Where the datagrams of this publication go, in the order in which its destinations were named, and whether they may:
-    /// these stand behind what was in the list.
+    /// these stand after what was in the list.
     ///
     /// # Errors
     /// Where there is no memory for the list.

@@ -1,4 +1,4 @@
-//! A remote publisher tells of its stream.
+//! A remote publisher announces its stream.
 
 ghost use Rattle.driver_core.specs.SettingUp.{allowed_for, fitting, has_room_for_setup, new_image, place_of_image, room_for, set_up, setting_of, verdict_for, wanted_by, with_image};
 ghost use Rattle.driver_core.specs.Pairs.{pairs_of};
@@ -151,7 +151,7 @@ impl Registry {
         self.allowed_for(wanted)
     }
 
-    /// What it tells that an image comes at that place, with the pairs that it brings.
+    /// The outcome where an image comes at that place, with the pairs that it brings.
     fn outcome_of_image(
         &self,
         alloc: Global,
@@ -182,7 +182,7 @@ impl Registry {
         Ok(renewal::come_alone(alloc, told, come))
     }
 
-    /// What a SETUP tells, and does outside the registry.
+    /// The outcome of a SETUP.
     #[inline(never)]
     pub(crate) fn outcome_of_setup(
         &self,

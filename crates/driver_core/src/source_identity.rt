@@ -36,7 +36,7 @@ impl SourceIdentity {
         }
     }
 
-    /// The text by which clients are told: `aeron:ipc`, `aeron:spy`, or the publisher's address.
+    /// The text that clients are given: `aeron:ipc`, `aeron:spy`, or the publisher's address.
     pub(crate) fn text(&self, alloc: Global) -> Result<Text, AllocError>
         ensures { IfOk result (λ text. text ≡ identity_text self.now) }
     {

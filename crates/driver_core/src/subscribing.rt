@@ -116,7 +116,7 @@ impl Registry {
         self.subscribing(asking.client, channel, stream)
     }
 
-    /// What it tells that a subscription comes, whose own reply and decision are told.
+    /// The outcome where a subscription comes, from its own reply and decision.
     fn outcome_of_coming(
         &self,
         alloc: Global,
@@ -141,7 +141,7 @@ impl Registry {
         Ok(renewal::come_alone(alloc, told, come))
     }
 
-    /// What a subscription tells that is granted, and does outside the registry.
+    /// The outcome of a subscription that is granted.
     #[tactic(auto, unfolding(crate::specs::Subscribing::subscribed, crate::specs::Subscribing::has_room_for_subscription, crate::specs::Commands::heard, crate::specs::State::at_moment, crate::specs::State::has_number, crate::specs::Draft::replied, crate::specs::Draft::told))]
     pub(crate) fn outcome_of_subscribed(
         &self,
@@ -170,7 +170,7 @@ impl Registry {
         self.outcome_of_coming(alloc, inputs, &wish, told)
     }
 
-    /// What a subscription on a channel that such a command takes tells, and does outside the registry.
+    /// The outcome of a subscription on a channel that such a command takes.
     fn outcome_of_subscribe(
         &self,
         alloc: Global,
@@ -189,7 +189,7 @@ impl Registry {
         }
     }
 
-    /// What the command ADD_SUBSCRIPTION of a client that is there tells, and does outside the registry.
+    /// The outcome of the command ADD_SUBSCRIPTION of a client that is there.
     #[tactic(auto, unfolding(crate::specs::Subscribing::add_subscription))]
     #[inline(never)]
     pub(crate) fn outcome_of_add_subscription(

@@ -62,8 +62,7 @@ impl Registry {
         self.terminating(asking.client)
     }
 
-    /// What the end of the driver tells, and does outside the registry: all logs close and all pairs go, and nobody is
-    /// told of them.
+    /// The outcome of the driver's end: all logs close and all pairs go, and these are not reported.
     fn outcome_of_terminated(
         &self,
         alloc: Global,
@@ -82,7 +81,7 @@ impl Registry {
         renewal::go_alone(alloc, told, gone)
     }
 
-    /// What the command TERMINATE_DRIVER of a client that is there tells, and does outside the registry.
+    /// The outcome of the command TERMINATE_DRIVER of a client that is there.
     #[inline(never)]
     pub(crate) fn outcome_of_terminate(
         &self,

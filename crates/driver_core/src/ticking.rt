@@ -23,7 +23,7 @@ use log_readers::is_of_any;
 use std::alloc::{AllocError, Global};
 use stream_registry::{LogPlace, Pair, Source, is_closing};
 
-/// What the clients are told that are late, each over its own handle.
+/// What is reported to the clients that are late, to each over its own handle.
 fn timeouts(alloc: Global, clients: &[u64]) -> Result<Items<Message>, AllocError>
     ensures { IfOk result (λ replies. replies ≡ map timeout_of clients.now) }
 {
@@ -62,7 +62,7 @@ impl Registry {
         self.streams.closing(alloc, self.moment.max(now), silent)
     }
 
-    /// What it tells that time went on.
+    /// What is reported where time went on.
     #[tactic(auto, unfolding(crate::specs::Ticking::tick, crate::specs::Ticking::ticked, crate::specs::State::at_moment))]
     pub(crate) fn tell_tick(
         &self,
@@ -93,7 +93,7 @@ impl Registry {
             .pairs_of_going(alloc, &self.streams, clients, closes)
     }
 
-    /// Tells of these pairs that they went, where their subscriptions are none of these clients'.
+    /// Reports that these pairs went, where their subscriptions are none of these clients'.
     fn tell_unavailable_beside(
         &self,
         messages: &mut Items<Message>,
@@ -110,7 +110,7 @@ impl Registry {
         Ok(())
     }
 
-    /// What it tells where clients go or logs close: of the pairs that go, those are told whose subscriptions stay.
+    /// The outcome where clients go or logs close: of the pairs that go, those are reported whose subscriptions stay.
     fn outcome_of_going(
         &self,
         alloc: Global,
@@ -128,7 +128,7 @@ impl Registry {
         renewal::go_alone(alloc, told, gone)
     }
 
-    /// What it tells, and does outside the registry, that time goes on.
+    /// The outcome where time goes on.
     #[inline(never)]
     pub(crate) fn outcome_of_tick(
         &self,

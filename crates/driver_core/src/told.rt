@@ -10,13 +10,13 @@ use policy_core::Decision;
 use std::alloc::{AllocError, Global};
 use stream_registry::LogPlace;
 
-/// What an event's own rule tells, before what it tells of images.
+/// What an event's own rule reports, before what is reported of images.
 #[derive(Drop)]
 pub(crate) struct Told {
     pub(crate) response: Response,
     /// The event's own replies.
     pub(crate) replies: Items<Message>,
-    /// The replies behind those of images.
+    /// The replies after those of images.
     pub(crate) later: Items<Message>,
     pub(crate) decisions: Items<Decision>,
     pub(crate) opens: Option<LogPlace>,
@@ -24,7 +24,7 @@ pub(crate) struct Told {
 }
 
 impl Told {
-    /// The event is answered, and nobody is told anything else. It takes no memory.
+    /// The event is answered, and nobody is notified. It takes no memory.
     pub(crate) fn answered(alloc: Global, response: Response) -> Told
         ensures { result ≡ tells_answer response }
     {
@@ -38,7 +38,7 @@ impl Told {
         }
     }
 
-    /// One client is told one thing.
+    /// One client has one reply.
     pub(crate) fn replied(alloc: Global, client: u64, reply: Reply) -> Result<Told, AllocError>
         ensures { IfOk result (λ told. told ≡ tells_reply [] client reply) }
     {
@@ -47,7 +47,7 @@ impl Told {
         Ok(told)
     }
 
-    /// One client is told one thing, after this decision.
+    /// One client has one reply, after this decision.
     pub(crate) fn replied_on(
         alloc: Global,
         decision: Decision,

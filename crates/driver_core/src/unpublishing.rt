@@ -12,7 +12,7 @@ use command_codec::Removal;
 use std::alloc::{AllocError, Global};
 
 impl Registry {
-    /// What the command REMOVE_PUBLICATION of a client that is there tells.
+    /// What the command REMOVE_PUBLICATION of a client that is there reports.
     #[tactic(auto, unfolding(crate::specs::Unpublishing::remove_publication, crate::specs::Unpublishing::unpublished, crate::specs::Draft::refused, crate::specs::Draft::replied, crate::specs::Draft::told))]
     pub(crate) fn tell_remove_publication(
         &self,

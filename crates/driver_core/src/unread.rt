@@ -20,8 +20,8 @@ impl Registry {
         self.all_read || self.readers.are_all_read(&self.streams)
     }
 
-    /// The logs that close with an event, by what its own rule tells: those that it closes, and the images of which no pair is
-    /// left.
+    /// The logs that close with an event, by what its own rule reports: those that it closes, and the images of which no
+    /// pair is left.
     #[inline(always)]
     pub(crate) fn closed(
         &self,

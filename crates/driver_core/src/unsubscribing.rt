@@ -32,8 +32,8 @@ impl Registry {
         self.readers.pairs_of_row(alloc, &self.streams, &row.wish())
     }
 
-    /// What the end of a client's subscription tells, and does outside the registry: its pairs go, and nobody is told of
-    /// them, since the subscription is gone.
+    /// The outcome of the end of a client's subscription: its pairs go, and they are not reported, since the subscription
+    /// is gone.
     fn outcome_of_unsubscribed(
         &self,
         alloc: Global,
@@ -48,7 +48,7 @@ impl Registry {
         outcome_of_done(alloc, asking, gone)
     }
 
-    /// What the command REMOVE_SUBSCRIPTION of a client that is there tells, and does outside the registry.
+    /// The outcome of the command REMOVE_SUBSCRIPTION of a client that is there.
     #[inline(never)]
     pub(crate) fn outcome_of_remove_subscription(
         &self,

@@ -1,9 +1,11 @@
 pub mod ActLemmas
 pub mod ApartLemmas
 pub mod AttachingLemmas
+pub mod BlankLemmas
 pub mod ClientComingLemmas
 pub mod ClosedLogLemmas
 pub mod ClosingLemmas
+pub mod DatagramLemmas
 pub mod DecisionLemmas
 pub mod DenialLemmas
 pub mod DenialTextLemmas
@@ -25,6 +27,7 @@ pub mod LimitLemmas
 pub mod ListingLemmas
 pub mod LoggedLemmas
 pub mod NamedLemmas
+pub mod NewLogLemmas
 pub mod NewNumberLemmas
 pub mod NumberLemmas
 pub mod OlderLemmas
@@ -51,4 +54,7 @@ pub mod SubscribingLemmas
 pub mod SubscribingOnlyLemmas
 pub mod UniqueImageLemmas
 pub mod UniquePublicationLemmas
+pub mod WellLemmas
+pub mod WholeLemmas
+pub mod WireLemmas
 pub mod WorldLemmas

@@ -21,14 +21,14 @@ abbrev pub with_newcomer : State → ℕ → ℕ → ClientList
 with_newcomer s now principal =
     record s.clients { rows = s.clients.rows ++ newcomer s now principal ∷ []; last = s.clients.last + 1 }
 
--- the event is answered so, nobody is told anything else, and nothing goes or comes beside
+-- the event is answered so, nobody is notified of anything else, and nothing goes or comes beside
 pub record IsOnlyAnswered (response : Response) (change : Change) : Type 0 where
   pub response_is : change.outcome.response ≡ response
   pub replies : change.outcome.replies ≡ []
   pub decisions : change.outcome.decisions ≡ []
   pub closes : change.outcome.closes ≡ []
 
--- the client is there behind the others, and all else stays but the moment
+-- the client is there after the others, and all else stays but the moment
 pub record IsAttached (s : State) (now principal : ℕ) (change : Change) : Type 0 where
   pub after_is : change.after ≡ record (at_moment s now) { clients = with_newcomer s now principal }
   pub answered : IsOnlyAnswered (Attached (s.clients.last + 1)) change
@@ -60,7 +60,7 @@ pub record IsAttachedBy (s : State) (event : Event) (client : Client) : Type 0 w
   pub room : has_room s.clients ≡ true
   pub made_is : client ≡ newcomer s moment principal
 
--- a client behind an event was there before it, under that id and for that principal, or is made by it
+-- a client after an event was there before it, under that id and for that principal, or is made by it
 abbrev pub ClientsComeOnly : Type 0
 ClientsComeOnly =
     AfterAnyEvents (λ s.

@@ -46,7 +46,7 @@ Closes s event inputs log =
 
 -- ---- closed exactly
 
--- the outcome tells that it closes, and no log of its number is live
+-- the outcome says that it closes, and no log of its number is live
 pub record IsClosed (change : Change) (log : Source) : Type 0 where
   pub told : Contains change.outcome.closes (place_of log)
   pub gone :
@@ -72,7 +72,7 @@ pub record IsLive (after : State) (log : Source) : Type 0 where
   pub stands : Contains after.streams.sources now
   pub same : IsSameLog now log
 
--- what the outcome tells is the place of a log that the event closes
+-- what the outcome reports is the place of a log that the event closes
 pub record IsToldBy (s : State) (event : Event) (inputs : Inputs) (place : LogPlace) : Type 0 where
   pub log : Source
   pub stood : Contains s.streams.sources log
@@ -96,7 +96,7 @@ abbrev pub is_no_more : State → Source → Bool
 is_no_more after log =
     not (list_any (λ (other : Source). other.number == log.number) after.streams.sources)
 
--- what is told are the places of the logs that were live before and are no more, each once, in the order in which they came
+-- what is reported are the places of the logs that were live before and are no more, each once, in the order in which they came
 abbrev pub ClosedLogsWereThere : Type 0
 ClosedLogsWereThere =
     AfterAnyEvents (λ s.

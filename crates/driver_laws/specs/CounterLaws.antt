@@ -23,7 +23,7 @@ use Rattle.counters.specs.Counters.{has, set, without}
 
 -- ---- removed exactly
 
--- the client's counter of that number goes, and it is told so; all else stays but for the moments
+-- the client's counter of that number goes, and it is answered so; all else stays but for the moments
 pub record IsUncounted (s : State) (now handle correlation number : ℕ) (change : Change) : Type 0 where
   pub after_is :
       change.after

@@ -1,4 +1,4 @@
--- Over every list of events: each decision that is told to those who audit is by the policy in force.
+-- Over every list of events: each decision that is reported to those who audit is by the policy in force.
 use Rattle.std.specs.Prelude.{◌≡◌, ℕ, List, Contains, Some, ◌⊎◌}
 use Rattle.std.specs.List.{AllByRecursion}
 use Rattle.driver_core.specs.Change.{Change}
@@ -30,7 +30,7 @@ pub record IsOnRequest (s : State) (event : Event) (decision : Decision) : Type 
   pub decision_is : decision ≡ decided_on s question
   pub by : IsByPolicy s question decision.verdict
 
--- the event takes away or brings a pair of a subscription that stands behind it, and the decision is that of the policy in
+-- the event takes away or brings a pair of a subscription that stands after it, and the decision is that of the policy in
 -- force by then on the image for the subscription's client
 pub record IsOnPair (change : Change) (decision : Decision) : Type 0 where
   pub pair : Pair

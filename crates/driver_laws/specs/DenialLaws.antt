@@ -1,4 +1,4 @@
--- Over every list of events: a denial is told only of a request, or of a SETUP's image, that the policy in force denies, and
+-- Over every list of events: a denial is answered only to a request, or to a SETUP's image, that the policy in force denies, and
 -- names its rule.
 use Rattle.std.specs.Prelude.{◌≡◌, ℕ, false, List, ◌++◌, Option, Some, None, codes}
 use Rattle.std.specs.Fmt.{decimal}
@@ -85,7 +85,7 @@ IsResponseNamed s event response = Unit {0}
 
 -- ---- after every list of events
 
--- each denial that the event tells a client, or is answered by, is so
+-- each denial that the event answers a client, or is answered by, is so
 pub record NamesDenials (s : State) (event : Event) (outcome : Outcome) : Type 0 where
   pub replies : AllByRecursion (λ message. IsDenialNamed s event message.client message.reply) outcome.replies
   pub response : IsResponseNamed s event outcome.response

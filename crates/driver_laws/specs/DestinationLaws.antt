@@ -164,7 +164,7 @@ pub record IsSoleBy (s : State) (event : Event) (destination : Destination) : Ty
       destination
       ≡ row_next s (s.last_number + 1) address registered.request.client.principal registered.request.channel
 
--- a destination behind an event was there before it, or is named by it, or is the one of a log that it makes
+-- a destination after an event was there before it, or is named by it, or is the one of a log that it makes
 abbrev pub DestinationsAreGrantedOnly : Type 0
 DestinationsAreGrantedOnly =
     AfterAnyEvents (λ s.

@@ -29,7 +29,7 @@ use Rattle.policy_core.specs.Question.{Question}
 use Rattle.stream_registry.specs.Lingering.{place_of}
 use Rattle.stream_registry.specs.Streams.{cleared as all_closed}
 
--- what is told of a question to those who audit
+-- what is reported of a question to those who audit
 abbrev pub decided_on : State → Question → Decision
 decided_on s question = record {
   principal = question.principal;
@@ -47,7 +47,7 @@ pub record IsRefusedOn (s : State) (now handle correlation : ℕ) (question : Qu
 
 -- ---- counters
 
--- the counter stands behind the others, under the next number and at 0, and the one reply names it
+-- the counter stands after the others, under the next number and at 0, and the one reply names it
 pub record IsCounted (s : State) (now handle correlation : ℕ) (client : Client) (fields : AddCounter) (change : Change) : Type 0 where
   pub after_is :
       change.after

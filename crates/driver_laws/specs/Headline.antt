@@ -3,6 +3,7 @@
 use Rattle.driver_laws.specs.ActLaws.{RulesAskAsListed}
 use Rattle.driver_laws.specs.AttachingLaws.{ClientsComeExactly, ClientsComeOnly}
 use Rattle.driver_laws.specs.ClosingLaws.{LogsCloseExactly, LogsCloseOnly}
+use Rattle.driver_laws.specs.DatagramLaws.{DatagramsCarryTheLogsFrames}
 use Rattle.driver_laws.specs.DenialLaws.{DenialsAreNamed}
 use Rattle.driver_laws.specs.DecisionLaws.{DecisionsAreByThePolicyInForce}
 use Rattle.driver_laws.specs.DestinationLaws.{DestinationsAreGrantedExactly, DestinationsAreGrantedOnly, EndpointsAreSentTo}
@@ -10,6 +11,7 @@ use Rattle.driver_laws.specs.FrameLaws.{FramesAreWhatWasPut}
 use Rattle.driver_laws.specs.GrantLaws.{CountersAndTerminationsAreGrantedOnly, CountersAreGrantedExactly, TerminationsAreGrantedExactly}
 use Rattle.driver_laws.specs.ImageLaws.{ImagesAreGrantedExactly}
 use Rattle.driver_laws.specs.ListingLaws.{CountersAreShownExactly}
+use Rattle.driver_laws.specs.NewLogLaws.{NewLogsAreEmpty}
 use Rattle.driver_laws.specs.NumberLaws.{NumbersAreNeverDrawnAgain}
 use Rattle.driver_laws.specs.OlderLaws.{LooksByAnyRegistryAreShownExactly, NaksByAnyRegistryAreGrantedExactly, OffersByAnyRegistryAreGrantedExactly, PollsByAnyRegistryAreGrantedExactly, SendsByAnyRegistryAreGrantedExactly}
 use Rattle.driver_laws.specs.PublishingLaws.{ImagesComeBySetups, PublicationsAreGrantedExactly, PublicationsAreGrantedOnly}
@@ -95,7 +97,9 @@ pub record BytesComeOnlyFromTheLiveLog : Type 0 where
   pub polled : BytesComeFromTheLiveLog
   pub payloads : PayloadsComeFromTheirPublisher
   pub resent : ResendsComeFromTheLiveLog
+  pub datagrams : DatagramsCarryTheLogsFrames
   pub frames : FramesAreWhatWasPut
+  pub empty : NewLogsAreEmpty
   pub follow : LogsFollowTheRegistry
   pub sound : RegistriesAreSound
   pub numbers : NumbersAreNeverDrawnAgain

@@ -1,4 +1,4 @@
--- Over every list of events: clients are told of exactly the images that come and go.
+-- Over every list of events: clients are notified of exactly the images that come and go.
 use Rattle.std.specs.Prelude.{◌≡◌, ℕ, Bool, true, false, List, [], ◌∷◌, filter, Contains, is_some, ◌⊎◌}
 use Rattle.driver_core.specs.Change.{Change}
 use Rattle.driver_core.specs.declared.event.End.{End}
@@ -18,7 +18,7 @@ use Rattle.stream_registry.specs.Origins.{begins_at}
 use Rattle.driver_core.specs.Identity.{identity_of}
 use Rattle.stream_registry.specs.Pairs.{pair_of}
 
--- ---- which replies tell of images
+-- ---- which replies speak of images
 
 abbrev pub is_available : Reply → Bool
 is_available (AvailableImage source subscription session stream position identity) = true
@@ -34,9 +34,9 @@ tells_available message = is_available message.reply
 abbrev pub tells_unavailable : Message → Bool
 tells_unavailable message = is_unavailable message.reply
 
--- ---- what is told of a pair
+-- ---- what is reported of a pair
 
--- so far the log of that source reaches, as the event's inputs say, or to where it begins where they do not tell of it
+-- so far the log of that source reaches, as the event's inputs say, or to where it begins where they do not name it
 pub record IsTheEnd (ends : List End) (source position : ℕ) : Type 0 where
   pub end : End
   pub stands : Contains ends end
@@ -50,7 +50,7 @@ pub record HasNoEnd (ends : List End) (source begin position : ℕ) : Type 0 whe
 abbrev pub Reaches : List End → ℕ → ℕ → ℕ → Type 0
 Reaches ends source begin position = IsTheEnd ends source position ⊎ HasNoEnd ends source begin position
 
--- the client of the pair's subscription is told the log's session and stream, how far it reaches, and from where its
+-- the client of the pair's subscription is sent the log's session and stream, how far it reaches, and from where its
 -- publisher sends, where that is a remote one
 pub record IsToldAvailable (after : State) (ends : List End) (pair : Pair) (message : Message) : Type 0 where
   pub log : Source
@@ -67,7 +67,7 @@ pub record IsToldAvailable (after : State) (ends : List End) (pair : Pair) (mess
         reply = AvailableImage pair.source pair.subscription log.session log.stream position (identity_of log);
       }
 
--- the client of the pair's subscription is told that the log is no more there for it
+-- the client of the pair's subscription is notified that the log is no longer there for it
 pub record IsToldUnavailable (after : State) (pair : Pair) (message : Message) : Type 0 where
   pub subscription : Subscription
   pub stands : Contains after.streams.subscriptions subscription

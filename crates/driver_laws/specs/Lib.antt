@@ -3,6 +3,7 @@ pub mod Acts
 pub mod AttachingLaws
 pub mod ClosingLaws
 pub mod CounterLaws
+pub mod DatagramLaws
 pub mod DecisionLaws
 pub mod DenialLaws
 pub mod DestinationLaws
@@ -15,6 +16,7 @@ pub mod ImageTellingLaws
 pub mod LeavingLaws
 pub mod LimitLaws
 pub mod ListingLaws
+pub mod NewLogLaws
 pub mod NumberLaws
 pub mod OlderLaws
 pub mod OwnerLaws
@@ -28,4 +30,5 @@ pub mod StepActs
 pub mod SubscribingLaws
 pub mod UniqueImageLaws
 pub mod UniquePublicationLaws
+pub mod Wire
 pub mod WorldLaws

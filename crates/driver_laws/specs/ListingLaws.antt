@@ -95,14 +95,14 @@ pub record ShowsSourceExactly (s : State) (client : Client) (source : Source) (a
       verdict_text (verdict_on s (source_look client source))
       ≡ denial_text (verdict_on s (source_look client source)).rule s.epoch
 
--- each counter and each live log that is left out is told by the decision on it, and no other, by their numbers
+-- each counter and each live log that is left out is reported by the decision on it, and no other, by their numbers
 pub record LeavesOutExactly (s : State) (client : Client) (denials : List Decision) : Type 0 where
   pub denials_are :
       denials
       ≡ with_denials (map (look_decision s client) (filter (is_hidden_from s client) s.counters))
       (map (look_at_source s client) (filter (is_source_hidden s client) s.streams.sources))
 
--- what a look is told, whoever looks
+-- what a look is answered, whoever looks
 pub record LooksExactly (s : State) (handle : ℕ) : Type 0 where
   pub listed :
       (client : Client) → client_at s.clients.rows handle ≡ Some client → ListsExactly s client (list s handle)

@@ -209,7 +209,7 @@ NaksByAnyRegistryAreGrantedExactly = AtEachRegistry NaksAreDecidedBy
 
 -- ---- a look at counters
 
--- A client of that registry is listed exactly what its policy shows, and told a value exactly where it shows that one, else by
+-- A client of that registry is listed exactly what its policy shows, and answered a value exactly where it shows that one, else by
 -- what it is denied; nothing is changed.
 pub record LooksAreDecidedBy (s : State) (e : RunEnd) : Type 0 where
   pub lists : (now handle : ℕ) → moved_seen s e (Lists now handle) ≡ stays e (answer_listed (list s handle))

@@ -142,7 +142,7 @@ pub record IsImageMadeBy (s : State) (event : Event) (log : Source) : Type 0 whe
   pub set : setting_of (at_moment s now) (image_wanted_by local from setup join) ≡ Ok place
   pub log_is : log ≡ new_image (at_moment s now) (image_wanted_by local from setup join)
 
--- what is told names a registration that the event made, and that stands, with its log's session and stream
+-- what is reported names a registration that the event made, and that stands, with its log's session and stream
 pub record IsReadyBy (s : State) (event : Event) (after : State) (client correlation number : ℕ) (session stream : ℤ) (exclusive : Bool) : Type 0 where
   pub made : Registration
   pub registered : IsRegisteredBy s event made
@@ -161,7 +161,7 @@ IsPublicationTold s event after client (ExclusivePublicationReady correlation nu
     IsReadyBy s event after client correlation number session stream true
 IsPublicationTold s event after client reply = Unit {0}
 
--- registrations and logs come, and are told of, only by such a request, and images by such a SETUP
+-- registrations and logs come, and are reported, only by such a request, and images by such a SETUP
 pub record PublishesOnly (s : State) (event : Event) (change : Change) : Type 0 where
   pub registrations :
       (registration : Registration) → Contains change.after.streams.registrations registration →
@@ -179,7 +179,7 @@ PublicationsAreGrantedOnly =
 
 -- ---- images
 
--- an image behind an event was live before it, or is made by it
+-- an image after an event was live before it, or is made by it
 abbrev pub ImagesComeBySetups : Type 0
 ImagesComeBySetups =
     AfterAnyEvents (λ s.

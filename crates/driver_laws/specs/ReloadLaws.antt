@@ -23,7 +23,7 @@ abbrev pub reloaded_from : State → ℕ → Rules → State
 reloaded_from s now policy = record s { moment = max s.moment now; policy = policy; epoch = s.epoch + 1 }
 
 -- The pairs that go are those by the old policy that those by the new one lack, and the pairs that it gains come; this is
--- told, and nothing else. No log opens, and those close that are images of which no pair is left.
+-- reported, and nothing else. No log opens, and those close that are images of which no pair is left.
 pub record ClosesExactly (s : State) (now : ℕ) (policy : Rules) (inputs : Inputs) (change : Change) : Type 0 where
   pub after_is : change.after ≡ without_unread (reloaded_from s now policy)
   pub told : change.outcome.response ≡ PolicyInForce (s.epoch + 1)

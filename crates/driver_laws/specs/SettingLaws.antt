@@ -116,7 +116,7 @@ IsDecided s now wanted (Err fault) = IsCause s now wanted fault
 
 -- ---- what the event comes to
 
--- its number is told, its log opens at that place, and it is live behind the others, which all stay; what is told beside that
+-- its number is reported, its log opens at that place, and it is live after the others, which all stay; what is reported beside that
 -- is of the images that come by it
 pub record IsImaged (s : State) (now : ℕ) (inputs : Inputs) (wanted : ImageWanted) (place : ℕ) (change : Change) : Type 0 where
   pub after_is : change.after ≡ with_image (at_moment s now) wanted
@@ -130,7 +130,7 @@ pub record IsImaged (s : State) (now : ℕ) (inputs : Inputs) (wanted : ImageWan
   pub decisions : change.outcome.decisions ≡ images_decided change.after change.outcome.gone change.outcome.come
   pub closes : change.outcome.closes ≡ []
 
--- nothing changes but the moment, and nobody but who sent the event is told
+-- nothing changes but the moment, and nobody but who sent the event is answered
 pub record IsDropped (s : State) (now : ℕ) (fault : SetupFault) (change : Change) : Type 0 where
   pub after_is : change.after ≡ at_moment s now
   pub response : change.outcome.response ≡ Dropped fault

@@ -23,7 +23,7 @@ use Rattle.stream_registry.specs.declared.row.Subscription.{Subscription}
 
 -- ---- a request for a subscription
 
--- what is told of it to those who audit
+-- what is reported of it to those who audit
 abbrev pub decision_on : State → SubscriptionRequest → Decision
 decision_on s request = record {
   principal = request.client.principal;
@@ -44,7 +44,7 @@ subscription_for s handle request = record {
 
 -- ---- granted exactly
 
--- the subscription stands behind the others, and its own reply names it, before those of the images that come by it
+-- the subscription stands after the others, and its own reply names it, before those of the images that come by it
 pub record IsGranted (s : State) (now handle : ℕ) (inputs : Inputs) (request : SubscriptionRequest) (change : Change) : Type 0 where
   pub change_is :
       change
@@ -105,7 +105,7 @@ pub record IsMadeBy (s : State) (event : Event) (correlation : ℕ) (made : Subs
   pub correlation_is : correlation ≡ request.correlation
   pub made_is : made ≡ subscription_for s made.client request
 
--- a reply that tells of a subscription tells of one that the event made, and that stands
+-- a reply that names a subscription names one that the event made, and that stands
 abbrev pub IsGrantTold : State → Event → State → ℕ → Reply → Type 0
 IsGrantTold s event after client (SubscriptionReady correlation registration) =
     (made : Subscription)

@@ -70,7 +70,7 @@ pub record IsBad (e : RunEnd) (what : Moved) : Type 0 where
 abbrev pub step_meant : RunEnd → Step → Step
 step_meant e step = at_moment (seat_of (actor_of step) e.seats).moment step
 
--- A step of the sender, the receiver or a client goes by the registry that it names, neither behind the one by which its actor
+-- A step of the sender, the receiver or a client goes by the registry that it names, neither after the one by which its actor
 -- went last nor past the newest. The conductor's goes by the newest, and names none.
 pub record StepsGoBy (e : RunEnd) : Type 0 where
   pub goes :

@@ -2,7 +2,9 @@
 //! (`driver_laws`), on every run of a driver (`driver_steps`) and on every run of a world (`driver_world`), whose registries
 //! are what their events make of the opened one, and whose steps are those of a driver.
 
+ghost use Rattle.driver_laws.specs.DatagramLaws.{DatagramsCarryTheLogsFrames};
 ghost use Rattle.driver_laws.specs.FrameLaws.{FramesAreWhatWasPut};
+ghost use Rattle.driver_laws.specs.NewLogLaws.{NewLogsAreEmpty};
 ghost use Rattle.driver_laws.specs.OlderLaws.{LooksByAnyRegistryAreShownExactly, NaksByAnyRegistryAreGrantedExactly, OffersByAnyRegistryAreGrantedExactly, PollsByAnyRegistryAreGrantedExactly, SendsByAnyRegistryAreGrantedExactly};
 ghost use Rattle.driver_laws.specs.Headline.{BytesComeOnlyFromTheLiveLog, DenialsNameTheirRule, GrantedExactly, HoldOfWorlds, ReloadsCloseExactly, StepsAreDecided};
 
@@ -89,21 +91,21 @@ pub fn steps_are_decided()
 
 /// An offer by any registry that the run went through goes on to the log that the client's registration is with, where that is
 /// still open, exactly where the first rule of that registry's policy that matches, or the default, allows it; else the
-/// verdict is told and nothing changes. The log is one of frames that were appended: no number is drawn again.
+/// verdict is answered and nothing changes. The log is one of frames that were appended: no number is drawn again.
 pub fn offers_by_any_registry_are_granted_exactly()
     ensures { OffersByAnyRegistryAreGrantedExactly }
 {}
 
 /// A poll by any registry that the run went through is given the fragments from where the subscription stands, where that is the
 /// client's own and reads the log by that registry and still has a position in it, exactly where the first rule of that
-/// registry's policy that matches, or the default, allows it; else the verdict is told, or that it is gone, and nothing
+/// registry's policy that matches, or the default, allows it; else the verdict is answered, or that it is gone, and nothing
 /// changes.
 pub fn polls_by_any_registry_are_granted_exactly()
     ensures { PollsByAnyRegistryAreGrantedExactly }
 {}
 
 /// A turn of the sender by any registry that the run went through cuts the one datagram that is due of the publication's log,
-/// where that is still open, and tells it for each destination that the publication has by that registry, with the verdict of
+/// where that is still open, and reports it for each destination that the publication has by that registry, with the verdict of
 /// that registry's policy on its maker.
 pub fn sends_by_any_registry_are_granted_exactly()
     ensures { SendsByAnyRegistryAreGrantedExactly }
@@ -111,13 +113,13 @@ pub fn sends_by_any_registry_are_granted_exactly()
 
 /// A NAK by any registry that the run went through goes on to the gate of the log of the publication that has its session and
 /// stream there, where that is still open, exactly where the first rule of that registry's policy that matches, or the default,
-/// allows the principal at the address that asks; else the verdict is told and nothing changes. Nothing but a NAK is answered
+/// allows the principal at the address that asks; else the verdict is answered and nothing changes. Nothing but a NAK is answered
 /// by what is sent again, and that goes to who asks.
 pub fn naks_by_any_registry_are_granted_exactly()
     ensures { NaksByAnyRegistryAreGrantedExactly }
 {}
 
-/// A look at counters by any registry that the run went through is told exactly what that registry's policy shows the client:
+/// A look at counters by any registry that the run went through is answered exactly what that registry's policy shows the client:
 /// the first rule of it that matches, or the default. Nothing is changed.
 pub fn looks_by_any_registry_are_shown_exactly()
     ensures { LooksByAnyRegistryAreShownExactly }
@@ -128,6 +130,23 @@ pub fn looks_by_any_registry_are_shown_exactly()
 /// over the rest of the term for each that was answered that the term turned. A new log so has none.
 pub fn frames_are_what_was_put()
     ensures { FramesAreWhatWasPut }
+{}
+
+/// Whatever a turn of the sender cuts at the end of a run, by any registry that the run went through, is a datagram of the log
+/// that it asks for, which is open: consecutive frames from where the log's sender stands, each whole and at its place, of one
+/// term, no more bytes than the MTU; or a SETUP or a heartbeat, whose fields are the log's. The sender stands after those frames
+/// then. What a NAK is answered by carries exactly the frames of its log, which is open, whose ranges meet the range that the NAK
+/// names, each once and in order. So it is in worlds.
+pub fn datagrams_carry_the_logs_frames()
+    ensures { DatagramsCarryTheLogsFrames }
+{}
+
+/// A log that was not there before a step and is there after it has no frame: a publication's log none of those that were ever
+/// put into one, an image's map no entry. Whatever log is held for a publication's has zeros alone in its three terms, and
+/// whatever bytes are zeros outside of the image's frames, as those are that `image_log::ImageLog::close` gives back, are zeros
+/// alone. So it is in worlds.
+pub fn new_logs_are_empty()
+    ensures { NewLogsAreEmpty }
 {}
 
 /// Each denial names the first rule that matches, or the default where none does, and the number of the policy.
@@ -154,16 +173,19 @@ pub fn a_reload_closes_exactly()
     worlds_follow();
 }
 
-/// Bytes are polled and sent again only from the live log that holds them, which shares no page with another; each was put
-/// there by an offer that was allowed, or came from the log's publisher. No number is drawn again, so a log that an older
-/// registry names is the same log, or closed; and no two live publications share medium, stream and session.
+/// Bytes are polled, sent and sent again only from the live log that holds them, which shares no page with another; each was put
+/// there by an offer that was allowed, or came from the log's publisher. A new log has no frame, and zeros alone. No number is
+/// drawn again, so a log that an older registry names is the same log, or closed; and no two live publications share medium,
+/// stream and session.
 pub fn bytes_come_only_from_the_live_log()
     ensures { BytesComeOnlyFromTheLiveLog }
 {
     bytes_come_from_the_live_log();
     payloads_come_from_their_publisher();
     resends_come_from_the_live_log();
+    datagrams_carry_the_logs_frames();
     frames_are_what_was_put();
+    new_logs_are_empty();
     logs_follow_the_registry();
     registries_are_sound();
     numbers_are_never_drawn_again();

@@ -37,7 +37,7 @@ pub fn subscriptions_are_granted_exactly()
     ensures { SubscriptionsAreGrantedExactly }
 {}
 
-/// A subscription comes, and is told of, only where a well-formed request was allowed by the policy in force.
+/// A subscription comes, and is reported, only where a well-formed request was allowed by the policy in force.
 pub fn subscriptions_are_granted_only()
     ensures { SubscriptionsAreGrantedOnly }
 {}
@@ -49,7 +49,7 @@ pub fn publications_are_granted_exactly()
     ensures { PublicationsAreGrantedExactly }
 {}
 
-/// A registration with a publication, and its log, come, and are told of, only where a well-formed request was allowed by
+/// A registration with a publication, and its log, come, and are reported, only where a well-formed request was allowed by
 /// the policy in force.
 pub fn publications_are_granted_only()
     ensures { PublicationsAreGrantedOnly }
@@ -80,7 +80,7 @@ pub fn images_are_read()
     ensures { ImagesAreRead }
 {}
 
-/// In every registry no image is unread, so a keepalive of a client that is there takes no memory (`Registry::command`).
+/// In every registry no image is unread: `Readers::unread` answers none.
 pub fn no_image_is_unread()
     ensures { NoImageIsUnread }
 {}
@@ -96,7 +96,7 @@ pub fn publications_are_unique()
     ensures { PublicationsAreUnique }
 {}
 
-/// Of all replies to an event one for each pair that came, and no other, tells the subscription's client of an image that is
+/// Of all replies to an event one for each pair that came, and no other, notifies the subscription's client of an image that is
 /// available; and one for each pair that went, whose subscription did not, and no other, of one that is not.
 pub fn images_are_told_exactly()
     ensures { ImagesAreToldExactly }
@@ -119,21 +119,21 @@ pub fn counters_and_terminations_are_granted_only()
     ensures { CountersAndTerminationsAreGrantedOnly }
 {}
 
-/// A client is listed exactly the counters, publications and images that the policy in force shows it, and is told the value
+/// A client is listed exactly the counters, publications and images that the policy in force shows it, and is answered the value
 /// of one exactly where the policy shows that one; a denial names the least rule that matches, or the default where none does.
 pub fn counters_are_shown_exactly()
     ensures { CountersAreShownExactly }
 {}
 
-/// A denial is told only of a request that the policy in force denies, and names the least rule that matches, or the
+/// A denial is answered only to a request that the policy in force denies, and names the least rule that matches, or the
 /// default where none does. So does the verdict by which a SETUP is dropped as denied, which is that for the subscription of
 /// the lowest number that its image fits; the policy in force denies the image to each that it fits.
 pub fn denials_are_named()
     ensures { DenialsAreNamed }
 {}
 
-/// Each decision that an event tells is by the first rule that matches, or by the default where none does: that of the policy
-/// in force on what the event's request asks, or that of the policy in force behind the event on a pair that it takes away or
+/// Each decision that an event reports is by the first rule that matches, or by the default where none does: that of the policy
+/// in force on what the event's request asks, or that of the policy in force after the event on a pair that it takes away or
 /// brings.
 pub fn decisions_are_by_the_policy_in_force()
     ensures { DecisionsAreByThePolicyInForce }
@@ -153,7 +153,7 @@ pub fn destinations_are_granted_only()
     ensures { DestinationsAreGrantedOnly }
 {}
 
-/// A log that is made for an endpoint has that one destination behind the event, for the principal of the client that asks.
+/// A log that is made for an endpoint has that one destination after the event, for the principal of the client that asks.
 pub fn endpoints_are_sent_to()
     ensures { EndpointsAreSentTo }
 {}
@@ -217,7 +217,7 @@ pub fn clients_come_exactly()
     ensures { ClientsComeExactly }
 {}
 
-/// A client comes only so: each other that is there behind an event was there before, under its id and for its principal.
+/// A client comes only so: each other that is there after an event was there before, under its id and for its principal.
 pub fn clients_come_only()
     ensures { ClientsComeOnly }
 {}
@@ -239,19 +239,19 @@ pub fn rows_go_with_their_client()
     ensures { RowsGoWithTheirClient }
 {}
 
-/// In a registry that was opened with sound settings a log closes, and is told of, at a tick at which it has lingered for
-/// longer than it may, or which is told that the image is silent, where the driver is ended by a request that the policy in
+/// In a registry that was opened with sound settings a log closes, and is reported, at a tick at which it has lingered for
+/// longer than it may, or which learns that the image is silent, where the driver is ended by a request that the policy in
 /// force allowed, and where the event leaves no subscription that reads the image.
 pub fn logs_close_exactly()
     ensures { LogsCloseExactly }
 {}
 
-/// A log closes, and is told of, only so: else it is live behind the event, whether it lingers by then or not.
+/// A log closes, and is reported, only so: else it is live after the event, whether it lingers by then or not.
 pub fn logs_close_only()
     ensures { LogsCloseOnly }
 {}
 
-/// What an event tells to close are the places of exactly the logs that were live before it and are no more, each once.
+/// What an event reports to close are the places of exactly the logs that were live before it and are no more, each once.
 pub fn closed_logs_were_there()
     ensures { ClosedLogsWereThere }
 {}

@@ -5,7 +5,7 @@ ghost use Rattle.driver_laws.specs.WorldLaws.{RunsAreTheDriversOwn, StepsGoByThe
 
 /// At the end of every run of a world a step of the sender, the receiver or a client is the driver's by the registry of the
 /// number that it names, or by the newest where it names none: that decides what it is answered, what it does to the logs, and
-/// what is decided for its actor, who stands there from then on, at its greatest moment. A number behind the one by which the
+/// what is decided for its actor, who stands there from then on, at its greatest moment. A number after the one by which the
 /// actor went last, or past the newest, is a bad step, and so is a step of the conductor that names one: nothing is changed then.
 /// The conductor's steps are the driver's by the newest.
 pub fn steps_go_by_their_registry()

@@ -54,7 +54,7 @@ policy_line epoch = numbered_line (codes "policy ") epoch
 abbrev pub refusal_line : PolicyFault → List ℕ
 refusal_line fault = codes "policy refused: " ++ (fault_text fault ++ codes "\n")
 
--- what became of an offer: the position behind it, or a code (the codes are those of Aeron's clients)
+-- what became of an offer: the position after it, or a code (the codes are those of Aeron's clients)
 abbrev pub offered_text : Offered → List ℕ
 offered_text (offered.At position) = decimal position
 offered_text offered.NotConnected = codes "-1"
@@ -71,7 +71,7 @@ offer_line answer = codes "offer " ++ (offered_text answer ++ codes "\n")
 abbrev pub poll_line : ℕ → List ℕ
 poll_line count = numbered_line (codes "poll ") count
 
--- a fragment that is polled: the position behind its frame, the byte of its flags, and its payload
+-- a fragment that is polled: the position after its frame, the byte of its flags, and its payload
 abbrev pub fragment_line : ℕ → Flags → List ℕ → List ℕ
 fragment_line position flags payload =
     codes "fragment "
@@ -134,7 +134,7 @@ insert_word insert.Overlap = codes "overlap"
 insert_word insert.Below = codes "below"
 insert_word insert.Beyond = codes "beyond"
 
--- a word behind a space
+-- a word after a space
 abbrev pub word_behind : Insert → List ℕ
 word_behind word = codes " " ++ insert_word word
 

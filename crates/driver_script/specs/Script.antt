@@ -90,7 +90,7 @@ opening_of given (statement ∷ rest) =
 
 -- ---- the steps of a script, with their answers
 
--- what a statement does behind the head: a step; nothing, where the decisions of an actor are shown, or the text of a policy
+-- what a statement does after the head: a step; nothing, where the decisions of an actor are shown, or the text of a policy
 -- is refused; or it is bad there
 pub data Deed : Type 0 where
   Takes : Reading → Deed
@@ -115,14 +115,14 @@ deed_of names (PeerGiven peer) = Stops
 deed_of names (Set key value) = Stops
 deed_of names Bad = Stops
 
--- what a statement is told: the answer of a step, what is kept of an actor's decisions, or why the text of a policy is
+-- what a statement is answered: the answer of a step, what is kept of an actor's decisions, or why the text of a policy is
 -- refused
 pub data Told : Type 0 where
   Answered : Answer → Told
   Shown : Kept → Told
   Refused : PolicyFault → Told
 
--- a step that names a registry at which its actor may not look is told nothing: its line is bad
+-- a step that names a registry at which its actor may not look is answered nothing: its line is bad
 abbrev pub is_bad_step : Answer → Bool
 is_bad_step BadStep = true
 is_bad_step answer = false
@@ -221,7 +221,7 @@ answer_text UnknownCounter = codes "unknown counter\n"
 answer_text WrongClient = codes "wrong client\n"
 answer_text BadStep = []
 
--- a line for each decision, behind one that counts them
+-- a line for each decision, after one that counts them
 abbrev pub audit_text : Kept → List ℕ
 audit_text kept = audit_line (length kept.items) kept.dropped ++ flat_map decision_line kept.items
 

@@ -51,12 +51,12 @@ TakesHead old new statement (Some h) = DecidesHead old new statement h
 
 -- ---- the steps
 
--- what is told of a policy's text that is refused, or finds no memory
+-- what is answered to a policy's text that is refused, or finds no memory
 abbrev pub told_of_fault : PolicyFault → Told
 told_of_fault text.NoMemory = Answered NoMemory
 told_of_fault fault = Refused fault
 
--- a statement was taken, and the text that it is told goes before what the others write from there on
+-- a statement was taken, and the text that it is answered goes before what the others write from there on
 pub record Turns (names : Known) (e next : RunEnd) (statement : Statement) (front : List ℕ) : Type 0 where
   pub on : (rest : List Statement) (ended : Ended) (text : List ℕ) →
       Writes names next rest ended text → Writes names e (statement ∷ rest) ended (front ++ text)

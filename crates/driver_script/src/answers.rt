@@ -189,7 +189,7 @@ impl fmt::Display for Drop {
     }
 }
 
-/// The word for a frame, behind a space.
+/// The word for a frame, after a space.
 #[derive(Clone, Copy)]
 pub struct InsertWord(pub Insert);
 
@@ -424,7 +424,7 @@ pub enum AnswerLine<'a> {
     Poll(u64),
     /// One of these fragments.
     Fragment {
-        /// The position behind its frame.
+        /// The position after its frame.
         position: u64,
         flags: Flags,
         payload: &'a [u8],

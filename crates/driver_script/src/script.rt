@@ -627,7 +627,7 @@ fn go_on_by_audit<W: Target>(
     Ok(None)
 }
 
-/// Takes one statement behind the head: a step, a policy, or what is bad there.
+/// Takes one statement after the head: a step, a policy, or what is bad there.
 fn take_step<W: Target>(
     alloc: Global,
     names: &Names,
@@ -655,7 +655,7 @@ fn take_step<W: Target>(
     }
 }
 
-/// Takes the statements behind the head.
+/// Takes the statements after the head.
 fn take_steps<W: Target>(
     alloc: Global,
     names: &Names,
@@ -679,7 +679,7 @@ fn take_steps<W: Target>(
     }
 }
 
-/// Takes the statements behind the head by a world that ends with them.
+/// Takes the statements after the head by a world that ends with them.
 fn take_all_steps<W: Target>(
     alloc: Global,
     names: &Names,

@@ -61,7 +61,7 @@ carried_in e source (reading ∷ readings) (answer ∷ answers) =
 abbrev pub flags_in : List ℕ → Flags
 flags_in bytes = record { bits = byte_at 5 bytes }
 
--- the fragment is what one of these frames holds: its flags, and all that is behind its header of 32 bytes
+-- the fragment is what one of these frames holds: its flags, and all that is after its header of 32 bytes
 pub record IsCarried (carried : List (List ℕ)) (part : Fetched) : Type 0 where
   pub bytes : List ℕ
   pub there : Contains carried bytes

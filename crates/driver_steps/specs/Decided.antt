@@ -88,11 +88,11 @@ abbrev pub shown_decision : Shown → Option Decision
 shown_decision (shown.Denied decision) = Some decision
 shown_decision answer = None
 
--- that is told of a step, for each end that the driver stands for
+-- that is reported of a step, for each end that the driver stands for
 pub record DecidesAs (held : Held) (what : RunEnd → Option Decision) (decision : Option Decision) : Type 0 where
   pub on : (e : RunEnd) → StandsForEnd held e → decision ≡ what e
 
--- a step that is refused memory tells no decision
+-- a step that is refused memory reports no decision
 abbrev pub decided_unless : Answer → Option Decision → Option Decision
 decided_unless NoMemory decision = None
 decided_unless answer decision = decision

@@ -64,7 +64,7 @@ pub record Moved : Type 0 where
 
 -- ---- the logs at an event
 
--- what the logs tell the conductor: how far each reaches
+-- what the logs report to the conductor: how far each reaches
 abbrev pub end_of_log : WholeLog → End
 end_of_log log = record { source = log.source; position = reach_of log.whole }
 
@@ -99,7 +99,7 @@ stays_open closes log = not (is_closed closes log.source)
 abbrev pub rejoined_log : List Pair → WholeLog → WholeLog
 rejoined_log pairs log = record log { whole = rejoined (readers_of pairs log.source) log.whole }
 
--- the log that the event opens comes behind the others, those go that it closes, and exactly the pairs read them
+-- the log that the event opens comes after the others, those go that it closes, and exactly the pairs read them
 unfoldable pub logs_after : Change → List WholeLog → List WholeLog
 logs_after change logs =
     map (rejoined_log (pairs_of change.after))

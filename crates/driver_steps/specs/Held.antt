@@ -53,7 +53,7 @@ pub record LiesAsBefore (old new : HeldLog) : Type 0 where
 
 -- ---- what becomes of the logs
 
--- a log that begins as that one was opened behind the others, with that beside it
+-- a log that begins as that one was opened after the others, with that beside it
 pub record IsOpened (old new : HeldLogs) (source place : ℕ) (begins : AnyWhole) (recovery : Recovering) : Type 0 where
   pub log : AnyLog
   pub stands : StandsFor log begins
@@ -82,7 +82,7 @@ with_readers zero subscriptions (held ∷ others) =
     record held { log = rejoined_any subscriptions held.log } ∷ others
 with_readers (suc at) subscriptions (held ∷ others) = held ∷ with_readers at subscriptions others
 
--- ---- what the conductor is told, and what it opens
+-- ---- what is reported to the conductor, and what it opens
 
 -- how far each log reaches
 abbrev pub end_held : HeldLog → End
@@ -106,7 +106,7 @@ IsOpening logs place None = Unit {0}
 IsOpening logs place (Some log) =
     AreSizes log.measures × BeginsSoundly log × IsLeastVacant logs.pages (plots_of logs.logs) (log_pages log) place
 
--- the log, if there is one, is open behind the others
+-- the log, if there is one, is open after the others
 abbrev pub OpensFor : HeldLogs → HeldLogs → State → ℕ → Option Source → Type 0
 OpensFor old new after place None = new ≡ old
 OpensFor old new after place (Some log) =

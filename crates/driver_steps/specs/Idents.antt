@@ -33,7 +33,7 @@ ident_of settings publication = record {
   start = 0;
 }
 
--- the stream of an image, as its publisher's SETUP told it
+-- the stream of an image, as its publisher's SETUP said it
 abbrev pub stream_ident : Source → ℤ → StreamIdent
 stream_ident image initial_term = record {
   session_id = image.session;

@@ -99,7 +99,7 @@ abbrev pub registry_of : Settings → Rules → List Peer → List Reading → L
 registry_of settings policy peers readings answers =
     state_of (opened settings policy peers) (taken_from (opening_end settings policy peers) readings answers)
 
--- whoever is not refused memory is told that
+-- whoever is not refused memory is answered that
 abbrev pub IsTold : Answer → Answer → Type 0
 IsTold NoMemory told = Unit {0}
 IsTold answer told = answer ≡ told
@@ -300,7 +300,7 @@ granted_in e source (reading ∷ readings) (answer ∷ answers) =
 
 -- A poll of a publication's log: the frames go on from where the subscription stands, as many as it takes, until so many
 -- fragments were given or there are no more. What they carry is given, in their order, each frame's once: pads carry
--- nothing, and the subscription stands behind all of them then. Each fragment was put into the log by an offer that was
+-- nothing, and the subscription stands after all of them then. Each fragment was put into the log by an offer that was
 -- granted.
 pub record AreNext (granted : List Frame) (subscription limit : ℕ) (given : List Fetched) (w : Whole) : Type 0 where
   pub at : ℕ

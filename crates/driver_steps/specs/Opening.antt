@@ -53,7 +53,7 @@ abbrev pub HasRoom : HeldLogs → Event → Option Opening → Type 0
 HasRoom logs event None = Unit {0}
 HasRoom logs event (Some opening) = (length logs.logs < logs.room) × (room_of opening.memory ≡ memory_of event)
 
--- it can be opened, as the registry behind the event says
+-- it can be opened, as the registry after the event says
 abbrev pub CanOpen : HeldLogs → State → Event → Option LogPlace → Type 0
 CanOpen logs after event None = Unit {0}
 CanOpen logs after event (Some opens) =

@@ -93,7 +93,7 @@ abbrev pub on_request : RunEnd → ℕ → Address → Content → Result Packet
 on_request e now from content (Err why) = dropped e (IsAstray why)
 on_request e now from content (Ok request) = on_log e request.source (content_move now from request.decision content) unheard
 
--- what was decided of it is told where its log is open
+-- what was decided of it is reported where its log is open
 abbrev pub request_decided : RunEnd → Result PacketRequest Astray → Option Decision
 request_decided e (Err why) = None
 request_decided e (Ok request) = decision_in (log_at e.logs request.source) (λ log. request.decision)
@@ -102,7 +102,7 @@ request_decided e (Ok request) = decision_in (log_at e.logs request.source) (λ 
 pub record LogsDecide (old : HeldLogs) (what : RunEnd → Option Decision) (answer : Answer) (decision : Option Decision) : Type 0 where
   pub on : (s : State) → DecidesUnless (record { registry = s; logs = old.logs }) what answer decision
 
--- as every datagram that was read has it: the frames of one are of one term and told by their headers
+-- as every datagram that was read has it: the frames of one are of one term and known by their headers
 abbrev pub IsSoundContent : Content → Type 0
 IsSoundContent (frames sent) = AreTold sent × AreOfOneTerm sent
 IsSoundContent content = Unit {0}

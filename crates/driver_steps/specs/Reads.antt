@@ -13,7 +13,7 @@ use Rattle.driver_steps.specs.Seen.{ComesSeenAs, seen_takes, under}
 use Rattle.driver_steps.specs.Standing.{Held, StandsForEnd}
 use Rattle.frame_codec.specs.Datagram.{packet_of}
 
--- want of memory is an answer only to a step that may take some
+-- out of memory is an answer only to a step that may take some
 abbrev pub reads_take : Option State → RunEnd → Step → Answer → Type 0
 reads_take None e step answer = HasMemory e step answer
 reads_take (Some older) e step answer = seen_takes older e step answer

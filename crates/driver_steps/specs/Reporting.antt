@@ -13,7 +13,7 @@ abbrev pub answer_reported : Address → Option (List (List ℕ)) → Answer
 answer_reported to None = Gone
 answer_reported to (Some datagrams) = Reported to datagrams
 
--- by a receiver of that id; what is due counts as told, whoever gets it
+-- by a receiver of that id; what is due counts as reported, whoever gets it
 abbrev pub report_move : ℕ → ℕ → Address → WholeLog → Move
 report_move now id to log = record {
   after = record log {

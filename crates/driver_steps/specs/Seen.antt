@@ -89,7 +89,7 @@ moved_seen older e (Image now source) = on_report_by older e now source (publish
 moved_seen older e (Lists now client) = record { after = e; answer = answer_listed (list older client) }
 moved_seen older e (Value now client number) = record { after = e; answer = answer_shown (value older client number) }
 
--- what it says of want of memory is what it would say of the newest
+-- when it may be out of memory is said as it would be of the newest
 abbrev pub seen_takes : State → RunEnd → Step → Answer → Type 0
 seen_takes older e (Conductor event) answer = Unit {0}
 seen_takes older e (Packet now local from bytes) answer =

@@ -12,7 +12,7 @@ use term_log::Offer;
 /// What becomes of a message that a client offers.
 #[derive(Clone, Copy, Debug, PartialEq, Eq)]
 pub enum Offered {
-    /// It is appended; the position behind it.
+    /// It is appended; the position after it.
     At(u64),
     /// The client has no such registration, or its log is closed.
     Closed,
@@ -20,7 +20,7 @@ pub enum Offered {
     TooLong,
     /// Nobody reads the log.
     NotConnected,
-    /// It would end behind the greatest position.
+    /// It would end past the greatest position.
     MaxPositionExceeded,
     /// The slowest reader is too far behind.
     BackPressured,
@@ -79,7 +79,7 @@ pub enum Answer {
         /// The datagrams, in their order.
         datagrams: Items<Bytes>,
     },
-    /// What the receiver tells the publisher of an image.
+    /// What the receiver reports to the publisher of an image.
     Reported {
         /// Where the publisher is.
         to: Address,
@@ -97,7 +97,7 @@ pub enum Answer {
     /// The client's subscription does not read that log; or there is no publication
     /// over datagrams, or no image, of that number.
     Gone,
-    /// The counters that the client may see, by their numbers. One that it may not see is not told from one that is not
+    /// The counters that the client may see, by their numbers. One that it may not see looks like one that is not
     /// there.
     Counters(Items<ListedCounter>),
     /// The value of the counter that was asked for.
@@ -108,7 +108,7 @@ pub enum Answer {
     UnknownCounter,
     /// The client that looks is not attached.
     WrongClient,
-    /// The step named a registry that its actor may not look at: one behind the last that it looked at, or past the newest; or
+    /// The step named a registry that its actor may not look at: one before the last that it looked at, or past the newest; or
     /// it is the conductor's, who names none. Only a world answers so, and it changed nothing.
     BadStep,
 }

@@ -25,7 +25,7 @@ use driver_core::{Address, Astray, View};
 use frame_codec::{Frames, Packet};
 use std::alloc::Global;
 
-/// A step was refused memory. It is made in place: a call would tell it where other steps are told theirs, which then could not
+/// A step was refused memory. It is made in place: a call would return it where other steps return theirs, which then could not
 /// stay in registers.
 #[inline(always)]
 fn refused() -> Told
@@ -128,7 +128,7 @@ pub(crate) fn report_by<V: View>(
     }
 }
 
-/// A datagram came from the address `from`, of which the registry says that. The decision is told where the log is open that
+/// A datagram came from the address `from`, of which the registry says that. The decision is reported where the log is open that
 /// it is for, whatever comes of it.
 #[inline(always)]
 pub(crate) fn packet_by(

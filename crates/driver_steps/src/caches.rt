@@ -1,4 +1,4 @@
-//! The verdicts that clients were told lately.
+//! The verdicts that clients got lately.
 
 ghost use Rattle.std.specs.Prelude.{◌≡◌, [], All, IfOk, length};
 

@@ -38,7 +38,7 @@ pub struct Driver {
     pub(crate) logs: OpenLogs,
     /// Room for the subscriptions that read one log.
     room: Rows<u64, 512>,
-    /// What clients were told of offers and polls, each by its own cache.
+    /// What clients were answered of offers and polls, each by its own cache.
     caches: Vec<Cache>,
 }
 
@@ -154,8 +154,8 @@ impl Driver {
         &self.registry
     }
 
-    /// The conductor takes an event, and the logs follow. All memory that this wants is taken before anything is changed. What
-    /// is handed back is the event with what the logs said at it, and all that it tells.
+    /// The conductor takes an event, and the logs follow. All memory that this needs is taken before anything is changed. What
+    /// is handed back is the event with what the logs said at it, and all that it reports.
     pub fn take(&mut self, alloc: Global, event: &Event) -> Result<Entry, AllocError>
         ensures taken { IfOk result (λ entry. Takes self.old self.new event.now entry.outcome) }
         ensures event_is { IfOk result (λ entry. entry.event ≡ event.now) }
@@ -262,7 +262,7 @@ impl Driver {
         frames_by(&mut self.logs, alloc, now, frames, image)
     }
 
-    /// As [`Driver::datagram`], of the frames that the bytes were read as. No policy is asked, so there is no decision to tell.
+    /// As [`Driver::datagram`], of the frames that the bytes were read as. No policy is asked, so there is no decision to report.
     #[inline(always)]
     pub fn frames(
         &mut self,
@@ -322,7 +322,7 @@ impl Driver {
         )
     }
 
-    /// A client looks at the counters that it may see, and is told by what the others are left out.
+    /// A client looks at the counters that it may see. The decisions by which the others are left out are reported.
     pub fn list(&self, alloc: Global, _now: u64, client: u64) -> Looked
         ensures serves { Serves self.now self.now (Lists _now client) result.answer }
         ensures leaves_out { LeavesOut self.now.registry client result.answer result.denials }

@@ -1,4 +1,4 @@
-//! What the logs tell the conductor.
+//! What the logs report to the conductor.
 
 ghost use Rattle.driver_steps.specs.Held.{end_held, inputs_held, is_silent_at, silent_held};
 ghost use Rattle.std.specs.Prelude.{◌≡◌, filter, map, IfOk};
@@ -57,7 +57,7 @@ fn silent_of(
     }
 }
 
-/// What these logs tell the conductor at an event.
+/// What these logs report to the conductor at an event.
 pub(crate) fn inputs_of(
     alloc: Global,
     registry: &Registry,

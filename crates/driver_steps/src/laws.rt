@@ -21,23 +21,23 @@ pub fn logs_follow_the_registry()
 {}
 
 /// A client's offer by a registration of its own goes on to the log exactly where the first rule that matches allows it, or
-/// where none matches and the default does; else it changes nothing and is told that verdict. Where the client has no such
+/// where none matches and the default does; else it changes nothing and is answered by that verdict. Where the client has no such
 /// registration, it changes nothing.
 pub fn offers_are_granted_exactly()
     ensures { OffersAreGrantedExactly }
 {}
 
 /// A client's poll of a log that its own subscription reads is given the log's fragments exactly where the first rule that
-/// matches allows it, or where none matches and the default does; else it changes nothing and is told that verdict. Where
+/// matches allows it, or where none matches and the default does; else it changes nothing and is answered by that verdict. Where
 /// the subscription does not read the log, or is another client's, it changes nothing.
 pub fn polls_are_granted_exactly()
     ensures { PollsAreGrantedExactly }
 {}
 
 /// A turn of the sender with a publication over datagrams cuts the one datagram that is due of all frames ever appended, if
-/// one is, and tells it for each destination of the publication, in the order in which they were named: it goes there exactly
+/// one is, and reports for each destination of the publication, in the order in which they were named: it goes there exactly
 /// where the first rule that matches allows the destination's maker to send there, or where none matches and the default
-/// does; else that verdict is told. The log moves on by what was cut, whoever gets it. Where there is no such publication,
+/// does; else that verdict is reported. The log moves on by what was cut, whoever gets it. Where there is no such publication,
 /// nothing is changed.
 pub fn sends_are_granted_exactly()
     ensures { SendsAreGrantedExactly }

@@ -1,11 +1,11 @@
 //! A driver that is run step by step, with the logs of its publications and images.
 //!
-//! Each call of [`Driver`] is one step, and tells what the policy decided for it. Contracts see the logs as whole lists of
+//! Each call of [`Driver`] is one step, and reports what the policy decided for it. Contracts see the logs as whole lists of
 //! frames. An [`OpenLog`] is a value of its own; `offer_step`, `poll_step`, `packet_step`, `frames_step`, `send_step` and
 //! `image_step` are steps on one, by any view of a registry, and those that a driver takes.
 //!
-//! An event is told how far each log reaches and, where it is a tick, which images are silent. Then the logs follow: the one
-//! opens that the event tells, of a publication or of the image that a SETUP makes, those close that it tells, and exactly
+//! An event is given how far each log reaches and, where it is a tick, which images are silent. Then the logs follow: the one
+//! opens that the event names, of a publication or of the image that a SETUP makes, those close that it names, and exactly
 //! the pairs read. All memory is taken before anything is changed.
 #![tactic(auto)]
 

@@ -1,6 +1,6 @@
 //! A message that a client offers to a log.
 //!
-//! Each call on its way is made in place (`inline`): what an offer is told is larger than what it takes to find it out.
+//! Each call on its way is made in place (`inline`): the answer of an offer is larger than what it takes to find it out.
 
 ghost use Rattle.any_log.specs.declared.any_log.AnyLog.TheVariants.{Term};
 ghost use Rattle.any_log.specs.Held.{Lies};
@@ -83,13 +83,13 @@ pub(crate) fn offer_asked<V: View>(
 }
 
 /// A client offers a message to the log that its registration is with, at the moment `now` in nanoseconds, as the registry
-/// that the view shows says, with the verdict of whom it asks, as the client's cache. It wants no memory.
+/// that the view shows says, with the verdict of whom it asks, as the client's cache. It takes no memory.
 ///
 /// The answer is the first that applies: [`Offered::Closed`] where the client has no such registration, or one with another
 /// log, or the log is that of a remote stream; [`Answer::Denied`] by the policy of that registry; [`Offered::TooLong`];
 /// [`Offered::NotConnected`]; [`Offered::MaxPositionExceeded`]; [`Offered::BackPressured`]; [`Offered::AdminAction`], by
-/// which the rest of the term is filled; else the message is appended, and the answer is the position behind it. The decision
-/// is told where the registration is with that log, whatever comes of the message.
+/// which the rest of the term is filled; else the message is appended, and the answer is the position after it. The decision
+/// is reported where the registration is with that log, whatever comes of the message.
 #[tactic(auto, unfolding(crate::specs::Moves::offer_move))]
 pub fn offer_step<V: View, A: Asks>(
     view: &V,

@@ -24,7 +24,7 @@ use term_log::{Ident, LogRoom, TermLog};
 /// An open log, with the number by which its source is known and what is kept to repair what was lost: a value of its own, so
 /// that whoever has it may take a step on it.
 ///
-/// Some whole log always stands behind what is held of it. So what the steps say of each such log is said of one at least.
+/// What is held of it always stands for some whole log. So what the steps say of each such log is said of one at least.
 #[derive(Drop)]
 pub struct OpenLog {
     pub(crate) source: u64,
@@ -101,7 +101,7 @@ impl OpenLog {
         }
     }
 
-    /// That some whole log stands behind what is held.
+    /// That what is held stands for some whole log.
     pub fn has_whole(&self)
         ensures { HasWhole self.now.log }
     {
@@ -115,7 +115,7 @@ impl OpenLog {
         self.source
     }
 
-    /// How far the log reaches: the position behind the last frame of a publication, or up to which a remote stream is whole.
+    /// How far the log reaches: the position after the last frame of a publication, or up to which a remote stream is whole.
     pub fn reach(&self) -> u64
         ensures { result ≡ reach_held self.now.log }
     {

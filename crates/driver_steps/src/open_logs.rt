@@ -122,7 +122,7 @@ impl OpenLogs {
         self.logs.reserve(1)
     }
 
-    /// Opens a log without frames behind the others, in the pages from `place` on, which is the least place for them, and
+    /// Opens a log without frames after the others, in the pages from `place` on, which is the least place for them, and
     /// in memory that was taken before.
     pub(crate) fn open(
         &mut self,
@@ -146,7 +146,7 @@ impl OpenLogs {
         self.logs.push_reserved(log);
     }
 
-    /// Opens the log of a remote stream without frames behind the others, which joins at that position, and whose sender is
+    /// Opens the log of a remote stream without frames after the others, which joins at that position, and whose sender is
     /// heard at the moment `now`, as [`OpenLogs::open`] opens that of a publication.
     pub(crate) fn open_image(
         &mut self,

@@ -126,7 +126,7 @@ fn of_asked(request: Option<LogRequest>) -> Result<PacketRequest, Astray>
     }
 }
 
-/// Whom a status message tells.
+/// Which log a status message is for.
 fn of_told(source: Option<u64>) -> Result<PacketRequest, Astray>
     ensures { result ≡ of_told source }
 {
@@ -237,9 +237,9 @@ fn take_packet(
 /// [`packet_request`] says of it by the registry that the step goes by.
 ///
 /// The answer is [`Astray::NoStream`] where it is for the log of another source. Else the frames of data are handed to the
-/// log and a word is told of each; a heartbeat says where the publisher is; a status message says how far may be sent; and a
+/// log and a word is answered for each; a heartbeat says where the publisher is; a status message says how far may be sent; and a
 /// NAK is denied by the decision, or answered as the log's gate says, and what it asks for goes to `from` alone. The decision
-/// is told whatever comes of the NAK.
+/// is reported whatever comes of the NAK.
 ///
 /// # Errors
 /// Nothing is changed where there is no memory for the words or the datagrams. Any other answer takes none.

@@ -68,7 +68,8 @@ fn poll_own<V: View, A: Asks>(
 ///
 /// The answer is the first that applies: [`Answer::Gone`] where it is the log of another source, or no such subscription of
 /// the client reads it; [`Answer::Denied`] by the policy of that registry; else the fragments from where the subscription
-/// stands, which moves on behind them. Pads are passed uncounted. The decision is told where such a subscription reads the log.
+/// stands, which moves on after them. Pads are passed uncounted. The decision is reported where such a subscription reads
+/// the log.
 ///
 /// # Errors
 /// Nothing is changed where there is no memory for the fragments. A poll that is gone or denied takes none.

@@ -8,7 +8,7 @@ use image_receiver::Receiver;
 use retransmit_gate::Gate;
 use std::marker::Model;
 
-/// What was sent again of a publication's log, and what the publisher of an image was told. Each log has both, so that it
+/// What was sent again of a publication's log, and what was reported to the publisher of an image. Each log has both, so that it
 /// need not be said which kind it is of.
 #[derive(Drop)]
 pub(crate) struct Recovery {

@@ -24,7 +24,7 @@ fn answer_reported(to: &Address, report: Option<Items<Bytes>>) -> Answer
 }
 
 /// The receiver, whose id is `receiver_id`, has a turn with an image whose publisher is at the address `to`: a NAK of the
-/// image's gap by the two delays, and a status message, where they are due. What is due counts as told, whoever gets it. The
+/// image's gap by the two delays, and a status message, where they are due. What is due counts as reported, whoever gets it. The
 /// log of a publication is [`Answer::Gone`].
 ///
 /// # Errors
@@ -68,7 +68,7 @@ fn image_own<V: View>(
 
 /// The receiver has a turn with the log of an image, at the moment `now` in nanoseconds, as the registry that the view shows
 /// says who publishes it: a NAK of the image's gap by the two delays, and a status message, where they are due. What is due
-/// counts as told, whoever gets it.
+/// counts as reported, whoever gets it.
 ///
 /// The answer is [`Answer::Gone`] where it is the log of another source, or the registry has no such image; else what is due,
 /// if anything, and to which address it goes.

@@ -162,8 +162,8 @@ impl Driver {
         }
     }
 
-    /// As [`Driver::frames`], by the registry that the view shows. It is made in place: as a call it would tell its answer where
-    /// that of [`Driver::frames`] is told, which then could not stay in registers.
+    /// As [`Driver::frames`], by the registry that the view shows. It is made in place: as a call it would return its answer where
+    /// that of [`Driver::frames`] is returned, which then could not stay in registers.
     #[inline(always)]
     pub fn frames_seen<V: View>(
         &mut self,

@@ -25,7 +25,7 @@ fn pace_of(settings: Settings) -> Pace
     }
 }
 
-/// As [`send_step`], of the log of that source. It is made in place, and wants of memory are matched by hand: `?` has its answer
+/// As [`send_step`], of the log of that source. It is made in place, and a lack of memory is matched by hand: `?` has its answer
 /// in memory, where it is read again at once.
 #[inline(always)]
 #[tactic(auto, unfolding(crate::specs::Sending::send_move))]

@@ -41,7 +41,7 @@ pub enum Step {
         /// The source number of the publication.
         source: u64,
     },
-    /// The receiver has a turn with an image: it tells the image's publisher what is due.
+    /// The receiver has a turn with an image: it reports to the image's publisher what is due.
     Image {
         now: u64,
         /// The source number of the image.

@@ -45,7 +45,7 @@ fn denial_of(shown: &Shown) -> Option<Decision>
 }
 
 impl Told {
-    /// What a look at one counter is told. It takes no memory.
+    /// What a look at one counter is answered. It takes no memory.
     pub(crate) fn shown(shown: Shown) -> Told
         ensures { result ≡ record { answer = answer_shown shown; decision = shown_decision shown } }
     {

@@ -1,4 +1,4 @@
-//! What events tell beside their replies: which logs they open and close, which pairs go and come, and what was decided.
+//! What events report beside their replies: which logs they open and close, which pairs go and come, and what was decided.
 
 use crate::deeds::{
     Deed, KEEP_ALIVE, PUBLISH, PUBLISH_ALONE, SUBSCRIBE, TERMINATE, UNPUBLISH_2, UNSUBSCRIBE_1,
@@ -10,7 +10,7 @@ use std::alloc::{AllocError, Global};
 use stream_registry::{LogPlace, Pair};
 
 /// An event, the log that opens by it, those that close, the pairs that go, those that come, what the policy decides, in
-/// turn, and the pairs that are there behind it.
+/// turn, and the pairs that are there after it.
 type Row = (
     Deed,
     Option<LogPlace>,
@@ -153,7 +153,7 @@ fn plan_is_told(
     told
 }
 
-/// Whether the event comes to the row where it is planned and applied to a copy, and tells it by one step.
+/// Whether the event comes to the row where it is planned and applied to a copy, and reports it by one step.
 fn both_are_told(
     alloc: Global,
     registry: &mut Registry,
@@ -210,7 +210,7 @@ fn registry(alloc: Global) -> Result<Registry, AllocError> {
     Registry::new(alloc, Settings::default(), policy, &[])
 }
 
-/// Whether the rows come about, one behind the other, where the logs tell this.
+/// Whether the rows come about, one after another, where the logs say this.
 fn come_beside(alloc: Global, inputs: &Inputs, rows: &[Row]) -> Result<bool, AllocError> {
     let mut registry = registry(alloc)?;
     let come = all_come_to(alloc, &mut registry, inputs, rows);

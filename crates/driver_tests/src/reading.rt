@@ -12,7 +12,7 @@ use script_lines::line::{Line, read_line};
 use std::alloc::Global;
 use std::io;
 
-/// How many bytes are read of a reader of so many line feeds, which fails behind them or ends.
+/// How many bytes are read of a reader of so many line feeds, which fails after them or ends.
 fn count_read(alloc: Global, left: usize, fails: bool) -> Result<usize, RunFault> {
     match read_input(alloc, &mut MayFail(LineFeeds { left, fails })) {
         Ok(input) => Ok(input.len()),
@@ -20,7 +20,7 @@ fn count_read(alloc: Global, left: usize, fails: bool) -> Result<usize, RunFault
     }
 }
 
-/// Line feeds, whether the reader fails behind them, what is read, and whether that is so.
+/// Line feeds, whether the reader fails after them, what is read, and whether that is so.
 type Read = (usize, bool, Result<usize, RunFault>, bool);
 
 static READ: [Read; 9] = [
@@ -51,7 +51,7 @@ fn a_script_is_read_whole_or_refused_by_name(rt: HostRuntime) {
 
 const ATTACHED: &[u8] = b"attached 1\n";
 
-/// Whether a writer with ample room takes a text as these bytes, and nothing behind it.
+/// Whether a writer with ample room takes a text as these bytes, and nothing after it.
 fn is_written(alloc: Global, text: &[u8], wanted: &[u8]) -> bool {
     let mut ample = MayFail(Choppy::new(alloc, 100, true));
     (write_whole(&mut ample, text) == Ok(()))
@@ -211,7 +211,7 @@ fn other_lines_are_bad(rt: HostRuntime) {
     assert!(rt; bad & !are_bad(rt.alloc(), &ONE_GOOD));
 }
 
-/// Whether each answer is written as the text behind it, or not, as its row says.
+/// Whether each answer is written as the text after it, or not, as its row says.
 fn are_shown(alloc: Global, rows: &[(AnswerLine<'_>, &str, bool)]) -> bool {
     for (line, text, wanted) in rows {
         if is_shown(alloc, line, text) != *wanted {

@@ -36,7 +36,7 @@ fn a_writer_that_fails_has_a_front(rt: HostRuntime) {
     assert!(rt; have_fronts(rt.alloc(), &FRONTS));
 }
 
-/// Whether a reader that fails behind so many bytes ends the script by this fault, and nothing is written.
+/// Whether a reader that fails after so many bytes ends the script by this fault, and nothing is written.
 fn fails_to_read(alloc: Global, left: usize, fault: RunFault) -> bool {
     let mut reader = MayFail(LineFeeds { left, fails: true });
     let mut writer = MayFail(Choppy::new(alloc, 1000, true));

@@ -9,7 +9,7 @@ use policy_core::Policy;
 use std::alloc::{AllocError, Global};
 
 /// Events; of each the id of the client that came by it, if it was one; and the runs of pages that are free of logs
-/// behind all of them, as their places and lengths in bytes.
+/// after all of them, as their places and lengths in bytes.
 type Row = (
     &'static [Deed],
     &'static [Option<u64>],
@@ -105,7 +105,7 @@ fn all_run_to(alloc: Global, world: &mut World, rows: &[Row]) -> Result<bool, Al
     Ok(true)
 }
 
-/// Whether the rows' events come to the rows, one behind the other.
+/// Whether the rows' events come to the rows, one after another.
 fn run_to(alloc: Global, rows: &[Row]) -> Result<bool, AllocError> {
     let mut world = world(alloc)?;
     let run = all_run_to(alloc, &mut world, rows);

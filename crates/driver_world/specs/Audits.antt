@@ -35,7 +35,7 @@ pub record Decided : Type 0 where
 unfoldable pub nothing_decided : Decided
 nothing_decided = record { conductor = []; sender = []; receiver = []; clients = [] }
 
--- a client that no attach named is told nothing
+-- a client that no attach named gets no report
 abbrev pub told_client : ℕ → List Decision → List (ℕ × List Decision) → List (ℕ × List Decision)
 told_client id more [] = []
 told_client id more (client ∷ others) =
@@ -60,20 +60,20 @@ abbrev pub told_one : Actor → Option Decision → Decided → Decided
 told_one actor None all = all
 told_one actor (Some decision) all = told actor (decision ∷ []) all
 
--- an event tells the conductor all that it decided, in its order
+-- an event reports to the conductor all that it decided, in its order
 abbrev pub decided_by_outcome : Outcome → Decided → Decided
 decided_by_outcome outcome all = attached_by outcome.response (told Conductor outcome.decisions all)
 
 abbrev pub decided_by_event : RunEnd → Event → Decided → Decided
 decided_by_event e event all = decided_by_outcome (outcome_of e.registry event (inputs_of e.registry event e.logs)) all
 
--- a NAK tells the sender whether who asks may have frames again
+-- a NAK reports to the sender whether who asks may have frames again
 abbrev pub decided_by_content : RunEnd → ℕ → Address → Address → Result Content BadPacket → Decided → Decided
 decided_by_content e now local from (Ok (setup fields)) all = decided_by_event e (SetUp now local from fields) all
 decided_by_content e now local from (Ok (nak fields)) all = told_one Sender (nak_decided e from fields) all
 decided_by_content e now local from read all = all
 
--- a datagram that is cut tells the sender of each destination whether it may go there
+-- a datagram that is cut reports to the sender of each destination whether it may go there
 abbrev pub decision_of : Outlet → Decision
 decision_of outlet = outlet.decision
 
@@ -81,7 +81,7 @@ abbrev pub told_sent : Answer → Decided → Decided
 told_sent (Sent bytes outlets) all = told Sender (map decision_of outlets) all
 told_sent answer all = all
 
--- Offers and polls tell their client, and so do looks at counters: by what they are not shown.
+-- Offers and polls report to their client, and so do looks at counters: by what they are not shown.
 unfoldable pub decided_by : RunEnd → Step → Decided → Decided
 decided_by e (Conducts event) all = decided_by_event e event all
 decided_by e (Packet now local from bytes) all = decided_by_content e now local from (packet_of bytes) all

@@ -1,4 +1,4 @@
--- Registries that are kept for actors that look behind the newest. Own rules.
+-- Registries that are kept for actors that look at older ones than the newest. Own rules.
 use Rattle.std.specs.Prelude.{◌≡◌, ◌≤◌, List, All, Option, Some, None}
 use Rattle.driver_core.specs.State.{State}
 use Rattle.driver_world.specs.declared.actor.Actor.{Actor}

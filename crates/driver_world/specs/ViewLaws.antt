@@ -10,7 +10,7 @@ use Rattle.driver_world.specs.Ends.{RunEnd, opening_end, after, AreAnswers, end_
 use Rattle.driver_world.specs.Views.{newest_of, registry_at, seat_of}
 use Rattle.policy_core.specs.RuleList.{Rules}
 
--- behind so many of the steps that registry was the newest
+-- after so many of the steps that registry was the newest
 pub record WasNewest (e : RunEnd) (readings : List Reading) (answers : List Answer) (k : ℕ) : Type 0 where
   pub steps : ℕ
   pub left : (end_of e (take steps readings) (take steps answers)).driver.registry ≡ registry_at (end_of e readings answers).past k
@@ -23,7 +23,7 @@ RegistriesWereNewest =
     k ≤ newest_of (end_of (opening_end settings policy peers) readings answers).past →
     WasNewest (opening_end settings policy peers) readings answers k
 
--- neither the registry nor the moment is behind the one before
+-- neither the registry nor the moment is earlier than before
 pub record Rises (old new : Seat) : Type 0 where
   pub view : old.view ≤ new.view
   pub moment : old.moment ≤ new.moment

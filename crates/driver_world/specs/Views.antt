@@ -128,7 +128,7 @@ abbrev pub view_or : ℕ → Option ℕ → ℕ
 view_or newest None = newest
 view_or newest (Some k) = k
 
--- none is behind the one that its actor looked at last, or past the newest
+-- none is before the one that its actor looked at last, or past the newest
 abbrev pub is_out : ℕ → Seat → ℕ → Bool
 is_out newest seat k = nat_lt k seat.view || nat_lt newest k
 

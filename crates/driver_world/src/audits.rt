@@ -48,7 +48,7 @@ impl Model for Audits {
     ghost invariant = { λ held. IsSpare held.spare };
 }
 
-/// Puts decisions behind the others.
+/// Puts decisions after the others.
 fn push_all(audit: &mut Audit, decisions: &[Decision])
     ensures { (before : List Decides) → audit.old ≡ kept_of before → audit.new ≡ kept_of (before ++ decisions.now) }
 {
@@ -57,7 +57,7 @@ fn push_all(audit: &mut Audit, decisions: &[Decision])
     }
 }
 
-/// Puts the decisions on a datagram's destinations behind the others.
+/// Puts the decisions on a datagram's destinations after the others.
 fn push_outlets(audit: &mut Audit, outlets: &[Outlet])
     ensures { (before : List Decides) → audit.old ≡ kept_of before → audit.new ≡ kept_of (before ++ map decision_of outlets.now) }
 {
@@ -121,7 +121,7 @@ impl Audits {
         }
     }
 
-    /// An event was taken: the conductor is told all that it decided, and a client that it attaches has an audit.
+    /// An event was taken: all that it decided is reported to the conductor, and a client that it attaches has an audit.
     pub(crate) fn tell_event(&mut self, outcome: &Outcome, audit: Audit)
         requires empty { audit ≡ kept_of [] }
         requires room { length self.old.audits.clients < self.old.room }
@@ -131,7 +131,7 @@ impl Audits {
         self.attach(outcome.response, audit);
     }
 
-    /// The sender is told whether who asks may have frames again.
+    /// Whether who asks may have frames again is reported to the sender.
     pub(crate) fn tell_sender(&mut self, decision: Option<Decision>)
         ensures { Tells self.old.audits self.new.audits (told_one Sender decision) }
     {
@@ -140,7 +140,7 @@ impl Audits {
         }
     }
 
-    /// The sender is told of each destination of a datagram whether it may go there.
+    /// Whether a datagram may go to each of its destinations is reported to the sender.
     pub(crate) fn tell_sent(&mut self, answer: &Answer)
         ensures { Tells self.old.audits self.new.audits (told_sent answer.now) }
     {
@@ -149,7 +149,7 @@ impl Audits {
         }
     }
 
-    /// A client is told what was decided for it.
+    /// What was decided for a client is reported to it.
     pub(crate) fn tell_client(&mut self, id: u64, decision: Option<Decision>)
         ensures { Tells self.old.audits self.new.audits (told_one (Client id) decision) }
     {
@@ -162,7 +162,7 @@ impl Audits {
         }
     }
 
-    /// A client is told by what it is not shown counters.
+    /// The decisions by which a client is not shown counters are reported to it.
     pub(crate) fn tell_denials(&mut self, id: u64, denials: &[Decision])
         ensures { Tells self.old.audits self.new.audits (told (Client id) denials.now) }
     {

@@ -8,13 +8,13 @@ pub fn runs_are_of_the_driver()
     ensures { RunsAreOfTheDriver }
 {}
 
-/// Each registry up to the newest, by its number, was the newest itself behind some of the run's steps: so a step by an older
+/// Each registry up to the newest, by its number, was the newest itself after some of the run's steps: so a step by an older
 /// registry goes by one that the run went through, and its policy was in force then.
 pub fn registries_were_newest()
     ensures { RegistriesWereNewest }
 {}
 
-/// Whatever step is taken, and whatever it is answered, no actor then stands at a registry or a moment behind the one before.
+/// Whatever step is taken, and whatever it is answered, no actor then stands at an earlier registry or moment than before.
 pub fn views_only_rise()
     ensures { ViewsOnlyRise }
 {}

@@ -12,7 +12,7 @@ use std::alloc::{AllocError, Global};
 use std::marker::Model;
 
 /// The opened registry, and the events that were taken, each with what the logs said at it: a registry between is made of
-/// these again. For each actor that looks behind the newest, the one that it looked at is kept, and goes on with it.
+/// these again. For each actor that looks at an older one, the one that it looked at is kept, and goes on with it.
 #[derive(Drop)]
 pub(crate) struct Registries {
     opened: Registry,

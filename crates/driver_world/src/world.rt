@@ -76,7 +76,7 @@ impl Look {
     }
 }
 
-/// What the logs said at an event, and what it tells.
+/// What the logs said at an event, and what it reports.
 fn parts_of(entry: Entry) -> (Inputs, Outcome)
     ensures { result ≡ (entry.inputs, entry.outcome) }
 {
@@ -156,8 +156,8 @@ impl World {
         self.past.newest()
     }
 
-    /// The number of the registry that the actor looked at last: a step of its own names none before that. The conductor's is
-    /// the newest.
+    /// The number of the registry that the actor looked at last: a step of its own names none before that. 0 for the
+    /// conductor, who names none, and for a client that no attach named.
     pub fn view(&self, actor: Actor) -> u64
         ensures { result ≡ (seat_of actor self.now.seats).view }
     {
@@ -214,8 +214,8 @@ impl World {
         self.past.keep(actor, look.older);
     }
 
-    /// The conductor takes an event. All memory that this wants is taken before anything is changed: then all that it decided is
-    /// told, a client that it attaches has an audit and a seat, and the event is kept.
+    /// The conductor takes an event. All memory that this needs is taken before anything is changed: then all that it decided is
+    /// reported, a client that it attaches has an audit and a seat, and the event is kept.
     fn conduct(&mut self, alloc: Global, event: &Event) -> Answer
         ensures { Serves self.old self.new (record { view = None; step = Conductor event.now }) result }
     {
@@ -315,7 +315,7 @@ impl World {
         }
     }
 
-    /// The receiver takes the frames of a datagram. It asks no policy, so nothing is told of it but the answer.
+    /// The receiver takes the frames of a datagram. It asks no policy, so nothing is reported of it but the answer.
     #[inline(always)]
     fn take_frames(
         &mut self,

@@ -14,7 +14,7 @@ abbrev pub is_pad : Kind → Bool
 is_pad Data = false
 is_pad Pad = true
 
--- the second may stand behind the first: the first is no pad, and the second goes on where it ends
+-- the second may stand after the first: the first is no pad, and the second goes on where it ends
 unfoldable pub follows : Header → Header → Bool
 follows before next =
     if is_pad before.kind then false
@@ -23,17 +23,17 @@ follows before next =
     else if not (int_eq next.place.term_id before.place.term_id) then false
     else next.place.term_offset == before.place.term_offset + padded before.length
 
--- the bytes behind a frame and its filling
+-- the bytes after a frame and its filling
 abbrev pub behind : Sent → List ℕ → List ℕ
 behind frame bytes = drop (padded (length frame.bytes)) bytes
 
--- a frame that stands behind another one
+-- a frame that stands after another one
 unfoldable pub next_of : Header → List ℕ → Result Sent BadPacket
 next_of before bytes =
     if nat_lt (length bytes) 32 then Err TooShort
     else frame_of bytes >>= λ frame. if follows before frame.header then Ok frame else Err Mixed
 
--- the frames behind another one, to the last byte; there are no more of them than n
+-- the frames after another one, to the last byte; there are no more of them than n
 unfoldable pub later_of : ℕ → Header → List ℕ → Result (List Sent) BadPacket
 later_of zero before bytes = Ok []
 later_of (suc n) before [] = Ok []

@@ -1,4 +1,4 @@
--- Where an image joins the stream that a SETUP tells of (Aeron Transport Protocol Specification, setup frame, positions).
+-- Where an image joins the stream that a SETUP announces (Aeron Transport Protocol Specification, setup frame, positions).
 -- Own: the greatest length of a term, and that what no sender may send makes no image.
 use Rattle.std.specs.Prelude.{◌≡◌, ℕ, ℤ, pos, ◌*◌, ◌%◌, ◌^◌, ◌<◌, ◌≤◌, ◌==◌, Bool, false, Option, Some, None, nat_le, nat_lt, if◌then◌else◌}
 use Rattle.std.specs.Int.{is_power_of_two}

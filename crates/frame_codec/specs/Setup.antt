@@ -1,4 +1,4 @@
--- SETUP frames: a sender tells of its stream and where it stands (Aeron Transport Protocol Specification, setup frame).
+-- SETUP frames: a sender announces its stream and where it stands (Aeron Transport Protocol Specification, setup frame).
 use Rattle.std.specs.Prelude.{ℕ, pos, List, ◌++◌, Result, Ok}
 use Rattle.frame_codec.specs.declared.fault.BadPacket.{BadPacket}
 use Rattle.frame_codec.specs.declared.setup.Setup.{Setup}

@@ -1,4 +1,4 @@
--- Status messages: a receiver tells what it has taken, and for how much more it has room
+-- Status messages: a receiver reports what it has taken, and for how much more it has room
 -- (Aeron Transport Protocol Specification, status message).
 use Rattle.std.specs.Prelude.{ℕ, List, ◌++◌, Result, Ok}
 use Rattle.frame_codec.specs.declared.fault.BadPacket.{BadPacket}

@@ -79,7 +79,7 @@ abbrev pub AreBehind : Header → List Written → Type 0
 AreBehind before [] = Unit {0}
 AreBehind before (w ∷ ws) = IsWritten w × (follows before (written_frame w).header ≡ true) × AreBehind (written_frame w).header ws
 
--- frames, one behind the other
+-- frames, one after another
 abbrev pub all_bytes : List Written → List ℕ
 all_bytes [] = []
 all_bytes (w ∷ ws) = written_bytes w ++ all_bytes ws
@@ -98,7 +98,7 @@ AreKept (frame ∷ later) = IsKept frame × AreKept later
 
 -- ---- datagrams of frames
 
--- the bytes of these frames stand one behind the other, each with its filling, to the last byte; the filling of the
+-- the bytes of these frames stand one after another, each with its filling, to the last byte; the filling of the
 -- last may be cut off
 abbrev pub StandIn : List Sent → List ℕ → Type 0
 StandIn [] bytes = bytes ≡ []
@@ -108,11 +108,11 @@ StandIn (frame ∷ later) bytes = (take (length frame.bytes) bytes ≡ frame.byt
 abbrev pub fill_length : Sent → ℕ
 fill_length frame = padded (length frame.bytes) - length frame.bytes
 
--- the filling behind a frame that stands at the front
+-- the filling after a frame that stands at the front
 abbrev pub filling : Sent → List ℕ → List ℕ
 filling frame bytes = take (fill_length frame) (drop (length frame.bytes) bytes)
 
--- the frames are as they are written here: their reserved values are 0, and behind each is all its filling, of zeros
+-- the frames are as they are written here: their reserved values are 0, and after each is all its filling, of zeros
 abbrev pub ArePlain : List Sent → List ℕ → Type 0
 ArePlain [] bytes = Unit {0}
 ArePlain (frame ∷ later) bytes =

@@ -14,15 +14,15 @@ use crate::{fields, frame};
 /// What a datagram holds.
 #[derive(Clone, Copy, Debug)]
 pub enum Packet<'a> {
-    /// Data frames and pads of one term, one behind the other: at least one.
+    /// Data frames and pads of one term, one after another: at least one.
     Data(Frames<'a>),
     /// A heartbeat: the sender's position, without data.
     Beat(Header),
     /// A receiver asks for bytes again.
     Nak(Nak),
-    /// A receiver tells what it has taken.
+    /// A receiver reports what it has taken.
     Sm(StatusMessage),
-    /// A sender tells of its stream.
+    /// A sender announces its stream.
     Setup(Setup),
 }
 
@@ -50,7 +50,7 @@ impl Datagram {
     /// What the datagram holds, or the first fault of its first faulty frame. Looked at are, in this order: whether there
     /// are 8 bytes, and 32 of a later frame; the version; the type; whether there are as many bytes as the type has at
     /// least; the length, with term offset and receiver window; the alignment; and of a later frame whether it may stand
-    /// there. Bytes behind a NAK, a status message or a SETUP are not looked at. Takes no memory.
+    /// there. Bytes after a NAK, a status message or a SETUP are not looked at. Takes no memory.
     #[tactic(auto, unfolding(crate::specs::Datagram::packet_of))]
     pub fn read(bytes: &[u8]) -> Result<Packet<'_>, BadPacket>
         ensures { Equals content result (packet_of bytes.now) }

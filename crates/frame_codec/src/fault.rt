@@ -6,11 +6,11 @@ use std::fmt;
 
 /// Why a datagram is dropped: the whole of it, by the first fault of its first faulty frame. The faults of a frame are
 /// looked for in the order in which they stand here, but for one: whether there are as many bytes as the frame's type has
-/// at least is looked at behind version and type.
+/// at least is looked at after version and type.
 #[derive(Clone, Copy, Debug, PartialEq, Eq)]
 pub enum BadPacket {
-    /// There are fewer than 8 bytes, or fewer than the frame's type has at least. Of the bytes behind a frame and its
-    /// filling, or behind a pad, there are fewer than 32, and not none.
+    /// There are fewer than 8 bytes, or fewer than the frame's type has at least. Of the bytes after a frame and its
+    /// filling, or after a pad, there are fewer than 32, and not none.
     TooShort,
     /// The version is not 0.
     BadVersion,
@@ -22,7 +22,7 @@ pub enum BadPacket {
     /// A data frame, pad, NAK or SETUP has a term offset that is not a multiple of 32.
     Unaligned,
     /// A later frame is no data frame and no pad, is of another session, stream or term, or does not begin where the
-    /// one before it ends; or it stands behind a pad.
+    /// one before it ends; or it stands after a pad.
     Mixed,
 }
 

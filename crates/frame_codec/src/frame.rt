@@ -15,7 +15,7 @@ use crate::{fields, writing};
 #[derive(Clone, Copy, Debug)]
 pub struct Frame<'a> {
     pub header: Header,
-    /// The frame's bytes: of a data frame header and payload, without the filling behind them; of a pad its header.
+    /// The frame's bytes: of a data frame header and payload, without the filling after them; of a pad its header.
     pub bytes: &'a [u8],
 }
 
@@ -113,7 +113,7 @@ pub(crate) fn read_beat(bytes: &[u8]) -> Result<Header, BadPacket>
     Ok(Header::read(Kind::Data, 0, term_offset, bytes))
 }
 
-/// Writes a data frame at the front: header, payload, and zeros up to the next multiple of 32. What stands behind them
+/// Writes a data frame at the front: header, payload, and zeros up to the next multiple of 32. What follows them
 /// stays. The frame is read again as it was written if it is shorter than 2^31 bytes. (Of a longer one's length the
 /// lowest four bytes are written.)
 pub fn write_data(out: &mut [u8], flags: Flags, place: &TermPlace, payload: &[u8])
@@ -134,7 +134,7 @@ pub fn write_data(out: &mut [u8], flags: Flags, place: &TermPlace, payload: &[u8
     writing::put_zeros(out, size, end - size);
 }
 
-/// Writes a pad at the front: the header alone, of a pad that covers `size` bytes of its term. What stands behind it
+/// Writes a pad at the front: the header alone, of a pad that covers `size` bytes of its term. What follows it
 /// stays.
 pub fn write_pad(out: &mut [u8], flags: Flags, place: &TermPlace, size: u32)
     requires { 32 ≤ length out.old }
@@ -150,7 +150,7 @@ pub fn write_pad(out: &mut [u8], flags: Flags, place: &TermPlace, size: u32)
     header.put(out);
 }
 
-/// Writes a heartbeat at the front: a header without data, at the sender's position. What stands behind it stays.
+/// Writes a heartbeat at the front: a header without data, at the sender's position. What follows it stays.
 pub fn write_beat(out: &mut [u8], flags: Flags, place: &TermPlace)
     requires { 32 ≤ length out.old }
     ensures { out.new ≡ beat_bytes flags place.now ++ drop 32 out.old }

@@ -21,7 +21,7 @@ pub fn padded_length(length: u32) -> u64
     (u64::from(length) + 31) / 32 * 32
 }
 
-/// The second may stand behind the first: that is no pad, and the second goes on where it ends.
+/// The second may stand after the first: that is no pad, and the second goes on where it ends.
 #[tactic(auto, unfolding(crate::specs::Frames::follows))]
 fn follows(before: &Header, next: &Header) -> bool
     ensures { result ≡ follows before.now next.now }
@@ -43,7 +43,7 @@ fn follows(before: &Header, next: &Header) -> bool
     u64::from(next.place.term_offset) == end
 }
 
-/// The bytes behind a frame and its filling, which may be missing.
+/// The bytes after a frame and its filling, which may be missing.
 fn behind<'a>(frame: &Frame<'a>, bytes: &'a [u8]) -> &'a [u8]
     requires { length frame.now.bytes.now < 2 ^ 31 }
     ensures { result.now ≡ behind (sent frame.now) bytes.now }
@@ -53,7 +53,7 @@ fn behind<'a>(frame: &Frame<'a>, bytes: &'a [u8]) -> &'a [u8]
     rest
 }
 
-/// The frame at the front, where it stands behind another one.
+/// The frame at the front, where it stands after another one.
 #[tactic(auto, unfolding(crate::specs::Frames::next_of))]
 #[inline(always)]
 fn read_next<'a>(before: &Header, bytes: &'a [u8]) -> Result<Frame<'a>, BadPacket>
@@ -71,7 +71,7 @@ fn read_next<'a>(before: &Header, bytes: &'a [u8]) -> Result<Frame<'a>, BadPacke
     }
 }
 
-/// Looks at the frames behind another one, to the last byte.
+/// Looks at the frames after another one, to the last byte.
 #[tactic(auto, using(crate::proofs::FramesLemmas::later_end))]
 #[inline(always)]
 fn check_later(first: &Header, bytes: &[u8]) -> Result<(), BadPacket>
@@ -99,7 +99,7 @@ impl<'a> Frames<'a> {
         self.rest.len() / Header::SIZE
     }
 
-    /// The frames of a datagram, where all of them are sound and each stands behind the one before.
+    /// The frames of a datagram, where all of them are sound and each stands after the one before.
     #[inline(always)]
     pub(crate) fn read(bytes: &'a [u8]) -> Result<Frames<'a>, BadPacket>
         ensures { Equals frames_left result (frames_of bytes.now) }

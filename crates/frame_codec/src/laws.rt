@@ -23,7 +23,7 @@ ghost use Rattle.frame_codec.specs.declared.nak.Nak.{Nak};
 ghost use Rattle.frame_codec.specs.declared.setup.Setup.{Setup};
 ghost use Rattle.frame_codec.specs.declared.status_message.StatusMessage.{StatusMessage};
 
-/// Data frames and pads that are written one behind the other are read as those frames.
+/// Data frames and pads that are written one after another are read as those frames.
 pub fn frames_read_back()
     ensures { (first : Written) (later : List Written) → IsWritten first → AreBehind (written_frame first).header later
         → packet_of (all_bytes (first ∷ later)) ≡ Ok (contents.frames (all_frames (first ∷ later))) }
@@ -35,18 +35,18 @@ pub fn heartbeats_read_back()
         → packet_of (beat_bytes flags place) ≡ Ok (contents.beat (plain_header Data 0 flags place)) }
 {}
 
-/// A NAK that is written is read as that NAK, whatever stands behind it.
+/// A NAK that is written is read as that NAK, whatever stands after it.
 pub fn naks_read_back()
     ensures { (nak : Nak) (rest : List ℕ) → IsNak nak → packet_of (nak_bytes nak ++ rest) ≡ Ok (contents.nak nak) }
 {}
 
-/// A status message that is written is read as that message, whatever stands behind it.
+/// A status message that is written is read as that message, whatever stands after it.
 pub fn status_messages_read_back()
     ensures { (message : StatusMessage) (rest : List ℕ) → IsStatusMessage message
         → packet_of (status_bytes message ++ rest) ≡ Ok (contents.status message) }
 {}
 
-/// A SETUP that is written is read as that SETUP, whatever stands behind it.
+/// A SETUP that is written is read as that SETUP, whatever stands after it.
 pub fn setups_read_back()
     ensures { (setup : Setup) (rest : List ℕ) → IsSetup setup → packet_of (setup_bytes setup ++ rest) ≡ Ok (contents.setup setup) }
 {}
@@ -56,8 +56,8 @@ pub fn frames_write_back()
     ensures { (bytes : List ℕ) (frames : List Sent) → IsBytes bytes → packet_of bytes ≡ Ok (contents.frames frames) → AreKept frames }
 {}
 
-/// The bytes of a datagram of data frames and pads are those of its frames, in order, each with its filling behind it up
-/// to the next multiple of 32; behind the last the filling may be cut off.
+/// The bytes of a datagram of data frames and pads are those of its frames, in order, each with its filling after it up
+/// to the next multiple of 32; after the last the filling may be cut off.
 pub fn frames_stand_in_datagrams()
     ensures { (bytes : List ℕ) (frames : List Sent) → packet_of bytes ≡ Ok (contents.frames frames) → StandIn frames bytes }
 {}
@@ -74,7 +74,7 @@ pub fn frames_are_of_one_term()
     ensures { (bytes : List ℕ) (frames : List Sent) → packet_of bytes ≡ Ok (contents.frames frames) → AreOfOneTerm frames }
 {}
 
-/// Data frames and pads that are written one behind the other have the reserved values and the filling that frames are
+/// Data frames and pads that are written one after another have the reserved values and the filling that frames are
 /// written with here.
 pub fn written_frames_are_plain()
     ensures { (frames : List Written) → ArePlain (all_frames frames) (all_bytes frames) }

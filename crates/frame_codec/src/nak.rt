@@ -44,7 +44,7 @@ impl Nak {
     }
 }
 
-/// Writes a NAK at the front, without flags. What stands behind it stays.
+/// Writes a NAK at the front, without flags. What follows it stays.
 pub fn write_nak(out: &mut [u8], nak: &Nak)
     requires { 28 ≤ length out.old }
     ensures { out.new ≡ nak_bytes nak.now ++ drop 28 out.old }

@@ -5,7 +5,7 @@ use crate::fault::BadPacket;
 use crate::flags::Flags;
 use crate::{fields, writing};
 
-/// A sender tells of its stream and where it stands (SETUP).
+/// A sender announces its stream and where it stands (SETUP).
 #[derive(Clone, Copy, Debug, PartialEq, Eq)]
 pub struct Setup {
     pub flags: Flags,
@@ -51,7 +51,7 @@ impl Setup {
     }
 }
 
-/// Writes a SETUP at the front, without flags and with TTL 0. What stands behind it stays.
+/// Writes a SETUP at the front, without flags and with TTL 0. What follows it stays.
 pub fn write_setup(out: &mut [u8], setup: &Setup)
     requires { 40 ≤ length out.old }
     ensures { out.new ≡ setup_bytes setup.now ++ drop 40 out.old }

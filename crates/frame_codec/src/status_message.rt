@@ -5,7 +5,7 @@ use crate::fault::BadPacket;
 use crate::flags::Flags;
 use crate::{fields, writing};
 
-/// A receiver tells what it has taken, and for how much more it has room (SM).
+/// A receiver reports what it has taken, and for how much more it has room (SM).
 #[derive(Clone, Copy, Debug, PartialEq, Eq)]
 pub struct StatusMessage {
     /// With [`Flags::SEND_SETUP`] a SETUP is asked for.
@@ -15,7 +15,7 @@ pub struct StatusMessage {
     pub consumption_term_id: i32,
     /// In bytes from the start of the term; of any alignment.
     pub consumption_term_offset: u32,
-    /// In bytes behind the consumption position.
+    /// In bytes after the consumption position.
     pub receiver_window: u32,
     pub receiver_id: u64,
 }
@@ -47,7 +47,7 @@ impl StatusMessage {
     }
 }
 
-/// Writes a status message at the front, without flags. What stands behind it stays.
+/// Writes a status message at the front, without flags. What follows it stays.
 pub fn write_sm(out: &mut [u8], message: &StatusMessage)
     requires { 36 ≤ length out.old }
     ensures { out.new ≡ status_bytes message.now ++ drop 36 out.old }

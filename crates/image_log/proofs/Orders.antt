@@ -2,7 +2,7 @@
 use Rattle.std.proofs.Common.{◌≡◌, ℕ, zero, suc, ◌+◌, ◌*◌, ◌<◌, ◌≤◌, ◌≢◌, Bool, true, false, cond, ltb, eqb, List, [], ◌∷◌, length, drop, refl, sym, ap, ◌∙◌, subst, arith}
 use Rattle.std.specs.List.{list_any, insert}
 use Rattle.image_log.specs.Frame.{Frame, framed, end_of}
-use Rattle.image_log.specs.Order.{Ordered, begins_at, rank, is_same, meets, chain}
+use Rattle.image_log.specs.Order.{Ordered, rank, is_same, meets, chain}
 use Rattle.image_log.specs.Stored.{frame_at}
 use Rattle.image_log.proofs.Tests.{by_test, lt_yes, lt_no, is_lt, is_ge, eq_no, is_eq, meet_behind, meet_before, apart_before, apart_behind, or_first, or_second, or_of}
 
@@ -100,9 +100,6 @@ OnlyAt p t = (f : Frame) → f.position ≢ p → t f ≡ false
 
 pub only_same : (p : ℕ) (bytes : List ℕ) → OnlyAt p (is_same p bytes)
 only_same p bytes = λ f ne. rw (eq_no f.position p ne) refl
-
-pub only_begins : (p : ℕ) → OnlyAt p (begins_at p)
-only_begins p = λ f ne. eq_no f.position p ne
 
 -- no frame from `low` on begins below it
 at_none_above : (p low end : ℕ) (t : Frame → Bool) (fs : List Frame) → OnlyAt p t → Ordered low end fs → p < low → list_any t fs ≡ false

@@ -3,7 +3,7 @@ use Rattle.std.specs.Prelude.{ℕ, ◌+◌, List, [], refl}
 use Rattle.std.specs.Coded.{Coded, code_by, coded×, coded_ℕ, coded_list}
 
 -- where it begins, how many positions it takes, and its bytes: of a data frame header and payload, without the filling
--- behind them; of a pad its header
+-- after them; of a pad its header
 pub record Frame : Type 0 where
   pub position : ℕ
   pub span : ℕ
@@ -16,7 +16,7 @@ frame_code = code_by (ℕ × (ℕ × List ℕ)) (coded× coded_ℕ (coded× code
 abbrev pub framed : ℕ → ℕ → List ℕ → Frame
 framed position span bytes = record { position = position; span = span; bytes = bytes }
 
--- the position behind it
+-- the position after it
 abbrev pub end_of : Frame → ℕ
 end_of f = f.position + f.span
 

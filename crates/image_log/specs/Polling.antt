@@ -43,6 +43,6 @@ polled_from r subscription limit None = record { fragments = []; after = r }
 polled_from r subscription limit (Some at) = passes r subscription at (passed limit (map polled_frame (whole_from r at)))
 
 -- A poll of a subscription: from its position on frame by frame, over the ends of terms, until so many fragments were
--- given or there is no more that is whole. Pads are passed uncounted; it then stands behind what was passed.
+-- given or there is no more that is whole. Pads are passed uncounted; it then stands after what was passed.
 unfoldable pub polled : Rebuilt → ℕ → ℕ → Poll
 polled r subscription limit = polled_from r subscription limit (position_of r.pairs subscription)

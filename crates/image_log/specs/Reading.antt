@@ -37,7 +37,7 @@ abbrev pub AreBetween : ℕ → ℕ → List Frame → Type 0
 AreBetween from to [] = Unit {0}
 AreBetween from to (f ∷ fs) = (from ≤ f.position) × (end_of f ≤ to) × AreBetween from to fs
 
--- the frames stand one behind the other, the first at a position
+-- the frames stand one after another, the first at a position
 abbrev pub Adjoin : ℕ → List Frame → Type 0
 Adjoin p [] = Unit {0}
 Adjoin p (f ∷ fs) = (f.position ≡ p) × Adjoin (end_of f) fs

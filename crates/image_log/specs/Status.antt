@@ -3,7 +3,7 @@
 use Rattle.std.specs.Prelude.{ℕ, ◌-◌, ◌/◌, Bool, true, ◌||◌, nat_lt, nat_le, Option, Some, None}
 use Rattle.image_log.specs.declared.status.LastStatus.{LastStatus}
 
--- a status message of a moment that told a base
+-- a status message of a moment that reported a base
 abbrev pub told : ℕ → ℕ → LastStatus
 told moment base = record { moment = moment; base = base }
 

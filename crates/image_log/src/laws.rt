@@ -14,7 +14,7 @@ pub fn frames_may_be_handed_in()
 {}
 
 /// Each fragment that a poll gives is a data frame of the log: it has the frame's flags and what the frame carries, and
-/// names the position behind it.
+/// names the position after it.
 pub fn polls_give_frames()
     ensures { PollsGiveFrames }
 {}

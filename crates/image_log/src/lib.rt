@@ -2,10 +2,9 @@
 //!
 //! `ImageLog::insert` says what becomes of a frame; `contiguous` and `gap` say how far the stream is whole and what is
 //! missing; `frames_from` lends what is whole to readers; frames below the term of the slowest subscription go.
-//! `fragments` and `poll` are the two halves of a poll. Contracts see a log as the lease that it has and a map from
-//! positions to frames whose ranges do not meet. But for `ImageLog::open` and `ImageRoom::new`, by which the memory of a log
-//! is taken beforehand, nothing here takes memory. Positions and frames are those of the Aeron Transport Protocol
-//! Specification.
+//! `poll_copies` is a poll. Contracts see a log as the lease that it has and a map from positions to frames whose ranges do
+//! not meet. But for `ImageLog::open` and `ImageRoom::new`, by which the memory of a log is taken beforehand, and for the
+//! copies of a poll, nothing here takes memory. Positions and frames are those of the Aeron Transport Protocol Specification.
 #![tactic(auto)]
 
 mod handed;
@@ -25,7 +24,6 @@ pub use insert::Insert;
 pub use laws::{frames_may_be_handed_in, polls_give_frames};
 pub use log::ImageLog;
 pub use log_pairs::{CopiedFragments, Fragment, FragmentCopies, Pair};
-pub use polling::Fragments;
 pub use reading::{Frames, ImageFrame};
 pub use room::ImageRoom;
 pub use status::LastStatus;

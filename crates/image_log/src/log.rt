@@ -1,4 +1,4 @@
-ghost use Rattle.std.specs.Prelude.{◌≡◌, ℕ, ◌+◌, ◌*◌, ◌%◌, ◌^◌, ◌<◌, ◌≤◌, insert, length, map, max, true, IfOk, IfErr, IfSome, OnErr, OnOk, Some};
+ghost use Rattle.std.specs.Prelude.{◌≡◌, ℕ, ◌+◌, ◌*◌, ◌%◌, ◌^◌, ◌<◌, ◌≤◌, insert, length, map, max, IfOk, IfErr, IfSome, OnErr, OnOk, Some};
 ghost use Rattle.log_arena.specs.Lease.{lease_bytes, lease_len};
 ghost use Rattle.image_log.specs.Frame.{framed};
 ghost use Rattle.image_log.specs.Handed.{AreFor, IsFor, offset_of, span_of};
@@ -14,13 +14,13 @@ ghost use Rattle.log_pairs.specs.Polling.{behind, fragments_of, passed};
 use crate::handed;
 use crate::ident::Ident;
 use crate::insert::Insert;
-use crate::polling::{Fragments, room_for};
+use crate::polling::room_for;
 use crate::reading::{Frames, Run};
 use crate::room::ImageRoom;
 use crate::status::{self, LastStatus};
 use crate::store::Store;
 use log_arena::{Lease, NoMemory};
-use log_pairs::{FragmentCopies, Pair, Pairs, behind_passed, copy_passed};
+use log_pairs::{FragmentCopies, Pair, Pairs, copy_passed};
 use std::alloc::{AllocError, Global};
 use std::marker::Model;
 
@@ -156,7 +156,7 @@ impl ImageLog {
         self.base + window_of(self.ident.term_length)
     }
 
-    /// A heartbeat told of the sender's position.
+    /// A heartbeat reported the sender's position.
     pub fn beat(&mut self, position: u64)
         ensures { self.new ≡ record self.old {
           rebuilt = record self.old.rebuilt { greatest = max self.old.rebuilt.greatest position };
@@ -179,9 +179,9 @@ impl ImageLog {
         }
     }
 
-    /// The frames from a position on, one behind the other, up to the contiguous position or the end of the position's term: as many as take
-    /// at most so many bytes of a datagram, and none behind a pad. A pad takes 32 bytes there, a data frame as many as
-    /// it takes positions.
+    /// The frames from a position on, one after another, up to the contiguous position or the end of the position's term: as
+    /// many as take at most so many bytes of a datagram, and none after a pad. A pad takes 32 bytes there, a data frame as many
+    /// as it takes positions.
     pub fn frames_from(&self, position: u64, bytes: usize) -> Frames<'_>
         requires { position ≤ contiguous_of self.now.rebuilt }
         ensures frames { result ≡ frames_of self.now.rebuilt position bytes }
@@ -313,19 +313,8 @@ impl ImageLog {
         self.pairs.position(subscription)
     }
 
-    /// Whether a subscription may stand at a position: whether it is the contiguous position, or a frame begins there.
-    pub fn is_start(&self, position: u64) -> bool
-        ensures holds { result ≡ true → IsStart self.now.rebuilt position }
-        ensures exact { IsStart self.now.rebuilt position → result ≡ true }
-    {
-        if position == self.contiguous {
-            return true;
-        }
-        self.store.begins_at(position)
-    }
-
     /// A subscription has read up to a position, which is the contiguous position or the start of a frame below it.
-    pub fn advance(&mut self, subscription: u64, position: u64)
+    fn advance(&mut self, subscription: u64, position: u64)
         requires from { ReadsUpTo (position_of self.old.rebuilt.pairs subscription) position }
         requires to { position ≤ contiguous_of self.old.rebuilt }
         requires start { IsStart self.old.rebuilt position }
@@ -346,43 +335,7 @@ impl ImageLog {
         Run::new(&self.store, index, self.store.rank(self.contiguous))
     }
 
-    /// The position behind the frames that a poll passes from a position on.
-    fn behind_poll(&self, position: u64, limit: usize) -> u64
-        requires to { position ≤ contiguous_of self.now.rebuilt }
-        requires start { IsStart self.now.rebuilt position }
-        ensures exact { result ≡ behind position (passed limit (map polled_frame (whole_from self.now.rebuilt position))) }
-        ensures ahead { IsAhead self.now.rebuilt position result }
-    {
-        behind_passed(self.run_from(position), position, limit)
-    }
-
-    /// The fragments that a poll of a subscription gives, over the ends of terms: those from its position on that are whole,
-    /// at most so many. None where it does not read the log. Nothing is passed yet: [`ImageLog::poll`] does that, once they
-    /// were taken.
-    pub fn fragments(&self, subscription: u64, limit: usize) -> Fragments<'_>
-        ensures { result ≡ (polled self.now.rebuilt subscription limit).fragments }
-    {
-        match self.pair_position(subscription) {
-            Some(position) => Fragments::new(self.run_from(position), limit),
-            None => Fragments::new(self.run_from(self.contiguous()), 0),
-        }
-    }
-
-    /// A subscription is polled: it has read the frames from its position on, until so many fragments were given or there
-    /// is no more that is whole. Pads do not count, and one behind the last fragment is left.
-    pub fn poll(&mut self, subscription: u64, limit: usize)
-        ensures { self.new ≡ record self.old { rebuilt = (polled self.old.rebuilt subscription limit).after } }
-    {
-        match self.pair_position(subscription) {
-            Some(position) => {
-                let end = self.behind_poll(position, limit);
-                self.advance(subscription, end);
-            }
-            None => {}
-        }
-    }
-
-    /// Copies of the fragments that a poll gives from a position on, and the position behind the frames that it passes. What
+    /// Copies of the fragments that a poll gives from a position on, and the position after the frames that it passes. What
     /// stands before the bytes of a copy takes no more than the header of its frame does.
     fn copies_from(
         &self,
@@ -400,8 +353,10 @@ impl ImageLog {
         copy_passed(self.run_from(position), alloc, room, position, limit)
     }
 
-    /// As [`ImageLog::poll`], with copies of the fragments that it gives, those of [`ImageLog::fragments`]: each frame is looked
-    /// at once, and the memory for all copies is taken at once.
+    /// A subscription is polled: it has read the frames from its position on, over the ends of terms, until so many fragments
+    /// were given or there is no more that is whole. Pads do not count, and one after the last fragment is left. The answer
+    /// has copies of the fragments; none where the subscription does not read the log. Each frame is looked at once, and the
+    /// memory for all copies is taken at once.
     ///
     /// # Errors
     /// Nothing is changed where there is no memory for the copies.
@@ -441,7 +396,7 @@ impl ImageLog {
         now.saturating_sub(self.moment) > limit
     }
 
-    /// How far above the base frames may begin: what a status message tells beside the base.
+    /// How far above the base frames may begin: what a status message says beside the base.
     pub fn window(&self) -> u32
         ensures { result ≡ window_of self.now.rebuilt.ident.term_length }
     {

@@ -8,9 +8,6 @@ use crate::reading::{ImageFrame, Run};
 use log_pairs::{Fragment, FragmentCopies, PolledFrame, PolledFrames};
 use std::alloc::AllocError;
 
-/// The fragments that a poll gives, in order. The log lends their bytes.
-pub type Fragments<'a> = log_pairs::Fragments<Run<'a>>;
-
 /// A frame as a poll comes to it.
 fn polled_frame<'a>(frame: &ImageFrame<'a>) -> PolledFrame<Fragment<'a>>
     ensures { polled_by fetched_of result ≡ polled_frame frame.now }
@@ -51,10 +48,12 @@ impl<'a> PolledFrames for Run<'a> {
     }
 }
 
-/// No datagram, and so no frame but a pad, has as many bytes.
+/// No datagram that comes over UDP has as many bytes, and so no frame of one but a pad. A frame that a caller hands in may be
+/// longer.
 const LONGEST: u64 = 65_536;
 
-/// How many bytes copies of so many fragments take at most, where so many positions are left.
+/// How many bytes are taken at once for copies of so many fragments, where so many positions are left. Where frames are longer
+/// than those of a datagram, further copies may take more.
 pub(crate) fn room_for(left: u64, limit: usize) -> usize {
     (limit as u64).saturating_mul(LONGEST).min(left) as usize
 }

@@ -49,7 +49,7 @@ impl<'a> ImageFrame<'a> {
         self.position
     }
 
-    /// The position behind it.
+    /// The position after it.
     pub fn end(&self) -> u64
         ensures { result ≡ end_of self.now }
     {
@@ -100,7 +100,7 @@ pub struct Frames<'a> {
     store: &'a Store,
     /// The index of the next frame.
     index: usize,
-    /// The index behind the last frame.
+    /// The index after the last frame.
     last: usize,
     /// How many bytes of a datagram the frames to come may take.
     bytes: usize,
@@ -166,7 +166,7 @@ pub struct Run<'a> {
     store: &'a Store,
     /// The index of the next frame.
     index: usize,
-    /// The index behind the last frame.
+    /// The index after the last frame.
     last: usize,
 }
 

@@ -1,4 +1,4 @@
-//! When a receiver tells its sender how far it is.
+//! When a receiver reports to its sender how far it is.
 
 ghost use Rattle.std.specs.Prelude.{◌≡◌};
 ghost use Rattle.image_log.specs.Status.{is_due, is_old};
@@ -8,7 +8,7 @@ ghost use Rattle.image_log.specs.Status.{is_due, is_old};
 pub struct LastStatus {
     /// When it was sent, in nanoseconds.
     pub moment: u64,
-    /// The base that it told.
+    /// The base that it reported.
     pub base: u64,
 }
 
@@ -21,7 +21,7 @@ impl LastStatus {
     }
 }
 
-/// Whether a status message is due, behind the last one.
+/// Whether a status message is due, after the last one.
 pub(crate) fn is_due(
     last: Option<LastStatus>,
     now: u64,

@@ -4,7 +4,7 @@ ghost use Rattle.std.specs.VecDeque.{deque_capacity, deque_len};
 ghost use Rattle.log_arena.specs.Lease.{lease_bytes, lease_len};
 ghost use Rattle.image_log.specs.Frame.{framed, end_of};
 ghost use Rattle.image_log.specs.Answer.{answer_among};
-ghost use Rattle.image_log.specs.Order.{Ordered, begins_at, begins_from, chain, is_same, meets, next_from, rank};
+ghost use Rattle.image_log.specs.Order.{Ordered, begins_from, chain, is_same, meets, next_from, rank};
 ghost use Rattle.image_log.specs.Stored.{IsBlank, StandIn, frame_at, held_of, stored_in};
 ghost use Rattle.image_log.specs.Writing.{written};
 
@@ -176,14 +176,6 @@ impl Store {
         at < self.places.len() && self.is_same(at, position, bytes)
     }
 
-    /// Whether one of the frames begins at a position.
-    pub(crate) fn begins_at(&self, position: u64) -> bool
-        ensures { result ≡ list_any (begins_at position) self.now.frames }
-    {
-        let at = self.rank(position);
-        at < self.places.len() && self.start_of(at) == position
-    }
-
     /// Whether one of the frames meets the positions from one to another. `at` is the rank of the first.
     fn meets(&self, at: usize, position: u64, end: u64) -> bool
         requires rank { at ≡ rank position self.now.frames }
@@ -326,7 +318,7 @@ fn clear(out: &mut [u8])
     out.fill(0);
 }
 
-/// An insert for which there is room. A frame that comes in order goes behind all others.
+/// An insert for which there is room. A frame that comes in order goes after all others.
 #[tactic(auto, using(std::proofs::lemmas::List::Edits::insert_end))]
 fn put_in(places: &mut VecDeque<Place>, at: usize, place: Place)
     requires { (at ≤ deque_len places.old) × (deque_len places.old < deque_capacity places.old) }

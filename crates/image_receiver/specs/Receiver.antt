@@ -1,4 +1,4 @@
--- What a receiver tells the sender of an image (Aeron Transport Protocol Specification, loss recovery, and flow and
+-- What a receiver reports to the sender of an image (Aeron Transport Protocol Specification, loss recovery, and flow and
 -- congestion control).
 use Rattle.std.specs.Prelude.{ℕ, Bool, if◌then◌else◌, Option, Some, None}
 use Rattle.image_log.specs.Rebuilt.{Rebuilt, gap_of, window_of}
@@ -26,14 +26,14 @@ moment_of receiver now = later_of receiver.latest now
 abbrev pub tells : ℕ → ℕ → Rebuilt → Bool
 tells interval moment r = is_due moment interval r.base (window_of r.ident.term_length) r.status
 
--- it tells the base, and how far above it frames may begin
+-- it says the base, and how far above it frames may begin
 abbrev pub status_of : Rebuilt → Status
 status_of r = record { base = r.base; window = window_of r.ident.term_length }
 
 unfoldable pub status_due : ℕ → ℕ → Rebuilt → Option Status
 status_due interval moment r = if tells interval moment r then Some (status_of r) else None
 
--- the log keeps the status message that it told last
+-- the log keeps the status message that it sent last
 unfoldable pub after_status : ℕ → ℕ → Rebuilt → Rebuilt
 after_status interval moment r =
     if tells interval moment r then record r { status = Some (told moment r.base) } else r

@@ -48,6 +48,6 @@ heard_at r now = record r { moment = max r.moment now }
 unfoldable pub after_data : Rebuilt → ℕ → List Sent → Rebuilt
 after_data r now frames = heard_at (after_frames r frames) now
 
--- the log after a heartbeat, which tells where the sender is: the sender was heard, and is as far as that
+-- the log after a heartbeat, which says where the sender is: the sender was heard, and is as far as that
 unfoldable pub after_beat : Rebuilt → ℕ → TermPlace → Rebuilt
 after_beat r now place = heard_at (record r { greatest = max r.greatest (position_in r.ident place) }) now

@@ -1,4 +1,4 @@
-//! The frames by which a receiver tells the sender of an image what is missing, and how far it is.
+//! The frames by which a receiver reports to the sender of an image what is missing, and how far it is.
 
 ghost use Rattle.image_receiver.specs.Frames.{nak_frame, status_frame};
 ghost use Rattle.std.specs.Prelude.{◌≡◌, ◌<◌};

@@ -1,5 +1,5 @@
-//! What a receiver does with an image's log: it hands in the datagrams of the image's stream, and tells the sender what is
-//! missing and how far it is.
+//! What a receiver does with an image's log: it hands in the datagrams of the image's stream, and reports to the sender what
+//! is missing and how far it is.
 //!
 //! `receive` and `receive_beat` do what a datagram does to a log; `Receiver::tick` says which NAK and which status message
 //! are due, and `nak_frame` and `status_frame` are their frames. But for the words that `receive` answers, nothing here takes memory. Recovery and flow control are those of the

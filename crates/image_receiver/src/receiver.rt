@@ -7,7 +7,7 @@ use image_log::ImageLog;
 use retransmit_gate::{Nak, Nakker};
 use std::marker::Model;
 
-/// What a status message tells of an image.
+/// What a status message says of an image.
 #[derive(Clone, Copy, Debug, PartialEq, Eq)]
 pub struct Status {
     /// The position up to which all subscriptions have read.

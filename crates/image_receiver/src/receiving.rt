@@ -44,7 +44,7 @@ fn hand_in(log: &mut ImageLog, frame: &Frame<'_>) -> Insert
     log.insert(position, frame.bytes)
 }
 
-/// Hands in frames one after the other, and puts the word for each behind those that are there. A call of its own, so that the
+/// Hands in frames one after the other, and puts the word for each after those that are there. A call of its own, so that the
 /// walk has the registers to itself.
 #[inline(never)]
 fn hand_in_all(log: &mut ImageLog, frames: Frames<'_>, words: &mut Vec<Insert>)
@@ -82,7 +82,7 @@ pub fn receive(
     Ok(words)
 }
 
-/// A heartbeat of the log's session and stream came at a moment, and tells where the sender is: the sender was heard, and is
+/// A heartbeat of the log's session and stream came at a moment, and says where the sender is: the sender was heard, and is
 /// as far as that.
 #[tactic(auto, unfolding(crate::specs::Receiving::after_beat))]
 pub fn receive_beat(log: &mut ImageLog, now: u64, place: &TermPlace)

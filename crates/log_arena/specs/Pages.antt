@@ -33,7 +33,7 @@ HasNoPlace t n = (at : ℕ) → ¬ IsFree t at n
 unfoldable pub marked : Bool → ℕ → ℕ → List Bool → List Bool
 marked b at n t = take at t ++ (replicate n b ++ drop (at + n) t)
 
--- a page without a lease, before the runs behind it
+-- a page without a lease, before the runs after it
 abbrev pub prepended : ℕ → List (ℕ × ℕ) → List (ℕ × ℕ)
 prepended at [] = (at, 1) ∷ []
 prepended at (h ∷ hs) = if h.0 == at + 1 then (at, h.1 + 1) ∷ hs else (at, 1) ∷ h ∷ hs

@@ -29,7 +29,7 @@ pub struct Arena {
     holes: Holes,
 }
 
-/// Pages of zeros. They are written a page at a time, which a build that optimizes nothing does a thousand times faster than
+/// Pages of zeros. They are written a page at a time: a build that optimizes nothing does that some seventy times faster than
 /// a byte at a time.
 fn blank(alloc: Global, pages: usize) -> Result<Vec<u8>, NoMemory>
     requires { pages ≤ 65536 }

@@ -1,4 +1,4 @@
--- Copies of fragments, written one behind the other. Own rules.
+-- Copies of fragments, written one after another. Own rules.
 use Rattle.std.specs.Prelude.{◌≡◌, ℕ, zero, suc, ◌^◌, ◌<◌, List, [], ◌∷◌, ◌++◌, length, take, drop, slice_index, All}
 use Rattle.std.specs.Prelude.{Bool}
 use Rattle.std.specs.Cmp.{IsEquivalence, on_equiv}
@@ -7,7 +7,7 @@ use Rattle.std.specs.Str.{bytes_eq}
 use Rattle.byteorder.specs.Endian.{little_bytes, little_number}
 use Rattle.log_pairs.specs.Polling.{Fetched}
 
--- the position behind the frame in 8 bytes, its flags in one, how many bytes it carries in 8, and these
+-- the position after the frame in 8 bytes, its flags in one, how many bytes it carries in 8, and these
 abbrev pub written_one : Fetched → List ℕ
 written_one f = little_bytes 8 f.position ++ (f.flags.bits ∷ [] ++ (little_bytes 8 (length f.payload) ++ f.payload))
 

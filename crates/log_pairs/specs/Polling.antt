@@ -5,13 +5,13 @@ use Rattle.frame_codec.specs.declared.flags.Flags.{Flags}
 use Rattle.log_pairs.specs.declared.fragment.Fragment.{Fragment}
 use Rattle.log_pairs.specs.declared.fragment.PolledFrame.{PolledFrame}
 
--- a fragment that a poll gives: the position behind its frame, the frame's flags, and what it carries
+-- a fragment that a poll gives: the position after its frame, the frame's flags, and what it carries
 pub record Fetched : Type 0 where
   pub position : ℕ
   pub flags : Flags
   pub payload : List ℕ
 
--- a frame that a poll comes to: the position behind it, and the fragment that it gives; a pad gives none
+-- a frame that a poll comes to: the position after it, and the fragment that it gives; a pad gives none
 pub record Polled : Type 0 where
   pub end : ℕ
   pub fragment : Option Fetched
@@ -24,7 +24,7 @@ count_of (Some f) = 1
 abbrev pub counted : Polled → ℕ
 counted frame = count_of frame.fragment
 
--- the frames that are passed, one behind the other until so many fragments were given; none behind the last of them
+-- the frames that are passed, one after another until so many fragments were given; none after the last of them
 abbrev pub passed : ℕ → List Polled → List Polled
 passed limit [] = []
 passed limit (f ∷ fs) = if limit == 0 then [] else f ∷ passed (limit - counted f) fs
@@ -38,7 +38,7 @@ abbrev pub fragments_of : List Polled → List Fetched
 fragments_of [] = []
 fragments_of (f ∷ fs) = with_fragment f.fragment (fragments_of fs)
 
--- the position behind frames, the first of which begins at p
+-- the position after frames, the first of which begins at p
 abbrev pub behind : ℕ → List Polled → ℕ
 behind p [] = p
 behind p (f ∷ fs) = behind f.end fs

@@ -46,7 +46,7 @@ fn head_of(fragment: &Fragment<'_>) -> [u8; HEAD]
     head
 }
 
-/// Writes a fragment behind what is written.
+/// Writes a fragment after what is written.
 fn put(bytes: &mut Vec<u8>, fragment: &Fragment<'_>) -> Result<(), AllocError>
     ensures fits { OnOk result (Fits (fetched_of fragment.now)) }
     ensures ok { OnOk result (bytes.new.items ≡ bytes.old.items ++ written_one (fetched_of fragment.now)) }
@@ -78,7 +78,7 @@ impl FragmentCopies {
         })
     }
 
-    /// Puts a copy of a fragment behind the others. It takes memory where the room was too small.
+    /// Puts a copy of a fragment after the others. It takes memory where the room was too small.
     ///
     /// # Errors
     /// Nothing is changed where there is no memory.
@@ -149,7 +149,7 @@ impl<'a> Model for CopiedFragments<'a> {
     ghost invariant = { λ fragments. AreWritten fragments.rest.now };
 }
 
-/// The fragment at the front of written bytes, and the bytes behind it.
+/// The fragment at the front of written bytes, and the bytes after it.
 fn first(bytes: &[u8]) -> (Fragment<'_>, &[u8])
     requires head { 17 ≤ length bytes.now }
     requires payload { 17 + little_number 8 (drop 9 bytes.now) ≤ length bytes.now }

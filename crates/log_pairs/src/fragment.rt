@@ -3,7 +3,7 @@ use frame_codec::Flags;
 /// A fragment of a message that a poll gives, whose bytes the log lends.
 #[derive(Clone, Copy, Debug)]
 pub struct Fragment<'a> {
-    /// The position behind its frame.
+    /// The position after its frame.
     pub position: u64,
     /// The flags of its frame.
     pub flags: Flags,
@@ -13,7 +13,7 @@ pub struct Fragment<'a> {
 /// A frame that a poll comes to.
 #[derive(Drop)]
 pub struct PolledFrame<T> {
-    /// The position behind it.
+    /// The position after it.
     pub end: u64,
     /// The fragment that it gives; a pad gives none.
     pub fragment: Option<T>,

@@ -7,9 +7,8 @@ ghost use Rattle.log_pairs.specs.Polling.{Fetched, Polled, behind, fragments_of,
 use crate::copies::FragmentCopies;
 use crate::fragment::PolledFrame;
 use std::alloc::{AllocError, Global};
-use std::marker::Model;
 
-/// Where the frames of a log are read from a position on, one behind the other.
+/// Where the frames of a log are read from a position on, one after another.
 pub trait PolledFrames: Drop {
     /// A fragment of a message, whose bytes the log lends.
     type Fragment: Drop;
@@ -23,31 +22,12 @@ pub trait PolledFrames: Drop {
     fn next_frame(&mut self) -> Option<PolledFrame<Self::Fragment>>
         ensures { YieldsFirstBy (polled_by fetched) frames self.old result self.new };
 
-    /// Puts a copy of a fragment behind others.
+    /// Puts a copy of a fragment after others.
     fn copy(fragment: &Self::Fragment, copies: &mut FragmentCopies) -> Result<(), AllocError>
         ensures { OnOk result (copies.new ≡ copies.old ++ fetched fragment.now ∷ []) };
 }
 
-/// The position behind the frames that a poll passes, the first of which begins at `position`.
-pub fn behind_passed<F: PolledFrames>(frames: F, position: u64, limit: usize) -> u64
-    ensures { result ≡ behind position (passed limit (F.frames frames)) }
-{
-    let mut frames = frames;
-    let mut end = position;
-    let mut limit = limit;
-    while let Some(frame) = frames.next_frame() {
-        if limit == 0 {
-            return end;
-        }
-        end = frame.end;
-        if frame.fragment.is_some() {
-            limit -= 1;
-        }
-    }
-    end
-}
-
-/// Copies of the fragments that a poll gives, and the position behind the frames that it passes, the first of which begins at
+/// Copies of the fragments that a poll gives, and the position after the frames that it passes, the first of which begins at
 /// `position`. `room` is taken for the copies at once, in bytes.
 ///
 /// # Errors
@@ -77,53 +57,4 @@ pub fn copy_passed<F: PolledFrames>(
         }
     }
     Ok((copies, end))
-}
-
-/// The fragments that a poll gives, in order.
-#[derive(Drop)]
-pub struct Fragments<F: PolledFrames> {
-    frames: F,
-    /// How many fragments are given at most.
-    limit: usize,
-}
-
-impl<F: PolledFrames> Model for Fragments<F> {
-    ghost use Rattle.std.specs.Prelude.{List};
-    ghost use Rattle.log_pairs.specs.Polling.{Fetched, fragments_of, passed};
-
-    ghost Value = { List Fetched };
-
-    ghost view = { λ f. fragments_of (passed f.limit (F.frames f.frames)) };
-}
-
-impl<F: PolledFrames> Fragments<F> {
-    /// Those of the frames, so many at most.
-    pub fn new(frames: F, limit: usize) -> Fragments<F>
-        ensures { result ≡ fragments_of (passed limit (F.frames frames)) }
-    {
-        Fragments { frames, limit }
-    }
-}
-
-impl<F: PolledFrames> Iterator for Fragments<F> {
-    ghost use Rattle.std.specs.Iterator.{YieldsFirstBy, item_count};
-
-    type Item = F::Fragment;
-
-    ghost next_gives = { YieldsFirstBy F.fetched (λ rest. rest) };
-
-    ghost remaining = { item_count (λ rest. rest) };
-
-    fn next(&mut self) -> Option<F::Fragment> {
-        if self.limit == 0 {
-            return None;
-        }
-        while let Some(frame) = self.frames.next_frame() {
-            if let Some(fragment) = frame.fragment {
-                self.limit -= 1;
-                return Some(fragment);
-            }
-        }
-        None
-    }
 }

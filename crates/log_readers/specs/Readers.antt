@@ -18,7 +18,7 @@ readers_at clients policy epoch subscriptions log =
 unfoldable pub all_readers : Streams → List Client → Rules → ℕ → List (List ℕ)
 all_readers s clients policy epoch = map (readers_at clients policy epoch s.subscriptions) s.sources
 
--- the subscription's number stands behind those of the log, where it fits
+-- the subscription's number stands after those of the log, where it fits
 abbrev pub noted_at : Subscription → Source → List ℕ → List ℕ
 noted_at subscription log numbers =
     if fits log subscription then numbers ++ subscription.number ∷ [] else numbers

@@ -11,7 +11,7 @@ use policy_core::Policy;
 use std::alloc::{AllocError, Global};
 use stream_registry::{Pair, Source, Streams, Subscription, Wish, fits, is_allowed, reads};
 
-/// Puts the pairs of the subscription with the logs that it fits behind the others.
+/// Puts the pairs of the subscription with the logs that it fits after the others.
 fn push_fitting(pairs: &mut Items<Pair>, logs: &[Source], wish: &Wish<'_>) -> Result<(), AllocError>
     ensures { OnOk result (pairs.new ≡ pairs.old ++ map (pair_with (row_of wish.now)) (filter (λ log. fits log (row_of wish.now)) logs.now)) }
 {
@@ -60,7 +60,7 @@ pub fn pairs_of_subscription(
 }
 
 /// How many pairs a subscription has, or would have: those of [`pairs_of_subscription`]. It takes no memory.
-pub fn logs_read(
+pub(crate) fn logs_read(
     streams: &Streams,
     clients: &Clients,
     policy: &Policy,
@@ -74,28 +74,6 @@ pub fn logs_read(
         return 0;
     }
     fitting(streams.sources(), wish)
-}
-
-/// Puts the pairs of the log with these subscriptions behind the others.
-fn push_readers(
-    pairs: &mut Items<Pair>,
-    clients: &Clients,
-    policy: &Policy,
-    epoch: u64,
-    subscriptions: &[Subscription],
-    log: &Source,
-) -> Result<(), AllocError>
-    ensures { OnOk result (pairs.new ≡ pairs.old ++ pairs_at clients.now.rows policy.now epoch subscriptions.now log.now) }
-{
-    for subscription in subscriptions {
-        if reads(clients, policy, epoch, log, &subscription.wish()) {
-            pairs.push(Pair {
-                source: log.number,
-                subscription: subscription.number,
-            })?;
-        }
-    }
-    Ok(())
 }
 
 /// How many of the subscriptions read the log.
@@ -118,31 +96,8 @@ fn readers_among(
     readers
 }
 
-/// The pairs that a log has, or would have, by subscription.
-pub fn pairs_of_log(
-    alloc: Global,
-    streams: &Streams,
-    clients: &Clients,
-    policy: &Policy,
-    epoch: u64,
-    log: &Source,
-) -> Result<Items<Pair>, AllocError>
-    ensures { IfOk result (λ pairs. pairs ≡ pairs_at clients.now.rows policy.now epoch streams.now.subscriptions log.now) }
-{
-    let mut pairs = Items::new(alloc);
-    push_readers(
-        &mut pairs,
-        clients,
-        policy,
-        epoch,
-        streams.subscriptions(),
-        log,
-    )?;
-    Ok(pairs)
-}
-
-/// How many pairs a log has, or would have: those of [`pairs_of_log`]. It takes no memory.
-pub fn readers_of(
+/// How many pairs a log has, or would have. It takes no memory.
+pub(crate) fn readers_of(
     streams: &Streams,
     clients: &Clients,
     policy: &Policy,

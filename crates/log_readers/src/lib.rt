@@ -2,8 +2,8 @@
 //!
 //! [`Readers`] has a row of numbers for each log, in room that is there from the beginning. Each of its calls follows one
 //! call on the lists: where the readers were those of the lists before it, they are those of the lists after it. So an
-//! event asks the policy about its own rows alone. [`Readers::unread`] and [`Readers::closed`] tell of the images that no
-//! subscription reads, now or behind an event.
+//! event asks the policy about its own rows alone. [`Readers::unread`] and [`Readers::closed`] say which images no
+//! subscription reads, now or after an event.
 #![tactic(auto)]
 
 mod closing;
@@ -19,7 +19,7 @@ mod subscribing;
 mod telling;
 mod unread;
 
-pub use coming::{logs_read, pairs_of_log, pairs_of_subscription, readers_of};
+pub use coming::pairs_of_subscription;
 pub use counting::pair_count;
 pub use readers::Readers;
 pub use reloading::Turnover;

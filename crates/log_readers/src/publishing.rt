@@ -29,7 +29,7 @@ fn ask_at(
 }
 
 impl Readers {
-    /// A log comes behind the others, as many as `logs`.
+    /// A log comes after the others, as many as `logs`.
     pub(crate) fn add_log(
         &mut self,
         clients: &Clients,

@@ -66,7 +66,7 @@ fn empty_used(slots: &mut Vec<Rows<u64, 512>>, logs: usize)
     empty_all(used);
 }
 
-/// Puts the subscription's number behind those of the log, where it fits.
+/// Puts the subscription's number after those of the log, where it fits.
 fn note_at(numbers: &mut Rows<u64, 512>, log: &Source, wish: &Wish<'_>)
     requires { length numbers.old < 512 }
     ensures { numbers.new ≡ noted_at (row_of wish.now) log.now numbers.old }
@@ -76,7 +76,7 @@ fn note_at(numbers: &mut Rows<u64, 512>, log: &Source, wish: &Wish<'_>)
     }
 }
 
-/// Puts the subscription's number behind those of the logs that it fits.
+/// Puts the subscription's number after those of the logs that it fits.
 fn note_all(slots: &mut [Rows<u64, 512>], logs: &[Source], wish: &Wish<'_>)
     requires same { length slots.old ≡ length logs.now }
     requires room { All (λ numbers. length numbers < 512) slots.old }
@@ -87,7 +87,7 @@ fn note_all(slots: &mut [Rows<u64, 512>], logs: &[Source], wish: &Wish<'_>)
     }
 }
 
-/// Puts the subscription's number behind those of the logs that it fits; there may be further slots.
+/// Puts the subscription's number after those of the logs that it fits; there may be further slots.
 fn note_used(slots: &mut Vec<Rows<u64, 512>>, logs: &[Source], wish: &Wish<'_>)
     requires slots { length logs.now ≤ length slots.old.items }
     requires room { All (λ numbers. length numbers < 512) (take (length logs.now) slots.old.items) }

@@ -41,7 +41,7 @@ fn verdicts(
     Ok(allowed)
 }
 
-/// Puts the pair behind those that go, where it was there and is no more, and behind those that come, where it was not.
+/// Puts the pair after those that go, where it was there and is no more, and after those that come, where it was not.
 fn push_turned(
     turnover: &mut Turnover,
     pair: Pair,
@@ -60,7 +60,7 @@ fn push_turned(
     Ok(())
 }
 
-/// Puts the pairs of a log that go and come behind the others. The log had these readers.
+/// Puts the pairs of a log that go and come after the others. The log had these readers.
 fn push_turned_at(
     turnover: &mut Turnover,
     subscriptions: &[Subscription],
@@ -85,7 +85,7 @@ fn push_turned_at(
     Ok(())
 }
 
-/// Puts the pairs of these logs that go and come behind the others. The logs had these readers.
+/// Puts the pairs of these logs that go and come after the others. The logs had these readers.
 fn push_turned_over(
     turnover: &mut Turnover,
     subscriptions: &[Subscription],

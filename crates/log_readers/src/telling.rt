@@ -66,20 +66,6 @@ fn is_of_closing(closes: &[LogPlace], pair: Pair) -> bool
     closes.iter().any(|closed| closed.source == pair.source)
 }
 
-/// Keeps the pairs of these logs.
-#[derive(Clone, Copy)]
-struct OfClosing<'a> {
-    closes: &'a [LogPlace],
-}
-
-impl Test<Pair> for OfClosing<'_> {
-    ghost keeps = { λ test pair. is_of_closing test.closes.now pair };
-
-    fn keeps(&self, pair: &Pair) -> bool {
-        is_of_closing(self.closes, *pair)
-    }
-}
-
 /// Whether the subscription is one of these clients'.
 fn is_of_one(subscription: &Subscription, clients: &[u64]) -> bool
     ensures { result ≡ list_any (λ client. subscription.now.client == client) clients.now }
@@ -119,7 +105,7 @@ impl Test<Pair> for Going<'_> {
     }
 }
 
-/// Puts the pairs of this log that pass the test behind the others.
+/// Puts the pairs of this log that pass the test after the others.
 fn push_row<S: Test<Pair>>(
     pairs: &mut Items<Pair>,
     source: u64,
@@ -140,7 +126,7 @@ fn push_row<S: Test<Pair>>(
     Ok(())
 }
 
-/// Puts the pairs of these logs that pass the test behind the others.
+/// Puts the pairs of these logs that pass the test after the others.
 fn push_rows<S: Test<Pair>>(
     pairs: &mut Items<Pair>,
     logs: &[Source],
@@ -156,7 +142,7 @@ fn push_rows<S: Test<Pair>>(
     Ok(())
 }
 
-/// Puts the pair of the subscription with this log behind the others. Where they don't fit, its number is not looked for.
+/// Puts the pair of the subscription with this log after the others. Where they don't fit, its number is not looked for.
 fn push_fitting(
     pairs: &mut Items<Pair>,
     log: &Source,
@@ -174,7 +160,7 @@ fn push_fitting(
     Ok(())
 }
 
-/// Puts the pairs of the subscription with these logs behind the others.
+/// Puts the pairs of the subscription with these logs after the others.
 fn push_all_fitting(
     pairs: &mut Items<Pair>,
     logs: &[Source],
@@ -247,19 +233,6 @@ impl Readers {
         ensures { (clients : List Client) (policy : Rules) (epoch : ℕ) → self.now ≡ all_readers streams.now clients policy epoch → IfOk result (λ pairs. pairs ≡ filter (is_of_client streams.now client) (pairs_of streams.now clients policy epoch)) }
     {
         self.pairs_that(alloc, streams.sources(), &OfClient { streams, client })
-    }
-
-    /// The pairs of the logs that close, by source and then subscription.
-    pub fn pairs_of_closing(
-        &self,
-        alloc: Global,
-        streams: &Streams,
-        closes: &[LogPlace],
-    ) -> Result<Items<Pair>, AllocError>
-        requires { length self.now ≡ length streams.now.sources }
-        ensures { (clients : List Client) (policy : Rules) (epoch : ℕ) → self.now ≡ all_readers streams.now clients policy epoch → IfOk result (λ pairs. pairs ≡ filter (is_of_closing closes.now) (pairs_of streams.now clients policy epoch)) }
-    {
-        self.pairs_that(alloc, streams.sources(), &OfClosing { closes })
     }
 
     /// The pairs that go where these clients and these logs go, by source and then subscription.

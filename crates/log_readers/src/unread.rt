@@ -119,7 +119,7 @@ fn is_closed(
         || (!log.is_published() && !(has_staying(log.number, numbers, gone) || has_pair(come, log)))
 }
 
-/// Puts the places of the logs that close behind the others.
+/// Puts the places of the logs that close after the others.
 fn push_closed(
     places: &mut Items<LogPlace>,
     closes: &[LogPlace],
@@ -168,8 +168,8 @@ impl Readers {
         Ok(places)
     }
 
-    /// Whether a subscription reads each image: whether [`Readers::unread`] tells none. It takes no memory, nor has it room for
-    /// their numbers.
+    /// Whether a subscription reads each image: whether [`Readers::unread`] has none. It takes no memory, nor has it room
+    /// for their numbers.
     pub fn are_all_read(&self, streams: &Streams) -> bool
         requires { length self.now ≡ length streams.now.sources }
         ensures { (clients : List Client) (policy : Rules) (epoch low last : ℕ) → Rises source_of low last streams.now.sources → self.now ≡ all_readers streams.now clients policy epoch → result ≡ has_none (unread_of streams.now (pairs_of streams.now clients policy epoch)) }

@@ -1,4 +1,4 @@
--- What is counted: each message that a log took, once; and what lies behind the lock of a slot with its share of the ledger.
+-- What is counted: each message that a log took, once; and what the lock of a slot guards, with its share of the ledger.
 -- Own rules.
 use Rattle.std.specs.Prelude.{◌≡◌, ℕ, ◌+◌, ◌⊎◌, Bool, true, None, if◌then◌else◌}
 use Rattle.driver_steps.specs.declared.answer.Answer.{Answer}

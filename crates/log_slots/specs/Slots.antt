@@ -1,4 +1,4 @@
--- What lies behind the lock of a slot for logs, and what a step makes of it. Own rules.
+-- What the lock of a slot for logs guards, and what a step makes of it. Own rules.
 use Rattle.std.specs.Prelude.{◌≡◌, ℕ, ℤ, ◌==◌, ◌&&◌, Bool, true, false, List, [], ◌∷◌, Option, Some, None, if◌then◌else◌}
 use Rattle.std.specs.Ordering.{int_eq}
 use Rattle.any_log.specs.Held.{Made, for_publication, for_stream, is_silent_held, made_held, messages_held, place_held, reach_held, rejoined_held}

@@ -1,4 +1,4 @@
-//! What lies behind the lock of a slot for logs, and the ledgers of the messages that logs took.
+//! What the lock of a slot for logs guards, and the ledgers of the messages that logs took.
 //!
 //! A [`LogSlot`] keeps the number of the log that is there, or was there last. Each step names the log that it is for, and
 //! finds it closed where the slot has none, or another one. A [`Slot`] is one for the log of a publication, with its share

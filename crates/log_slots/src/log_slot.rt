@@ -23,7 +23,7 @@ use frame_codec::Packet;
 use std::alloc::{AllocError, Global};
 use std::marker::{Model, PhantomData};
 
-/// What lies behind the lock of a slot: a log that is open, or none, and the number, session and stream of the one that is
+/// What the lock of a slot guards: a log that is open, or none, and the number, session and stream of the one that is
 /// or was there last.
 ///
 /// The log that is open has that number, is made for that session and stream, and its lease is of the region that `N` names.

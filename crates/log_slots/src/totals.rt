@@ -110,7 +110,7 @@ impl<N: Naming> Counts<N> for Totals<N> {
     }
 }
 
-/// Totals behind a lock, which is taken only once there is a message to count.
+/// Totals under a lock, which is taken only once there is a message to count.
 #[derive(Drop)]
 pub struct Late<'a, N: Naming, R: Wait> {
     pub rt: &'a R,

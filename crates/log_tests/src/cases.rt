@@ -21,7 +21,7 @@ enum Case {
     OtherListsAreTold,
     /// The rest of a term has no room for a message.
     RestIsPadded,
-    /// A message would end behind the greatest position.
+    /// A message would end past the greatest position.
     GreatestPosition,
     /// The slowest pair limits the log; without a pair it takes nothing.
     SlowestPairLimits,

@@ -22,7 +22,7 @@ pub(crate) const STREAM: Ident = Ident {
     start: 0,
 };
 
-// The bytes of the datagram that is cut at a moment: none where nothing is due, `None` where that can't be told.
+// The bytes of the datagram that is cut at a moment: none where nothing is due, `None` where there is no answer.
 pub(crate) fn cut(log: &mut TermLog, alloc: Global, now: u64, lingers: bool) -> Option<Vec<u8>> {
     match log.ident().kind {
         LogKind::Ipc => None,

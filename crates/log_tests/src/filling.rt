@@ -59,7 +59,7 @@ fn size_of(length: u64) -> u64 {
     }
 }
 
-// Offers a message, and again behind a pad. Whether the answers were those of the plain list.
+// Offers a message, and again after a pad. Whether the answers were those of the plain list.
 fn offer(log: &mut TermLog, plain: &mut Plain, message: &[u8]) -> bool {
     let size = size_of(message.len() as u64);
     let offset = plain.tail() % 65_536;
@@ -73,7 +73,7 @@ fn offer(log: &mut TermLog, plain: &mut Plain, message: &[u8]) -> bool {
     put && log.offer(message) == Offer::At(plain.tail())
 }
 
-/// Whether these bytes of a log's lease are the last three terms of all, each in its buffer, and zeros behind the tail.
+/// Whether these bytes of a log's lease are the last three terms of all, each in its buffer, and zeros after the tail.
 pub(crate) fn is_held(bytes: &[u8], plain: &Plain) -> bool {
     let newest = plain.tail() / 65_536;
     let mut same = true;

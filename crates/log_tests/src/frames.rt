@@ -273,7 +273,7 @@ enum Written {
     Beat,
 }
 
-/// Whether these bytes are written, and none behind them.
+/// Whether these bytes are written, and none after them.
 fn is_written(written: Written, bytes: &[u8]) -> bool {
     let blank = [0xff; 65];
     let mut out = blank;
@@ -616,7 +616,7 @@ fn each_byte_changed(rt: HostRuntime) {
     assert!(rt; known & !changes_are_known(&PAD, 32, Held::Data));
 }
 
-/// Two data frames and a pad, one behind the other: `abc` at 0, nothing at 64, and the pad at 96.
+/// Two data frames and a pad, one after another: `abc` at 0, nothing at 64, and the pad at 96.
 fn run() -> [u8; 128] {
     let mut out = [0xff; 128];
     let (first, rest) = out.split_at_mut(64);
@@ -656,7 +656,7 @@ static RUN_ROWS: [Row; 3] = [
     (96, 64, Kind::Pad, 0),
 ];
 
-/// The filling of the last frame may be missing. A rest behind it is a frame, or too short.
+/// The filling of the last frame may be missing. A rest after it is a frame, or too short.
 static RUN_FRONTS: [Prefix; 6] = [
     (35, 36, Ok(Held::Data)),
     (50, 51, Ok(Held::Data)),
@@ -666,7 +666,7 @@ static RUN_FRONTS: [Prefix; 6] = [
     (96, 97, Ok(Held::Data)),
 ];
 
-/// Nothing stands behind a pad.
+/// Nothing stands after a pad.
 static PAD_FRONTS: [Prefix; 4] = [
     (32, 33, Ok(Held::Data)),
     (33, 64, Err(BadPacket::TooShort)),
@@ -742,7 +742,7 @@ fn has_faults(datagram: &[u8], from: usize, rows: &[(usize, u8, BadPacket)]) -> 
 static LATER_FAULTS: [(usize, u8, BadPacket); 12] = [
     (4, 1, BadPacket::BadVersion),
     (6, 4, BadPacket::OtherType),
-    // No heartbeat stands behind another frame.
+    // No heartbeat stands after another frame.
     (0, 0, BadPacket::BadLength),
     (0, 31, BadPacket::BadLength),
     (8, 65, BadPacket::Unaligned),
@@ -751,20 +751,20 @@ static LATER_FAULTS: [(usize, u8, BadPacket); 12] = [
     (12, 8, BadPacket::Mixed),
     (16, 8, BadPacket::Mixed),
     (20, 8, BadPacket::Mixed),
-    // A SETUP behind a frame is too long for the rest, or mixed.
+    // A SETUP after a frame is too long for the rest, or mixed.
     (6, 5, BadPacket::BadLength),
     (32 + 6, 5, BadPacket::TooShort),
     (32 + 6, 2, BadPacket::BadLength),
 ];
 
-/// Of a SETUP behind a data frame; its own faults come before `Mixed`.
+/// Of a SETUP after a data frame; its own faults come before `Mixed`.
 static SETUP_FAULTS: [(usize, u8, BadPacket); 3] = [
     (0, 40, BadPacket::Mixed),
     (8, 1, BadPacket::Unaligned),
     (0, 39, BadPacket::BadLength),
 ];
 
-/// A data frame of `abc`, and the SETUP behind it.
+/// A data frame of `abc`, and the SETUP after it.
 fn setup_behind() -> [u8; 104] {
     let mut bytes = [0xff; 104];
     write_data(&mut bytes, Flags::UNFRAGMENTED, &at(0), b"abc");
@@ -792,7 +792,7 @@ fn faults_of_later_frames(rt: HostRuntime) {
     assert!(rt; found & !has_other_faults(&run()));
 }
 
-/// A pad of 32 bytes, and a data frame behind it.
+/// A pad of 32 bytes, and a data frame after it.
 fn pad_and_data() -> [u8; 96] {
     let mut out = [0xff; 96];
     let (pad, data) = out.split_at_mut(32);
@@ -801,7 +801,7 @@ fn pad_and_data() -> [u8; 96] {
     out
 }
 
-/// A status message of 40 bytes is read by its first 36; bytes behind a NAK are not looked at.
+/// A status message of 40 bytes is read by its first 36; bytes after a NAK are not looked at.
 #[test]
 fn longer_frames(rt: HostRuntime) {
     let mut status = [0xff; 40];

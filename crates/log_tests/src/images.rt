@@ -1,6 +1,6 @@
 ghost use Rattle.std.specs.Prelude.{◌≡◌, [], IfOk};
 
-use crate::image_reading::{fill, gives, join, polls, read_to, reads};
+use crate::image_reading::{fill, gives, is_start, join, polls, read_to, reads};
 use crate::receiving::{beat_is_heard, is_answered_in_time};
 use crate::shuffling::{agree, go_on, hand_in, hand_in_cell, open, open_later};
 use crate::table::{Cell, Table};
@@ -53,13 +53,13 @@ enum Step {
     Rejoin(&'static [u64]),
     /// From a position on, within so many bytes, so many frames are read, up to an end.
     Reads(u64, usize, u64, u64),
-    /// A subscription may stand there.
+    /// A frame that is whole begins there, or what is whole ends there.
     IsStart(u64),
-    /// A poll of a subscription for so many fragments would give those that end there.
-    Gives(u64, usize, &'static [u64]),
-    /// It gives them, and leaves the subscription at a position.
+    /// A poll of a subscription for so many fragments gives those that end there, and is not taken for one that gives any of
+    /// the others.
+    Gives(u64, usize, &'static [u64], &'static [&'static [u64]]),
+    /// It gives those that end there, and leaves the subscription at a position.
     Polls(u64, usize, &'static [u64], u64),
-    Polled(u64, usize),
     Heard(u64),
     IsSilent(u64, u64),
     Beat(u64),
@@ -103,7 +103,7 @@ fn gives_back(log: ImageLog, at: usize) -> bool {
     is_one_frame(lease.bytes(), at)
 }
 
-// Bytes that are no frame of the stream, or not at their header's position, are told.
+// Bytes that are no frame of the stream, or not at their header's position, are noticed.
 fn frames_of_others_are_told() -> bool {
     let mut frame = [0; 35];
     frame[0] = 35;
@@ -126,7 +126,7 @@ fn other_table_agrees(alloc: Global, log: &mut ImageLog) -> bool {
     match Table::new(alloc, 16_384) {
         Ok(mut table) => {
             table.insert(64, Cell::Short);
-            let same = go_on(log, &mut table, 100);
+            let same = go_on(alloc, log, &mut table, 100);
             drop(table);
             same
         }
@@ -163,8 +163,7 @@ fn holds(log: &ImageLog, step: Step) -> bool {
         Step::GapIs(gap) => log.gap() == gap,
         Step::WindowIs(window) => log.window() == window,
         Step::Reads(position, bytes, count, end) => reads(log, position, bytes, count, end),
-        Step::IsStart(position) => log.is_start(position),
-        Step::Gives(subscription, limit, ends) => gives(log, subscription, limit, ends),
+        Step::IsStart(position) => is_start(log, position),
         Step::IsSilent(now, limit) => log.silent(now, limit),
         Step::StatusIsDue(now, interval) => log.status_due(now, interval),
         _ => false,
@@ -178,19 +177,18 @@ fn goes(alloc: Global, log: &mut ImageLog, step: Step) -> bool {
         Step::Takes(position, cell) => {
             hand_in_cell(log, position, cell, false) == Some(Insert::Taken)
         }
-        Step::Fills(subscription, end, count) => fill(log, subscription, end, count),
-        Step::ReadsTo(subscription, position) => read_to(log, subscription, position),
+        Step::Fills(subscription, end, count) => fill(alloc, log, subscription, end, count),
+        Step::ReadsTo(subscription, position) => read_to(alloc, log, subscription, position),
         Step::Leaves(subscription) => {
             log.leave_pair(subscription);
             true
         }
         Step::Rejoin(subscriptions) => rejoins(log, subscriptions),
         Step::Polls(subscription, limit, ends, behind) => {
-            polls(log, subscription, limit, ends, behind)
+            polls(alloc, log, subscription, limit, ends, behind)
         }
-        Step::Polled(subscription, limit) => {
-            log.poll(subscription, limit);
-            true
+        Step::Gives(subscription, limit, ends, others) => {
+            gives(alloc, log, subscription, limit, ends, others)
         }
         Step::Heard(now) => {
             log.heard(now);
@@ -261,7 +259,7 @@ const FALLS_SILENT: [(Step, bool); 6] = [
 ];
 
 // What is whole is read frame by frame: up to the contiguous position or the end of a term, within so many bytes, and
-// nothing behind a pad, which takes 32 of them.
+// nothing after a pad, which takes 32 of them.
 const WHOLE_IS_READ: [(Step, bool); 17] = [
     (Step::Takes(0, Cell::Long(1)), true),
     (Step::Takes(64, Cell::Long(1)), true),
@@ -301,7 +299,7 @@ const NAMED_READ_ON: [(Step, bool); 15] = [
     (Step::StandsAt(4, Some(128)), true),
 ];
 
-// A poll is given as many fragments as it asks for of what is whole. A pad does not count, and one behind the last
+// A poll is given as many fragments as it asks for of what is whole. A pad does not count, and one after the last
 // fragment is left.
 const POLLS_GIVE_WHOLE: [(Step, bool); 20] = [
     (Step::Takes(0, Cell::Long(7)), true),
@@ -336,21 +334,17 @@ const POLLS_GO_OVER: [(Step, bool); 5] = [
 ];
 
 // A poll of a subscription that does not read the log gives nothing, and leaves the others where they are.
-const OTHERS_ARE_NOT_POLLED: [(Step, bool); 14] = [
+const OTHERS_ARE_NOT_POLLED: [(Step, bool); 10] = [
     (Step::Takes(0, Cell::Long(7)), true),
     (Step::Takes(64, Cell::Long(7)), true),
     (Step::Takes(128, Cell::Pad), true),
     (Step::Takes(192, Cell::Long(7)), true),
     (Step::Takes(320, Cell::Long(7)), true),
-    (Step::Gives(2, 5, &[]), true),
-    (Step::Polled(2, 5), true),
+    (Step::Gives(2, 5, &[], &[]), true),
     (Step::StandsAt(1, Some(0)), true),
     (Step::StandsAt(2, None), true),
-    (Step::Gives(1, 1, &[]), false),
-    (Step::Gives(1, 1, &[96]), false),
-    (Step::Gives(1, 1, &[64, 96]), false),
-    (Step::Gives(1, 1, &[64]), true),
-    (Step::Polls(1, 1, &[64], 96), false),
+    (Step::Gives(1, 1, &[64], &[&[], &[96], &[64, 96]]), true),
+    (Step::Polls(1, 1, &[128], 96), false),
 ];
 
 // A status message is due where none was sent yet, past the interval, and where the base moved by a quarter of the
@@ -374,7 +368,7 @@ const NAK_AND_STATUS_TIMING: [(Step, bool); 1] = [(Step::AnswersInTime, true)];
 
 const BEAT_IS_HEARD: [(Step, bool); 1] = [(Step::HearsBeat, true)];
 
-// Other answers are told. What is filled is one frame too few, and then has another reader.
+// Other answers are noticed. What is filled is one frame too few, and then has another reader.
 const OTHER_ANSWERS: [(Step, bool); 10] = [
     (Step::Inserts(0, 1, Insert::Taken), true),
     (Step::Inserts(0, 1, Insert::Overlap), false),
@@ -411,7 +405,7 @@ const LATER_LOG: [(Step, bool); 2] = [
     (Step::Inserts(64, 7, Insert::Taken), true),
 ];
 
-// The gap without a frame behind it goes to the greatest position heard of, but within the window.
+// The gap without a frame after it goes to the greatest position heard of, but within the window.
 const GAP_GOES_ON: [(Step, bool); 8] = [
     (Step::Inserts(0, 1, Insert::Below), true),
     (Step::GapIs(None), true),

@@ -24,7 +24,7 @@ impl Journal {
         Journal { lease, written: 0 }
     }
 
-    /// Writes `text` behind what was written. Whether there was room; else nothing is written.
+    /// Writes `text` after what was written. Whether there was room; else nothing is written.
     pub(crate) fn append(&mut self, text: &[u8]) -> bool
         ensures written { result ≡ true → self.new.written ≡ self.old.written + length text.now }
         ensures bytes { result ≡ true → lease_bytes self.new.lease

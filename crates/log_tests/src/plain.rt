@@ -40,7 +40,7 @@ impl Plain {
         }
     }
 
-    /// The position behind the last frame.
+    /// The position after the last frame.
     pub(crate) fn tail(&self) -> u64 {
         self.bytes.len() as u64
     }

@@ -46,7 +46,7 @@ pub(crate) fn is_answered_in_time(log: &mut ImageLog) -> bool {
     late && ticks(&mut receiver, log)
 }
 
-/// Whether a heartbeat tells of the gap in front of it, and when it came.
+/// Whether a heartbeat reports the gap in front of it, and when it came.
 pub(crate) fn beat_is_heard(log: &mut ImageLog) -> bool {
     let place = TermPlace {
         session_id: 9,

@@ -73,7 +73,7 @@ const THIRD_OF_THREE: [u8; 32] = [
     0, 0, 0,
 ];
 
-/// The frame with `x` that begins at offset 65,408, and behind it the header of a pad of 64 positions.
+/// The frame with `x` that begins at offset 65,408, and after it the header of a pad of 64 positions.
 const TERM_END: [u8; 96] = [
     33, 0, 0, 0, 0, 0xC0, 1, 0, 0x80, 0xFF, 0, 0, 1, 0, 0, 0, 10, 0, 0, 0, 0, 0, 0, 0, 0, 0, 0, 0,
     0, 0, 0, 0, b'x', 0, 0, 0, 0, 0, 0, 0, 0, 0, 0, 0, 0, 0, 0, 0, 0, 0, 0, 0, 0, 0, 0, 0, 0, 0, 0,
@@ -141,18 +141,15 @@ fn is_frame(bytes: &[u8], frame: Frame) -> bool {
 }
 
 // Whether the next datagram has these two frames; none where all were given.
-fn gives(datagrams: &mut Datagrams<'_>, first: Frame, second: Frame) -> bool {
-    let mut out = [0xAA; 1408];
-    if datagrams.mtu() > out.len() {
-        return false;
-    }
-    match datagrams.next_into(&mut out) {
-        Some(size) => {
-            let bytes = &out[..size.min(1408)];
+fn gives(datagrams: &mut Datagrams<'_>, alloc: Global, first: Frame, second: Frame) -> bool {
+    match datagrams.next_copy(alloc) {
+        Ok(Some(copy)) => {
+            let bytes = copy.as_slice();
             let (front, rest) = bytes.split_at(first.2.min(bytes.len()));
-            (size > 0) & is_frame(front, first) & is_frame(rest, second)
+            !bytes.is_empty() & is_frame(front, first) & is_frame(rest, second)
         }
-        None => first.2 == 0,
+        Ok(None) => first.2 == 0,
+        Err(_) => false,
     }
 }
 
@@ -168,7 +165,7 @@ enum Answered {
     Resent(Frame, Frame, Frame),
 }
 
-fn is_answered(answer: NakAnswer<'_>, wanted: Answered) -> bool {
+fn is_answered(answer: NakAnswer<'_>, alloc: Global, wanted: Answered) -> bool {
     match (answer, wanted) {
         (NakAnswer::Denied(decision), Answered::Denied) => {
             (decision.verdict.epoch == 1) & !decision.verdict.allow
@@ -178,9 +175,9 @@ fn is_answered(answer: NakAnswer<'_>, wanted: Answered) -> bool {
         (NakAnswer::Lingering, Answered::Lingering) => true,
         (NakAnswer::Busy, Answered::Busy) => true,
         (NakAnswer::Resent(mut datagrams), Answered::Resent(first, second, third)) => {
-            gives(&mut datagrams, first, second)
-                & gives(&mut datagrams, third, NO_FRAME)
-                & gives(&mut datagrams, NO_FRAME, NO_FRAME)
+            gives(&mut datagrams, alloc, first, second)
+                & gives(&mut datagrams, alloc, third, NO_FRAME)
+                & gives(&mut datagrams, alloc, NO_FRAME, NO_FRAME)
         }
         _ => false,
     }
@@ -261,7 +258,7 @@ fn goes(log: &mut TermLog, gate: &mut Gate, alloc: Global, step: Step) -> bool {
         Step::Sends(size) => sends(log, alloc, size),
         Step::SenderIsAt(position) => log.sender_position() == position,
         Step::Asks(now, range, allow, answer) => {
-            is_answered(ask(log, gate, now, range, allow), answer)
+            is_answered(ask(log, gate, now, range, allow), alloc, answer)
         }
         Step::OffersMany(count) => offers_many(log, count),
         Step::AsksMany(first, end) => asks_many(log, gate, first, end),

@@ -6,7 +6,7 @@ use crate::filling::follow;
 use crate::stepping::send;
 use term_log::{Offer, Status, TermLog};
 
-/// For how long a log is connected behind a status message, in nanoseconds.
+/// For how long a log is connected after a status message, in nanoseconds.
 const TIMEOUT: u64 = 5_000_000_000;
 
 /// How far SETUPs, and heartbeats, are apart, in nanoseconds.
@@ -108,7 +108,7 @@ pub(crate) static LIMITS: [(Step, bool); 17] = [
     (Step::Connected(TIMEOUT, TIMEOUT), true),
     (Step::Connected(TIMEOUT + 1, TIMEOUT), false),
     (Step::MaySend(32), true),
-    // The sender comes to stand behind its limit of 65472, by a pad, and then sends nothing.
+    // The sender comes to stand past its limit of 65472, by a pad, and then sends nothing.
     (Step::Offers(65, Offer::AdminAction), true),
     (Step::Follows, true),
     (Step::StandsAt(65_536), true),
@@ -126,7 +126,7 @@ pub(crate) static LIMITS: [(Step, bool); 17] = [
     (Step::MaySend(1408), true),
 ];
 
-// A log over UDP is connected up to the timeout behind the latest status message, and by no wish for a SETUP.
+// A log over UDP is connected up to the timeout after the latest status message, and by no wish for a SETUP.
 pub(crate) static CONNECTS: [(Step, bool); 11] = [
     (Step::Elicits, true),
     (Step::Connected(0, u64::MAX), false),

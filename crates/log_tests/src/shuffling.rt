@@ -139,23 +139,23 @@ fn lay_out(out: &mut [u8; 64], place: &TermPlace, cell: Cell) -> usize
     }
 }
 
-/// Hands in `steps` frames, and says whether each answer, and what the log tells behind it, were those of the table,
+/// Hands in `steps` frames, and says whether each answer, and what the log says after it, were those of the table,
 /// and each answer was given a good many times; nothing without memory. Subscription 1 reads the log all the while.
 pub(crate) fn agree(alloc: Global, log: &mut ImageLog, steps: u32) -> Option<bool> {
     match Table::new(alloc, 16_384) {
-        Ok(mut table) => Some(go_on(log, &mut table, steps) && table.has_seen_all()),
+        Ok(mut table) => Some(go_on(alloc, log, &mut table, steps) && table.has_seen_all()),
         Err(_) => None,
     }
 }
 
-/// Hands in `steps` frames, and says whether each answer, and what the log tells behind it, were those of the table.
+/// Hands in `steps` frames, and says whether each answer, and what the log says after it, were those of the table.
 /// Subscription 1 reads the log all the while.
-pub(crate) fn go_on(log: &mut ImageLog, table: &mut Table, steps: u32) -> bool {
+pub(crate) fn go_on(alloc: Global, log: &mut ImageLog, table: &mut Table, steps: u32) -> bool {
     let mut word: u64 = 1;
     let mut same = true;
     for _ in 0..steps {
         word = next(word);
-        same &= step(log, table, word >> 33);
+        same &= step(alloc, log, table, word >> 33);
     }
     same
 }
@@ -167,7 +167,7 @@ fn next(word: u64) -> u64 {
 }
 
 // Hands in one frame, and now and then reads what is whole.
-fn step(log: &mut ImageLog, table: &mut Table, choice: u64) -> bool {
+fn step(alloc: Global, log: &mut ImageLog, table: &mut Table, choice: u64) -> bool {
     let position = table.chosen_position(choice);
     let cell = Cell::chosen(choice / 512);
     let forged = choice / 4096 % 16 == 0;
@@ -177,11 +177,11 @@ fn step(log: &mut ImageLog, table: &mut Table, choice: u64) -> bool {
         Some(table.insert(position, cell))
     };
     let answer = hand_in_cell(log, position, cell, forged);
-    let read = choice / 65_536 % 8 > 0 || read_portion(log, table, 1);
+    let read = choice / 65_536 % 8 > 0 || read_portion(alloc, log, table, 1);
     (answer == wanted) & read & is_like(log, table)
 }
 
-// Whether the log tells what the table does.
+// Whether the log says what the table does.
 fn is_like(log: &ImageLog, table: &Table) -> bool {
     (log.contiguous() == table.contiguous) & (log.base() == table.base) & table.has_gap(log.gap())
 }

@@ -1,5 +1,5 @@
 // What a log of 64 KiB terms with one reader has to be, as a table of the positions of its stream, 32 to a cell. Nothing
-// is ever taken out of it: what is below the base's term is told by its position alone.
+// is ever taken out of it: what is below the base's term is known by its position alone.
 ghost use Rattle.std.specs.Prelude.{◌≤◌};
 
 use image_log::Insert;
@@ -103,12 +103,24 @@ impl Table {
         }
     }
 
+    /// Where the first frame begins that is no pad, from a position on that is whole; without one, where what is whole ends.
+    pub(crate) fn data_from(&self, position: u64) -> u64 {
+        let mut at = position;
+        for _ in 0..self.cells.len() {
+            if self.cell(at) != Cell::Pad {
+                return at;
+            }
+            at = at.saturating_add(64);
+        }
+        at
+    }
+
     /// Where frames are no longer taken.
     fn reach(&self) -> u64 {
         self.base.saturating_add(WINDOW)
     }
 
-    /// A position that looks random: mostly where the stream goes on, else some way before or behind that, or about the
+    /// A position that looks random: mostly where the stream goes on, else some way before or after that, or about the
     /// window's end.
     pub(crate) fn chosen_position(&self, choice: u64) -> u64 {
         let way = choice / 16 % 32 * 32;

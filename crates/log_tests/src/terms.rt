@@ -174,7 +174,7 @@ pub(crate) fn terms_are_used_again(alloc: Global, mut log: TermLog) -> bool {
     kept & keeps_list(log, &plain)
 }
 
-// A list with a frame more than the log: the first answer is told apart, and so are those up to the end of the term. Behind
+// A list with a frame more than the log: the first answer differs, and so do those up to the end of the term. After
 // its pad log and list are level, so that the last of 26 answers and those that follow are the same.
 fn tells_answers(alloc: Global, log: &mut TermLog, plain: &mut Plain) -> bool {
     let put = plain.put_message(b"");
@@ -189,7 +189,7 @@ pub(crate) fn other_answers_are_told(alloc: Global, log: &mut TermLog) -> bool {
     tells_answers(alloc, log, &mut plain)
 }
 
-// A pad at the end of a term, and two messages behind it: of 64 and of 160 positions.
+// A pad at the end of a term, and two messages after it: of 64 and of 160 positions.
 pub(crate) fn put_three(log: &mut TermLog) {
     log.offer(b"x");
     log.offer(b"x");
@@ -219,7 +219,7 @@ static BUDGETS: [(u64, usize, usize); 7] = [
     (65_760, 224, 0),
 ];
 
-// A budget ends between frames; of a pad it counts 32 bytes, and nothing is given behind one.
+// A budget ends between frames; of a pad it counts 32 bytes, and nothing is given after one.
 pub(crate) fn counts_each(log: &TermLog) -> bool {
     let mut same = true;
     for &(position, budget, count) in &BUDGETS {
@@ -256,7 +256,7 @@ static OTHER_RANGES: [(u64, u64, &[u64]); 4] = [
     (65_599, 2, &[65_600, 65_536]),
 ];
 
-// Whether each of these rows is told from what the log gives.
+// Whether each of these rows differs from what the log gives.
 fn tells_each(log: &TermLog, rows: &[(u64, u64, &[u64])]) -> bool {
     let mut told = true;
     for row in rows {

@@ -2,7 +2,7 @@
 use Rattle.std.specs.Prelude.{◌≡◌, ◌==◌, ◌&&◌, ◌||◌, ℕ, ◌-◌, Bool, true, false, not, List, [], ◌∷◌, ◌++◌}
 use Rattle.media_wire.specs.Events.{Event, calm, counted, failed}
 
--- the wire, how many calls go through before one fails, whether those behind it fail too, whether it has failed and they do not,
+-- the wire, how many calls go through before one fails, whether those after it fail too, whether it has failed and they do not,
 -- and how many failed as far as a number of 64 bits counts
 pub record Trial (W : Type 0) : Type 0 where
   pub wire : W

@@ -26,7 +26,7 @@ impl<W> Model for Faulty<W> {
 }
 
 impl<W> Faulty<W> {
-    /// `ahead` calls go through, and the one behind them fails; all that follow fail too where it `lasts`.
+    /// `ahead` calls go through, and the one after them fails; all that follow fail too where it `lasts`.
     pub fn new(wire: W, ahead: u64, lasts: bool) -> Faulty<W>
         ensures { result ≡ new_trial wire ahead lasts }
     {

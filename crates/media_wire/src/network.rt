@@ -14,7 +14,7 @@ use std::marker::Model;
 /// What becomes of a letter that is sent.
 #[derive(Clone, Copy, Debug, PartialEq, Eq)]
 pub enum Fate {
-    /// It goes behind all that are on their way.
+    /// It goes after all that are on their way.
     Arrives,
     /// It goes nowhere.
     IsLost,
@@ -85,7 +85,7 @@ impl Network {
         Network::with_fates(alloc, Vec::new(alloc))
     }
 
-    /// A network on which the first letters that are sent have these fates, in their order; those behind them arrive.
+    /// A network on which the first letters that are sent have these fates, in their order; those after them arrive.
     pub fn with_fates(alloc: Global, fates: Vec<Fate>) -> Network
         ensures { result ≡ opened fates.items }
     {

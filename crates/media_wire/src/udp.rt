@@ -26,7 +26,7 @@ struct Door {
 
 /// The sockets of the system, for datagrams of the User Datagram Protocol. One is opened for an address where it is first sent
 /// from or read at; where one can't be opened the call fails, and the next one there tries again. It is closed at the end of a
-/// turn that did not use it, and with the wire. There is room for so many at once as [`Udp::new`] is told: another one takes the
+/// turn that did not use it, and with the wire. There is room for so many at once as [`Udp::new`] is given: another one takes the
 /// place of that which was not used for the longest. After `new` no call takes memory.
 #[derive(Drop)]
 pub struct Udp<N: Net> {

@@ -10,7 +10,7 @@ pub struct WireFault;
 
 /// What datagrams are sent and read by. None of its calls waits for a datagram.
 pub trait Wire {
-    /// These are all calls of the wire so far, as far as it can be told: what each sent or read, or that it failed.
+    /// These are all calls of the wire so far, as far as is known: what each sent or read, or that it failed.
     ghost went: { Self → List Event → Type 0 };
 
     /// Sends a datagram from one address to another.
@@ -25,7 +25,7 @@ pub trait Wire {
     /// address that it came from. `None` where none is there.
     ///
     /// # Errors
-    /// Where it could not be told; the failures count one more.
+    /// Where that is not known; the failures count one more.
     fn recv(
         &mut self,
         local: &Address,
@@ -36,7 +36,7 @@ pub trait Wire {
         ensures event { (events : List Event) → went self.old events
             → went self.new (events ++ read_event local.now buffer.new result ∷ []) };
 
-    /// A turn of the caller is over, which is to be told once at the end of each. A wire that keeps sockets closes those that were
+    /// A turn of the caller is over, as the caller says once at the end of each. A wire that keeps sockets closes those that were
     /// not used since the turn before ended; others do nothing. Datagrams neither come nor go by it, and it can't fail.
     fn turn_ended(&mut self)
         ensures { (events : List Event) → went self.old events → went self.new events }

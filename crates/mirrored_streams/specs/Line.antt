@@ -1,4 +1,4 @@
--- The frames of a publication as a receiver of its stream keeps them: one behind the other, at their positions. Own rules.
+-- The frames of a publication as a receiver of its stream keeps them: one after another, at their positions. Own rules.
 use Rattle.std.specs.Prelude.{◌≡◌, ℕ, ◌+◌, ◌%◌, ◌≤◌, List, [], ◌∷◌, ◌++◌, map}
 use Rattle.frame_codec.specs.Written.{Written, part, padding, written_frame}
 use Rattle.image_log.specs.Frame.{Frame as Kept, framed, end_of}
@@ -19,12 +19,12 @@ written_as i position (pad size) = padding pad_flags (place_at i position) size
 abbrev pub kept_as : Ident → ℕ → Frame → Kept
 kept_as i position f = framed position (span f) (written_frame (written_as i position f)).bytes
 
--- frames one behind the other, the first of them at that position
+-- frames one after another, the first of them at that position
 abbrev pub line_of : Ident → ℕ → List Frame → List Kept
 line_of i position [] = []
 line_of i position (f ∷ fs) = kept_as i position f ∷ line_of i (position + span f) fs
 
--- the stream of a publication, as its SETUPs tell it
+-- the stream of a publication, as its SETUPs give it
 abbrev pub stream_of : Ident → StreamIdent
 stream_of i = record {
   session_id = i.session;
@@ -35,7 +35,7 @@ stream_of i = record {
 
 -- ---- of any line
 
--- the frames stand one behind the other from a position on, each takes 32 positions at least, and none crosses the end of a
+-- the frames stand one after another from a position on, each takes 32 positions at least, and none crosses the end of a
 -- term
 abbrev pub IsLine : ℕ → ℕ → List Kept → Type 0
 IsLine size position [] = Unit {0}
@@ -59,7 +59,7 @@ pub record IsRunTo (line : List Kept) (at : ℕ) (given : List Fetched) : Type 0
 
 -- ---- as the publication has it
 
--- what was given is what a contiguous run of these frames carries: payloads, flags, and the positions behind them; pads carry
+-- what was given is what a contiguous run of these frames carries: payloads, flags, and the positions after them; pads carry
 -- nothing
 pub record IsRunOf (i : Ident) (all : List Frame) (given : List Fetched) : Type 0 where
   pub before : List Frame

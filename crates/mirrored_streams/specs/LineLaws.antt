@@ -12,7 +12,7 @@ use Rattle.term_log.specs.Frames.{Frame}
 use Rattle.mirrored_streams.specs.Line.{IsIn, IsLine, IsRunOf, IsRunTo, line_of}
 use Rattle.mirrored_streams.specs.Mirror.{Mirrors}
 
--- whatever polls gave of such a log, a poll goes on with the frames behind it
+-- whatever polls gave of such a log, a poll goes on with the frames after it
 abbrev pub PollsGoOn : Type 0
 PollsGoOn =
     (size start : ℕ) (line : List Kept) (r : Rebuilt) (subscription limit at : ℕ) (given : List Fetched) →

@@ -32,7 +32,7 @@ pub record IsFit (i : Ident) : Type 0 where
   pub stream : FitsSigned w32 i.stream
   pub initial_term : FitsSigned w32 i.initial_term
 
--- each frame is sound where it stands, and the sender stands where one begins or behind the last
+-- each frame is sound where it stands, and the sender stands where one begins or after the last
 pub record IsWell (w : Whole) : Type 0 where
   pub run : IsRun w.ident w.ident.start w.frames
   pub high : tail_of w ≤ greatest_position w.ident
@@ -88,7 +88,7 @@ abbrev pub ResendsAreOfTheLog : Type 0
 ResendsAreOfTheLog =
     (w : Whole) (nak : Nak) → IsFit w.ident → IsWell w → All (IsDatagramOf w.ident (all_of w)) (resent_of w nak)
 
--- of what receivers tell, neither frames nor a SETUP are read
+-- of what receivers report, neither frames nor a SETUP are read
 pub record IsQuiet (bytes : List ℕ) : Type 0 where
   pub frames : (sent : List Sent) → packet_of bytes ≡ Ok (contents.frames sent) → ⊥
   pub setup : (fields : Setup) → packet_of bytes ≡ Ok (contents.setup fields) → ⊥

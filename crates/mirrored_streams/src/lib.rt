@@ -5,7 +5,7 @@
 ghost use Rattle.mirrored_streams.specs.LineLaws.{LinesAreRuns, MirrorsAreKept, PollsGoOn};
 ghost use Rattle.mirrored_streams.specs.Sending.{DatagramsAreOfTheLog, ReportsAreQuiet, ResendsAreOfTheLog, WholesStayWell};
 
-/// A poll of a log whose frames are a publication's goes on with the frames behind those that were passed before.
+/// A poll of a log whose frames are a publication's goes on with the frames after those that were passed before.
 pub fn polls_go_on()
     ensures { PollsGoOn }
 {}
@@ -30,7 +30,7 @@ pub fn resends_are_of_the_log()
     ensures { ResendsAreOfTheLog }
 {}
 
-/// Of what a receiver tells a publisher, neither frames nor a SETUP are read.
+/// Of what a receiver reports to a publisher, neither frames nor a SETUP are read.
 pub fn reports_are_quiet()
     ensures { ReportsAreQuiet }
 {}

@@ -4,7 +4,7 @@ use audit_ring::{Audit, NoMemory};
 use policy_core::{Act, Decision, Verdict};
 use std::alloc::Global;
 
-/// A decision that is told from the others by its subject.
+/// A decision that differs from the others by its subject.
 fn decision(subject: u64) -> Decision {
     Decision {
         principal: 7,

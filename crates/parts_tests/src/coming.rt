@@ -2,11 +2,11 @@
 
 use crate::reader_play::{Play, pair, wanted};
 use channel_uri::Channel;
-use log_readers::{logs_read, pairs_of_log, pairs_of_subscription, readers_of};
+use log_readers::pairs_of_subscription;
 use std::alloc::Global;
-use stream_registry::{Pair, Wish};
+use stream_registry::{Pair, Wanted, Wish};
 
-/// Whether a subscription of this client would have these pairs.
+/// Whether a subscription of this client would have these pairs, where there are no others.
 fn would_read(alloc: Global, play: &Play, client: u64, pairs: &[Pair]) -> bool {
     let channel = Channel::ipc();
     let wish = Wish {
@@ -15,7 +15,9 @@ fn would_read(alloc: Global, play: &Play, client: u64, pairs: &[Pair]) -> bool {
         channel: &channel,
         stream: 10,
     };
-    let count = logs_read(&play.streams, &play.clients, &play.policy, 1, &wish);
+    let count = play
+        .readers
+        .pair_count_with_subscription(&play.streams, &play.clients, &play.policy, 1, &wish);
     match pairs_of_subscription(alloc, &play.streams, &play.clients, &play.policy, 1, &wish) {
         Ok(found) => {
             let same = found.as_slice() == pairs;
@@ -34,17 +36,30 @@ pub(crate) fn subscriptions_would_read(alloc: Global, play: &mut Play) -> bool {
         & would_read(alloc, play, 2, &[])
 }
 
-/// Whether a log would have these pairs.
-fn would_be_read(alloc: Global, play: &Play, pairs: &[Pair]) -> bool {
-    let log = play.streams.log(9, &wanted(), 0, 7);
-    let count = readers_of(&play.streams, &play.clients, &play.policy, 1, &log);
-    match pairs_of_log(alloc, &play.streams, &play.clients, &play.policy, 1, &log) {
-        Ok(found) => (found.as_slice() == pairs) & (count == pairs.len()),
-        Err(_) => false,
-    }
+/// Whether there would be so many pairs with that publication, of number 9.
+fn would_be_read(play: &Play, wanted: &Wanted, count: usize) -> bool {
+    let Ok(adding) = play.streams.adding(wanted) else {
+        return false;
+    };
+    let counted = play.readers.pair_count_with_publication(
+        &play.streams,
+        &play.clients,
+        &play.policy,
+        1,
+        9,
+        1,
+        wanted,
+        0,
+        adding,
+    );
+    counted == count
 }
 
-/// Whether a log would have these pairs beside two subscriptions.
+/// Whether a log beside two subscriptions has these pairs, as many as are counted before it comes.
 pub(crate) fn is_read_beside_two(alloc: Global, play: &mut Play, pairs: &[Pair]) -> bool {
-    play.subscribes(1, 1) & play.subscribes(2, 2) & would_be_read(alloc, play, pairs)
+    play.subscribes(1, 1)
+        & play.subscribes(2, 2)
+        & would_be_read(play, &wanted(), pairs.len())
+        & play.publishes(9, 1)
+        & play.has_log(alloc, 9, pairs)
 }

@@ -140,7 +140,7 @@ const SET_GREATEST: [u8; 36] = [
     0, 0, 0xff, 0xff, 0xff, 0xff, 0xff, 0xff, 0xff, 0x7f,
 ];
 
-/// What a command asks for, told without memory.
+/// What a command asks for, written without memory.
 #[derive(Clone, Copy)]
 enum Plain {
     AddPublication(i32, &'static str),

@@ -13,7 +13,7 @@ const ONE: Principals = Principals::One(1);
 /// Of another principal, which is in the group of the first.
 const FAR: Principals = Principals::One(1025);
 
-/// Rules of every kind of group, whose order tells.
+/// Rules of every kind of group, whose order matters.
 static RULES: [Row; 9] = [
     (ONE, Some(Act::Publish), "aeron:ipc", 10, 10, false),
     (FAR, None, "*", 10, 10, true),
@@ -124,7 +124,7 @@ static REQUESTS: [Asked; 14] = [
     (2, Act::Subscribe, "aeron:ipc", -2147483648, None),
 ];
 
-/// Whether the compiled policy decides the request as the policy does under this number, and by the rule that is told.
+/// Whether the compiled policy decides the request as the policy does under this number, and by the rule that it names.
 fn agrees(compiled: &Compiled, policy: &Policy, epoch: u64, asked: &Asked) -> Option<bool> {
     let channel = Channel::parse(asked.2).ok()?;
     let request = Request {

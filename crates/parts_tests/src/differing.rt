@@ -23,7 +23,7 @@ static STEPS: [(Step, bool); 26] = [
     (Step::Publishes(4, 1, "ipc", Answer::Made(2)), false),
     (Step::Subscribes(3, 1, "aeron:ipc"), true),
     (Step::Subscribes(4, 1, "ipc"), false),
-    // The log is at page 1, and has 48 pages: the next one goes behind it.
+    // The log is at page 1, and has 48 pages: the next one goes after it.
     (Step::GoesTo(97, "aeron:ipc", Some(49)), true),
     (Step::GoesTo(97, "aeron:ipc", Some(1)), false),
     (Step::GoesTo(97, "aeron:ipc", None), false),

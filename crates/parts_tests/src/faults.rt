@@ -18,7 +18,7 @@ pub(crate) fn pattern_fault(text: &str) -> Option<UriError> {
     }
 }
 
-/// Whether each text has the fault behind it.
+/// Whether each text has the fault after it.
 fn are_faulty(rows: &[(&str, UriError)]) -> bool {
     for &(text, fault) in rows {
         if channel_fault(text) != Some(fault) {
@@ -109,7 +109,7 @@ static FIRST_FAULTS: [(&str, UriError); 28] = [
     ),
 ];
 
-/// Whether letters behind the text find memory, up to so many bytes in all.
+/// Whether letters after the text find memory, up to so many bytes in all.
 fn fills(text: &mut String, len: usize) -> bool {
     let mut filled = true;
     for _ in text.len()..len {

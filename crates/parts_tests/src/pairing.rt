@@ -29,7 +29,7 @@ const OF_STATED: Pair = Pair {
 };
 
 static STEPS: [(Step, bool); 36] = [
-    // A reload closes one image; other pairs are told.
+    // A reload closes one image; other pairs are reported.
     (Step::Begin, true),
     (Step::Subscribes(1, 1, "aeron:ipc"), true),
     (Step::Subscribes(2, 2, "aeron:ipc"), true),

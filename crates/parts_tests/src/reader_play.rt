@@ -279,7 +279,10 @@ impl Play {
     #[tactic(auto, using(log_readers::proofs::ReaderLemmas::as_many_as_logs))]
     pub(crate) fn has_log(&self, alloc: Global, source: u64, pairs: &[Pair]) -> bool {
         let closes = [LogPlace { source, place: 0 }];
-        match self.readers.pairs_of_closing(alloc, &self.streams, &closes) {
+        match self
+            .readers
+            .pairs_of_going(alloc, &self.streams, &[], &closes)
+        {
             Ok(found) => found.as_slice() == pairs,
             Err(_) => false,
         }

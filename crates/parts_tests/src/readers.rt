@@ -1,12 +1,12 @@
 //! Which subscription reads which log, under a policy that allows everything or one that denies `image` to principal 2.
 
 use crate::stream_play::Play;
-use byte_strings::ShortText;
+use byte_strings::{Items, ShortText};
 use channel_uri::{Channel, Pattern, UriError};
 use client_registry::Clients;
 use policy_core::{Act, Acts, Policy, Principals, Rule};
 use std::alloc::{AllocError, Global};
-use stream_registry::{Pair, Streams, Wish, reads};
+use stream_registry::{Pair, Source, Streams, Wish, reads};
 
 /// What is asked where two clients are there, of principals 1 and 2.
 #[derive(Clone, Copy)]
@@ -67,18 +67,59 @@ fn would_read(
     all
 }
 
+/// Puts the pairs of a log after the others: each subscription is looked at.
+fn push_pairs(
+    pairs: &mut Items<Pair>,
+    streams: &Streams,
+    clients: &Clients,
+    policy: &Policy,
+    log: &Source,
+) -> Result<(), AllocError> {
+    for subscription in streams.subscriptions() {
+        if reads(clients, policy, 1, log, &subscription.wish()) {
+            pairs.push(Pair {
+                source: log.number,
+                subscription: subscription.number,
+            })?;
+        }
+    }
+    Ok(())
+}
+
+/// All pairs: each log is looked at.
+fn all_pairs(play: &Play, clients: &Clients, policy: &Policy) -> Result<Items<Pair>, AllocError> {
+    let mut pairs = Items::new(play.alloc);
+    for log in play.streams.sources() {
+        push_pairs(&mut pairs, &play.streams, clients, policy, log)?;
+    }
+    Ok(pairs)
+}
+
 fn pairs_are(play: &Play, clients: &Clients, policy: &Policy, pairs: &[Pair]) -> bool {
-    match play.streams.pairs(play.alloc, clients, policy, 1) {
+    match all_pairs(play, clients, policy) {
         Ok(found) => found.as_slice() == pairs,
+        Err(_) => false,
+    }
+}
+
+fn has_pair(play: &Play, clients: &Clients, policy: &Policy, pair: Pair) -> bool {
+    match all_pairs(play, clients, policy) {
+        Ok(found) => found.as_slice().iter().any(|other| *other == pair),
         Err(_) => false,
     }
 }
 
 fn is_so(play: &Play, clients: &Clients, policy: &Policy, asked: Asked) -> bool {
     match asked {
-        Asked::Reads(log, subscription) => {
-            play.streams.has_pair(clients, policy, 1, log, subscription)
-        }
+        Asked::Reads(source, subscription) => has_pair(
+            play,
+            clients,
+            policy,
+            Pair {
+                source,
+                subscription,
+            },
+        ),
         Asked::WouldRead(client, stream) => {
             would_read(&play.streams, clients, policy, client, stream)
         }

@@ -84,10 +84,10 @@ const COUNTER_GONE: [u8; 12] = [0x09, 0x0f, 0, 0, 0x02, 0x01, 0, 0, 0, 0, 0, 0];
 /// ON_CLIENT_TIMEOUT: client 258.
 const TIMEOUT: [u8; 12] = [0x0a, 0x0f, 0, 0, 0x02, 0x01, 0, 0, 0, 0, 0, 0];
 
-/// Two bytes behind an ON_OPERATION_SUCCESS.
+/// Two bytes after an ON_OPERATION_SUCCESS.
 const LONGER: [u8; 14] = [0x04, 0x0f, 0, 0, 0x0d, 0, 0, 0, 0, 0, 0, 0, 0, 0];
 
-/// A reply, told without memory.
+/// A reply, written without memory.
 #[derive(Clone, Copy)]
 enum Plain {
     Error(u64, ErrorCode, &'static str),
@@ -169,7 +169,7 @@ fn short(plain: Plain) -> Reply {
     }
 }
 
-/// The reply that is told so.
+/// The reply that is written so.
 fn reply(alloc: Global, plain: Plain) -> Result<Reply, AllocError> {
     match plain {
         Plain::Error(correlation, code, text) => {

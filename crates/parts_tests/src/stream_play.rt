@@ -56,7 +56,7 @@ pub(crate) enum Step {
     Subscribes(u64, u64, &'static str),
     /// An image of this stream and session finds room. It is there then, and its log lies at the page of its number.
     Images(u64, &'static str, i32, i32),
-    /// As many come as there are numbers from the first one to the one behind the last.
+    /// As many come as there are numbers from the first one to the one after the last.
     Come(Many, u64, u64),
     /// A client takes back a publication at a moment.
     Unpublishes(u64, u64, u64, Result<(), StreamFault>),
@@ -71,7 +71,7 @@ pub(crate) enum Step {
     Closes(u64, Option<(u64, u64)>),
     /// At 0 that log closes, where two images are silent.
     ClosesSilent((u64, u64), (u64, u64)),
-    /// A copy has one log, two registrations and two subscriptions, once all is closed behind it.
+    /// A copy has one log, two registrations and two subscriptions, once all is closed after it.
     IsCopied,
     /// There are so many logs, registrations and subscriptions.
     Has(usize, usize, usize),

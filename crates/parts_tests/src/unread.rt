@@ -24,7 +24,7 @@ fn wanted() -> Result<ImageWanted, UriError> {
     })
 }
 
-/// Whether an image is told once its subscriber left, until it goes, and a publication never is.
+/// Whether an image is reported once its subscriber left, until it goes, and a publication never is.
 pub(crate) fn unread_image_is_told(play: &mut Play) -> bool {
     let Ok(wanted) = wanted() else {
         return false;

@@ -20,7 +20,7 @@ name_of Send = codes "send"
 name_of Retransmit = codes "retransmit"
 name_of ListOf = codes "list"
 
--- acts are told apart by number
+-- acts differ by number
 abbrev pub act_number : Act → ℕ
 act_number Publish = 0
 act_number PublishExclusive = 1

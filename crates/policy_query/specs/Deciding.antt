@@ -87,7 +87,7 @@ fault_text UnknownAct = codes "unknown act"
 fault_text InvalidChannel = codes "invalid channel"
 fault_text NoMemory = codes "no memory"
 
--- the meaning is this fault; want of memory tells nothing of it
+-- the meaning is this fault; out of memory says nothing of it
 abbrev pub Fails : {M : Type 0} → DecideFault → Result M DecideFault → Type 0
 Fails NoMemory meaning = Unit {0}
 Fails fault meaning = meaning ≡ Err fault

@@ -29,7 +29,7 @@ fault_text (UnknownAct rule) = codes "rule " ++ (decimal rule ++ codes ": unknow
 fault_text (BadRange rule) = codes "rule " ++ (decimal rule ++ codes ": bad range")
 fault_text NoMemory = codes "no memory"
 
--- the meaning of a text is this fault; want of memory tells nothing of the text
+-- the meaning of a text is this fault; out of memory says nothing of the text
 abbrev pub Fails : {M : Type 0} → PolicyFault → Result M PolicyFault → Type 0
 Fails NoMemory meaning = Unit {0}
 Fails fault meaning = meaning ≡ Err fault

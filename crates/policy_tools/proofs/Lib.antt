@@ -1,2 +1,3 @@
+pub mod ExplainingLemmas
 pub mod SourceLemmas
 pub mod WiderLemmas

@@ -1,10 +1,25 @@
-//! What can be asked of a policy before it is put in force.
+//! What can be asked of a policy before it is put in force: which rule has which number, why it decides as it does,
+//! whether it keeps the answers that are wanted, and when one pattern covers all that another does.
 #![tactic(auto)]
 
+mod case_lines;
+mod cases;
+mod columns;
 mod directory;
+mod explaining;
+mod reasons;
+mod showing;
 mod source;
 mod wider;
+mod words;
 
+pub use case_lines::{CasesFault, cases_in};
+pub use cases::{By, Case, Failure, Report};
+pub use columns::{Line, in_columns};
 pub use directory::{Directory, NamesFault};
+pub use explaining::{ChannelMiss, Explanation, Miss, channel_miss, explain, miss_of};
+pub use reasons::explained;
+pub use showing::show;
 pub use source::Source;
 pub use wider::is_wider;
+pub use words::{acts_text, plain, principals_text, streams_text, word_of};

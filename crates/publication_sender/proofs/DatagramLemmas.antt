@@ -1,25 +1,14 @@
 -- How frames go into datagrams.
-use Rattle.std.proofs.Common.{◌≡◌, ◌<◌, ◌≤◌, ℕ, zero, suc, ◌+◌, ◌-◌, ◌*◌, ◌/◌, ◌%◌, true, false, List, [], ◌∷◌, length, take, Option, Some, None, refl, sym, ap, subst, ◌∙◌, arith}
+use Rattle.std.proofs.Common.{◌≡◌, ◌<◌, ◌≤◌, ℕ, zero, suc, ◌+◌, ◌-◌, ◌*◌, ◌/◌, ◌%◌, true, false, List, [], ◌∷◌, length, Option, Some, None, refl, sym, ap, subst, ◌∙◌, arith}
 use Rattle.std.specs.Prelude.{◌++◌, ◌==◌, drop, nat_le, nat_lt}
 use Rattle.std.proofs.lemmas.Bool.{eq-eqb}
 use Rattle.std.proofs.lemmas.Bool.Decides.{nat_tests}
-use Rattle.std.proofs.lemmas.List.{append-nil, append_assoc, drop_at, length-append, length-drop, take_at}
+use Rattle.std.proofs.lemmas.List.{append-nil, append_assoc, drop_at, length-append, length-drop}
 use Rattle.std.proofs.lemmas.Nat.{div-add-mod', div-mul-add}
-use Rattle.std.proofs.lemmas.Slice.{drop-append-drop}
-use Rattle.publication_sender.specs.Datagrams.{Copies, CopiesFirst, Fills, FillsFirst, GivesFirst, TakesNext, ahead, datagrams_in, datagrams_of, first_run, fits, fitting}
+use Rattle.publication_sender.specs.Datagrams.{Copies, CopiesFirst, TakesNext, ahead, datagrams_in, datagrams_of, first_run, fits, fitting}
 use Rattle.term_log.specs.Reading.{Given, sent_bytes}
 
 -- ---- lists
-
-drop_past : (bs : List ℕ) (n : ℕ) → length bs ≤ n → drop n bs ≡ []
-drop_past [] zero past = refl
-drop_past [] (suc n) past = refl
-drop_past (b ∷ bs) zero past = absurd (omega (arith, past))
-drop_past (b ∷ bs) (suc n) past = drop_past bs n (omega (arith, past))
-
-take_whole : (bs : List ℕ) → take (length bs) bs ≡ bs
-take_whole [] = refl
-take_whole (b ∷ bs) = ap (λ (rest : List ℕ). b ∷ rest) (take_whole bs)
 
 sent-append : (gs hs : List Given) → sent_bytes (gs ++ hs) ≡ sent_bytes gs ++ sent_bytes hs
 sent-append [] hs = refl
@@ -67,17 +56,17 @@ pub none_fits : (term number budget : ℕ) (gs later : List Given) (g : Given) �
     → fitting term number budget gs ≡ []
 none_fits term number budget gs later g is fails = rw (is, fails) refl
 
--- so far these were taken, and stand at the front
-pub record Filled (term number mtu : ℕ) (all left : List Given) (out_old out : List ℕ) (size : ℕ) : Type 0 where
+-- so far these were taken and copied
+pub record Copied (term number mtu : ℕ) (all left : List Given) (copy : List ℕ) (size : ℕ) : Type 0 where
   pub taken : List Given
   pub is : all ≡ taken ++ left
   pub run : fitting term number mtu all ≡ taken ++ fitting term number (mtu - size) left
   pub sized : size ≡ length (sent_bytes taken)
   pub within : size ≤ mtu
-  pub bytes : out ≡ sent_bytes taken ++ drop size out_old
+  pub bytes : copy ≡ sent_bytes taken
 
-pub filled_none : (term number mtu : ℕ) (all : List Given) (out : List ℕ) → Filled term number mtu all all out out 0
-filled_none term number mtu all out =
+pub copied_nothing : (term number mtu : ℕ) (all : List Given) → Copied term number mtu all all [] 0
+copied_nothing term number mtu all =
     let same : mtu ≡ mtu - 0 = omega arith in
     record {
       taken = [];
@@ -91,17 +80,11 @@ filled_none term number mtu all out =
 pub fits_within : (term number budget : ℕ) (g : Given) → fits term number budget g ≡ true → length g.bytes ≤ budget
 fits_within term number budget g is = grind (arith, nat_tests, is)
 
--- what is written into keeps its size
-pub filled_length : (term number mtu : ℕ) (all left : List Given) (out_old out : List ℕ) (size : ℕ) → Filled term number mtu all left out_old out size
-    → mtu ≤ length out_old → length out ≡ length out_old
-filled_length term number mtu all left out_old out size f room =
-    omega (arith, ap (λ (bs : List ℕ). length bs) f.bytes, length-append (sent_bytes f.taken) (drop size out_old), length-drop size out_old, f.sized, f.within, room)
-
-pub filled_more : (term number mtu : ℕ) (all left later : List Given) (g : Given) (out_old out new : List ℕ) (size : ℕ)
-    → Filled term number mtu all left out_old out size → left ≡ g ∷ later → fits term number (mtu - size) g ≡ true
-    → new ≡ take size out ++ (g.bytes ++ drop (size + length g.bytes) out)
-    → Filled term number mtu all later out_old new (size + length g.bytes)
-filled_more term number mtu all left later g out_old out new size f is here written =
+-- what is taken next stands after the copy so far
+pub copied_more : (term number mtu : ℕ) (all left later : List Given) (g : Given) (copy new : List ℕ) (size : ℕ)
+    → Copied term number mtu all left copy size → left ≡ g ∷ later → fits term number (mtu - size) g ≡ true
+    → new ≡ copy ++ g.bytes → Copied term number mtu all later new (size + length g.bytes)
+copied_more term number mtu all left later g copy new size f is here written =
     let within = fits_within term number (mtu - size) g here in
     let front : List ℕ = sent_bytes f.taken in
     let fewer : (mtu - size) - length g.bytes ≡ mtu - (size + length g.bytes) = omega (arith, within, f.within) in
@@ -109,9 +92,6 @@ filled_more term number mtu all left later g out_old out new size f is here writ
     rw (is, here) (ap (λ (budget : ℕ). g ∷ fitting term number budget later) fewer) in
     let sent : sent_bytes (f.taken ++ g ∷ []) ≡ front ++ g.bytes =
     sent-append f.taken (g ∷ []) ∙ ap (λ (bs : List ℕ). front ++ bs) (append-nil g.bytes) in
-    let kept : take size out ≡ front = ap (take size) f.bytes ∙ take_at front (drop size out_old) size (sym f.sized) in
-    let behind : drop (size + length g.bytes) out ≡ drop (size + length g.bytes) out_old =
-    ap (drop (size + length g.bytes)) f.bytes ∙ drop-append-drop size out_old front (size + length g.bytes) (omega arith) (sym f.sized) in
     record {
       taken = f.taken ++ g ∷ [];
       is = f.is ∙ ap (λ (gs : List Given). f.taken ++ gs) is ∙ sym (append_assoc f.taken (g ∷ []) later);
@@ -119,48 +99,18 @@ filled_more term number mtu all left later g out_old out new size f is here writ
           ∙ sym (append_assoc f.taken (g ∷ []) (fitting term number (mtu - (size + length g.bytes)) later));
       sized = omega (arith, f.sized, length-append front g.bytes, ap (λ (bs : List ℕ). length bs) sent);
       within = omega (arith, within, f.within);
-      bytes = written
-          ∙ ap (λ (bs : List ℕ). bs ++ (g.bytes ++ drop (size + length g.bytes) out)) kept
-          ∙ ap (λ (bs : List ℕ). front ++ (g.bytes ++ bs)) behind
-          ∙ sym (append_assoc front g.bytes (drop (size + length g.bytes) out_old))
-          ∙ ap (λ (bs : List ℕ). bs ++ drop (size + length g.bytes) out_old) (sym sent);
+      bytes = written ∙ ap (λ (bs : List ℕ). bs ++ g.bytes) f.bytes ∙ sym sent;
     }
 
-pub filled_all : (term number mtu : ℕ) (all left : List Given) (out_old out : List ℕ) (size : ℕ) → Filled term number mtu all left out_old out size
-    → fitting term number (mtu - size) left ≡ [] → Fills (fitting term number mtu all) all left out_old out size
-filled_all term number mtu all left out_old out size f done =
-    let run : f.taken ≡ fitting term number mtu all = sym (append-nil f.taken) ∙ ap (λ (gs : List Given). f.taken ++ gs) (sym done) ∙ sym f.run in
-    let fills : Fills f.taken all left out_old out size = record {
-      lays = record {
-        size_is = f.sized;
-        bytes_are = f.bytes ∙ ap (λ (n : ℕ). sent_bytes f.taken ++ drop n out_old) f.sized;
-      };
-      left = sym (ap (drop (length f.taken)) f.is ∙ drop_at f.taken left (length f.taken) refl);
-    } in
-    subst (λ (gs : List Given). Fills gs all left out_old out size) run fills
-
--- what is taken next stands behind the copy so far
-pub copied_more : (term number mtu : ℕ) (all left later : List Given) (g : Given) (copy new : List ℕ) (size : ℕ) → size ≡ length copy
-    → Filled term number mtu all left [] copy size → left ≡ g ∷ later → fits term number (mtu - size) g ≡ true
-    → new ≡ copy ++ g.bytes → Filled term number mtu all later [] new (size + length g.bytes)
-copied_more term number mtu all left later g copy new size counted f is here written =
-    let behind : drop (size + length g.bytes) copy ≡ [] = drop_past copy (size + length g.bytes) (omega (arith, counted)) in
-    let whole : take size copy ≡ copy = ap (λ n. take n copy) counted ∙ take_whole copy in
-    let laid : new ≡ take size copy ++ (g.bytes ++ drop (size + length g.bytes) copy) =
-    written
-    ∙ ap (λ (bs : List ℕ). bs ++ g.bytes) (sym whole)
-    ∙ ap (λ (bs : List ℕ). take size copy ++ bs) (sym (append-nil g.bytes) ∙ ap (λ (bs : List ℕ). g.bytes ++ bs) (sym behind)) in
-    filled_more term number mtu all left later g [] copy new size f is here laid
-
-pub copied_all : (term number mtu : ℕ) (all left : List Given) (copy : List ℕ) (size : ℕ) → Filled term number mtu all left [] copy size
+pub copied_all : (term number mtu : ℕ) (all left : List Given) (copy : List ℕ) (size : ℕ) → Copied term number mtu all left copy size
     → fitting term number (mtu - size) left ≡ [] → Copies (fitting term number mtu all) all left copy
 copied_all term number mtu all left copy size f done =
-    let filled = filled_all term number mtu all left [] copy size f done in
-    let run : List ℕ = sent_bytes (fitting term number mtu all) in
-    record {
-      copy_is = filled.lays.bytes_are ∙ ap (λ (bs : List ℕ). run ++ bs) (drop_past [] (length run) (omega arith)) ∙ append-nil run;
-      left = filled.left;
-    }
+    let run : f.taken ≡ fitting term number mtu all = sym (append-nil f.taken) ∙ ap (λ (gs : List Given). f.taken ++ gs) (sym done) ∙ sym f.run in
+    let copies : Copies f.taken all left copy = record {
+      copy_is = f.bytes;
+      left = sym (ap (drop (length f.taken)) f.is ∙ drop_at f.taken left (length f.taken) refl);
+    } in
+    subst (λ (gs : List Given). Copies gs all left copy) run copies
 
 -- ---- the first datagram
 
@@ -184,27 +134,6 @@ copied_fits term mtu all later new g copy is short copies =
     subst (λ (gs : List Given). Copies gs all new copy) same copies in
     subst (λ (gs : List Given). CopiesFirst gs all new (Some copy)) (sym run)
     (record { copy_is = ap Some here.copy_is; left = here.left })
-
-pub first_none : (term mtu : ℕ) (all : List Given) (out : List ℕ) → all ≡ [] → FillsFirst (first_run term mtu all) all all out out None
-first_none term mtu all out is = rw (is) (record { lays = (refl, refl); left = refl })
-
-pub first_long : (term mtu : ℕ) (all later : List Given) (g : Given) (out : List ℕ) → all ≡ g ∷ later → nat_le (length g.bytes) mtu ≡ false
-    → FillsFirst (first_run term mtu all) all all out out None
-first_long term mtu all later g out is long =
-    rw (is, eq-eqb (g.position / term) (g.position / term) refl, long) (record { lays = (refl, refl); left = refl })
-
-pub first_fits : (term mtu : ℕ) (all later new : List Given) (g : Given) (out_old out_new : List ℕ) (size : ℕ) → all ≡ g ∷ later
-    → nat_le (length g.bytes) mtu ≡ true → Fills (fitting term (g.position / term) mtu all) all new out_old out_new size
-    → FillsFirst (first_run term mtu all) all new out_old out_new (Some size)
-first_fits term mtu all later new g out_old out_new size is short fills =
-    let run : first_run term mtu all ≡ g ∷ fitting term (g.position / term) (mtu - length g.bytes) later =
-    rw (is, eq-eqb (g.position / term) (g.position / term) refl, short) refl in
-    let same : fitting term (g.position / term) mtu all ≡ g ∷ fitting term (g.position / term) (mtu - length g.bytes) later =
-    rw (is, eq-eqb (g.position / term) (g.position / term) refl, short) refl in
-    let here : Fills (g ∷ fitting term (g.position / term) (mtu - length g.bytes) later) all new out_old out_new size =
-    subst (λ (gs : List Given). Fills gs all new out_old out_new size) same fills in
-    subst (λ (gs : List Given). FillsFirst gs all new out_old out_new (Some size)) (sym run)
-    (record { lays = (ap (λ (n : ℕ). Some n) here.lays.size_is, here.lays.bytes_are); left = here.left })
 
 -- ---- the datagrams one after the other
 
@@ -235,23 +164,6 @@ datagrams_step term mtu (g ∷ gs) =
           ap (λ (others : List (List ℕ)). sent_bytes (h ∷ hs) ∷ others)
           (datagrams_enough (length gs) (length (drop (length hs) gs)) term mtu (drop (length hs) gs) (omega (arith, length-drop (length hs) gs)) (omega arith))
     ]
-
-gives : (run old new : List Given) (left : List (List ℕ)) (out_old out_new : List ℕ) (size : Option ℕ) → FillsFirst run old new out_old out_new size → (run ≡ [] → left ≡ [])
-    → GivesFirst (ahead run left) left out_old out_new size
-gives [] old new left out_old out_new size fills none = (none refl, fills.lays.0, fills.lays.1)
-gives (h ∷ hs) old new left out_old out_new size fills none = (refl, fills.lays.0, fills.lays.1)
-
-pub gives_first : (term mtu : ℕ) (old new : List Given) (out_old out_new : List ℕ) (size : Option ℕ) → FillsFirst (first_run term mtu old) old new out_old out_new size
-    → GivesFirst (datagrams_of term mtu old) (datagrams_of term mtu new) out_old out_new size
-gives_first term mtu old new out_old out_new size fills =
-    let step = datagrams_step term mtu old in
-    let left : datagrams_of term mtu new ≡ datagrams_of term mtu (drop (length (first_run term mtu old)) old) = ap (datagrams_of term mtu) fills.left in
-    let none : first_run term mtu old ≡ [] → datagrams_of term mtu new ≡ [] = λ is.
-    let same : drop (length (first_run term mtu old)) old ≡ old = rw (is) refl in
-    left ∙ ap (datagrams_of term mtu) same ∙ step ∙ rw (is) refl in
-    subst (λ (ds : List (List ℕ)). GivesFirst ds (datagrams_of term mtu new) out_old out_new size)
-    (ap (λ (ds : List (List ℕ)). ahead (first_run term mtu old) ds) left ∙ sym step)
-    (gives (first_run term mtu old) old new (datagrams_of term mtu new) out_old out_new size fills none)
 
 taken_of : (run old new : List Given) (left : List (List ℕ)) (copy : Option (List ℕ)) → CopiesFirst run old new copy → (run ≡ [] → left ≡ [])
     → TakesNext (ahead run left) left copy

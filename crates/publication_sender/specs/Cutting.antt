@@ -1,6 +1,6 @@
 -- Which datagram of a publication's log is cut next, and what becomes of the log by it (Aeron Transport Protocol
 -- Specification, SETUP frames, data frames and heartbeats). The order is this project's own.
-use Rattle.std.specs.Prelude.{◌≡◌, ℕ, pos, ◌+◌, ◌%◌, ◌^◌, ◌<◌, ◌≤◌, Bool, true, nat_lt, List, ◌++◌, drop, length, Option, Some, None, if◌then◌else◌}
+use Rattle.std.specs.Prelude.{◌≡◌, ℕ, pos, ◌+◌, ◌%◌, ◌^◌, ◌<◌, ◌≤◌, Bool, true, nat_lt, List, length, Option, Some, None, if◌then◌else◌}
 use Rattle.std.specs.Option.{is_some, option_map}
 use Rattle.frame_codec.specs.declared.flags.Flags.{Flags}
 use Rattle.frame_codec.specs.declared.setup.Setup.{Setup}
@@ -40,7 +40,7 @@ due_of pace now w =
 
 -- ---- its bytes
 
--- a SETUP tells where the sender stands, by term and offset
+-- a SETUP says where the sender stands, by term and offset
 abbrev pub setup_at : Ident → ℕ → Setup
 setup_at i position = record {
   flags = no_flags;
@@ -58,11 +58,11 @@ setup_at i position = record {
 abbrev pub beat_flags : Bool → Flags
 beat_flags lingers = record { bits = if lingers then 224 else 192 }
 
--- a heartbeat tells where the sender stands
+-- a heartbeat says where the sender stands
 abbrev pub beat_of : Bool → Ident → ℕ → List ℕ
 beat_of lingers i position = beat_bytes (beat_flags lingers) (place_at i position)
 
--- the frames that the sender's next datagram has, one behind the other
+-- the frames that the sender's next datagram has, one after another
 abbrev pub frames_bytes : Whole → List ℕ
 frames_bytes w = sent_bytes (all_given w.ident w.sender.position (next_frames w))
 
@@ -100,16 +100,6 @@ span_of w kind = 0
 
 pub record IsDue (pace : Pace) (now : ℕ) (l : Log) (due : Option DatagramKind) : Type 0 where
   pub on : (w : Whole) → Stands l w → due ≡ due_of pace now w
-
--- so many bytes stand at the front, and what was behind them stays
-pub record Lays (bytes old new : List ℕ) (size : ℕ) : Type 0 where
-  pub size_is : size ≡ length bytes
-  pub bytes_are : new ≡ bytes ++ drop (length bytes) old
-
--- a datagram stands at the front, or nothing is changed
-abbrev pub LaysDue : Option (List ℕ) → List ℕ → List ℕ → Option ℕ → Type 0
-LaysDue None old new size = (size ≡ None) × (new ≡ old)
-LaysDue (Some bytes) old new size = (size ≡ Some (length bytes)) × (new ≡ bytes ++ drop (length bytes) old)
 
 -- a datagram is due
 pub record SomeDue (pace : Pace) (now : ℕ) (l : Log) : Type 0 where

@@ -1,7 +1,6 @@
 -- How frames that are sent again are put into datagrams: of at most the MTU, each with as many as fit of one term. Own
 -- rules.
-use Rattle.std.specs.Prelude.{◌≡◌, ℕ, suc, zero, ◌-◌, ◌/◌, ◌==◌, ◌&&◌, Bool, true, nat_le, List, [], ◌∷◌, ◌++◌, drop, length, Option, Some, None, if◌then◌else◌}
-use Rattle.publication_sender.specs.Cutting.{Lays, LaysDue}
+use Rattle.std.specs.Prelude.{◌≡◌, ℕ, suc, zero, ◌-◌, ◌/◌, ◌==◌, ◌&&◌, Bool, true, nat_le, List, [], ◌∷◌, drop, length, Option, Some, None, if◌then◌else◌}
 use Rattle.publication_sender.specs.declared.datagrams.Ahead.{Ahead}
 use Rattle.term_log.specs.declared.reading.LogFrame.{LogFrame}
 use Rattle.term_log.specs.Ranges.{over_left}
@@ -56,27 +55,12 @@ abbrev pub TakesFitting : ℕ → ℕ → ℕ → List Given → List Given → 
 TakesFitting term number budget old new None = (fitting term number budget old ≡ []) × (new ≡ old)
 TakesFitting term number budget old new (Some frame) = (old ≡ given_of frame ∷ new) × (fits term number budget (given_of frame) ≡ true)
 
--- the bytes of a run stand at the front, and what is behind it is left
-pub record Fills (run old new : List Given) (out_old out_new : List ℕ) (size : ℕ) : Type 0 where
-  pub lays : Lays (sent_bytes run) out_old out_new size
-  pub left : new ≡ drop (length run) old
-
 -- no frames have no datagram
 abbrev pub datagram_with : List Given → Option (List ℕ)
 datagram_with [] = None
 datagram_with (g ∷ gs) = Some (sent_bytes (g ∷ gs))
 
-pub record FillsFirst (run old new : List Given) (out_old out_new : List ℕ) (size : Option ℕ) : Type 0 where
-  pub lays : LaysDue (datagram_with run) out_old out_new size
-  pub left : new ≡ drop (length run) old
-
--- the first datagram stands at the front, and the others are left; or nothing is changed
-abbrev pub GivesFirst : List (List ℕ) → List (List ℕ) → List ℕ → List ℕ → Option ℕ → Type 0
-GivesFirst [] left old new size = (left ≡ []) × (size ≡ None) × (new ≡ old)
-GivesFirst (bytes ∷ others) left old new size =
-    (left ≡ others) × (size ≡ Some (length bytes)) × (new ≡ bytes ++ drop (length bytes) old)
-
--- a run is copied, and what is behind it is left
+-- a run is copied, and what is after it is left
 pub record Copies (run old new : List Given) (copy : List ℕ) : Type 0 where
   pub copy_is : copy ≡ sent_bytes run
   pub left : new ≡ drop (length run) old

@@ -16,7 +16,7 @@ use Rattle.term_log.specs.Whole.{Whole}
 abbrev pub consumed : Ident → StatusMessage → ℕ
 consumed i message = position_of i.initial_term message.consumption_term_id message.consumption_term_offset i.term_length
 
--- how much room behind it counts: half a term at most
+-- how much room after it counts: half a term at most
 abbrev pub room_of : Ident → StatusMessage → ℕ
 room_of i message = min message.receiver_window (i.term_length / 2)
 

@@ -10,7 +10,7 @@ use Rattle.term_log.specs.Whole.{Stands, Whole}
 
 -- ---- frames in datagrams
 
--- the frames of datagrams, one behind the other
+-- the frames of datagrams, one after another
 abbrev pub joined : List (List Given) → List Given
 joined [] = []
 joined (run ∷ runs) = run ++ joined runs
@@ -18,12 +18,12 @@ joined (run ∷ runs) = run ++ joined runs
 abbrev pub SameTerm : ℕ → Given → Given → Type 0
 SameTerm term g h = g.position / term ≡ h.position / term
 
--- the first of these frames is of another term, or does not fit behind a run
+-- the first of these frames is of another term, or does not fit after a run
 abbrev pub IsFull : ℕ → ℕ → Given → List Given → List Given → Type 0
 IsFull term mtu first run [] = Unit {0}
 IsFull term mtu first run (g ∷ gs) = SameTerm term g first → mtu < length (sent_bytes run) + length g.bytes
 
--- a datagram has some frames, all of one term, and no more bytes than the MTU; the frame behind them does not go into it
+-- a datagram has some frames, all of one term, and no more bytes than the MTU; the frame after them does not go into it
 abbrev pub IsPacked : ℕ → ℕ → List Given → List Given → Type 0
 IsPacked term mtu [] behind = ⊥
 IsPacked term mtu (g ∷ gs) behind =

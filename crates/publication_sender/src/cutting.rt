@@ -13,7 +13,7 @@ use term_log::{Ident, LogKind, TermLog};
 /// What a sender cuts next.
 #[derive(Clone, Copy, Debug, PartialEq, Eq)]
 pub enum DatagramKind {
-    /// It tells receivers of the stream, and where it stands.
+    /// It announces the stream to receivers, and says where it stands.
     Setup,
     /// Frames of one term.
     Frames,
@@ -24,11 +24,11 @@ pub enum DatagramKind {
 /// How often a sender says what.
 #[derive(Clone, Copy, Debug, PartialEq, Eq)]
 pub struct Pace {
-    /// For how long a log is connected behind a status message, in nanoseconds.
+    /// For how long a log is connected after a status message, in nanoseconds.
     pub connection_timeout: u64,
     /// How far SETUPs are apart where nobody is connected, in nanoseconds.
     pub setup_interval: u64,
-    /// How far a heartbeat is behind the datagram before it, in nanoseconds.
+    /// How long after the datagram before it a heartbeat is due, in nanoseconds.
     pub heartbeat_interval: u64,
 }
 
@@ -175,8 +175,8 @@ pub fn next_datagram(
     Ok(None)
 }
 
-/// The log moves on by a datagram that was cut at the moment `now`, in nanoseconds, as [`next_datagram`] told it, whoever gets
-/// it: the sender stands behind its frames, the moments of SETUP and datagram are noted, and a SETUP answers all who asked
+/// The log moves on by a datagram that was cut at the moment `now`, in nanoseconds, as [`next_datagram`] gave it, whoever gets
+/// it: the sender stands after its frames, the moments of SETUP and datagram are noted, and a SETUP answers all who asked
 /// for one.
 #[inline(always)]
 pub fn pass(log: &mut TermLog, now: u64, cut: &Cut)

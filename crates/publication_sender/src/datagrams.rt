@@ -1,7 +1,7 @@
 //! Frames that are sent again, in datagrams.
 
-ghost use Rattle.publication_sender.specs.Datagrams.{Copies, CopiesFirst, Fills, FillsFirst, GivesFirst, TakesFitting, TakesNext, datagrams_of, first_run, fitting, frames_in};
-ghost use Rattle.std.specs.Prelude.{◌≡◌, ◌+◌, ◌*◌, ◌/◌, ◌^◌, ◌==◌, ◌<◌, ◌≤◌, ◌++◌, drop, length, take, IfOk};
+ghost use Rattle.publication_sender.specs.Datagrams.{Copies, CopiesFirst, TakesFitting, TakesNext, datagrams_of, first_run, fitting, frames_in};
+ghost use Rattle.std.specs.Prelude.{◌≡◌, ◌*◌, ◌/◌, ◌^◌, ◌==◌, ◌<◌, length, IfOk};
 ghost use Rattle.std.specs.Option.{option_map};
 ghost use Rattle.std.specs.Vec.{vec_items};
 ghost use Rattle.term_log.specs.Ranges.{over_left};
@@ -14,7 +14,7 @@ use term_log::{FramesOver, LogFrame};
 #[derive(Clone, Copy, Debug)]
 struct Ahead<'a> {
     next: Option<LogFrame<'a>>,
-    /// Those behind it.
+    /// Those after it.
     later: FramesOver<'a>,
 }
 
@@ -82,32 +82,8 @@ fn next_fitting<'a>(
     Some(frame)
 }
 
-/// Writes bytes at a place.
-fn put(out: &mut [u8], at: usize, bytes: &[u8])
-    requires { at + length bytes.now ≤ length out.old }
-    ensures { out.new ≡ take at out.old ++ (bytes.now ++ drop (at + length bytes.now) out.old) }
-{
-    out[at..at + bytes.len()].copy_from_slice(bytes);
-}
-
-/// Writes the frames of that term that fit at the front, and takes them. The answer is how many bytes they have.
-#[tactic(auto, using(crate::proofs::DatagramLemmas::filled_none, crate::proofs::DatagramLemmas::filled_all, crate::proofs::DatagramLemmas::filled_length, crate::proofs::DatagramLemmas::fits_within))]
-fn fill(frames: &mut Ahead<'_>, term_length: u64, number: u64, mtu: usize, out: &mut [u8]) -> usize
-    requires term { 0 < term_length }
-    requires number { number * term_length < 2 ^ 64 }
-    requires room { mtu ≤ length out.old }
-    ensures { Fills (fitting term_length number mtu (frames_in frames.old)) (frames_in frames.old) (frames_in frames.new) out.old out.new result }
-{
-    let mut size = 0;
-    while let Some(frame) = next_fitting(frames, term_length, number, mtu - size) {
-        put(out, size, frame.bytes);
-        size += frame.bytes.len();
-    }
-    size
-}
-
 /// A copy of the frames of that term that fit, which are taken.
-#[tactic(auto, using(crate::proofs::DatagramLemmas::filled_none, crate::proofs::DatagramLemmas::copied_all, crate::proofs::DatagramLemmas::fits_within))]
+#[tactic(auto, using(crate::proofs::DatagramLemmas::copied_nothing, crate::proofs::DatagramLemmas::copied_all, crate::proofs::DatagramLemmas::fits_within))]
 fn copy_run(
     frames: &mut Ahead<'_>,
     alloc: Global,
@@ -159,22 +135,6 @@ fn copy_first(
     Ok(Some(copy))
 }
 
-/// Writes the frames of the first datagram at the front, and takes them. The answer is how many bytes they have; none where
-/// no frame is left.
-#[tactic(auto, using(crate::proofs::DatagramLemmas::first_none, crate::proofs::DatagramLemmas::first_long, crate::proofs::DatagramLemmas::first_fits))]
-fn fill_first(frames: &mut Ahead<'_>, term_length: u64, mtu: usize, out: &mut [u8]) -> Option<usize>
-    requires term { 0 < term_length }
-    requires room { mtu ≤ length out.old }
-    ensures { FillsFirst (first_run term_length mtu (frames_in frames.old)) (frames_in frames.old) (frames_in frames.new) out.old out.new result }
-{
-    let first = frames.next?;
-    if first.bytes.len() > mtu {
-        return None;
-    }
-    let number = term_number(&first, term_length);
-    Some(fill(frames, term_length, number, mtu, out))
-}
-
 impl<'a> Datagrams<'a> {
     /// Those of frames of terms of that length.
     pub(crate) fn new(frames: FramesOver<'a>, term_length: u32, mtu: u32) -> Datagrams<'a>
@@ -188,32 +148,16 @@ impl<'a> Datagrams<'a> {
         }
     }
 
-    /// How many bytes a datagram has at most.
-    pub fn mtu(&self) -> usize
-        ensures { result ≡ self.now.mtu }
-    {
-        self.mtu
-    }
-
     /// A copy of the next datagram; none where all were given.
     ///
     /// # Errors
     /// Where there is no memory for it.
     #[tactic(auto, using(crate::proofs::DatagramLemmas::takes_first))]
     pub fn next_copy(&mut self, alloc: Global) -> Result<Option<Vec<u8>>, AllocError>
-        ensures { IfOk result (λ copy. TakesNext self.old.datagrams self.new.datagrams (option_map vec_items copy)) }
+        ensures takes { IfOk result (λ copy. TakesNext self.old.datagrams self.new.datagrams (option_map vec_items copy)) }
+        ensures mtu { self.new.mtu ≡ self.old.mtu }
     {
         let copy = copy_first(&mut self.frames, alloc, self.term_length, self.mtu)?;
         Ok(copy)
-    }
-
-    /// Writes the next datagram at the front of `out`. The answer is how many bytes it has; none where all were given.
-    #[tactic(auto, using(crate::proofs::DatagramLemmas::gives_first))]
-    pub fn next_into(&mut self, out: &mut [u8]) -> Option<usize>
-        requires { self.old.mtu ≤ length out.old }
-        ensures gives { GivesFirst self.old.datagrams self.new.datagrams out.old out.new result }
-        ensures mtu { self.new.mtu ≡ self.old.mtu }
-    {
-        fill_first(&mut self.frames, self.term_length, self.mtu, out)
     }
 }

@@ -1,4 +1,4 @@
-//! What receivers tell a publication's log by status messages.
+//! What receivers report to a publication's log by status messages.
 
 ghost use Rattle.publication_sender.specs.Hearing.{answer_of, heard_of, sending_after};
 ghost use Rattle.std.specs.Prelude.{◌≡◌, ◌≤◌};
@@ -21,7 +21,7 @@ pub enum StatusAnswer {
 /// A status message of the log's session and stream came at the moment `now`, in nanoseconds.
 ///
 /// With the flag that asks for a SETUP it does only that, whatever position it names. Beyond the sender's position it is
-/// dropped. Else the log is connected from then on, and may be sent as far behind that position as the receiver has room,
+/// dropped. Else the log is connected from then on, and may be sent as far past that position as the receiver has room,
 /// half a term at most; or as far as it might before, where that is further.
 #[tactic(auto, unfolding(crate::specs::Hearing::answer_of))]
 pub fn receive_status(log: &mut TermLog, now: u64, message: &StatusMessage) -> StatusAnswer

@@ -4,7 +4,7 @@ ghost use Rattle.publication_sender.specs.ResendLaws.{HeldLogsAreAskedAsWholes, 
 
 /// Of every log whose sizes are sound, whose frames are no longer than the MTU and do not cross the end of a term, the
 /// datagrams of a NAK have together exactly the frames whose ranges meet its range, each whole and once, in order. Each
-/// datagram has at most as many bytes as the MTU, and frames of one term; the frame behind them is of another term, or does
+/// datagram has at most as many bytes as the MTU, and frames of one term; the frame after them is of another term, or does
 /// not fit. Each log that is held stands for such logs alone.
 pub fn resends_carry_what_is_asked()
     ensures carry { ResendsCarryWhatIsAsked }

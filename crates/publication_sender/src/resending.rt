@@ -55,7 +55,7 @@ fn asked_at(ident: &Ident, nak: &Nak) -> u64
 /// What a NAK of the log's session and stream is answered that came at the moment `now`, in nanoseconds; `decision` is what
 /// the policy says of sending again to who asks. A NAK that is denied is not seen by the log's gate. Else the gate decides,
 /// of what is held within one term below the sender's position; where it grants, each frame that the NAK's range meets is
-/// sent again, whole. Nothing is changed: [`note_nak`] tells the gate of it.
+/// sent again, whole. Nothing is changed: [`note_nak`] notes it in the gate.
 pub fn answer_nak<'a>(
     log: &'a TermLog,
     gate: &Gate,

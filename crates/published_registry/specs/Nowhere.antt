@@ -3,6 +3,6 @@ use Rattle.std.specs.Prelude.{false, []}
 use Rattle.driver_core.specs.Settings.{default_settings}
 use Rattle.driver_core.specs.State.{State, opened}
 
--- what stands for the registry that was opened where none was told
+-- what stands for the registry that was opened where none is known
 abbrev pub nowhere : State
 nowhere = opened default_settings (record { rules = []; default_allows = false }) []

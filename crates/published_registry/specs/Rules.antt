@@ -1,4 +1,4 @@
--- The rule under which a registry is shown, and what each step tells.
+-- The rule under which a registry is shown, and what each step says.
 use Rattle.std.specs.Prelude.{◌≡◌, ℕ, true, false, List, []}
 use mathlib.Core.List.{IsPrefix}
 use mathlib.Core.Option.{some}

@@ -72,7 +72,7 @@ abbrev pub nak_past : ℕ → ℕ → List Tick → ℕ → ℕ × ℕ → Optio
 nak_past limit since ticks now gap =
     if nat_lt (since + limit) (max (latest_of ticks) now) then Some (record { position = gap.0; length = gap.1 }) else None
 
--- Behind any ticks: without a gap no NAK, nor at the tick that first has a gap; one of a gap that was not asked for, past
+-- After any ticks: without a gap no NAK, nor at the tick that first has a gap; one of a gap that was not asked for, past
 -- the delay since it was first seen; and of one that was, past the repeat since it was last asked for.
 pub record AsksExactly (delay repeat : ℕ) (ticks : List Tick) : Type 0 where
   pub none : (now : ℕ) → nak_of (watch_of delay repeat ticks) now None ≡ None

@@ -12,7 +12,7 @@ pub fn ranges_meet_where_they_share_a_position()
         ↔ ((position : ℕ) × (start ≤ position) × (position < end) × (resent.start ≤ position) × (position < resent.end)) }
 {}
 
-/// Behind any NAKs, a further one has its range sent again exactly where the range has a position and lies within the
+/// After any NAKs, a further one has its range sent again exactly where the range has a position and lies within the
 /// window, no range that shares a position with it lingers, and fewer than 16 ranges linger.
 pub fn ranges_are_resent_exactly()
     ensures { ResendsExactly }
@@ -33,13 +33,13 @@ pub fn resends_were_asked_for()
     ensures { ResendsWereAsked }
 {}
 
-/// Behind any ticks, a tick gives a NAK exactly of a gap that it has, and that was there before: past the delay since the
+/// After any ticks, a tick gives a NAK exactly of a gap that it has, and that was there before: past the delay since the
 /// gap was first seen, where it was not asked for since, and else past the repeat since it was last asked for.
 pub fn gaps_are_asked_exactly()
     ensures { GapsAreAskedExactly }
 {}
 
-/// Behind any ticks, a gap at any position is a new one, or was seen and not asked for, or was asked for.
+/// After any ticks, a gap at any position is a new one, or was seen and not asked for, or was asked for.
 pub fn gaps_stand_somewhere()
     ensures { GapsStandSomewhere }
 {}

@@ -12,7 +12,7 @@ pub(crate) const ROOM: usize = 16;
 pub struct Resent {
     /// The first position.
     pub start: u64,
-    /// The position behind the last one.
+    /// The position after the last one.
     pub end: u64,
     /// When it was sent again, in nanoseconds.
     pub moment: u64,
@@ -21,7 +21,7 @@ pub struct Resent {
 /// A list of at most 16 ranges, in place.
 #[derive(Debug, Drop)]
 pub(crate) struct ResentList {
-    /// The ranges, and behind them places without meaning.
+    /// The ranges, and after them places without meaning.
     places: [Resent; 16],
     /// How many ranges there are.
     len: usize,

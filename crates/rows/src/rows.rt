@@ -8,11 +8,11 @@ use crate::twin::Twin;
 use std::alloc::{AllocError, Global};
 use std::marker::Model;
 
-/// At most N rows, in room that is there from the beginning. A row that is taken away stays behind the others, unseen, until
+/// At most N rows, in room that is there from the beginning. A row that is taken away stays after the others, unseen, until
 /// one is written over it.
 #[derive(Debug, Drop)]
 pub struct Rows<T, const N: usize> {
-    /// The rows, and behind them those that were taken away.
+    /// The rows, and after them those that were taken away.
     slots: Vec<T>,
     /// How many rows there are.
     used: usize,
@@ -72,7 +72,7 @@ impl<T: Drop, const N: usize> Rows<T, N> {
         self.used = 0;
     }
 
-    /// Puts a row behind the others.
+    /// Puts a row after the others.
     pub fn push(&mut self, row: T)
         requires { length self.old < N }
         ensures { self.new ≡ self.old ++ row ∷ [] }
@@ -88,7 +88,7 @@ impl<T: Drop, const N: usize> Rows<T, N> {
         self.used += 1;
     }
 
-    /// Makes a row behind the others.
+    /// Makes a row after the others.
     pub fn push_by<F: Form<T>>(&mut self, form: &F)
         requires { length self.old < N }
         ensures { self.new ≡ self.old ++ F.formed form.now ∷ [] }

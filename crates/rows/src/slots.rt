@@ -1,4 +1,4 @@
-//! What is done with slots, the live ones and those behind them.
+//! What is done with slots, the live ones and those after them.
 
 ghost use Rattle.std.specs.Prelude.{◌≡◌, ◌≤◌, ◌<◌, ◌+◌, ◌++◌, filter, length, map, slice_index_or, slice_set, take};
 ghost use Rattle.std.specs.Vec.{vec_capacity};
@@ -56,7 +56,7 @@ pub(crate) fn set_first<T: Twin>(slots: &mut [T], used: usize, others: &[T])
     }
 }
 
-/// Puts rows that are equal to these behind the others.
+/// Puts rows that are equal to these after the others.
 pub(crate) fn add_all<T: Twin>(slots: &mut Vec<T>, others: &[T])
     requires { length slots.old.items + length others.now ≤ vec_capacity slots.old }
     ensures rows { slots.new.items ≡ slots.old.items ++ others.now }

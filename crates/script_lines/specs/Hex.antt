@@ -21,7 +21,7 @@ digit_of c =
 abbrev pub byte_of : ℕ → ℕ → Option ℕ
 byte_of high low = digit_of high >>= λ h. digit_of low >>= λ l. Some (16 * h + l)
 
--- what was read, behind this front
+-- what was read, after this front
 abbrev pub behind : List ℕ → Option (List ℕ) → Option (List ℕ)
 behind front read = option_map (λ rest. front ++ rest) read
 

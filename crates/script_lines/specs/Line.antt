@@ -40,7 +40,7 @@ view_in [] = Some None
 view_in (word ∷ []) = option_map Some (view_of word)
 view_in _ = None
 
--- two words, and so on, with the registry that is named behind them
+-- two words, and so on, with the registry that is named after them
 abbrev pub two_at : List (List ℕ) → Option (List ℕ × List ℕ × Option ℕ)
 two_at (first ∷ second ∷ rest) = option_map (λ view. (first, second, view)) (view_in rest)
 two_at _ = None

@@ -3,7 +3,7 @@ use Rattle.std.specs.Prelude.{◌≡◌, Option, Some, None, Result, Ok, Err}
 use Rattle.script_lines.specs.declared.line.LineFault.{LineFault}
 use Rattle.script_lines.specs.declared.line.LineFault.TheVariants.{Bad, NoMemory}
 
--- what is bad means nothing; want of memory tells nothing of the text
+-- what is bad means nothing; out of memory says nothing of the text
 abbrev pub Fails : {M : Type 0} → LineFault → Option M → Type 0
 Fails Bad meaning = meaning ≡ None
 Fails NoMemory meaning = Unit {0}

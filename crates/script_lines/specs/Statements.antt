@@ -9,7 +9,7 @@ use Rattle.script_lines.specs.declared.statements.Statement.{Statement}
 use Rattle.script_lines.specs.Line.{is_plain, line_of}
 use Rattle.script_lines.specs.Pieces.{pieces}
 
--- a line stands before the first policy, within a policy, or behind one; within it there is the number of the line
+-- a line stands before the first policy, within a policy, or after one; within it there is the number of the line
 -- `policy`, and the text so far
 pub data Place : Type 0 where
   Before : Place
@@ -41,7 +41,7 @@ within start text number bytes later =
     else later (Within start (text ++ (bytes ++ codes "\n")))
     else bad number
 
--- a line behind a policy
+-- a line after a policy
 abbrev pub behind : ℕ → Line → (Place → List Statement) → List Statement
 behind number line.Skipped later = later Behind
 behind number (line.Principal name principal) later = bad number

@@ -28,7 +28,7 @@ fn byte_of(high: u8, low: u8) -> Option<u8>
     Some(16 * high + low)
 }
 
-/// Puts the bytes of digits, two to a byte, behind the others.
+/// Puts the bytes of digits, two to a byte, after the others.
 fn push_group(bytes: &mut Vec<u8>, digits: &[u8]) -> Result<(), LineFault>
     ensures { Leaves result bytes.new.items (behind bytes.old.items (bytes_of digits.now)) }
 {

@@ -78,7 +78,7 @@ pub(crate) fn plain_text(line: &[u8]) -> Option<&str>
     }
 }
 
-/// The one word behind the first one.
+/// The one word after the first one.
 fn one_word(fields: Option<&str>) -> Option<&str>
     ensures { option_copied result ≡ one (pieces_behind 32 (option_copied fields.entry)) }
 {
@@ -89,7 +89,7 @@ fn one_word(fields: Option<&str>) -> Option<&str>
     }
 }
 
-/// The two words behind the first one.
+/// The two words after the first one.
 fn two_words(fields: Option<&str>) -> Option<(&str, &str)>
     ensures { option_map (λ words. (words.0.now, words.1.now)) result ≡ two (pieces_behind 32 (option_copied fields.entry)) }
 {
@@ -101,7 +101,7 @@ fn two_words(fields: Option<&str>) -> Option<(&str, &str)>
     }
 }
 
-/// The three words behind the first one.
+/// The three words after the first one.
 fn three_words(fields: Option<&str>) -> Option<(&str, &str, &str)>
     ensures { option_map (λ words. (words.0.now, words.1.now, words.2.now)) result ≡ three (pieces_behind 32 (option_copied fields.entry)) }
 {
@@ -144,7 +144,7 @@ fn view_in(fields: Option<&str>) -> Option<Option<u64>>
     }
 }
 
-/// The two words behind the first one, and the registry that is named behind these.
+/// The two words after the first one, and the registry that is named after these.
 fn two_words_at(fields: Option<&str>) -> Option<(&str, &str, Option<u64>)>
     ensures { option_map (λ words. (words.0.now, words.1.now, words.2)) result ≡ two_at (pieces_behind 32 (option_copied fields.entry)) }
 {
@@ -154,7 +154,7 @@ fn two_words_at(fields: Option<&str>) -> Option<(&str, &str, Option<u64>)>
     Some((first, second, view))
 }
 
-/// The three words behind the first one, and the registry that is named behind these.
+/// The three words after the first one, and the registry that is named after these.
 fn three_words_at(fields: Option<&str>) -> Option<(&str, &str, &str, Option<u64>)>
     ensures { option_map (λ words. (words.0.now, words.1.now, words.2.now, words.3)) result ≡ three_at (pieces_behind 32 (option_copied fields.entry)) }
 {
@@ -165,7 +165,7 @@ fn three_words_at(fields: Option<&str>) -> Option<(&str, &str, &str, Option<u64>
     Some((first, second, third, view))
 }
 
-/// The four words behind the first one, and the registry that is named behind these.
+/// The four words after the first one, and the registry that is named after these.
 fn four_words_at(fields: Option<&str>) -> Option<(&str, &str, &str, &str, Option<u64>)>
     ensures { option_map (λ words. (words.0.now, words.1.now, words.2.now, words.3.now, words.4)) result ≡ four_at (pieces_behind 32 (option_copied fields.entry)) }
 {
@@ -177,7 +177,7 @@ fn four_words_at(fields: Option<&str>) -> Option<(&str, &str, &str, &str, Option
     Some((first, second, third, fourth, view))
 }
 
-/// The five words behind the first one, and the registry that is named behind these.
+/// The five words after the first one, and the registry that is named after these.
 fn five_words_at(fields: Option<&str>) -> Option<(&str, &str, &str, &str, &str, Option<u64>)>
     ensures { option_map (λ words. (words.0.now, words.1.now, words.2.now, words.3.now, words.4.now, words.5)) result ≡ five_at (pieces_behind 32 (option_copied fields.entry)) }
 {

@@ -1,7 +1,7 @@
 ghost use Rattle.script_lines.specs.Pieces.{pieces, pieces_behind};
 ghost use Rattle.std.specs.Prelude.{◌≡◌, ◌<◌, ◌==◌, ◌∷◌, option_copied, position};
 
-/// The first piece of the text, and what stands behind the mark where there is one.
+/// The first piece of the text, and what stands after the mark where there is one.
 pub(crate) fn first_piece(text: &str, mark: char) -> (&str, Option<&str>)
     requires { mark < 128 }
     ensures { pieces mark text.now ≡ result.0.now ∷ pieces_behind mark (option_copied result.1) }
@@ -19,7 +19,7 @@ fn place_of(bytes: &[u8], mark: u8) -> Option<usize>
     bytes.iter().position(|b| *b == mark)
 }
 
-/// The first piece of the bytes, and what stands behind the mark where there is one.
+/// The first piece of the bytes, and what stands after the mark where there is one.
 pub(crate) fn first_of_bytes(bytes: &[u8], mark: u8) -> (&[u8], Option<&[u8]>)
     ensures { pieces mark bytes.now ≡ result.0.now ∷ pieces_behind mark (option_copied result.1) }
 {

@@ -95,7 +95,7 @@ impl<'a> Statements<'a> {
         }
     }
 
-    /// The policy that begins behind the line of that number.
+    /// The policy that begins after the line of that number.
     fn take_policy(&mut self, alloc: Global, start: u64) -> Result<Statement, AllocError>
         ensures { IfOk result (λ statement. left_from (Within start []) self.old ≡ statement ∷ left self.new) }
     {
@@ -155,7 +155,7 @@ impl<'a> Statements<'a> {
         }
     }
 
-    /// What a line behind a policy says, where it says something.
+    /// What a line after a policy says, where it says something.
     fn behind(
         &mut self,
         alloc: Global,

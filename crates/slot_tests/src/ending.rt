@@ -1,4 +1,4 @@
-// The end of a driver: the shares come together, and how many messages were taken is told.
+// The end of a driver: the shares come together, and how many messages were taken is answered.
 ghost use Rattle.std.specs.Prelude.{◌≡◌, IfSome};
 
 use crate::hands::{Hand, together};

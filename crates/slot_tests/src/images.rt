@@ -1,4 +1,4 @@
-// The log of an image behind its lock.
+// The log of an image after its lock.
 use crate::opening::{Fresh, opened};
 use crate::parts::Parts;
 use crate::registries::{FIRST, IMAGE, REMOTE, SECOND, SETUP};
@@ -36,7 +36,7 @@ fn is_heard<N: Naming>(alloc: Global, slot: &mut LogSlot<N>) -> bool {
     }
 }
 
-// Whether the image is heard, tells its publisher what is due, and is silent in the end.
+// Whether the image is heard, reports to its publisher what is due, and is silent in the end.
 fn goes<N: Naming>(alloc: Global, slot: &mut LogSlot<N>, registry: &Registry) -> bool {
     slot.holds();
     let silent = slot.is_silent(IMAGE.source, LIVENESS + 1, LIVENESS)
@@ -103,7 +103,7 @@ fn image<N: Naming>(alloc: Global, parts: &mut Parts<N>) -> Option<(Fresh<N>, Fr
     Some((first, image))
 }
 
-/// Whether the log of an image goes as it should behind its lock.
+/// Whether the log of an image goes as it should after its lock.
 pub(crate) fn image_goes<N: Naming>(alloc: Global, parts: Parts<N>) -> bool {
     let mut parts = parts;
     let mut slot = LogSlot::<N>::new();

@@ -1,4 +1,4 @@
-//! Tests of `log_slots`: logs behind locks, the ledgers of what they took, and threads that offer to one of them.
+//! Tests of `log_slots`: logs after locks, the ledgers of what they took, and threads that offer to one of them.
 #![tactic(auto)]
 
 #[cfg(test)]

@@ -33,7 +33,7 @@ fn is_missing<N: Naming, R: Wait>(rt: &R, alloc: Global, parts: &mut Parts<N>) -
     }
 }
 
-/// Whether the sum of all shares is told, or none where one is missing.
+/// Whether the sum of all shares is answered, or none where one is missing.
 pub(crate) fn shares_come_together<N: Naming, R: Wait>(
     rt: &R,
     alloc: Global,

@@ -4,7 +4,6 @@ pub mod LeavingLemmas
 pub mod LimitLemmas
 pub mod PageLawLemmas
 pub mod PageLemmas
-pub mod PairLemmas
 pub mod RestLemmas
 pub mod SessionLemmas
 pub mod SlotLemmas

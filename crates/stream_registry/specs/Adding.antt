@@ -77,7 +77,7 @@ log_of s number wanted place session = record {
   origin = Published wanted.exclusive None;
 }
 
--- the next session is looked for behind one that was found; one that is stated moves nothing
+-- the next session is looked for after one that was found; one that is stated moves nothing
 abbrev pub next_after : Streams → Wanted → ℤ → ℤ
 next_after s wanted session =
     if is_some (stated_session_of wanted.channel) then s.next_session else after session

@@ -1,6 +1,6 @@
 -- Which subscription reads which log: a function of the lists and the policy alone. Own rules.
 use Rattle.std.specs.Prelude.{ℕ, Bool, false, not, ◌==◌, ◌&&◌, List, map, filter, Option, Some, None, if◌then◌else◌}
-use Rattle.std.specs.List.{flat_map, list_any}
+use Rattle.std.specs.List.{flat_map}
 use Rattle.std.specs.Ordering.{int_eq}
 use Rattle.stream_registry.specs.declared.pairs.Pair.{Pair}
 use Rattle.stream_registry.specs.declared.row.Source.{Source}
@@ -76,13 +76,3 @@ pairs_of s clients policy epoch = flat_map (pairs_at clients policy epoch s.subs
 -- the pair is of that log and that subscription, by their numbers
 abbrev pub is_of : ℕ → ℕ → Pair → Bool
 is_of source subscription pair = pair.source == source && pair.subscription == subscription
-
--- the subscription has that number, and reads the log
-abbrev pub reads_as : List Client → Rules → ℕ → Source → ℕ → Subscription → Bool
-reads_as clients policy epoch log number subscription =
-    subscription.number == number && is_pair clients policy epoch log subscription
-
--- the log is of that source, and a subscription of that number reads it
-abbrev pub is_read : List Client → Rules → ℕ → List Subscription → ℕ → ℕ → Source → Bool
-is_read clients policy epoch subscriptions source number log =
-    log.number == source && list_any (reads_as clients policy epoch log number) subscriptions

@@ -108,8 +108,8 @@ impl Streams {
         image_to_in(self.sources.as_slice(), endpoint, session, stream)
     }
 
-    /// The page at which the memory of an image begins that would be made, as [`Streams::place_for`] tells it of a
-    /// publication. It takes no memory.
+    /// The page at which the memory of an image begins that would be made, as [`Streams::place_for`] of a publication. It
+    /// takes no memory.
     pub fn image_place_for(&self, arena_pages: u32, wanted: &ImageWanted) -> Option<u64>
         ensures { result ≡ image_place_for self.now arena_pages wanted.now }
     {

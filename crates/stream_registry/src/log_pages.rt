@@ -25,7 +25,7 @@ fn log_pages(log: &Source) -> u64
     pages_of(log.measures.term_length)
 }
 
-/// The page behind the log's last one, or the greatest number where that is too great.
+/// The page after the log's last one, or the greatest number where that is too great.
 fn end_of(log: &Source) -> u64
     ensures { result ≡ min (log.now.place + log_pages log.now) (2 ^ 64 - 1) }
 {

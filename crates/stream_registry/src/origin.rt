@@ -75,7 +75,7 @@ impl Source {
         }
     }
 
-    /// The position at which the log begins: 0 of a publication, of an image the one that its publisher's SETUP told.
+    /// The position at which the log begins: 0 of a publication, of an image the one that its publisher's SETUP states.
     pub fn begins_at(&self) -> u64
         ensures { result ≡ begins_at self.now }
     {

@@ -83,7 +83,7 @@ impl Sources {
         self.rows.len() - self.published
     }
 
-    /// Puts a publication behind the others.
+    /// Puts a publication after the others.
     pub(crate) fn push_publication(&mut self, log: Source)
         requires kind { is_published log ≡ true }
         requires room { length (filter is_published self.old) < 256 }
@@ -93,7 +93,7 @@ impl Sources {
         self.published += 1;
     }
 
-    /// Puts an image behind the others.
+    /// Puts an image after the others.
     pub(crate) fn push_image(&mut self, log: Source)
         requires kind { is_remote log ≡ true }
         requires room { length (filter is_remote self.old) < 512 }

@@ -2,7 +2,6 @@
 use Rattle.std.proofs.Common.{◌≡◌, ℕ, ◌+◌, ◌/◌, true, false, cond, List, [], ◌∷◌, ◌++◌, Option, Some, None, map, refl, sym, ap, ap₂, ◌∙◌, subst, arith, append_assoc}
 use Rattle.std.specs.Prelude.{Result, Ok, Err, IfOk, OnOk, nat_le, IfSome}
 use Rattle.std.proofs.lemmas.Bool.Decides.{nat_tests}
-use Rattle.std.proofs.lemmas.List.{append-nil}
 use Rattle.term_log.specs.declared.ident.Ident.{Ident}
 use Rattle.term_log.specs.declared.offer.Offer.{Offer}
 use Rattle.log_pairs.specs.Pairs.{position_of, moved_one, rejoined_pairs}
@@ -166,17 +165,6 @@ fetches l subscription limit at left is gives =
           gives.on from.before from.after from.stands from.kept_place
           ∙ ap (λ (fs : List Frame). fragments_of (passed limit (polled_run at fs))) (sym from.behind)
           ∙ sym (ap (λ (p : Poll). p.fragments) (polled_is w l subscription limit (Some at) s is));
-    }
-
-pub fetches_none : (l : Log) (subscription limit tail : ℕ) (left : List Fetched) → position_of l.pairs subscription ≡ None → tail ≡ l.kept.tail
-    → GivesFragments l.kept tail 0 left → Fetches l subscription limit left
-fetches_none l subscription limit tail left is at_tail gives =
-    record {
-      on = λ w s.
-          let stands = subst (λ (fs : List Frame). StandsFor l.kept fs) (sym (append-nil w.frames)) s.frames in
-          let place = s.frames.tail in
-          gives.on w.frames [] stands (at_tail ∙ place)
-          ∙ sym (ap (λ (p : Poll). p.fragments) (polled_is w l subscription limit None s is));
     }
 
 -- without a pair there is nothing to give

@@ -5,7 +5,7 @@ use denote.RawPtr.{Ptr, coded_ptr}
 use Rattle.log_arena.specs.Homes.{Home}
 
 -- the lease's region and its place there, how many bytes a term has, and the bytes of the oldest term, of the one
--- behind it and of the newest, one after the other
+-- after it and of the newest, one after another
 pub record Buffers : Type 0 where
   pub home : Home
   pub place : ℕ

@@ -12,7 +12,7 @@ last_part payload size = (size - 1) / payload
 abbrev pub flags_of : ℕ → ℕ → Flags
 flags_of last i = record { bits = (if i == 0 then 128 else 0) + (if i == last then 64 else 0) }
 
--- each frame carries as many bytes as fit, behind those of the frames before it
+-- each frame carries as many bytes as fit, after those of the frames before it
 abbrev pub part_of : ℕ → List ℕ → ℕ → Frame
 part_of payload message i =
     fragment (flags_of (last_part payload (length message)) i) (take payload (drop (i * payload) message))

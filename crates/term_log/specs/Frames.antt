@@ -1,4 +1,4 @@
--- The frames of a log, one behind the other (Aeron Transport Protocol Specification, data frame, padding, positions).
+-- The frames of a log, one after another (Aeron Transport Protocol Specification, data frame, padding, positions).
 use Rattle.std.specs.Prelude.{◌≡◌, ℕ, ◌+◌, ◌-◌, ◌%◌, ◌≤◌, List, [], ◌∷◌, ◌++◌, length, replicate, if◌then◌else◌}
 use Rattle.frame_codec.specs.declared.flags.Flags.{Flags}
 use Rattle.frame_codec.specs.Flags.{contains}
@@ -22,7 +22,7 @@ abbrev pub span : Frame → ℕ
 span (fragment flags payload) = padded (32 + length payload)
 span (pad size) = size
 
--- how many positions frames take, one behind the other
+-- how many positions frames take, one after another
 abbrev pub total : List Frame → ℕ
 total [] = 0
 total (f ∷ fs) = span f + total fs
@@ -37,7 +37,7 @@ abbrev pub messages_of : List Frame → ℕ
 messages_of [] = 0
 messages_of (f ∷ fs) = begins f + messages_of fs
 
--- the bytes of a frame at a position, but for the zeros behind the header of a pad
+-- the bytes of a frame at a position, but for the zeros after the header of a pad
 abbrev pub front_of : Ident → ℕ → Frame → List ℕ
 front_of i position (fragment flags payload) = data_bytes flags (place_at i position) payload
 front_of i position (pad size) = pad_bytes pad_flags (place_at i position) size

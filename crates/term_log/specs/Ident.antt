@@ -19,7 +19,7 @@ pub record IsIdent (i : Ident) : Type 0 where
   pub start_aligned : i.start % 32 ≡ 0
   pub start_below : i.start < i.term_length * 2 ^ 31
 
--- no frame ends behind this position
+-- no frame ends past this position
 abbrev pub greatest_position : Ident → ℕ
 greatest_position i = i.term_length * 2 ^ 31
 

@@ -9,7 +9,7 @@ use Rattle.term_log.specs.Ident.{IsIdent, ident_code, greatest_position}
 use Rattle.term_log.specs.Buffers.{Buffers, buffers_code, written, settled}
 use Rattle.term_log.specs.Frames.{Frame, span, total, begins, messages_of, front_of, run_of, IsRun}
 
--- what it was made for, the position behind the last frame, how many messages were appended, its three terms, and where some
+-- what it was made for, the position after the last frame, how many messages were appended, its three terms, and where some
 -- frames begin
 pub record Kept : Type 0 where
   pub ident : Ident
@@ -36,14 +36,14 @@ rest_of k = k.ident.term_length - offset_of k
 abbrev pub all_of : Ident → List Frame → List ℕ
 all_of i frames = replicate (2 * i.term_length + i.start % i.term_length) 0 ++ run_of i i.start frames
 
--- a position is where one of the frames begins, or behind the last one
+-- a position is where one of the frames begins, or after the last one
 pub record IsStart (position : ℕ) (frames : List Frame) (at : ℕ) : Type 0 where
   pub before : List Frame
   pub after : List Frame
   pub is : frames ≡ before ++ after
   pub place : at ≡ position + total before
 
--- The log stands for these frames: all that were ever appended, one behind the other from its start on. Held are the
+-- The log stands for these frames: all that were ever appended, one after another from its start on. Held are the
 -- last bytes of all, those of the term of the tail and of the two before it; all other bytes are zeros.
 pub record StandsFor (k : Kept) (frames : List Frame) : Type 0 where
   pub tail : k.tail ≡ k.ident.start + total frames

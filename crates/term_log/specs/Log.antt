@@ -33,7 +33,7 @@ log_code =
 abbrev pub low_of : Kept → ℕ
 low_of k = max k.ident.start ((k.tail / k.ident.term_length - 2) * k.ident.term_length)
 
--- no offer is taken from this position on: half a term behind the least position, of the pairs, or of pairs and sender;
+-- no offer is taken from this position on: half a term past the least position, of the pairs, or of pairs and sender;
 -- a log over IPC that nobody reads takes none
 abbrev pub limit_among : LogKind → ℕ → ℕ → ℕ → List Pair → ℕ
 limit_among Udp tail half sender pairs = least_of sender pairs + half
@@ -104,7 +104,7 @@ abbrev pub IsSenderNear : LogKind → ℕ → ℕ → ℕ → ℕ → Type 0
 IsSenderNear Ipc start tail term sender = (start ≤ sender) × (sender ≤ tail)
 IsSenderNear Udp start tail term sender = IsNear start tail term sender
 
--- no frame ends behind the greatest position, and all positions of a log are within a term of its tail
+-- no frame ends past the greatest position, and all positions of a log are within a term of its tail
 pub record IsLog (k : Kept) (pairs : List Pair) (sender : ℕ) : Type 0 where
   pub high : k.tail ≤ greatest_position k.ident
   pub near : AreNear k.ident.start k.tail k.ident.term_length pairs

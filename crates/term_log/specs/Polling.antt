@@ -13,7 +13,7 @@ fetched end (pad size) = None
 abbrev pub polled_frame : ℕ → Frame → Polled
 polled_frame end f = record { end = end; fragment = fetched end f }
 
--- frames one behind the other, the first of them at that position
+-- frames one after another, the first of them at that position
 abbrev pub polled_run : ℕ → List Frame → List Polled
 polled_run position [] = []
 polled_run position (f ∷ fs) = polled_frame (position + span f) f ∷ polled_run (position + span f) fs
@@ -25,7 +25,7 @@ pub record GivesFragments (k : Kept) (position limit : ℕ) (left : List Fetched
   pub on : (before after : List Frame) → StandsFor k (before ++ after) → position ≡ k.ident.start + total before
       → left ≡ fragments_of (passed limit (polled_run position after))
 
--- the position behind those that a poll passes
+-- the position after those that a poll passes
 pub record PassesTo (k : Kept) (position limit end : ℕ) : Type 0 where
   pub on : (before after : List Frame) → StandsFor k (before ++ after) → position ≡ k.ident.start + total before
       → end ≡ behind position (passed limit (polled_run position after))

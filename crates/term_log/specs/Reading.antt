@@ -29,7 +29,7 @@ given_of frame = record { position = frame.position; frame = frame_of frame.cont
 abbrev pub given : Ident → ℕ → Frame → Given
 given i position f = record { position = position; frame = f; bytes = front_of i position f }
 
--- frames one behind the other, the first of them at that position
+-- frames one after another, the first of them at that position
 abbrev pub all_given : Ident → ℕ → List Frame → List Given
 all_given i position [] = []
 all_given i position (f ∷ fs) = given i position f ∷ all_given i (position + span f) fs
@@ -48,7 +48,7 @@ AreFrom position (g ∷ gs) = (g.position ≡ position) × AreFrom (position + s
 abbrev pub EndsBy : ℕ → Given → Type 0
 EndsBy end g = g.position + span g.frame ≤ end
 
--- the bytes of frames that are sent, one behind the other
+-- the bytes of frames that are sent, one after another
 abbrev pub sent_bytes : List Given → List ℕ
 sent_bytes [] = []
 sent_bytes (g ∷ gs) = g.bytes ++ sent_bytes gs
@@ -70,7 +70,7 @@ within budget [] = []
 within budget (f ∷ fs) = if nat_lt budget (sent_size f) then [] else f ∷ within (budget - sent_size f) fs
 
 -- What is given from a position on that is a frame's start or the tail: of all frames from there on, whichever the log
--- stands for, those of one term that the budget admits. (A pad ends its term, so none is given behind it.)
+-- stands for, those of one term that the budget admits. (A pad ends its term, so none is given after it.)
 pub record GivesFrom (k : Kept) (position budget : ℕ) (left : List Given) : Type 0 where
   pub on : (before after : List Frame) → StandsFor k (before ++ after) → position ≡ k.ident.start + total before
       → left ≡ all_given k.ident position (within budget (of_term k.ident.term_length position after))
@@ -112,7 +112,7 @@ abbrev pub admitted : ℕ → Option Given → Option Given
 admitted budget None = None
 admitted budget (Some g) = if nat_lt budget (length g.bytes) then None else Some g
 
--- the bytes behind a frame; behind a pad there are none
+-- the bytes after a frame; after a pad there are none
 abbrev pub behind : Given → Frame → List ℕ → List ℕ
 behind g (fragment flags payload) bytes = drop (length g.bytes) bytes
 behind g (pad size) bytes = []

@@ -38,7 +38,7 @@ abbrev pub later_of : Option ℕ → ℕ → Option ℕ
 later_of None now = Some now
 later_of (Some last) now = Some (max last now)
 
--- a status message that has room behind a position: beyond what was sent it is dropped
+-- a status message that has room after a position: beyond what was sent it is dropped
 abbrev pub status_of : Sending → ℕ → ℕ → Status
 status_of s position room = if nat_lt s.position position then OutOfWindow else Accepted (max s.limit (position + room))
 

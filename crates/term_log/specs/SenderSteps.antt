@@ -33,7 +33,7 @@ setup_cut now w = record w { sender = after_setup now w.sender }
 unfoldable pub datagram_cut : ℕ → Whole → Whole
 datagram_cut now w = record w { sender = record w.sender { datagram = later_of w.sender.datagram now } }
 
--- in each whole log that a log stands for, a position is where a frame begins, or behind the last one
+-- in each whole log that a log stands for, a position is where a frame begins, or after the last one
 pub record IsStartIn (l : Log) (at : ℕ) : Type 0 where
   pub on : (w : Whole) → Stands l w → IsStart w.ident.start w.frames at
 

@@ -1,4 +1,4 @@
--- How three term buffers lie in a lease: the newest term's buffer ends somewhere, and behind it the others follow, the
+-- How three term buffers lie in a lease: the newest term's buffer ends somewhere, and after it the others follow, the
 -- oldest first, going on at the front.
 use Rattle.std.specs.Prelude.{◌≡◌, ℕ, ◌*◌, ◌<◌, ◌≤◌, ◌++◌, List, length, take, drop, IsTrue, ◌||◌, ◌==◌, ◌^◌}
 use Rattle.log_arena.specs.Lease.{lease_bytes, lease_home, lease_place, lease_len}

@@ -18,7 +18,7 @@ pub record Whole : Type 0 where
   pub pairs : List Pair
   pub sender : Sending
 
--- the position behind the last frame
+-- the position after the last frame
 abbrev pub tail_of : Whole → ℕ
 tail_of w = w.ident.start + total w.frames
 
@@ -52,7 +52,7 @@ rejoined subscriptions w = record w { pairs = rejoined_pairs (tail_of w) w.pairs
 unfoldable pub rejoined_kept : List ℕ → Log → Log
 rejoined_kept subscriptions l = record l { pairs = rejoined_pairs l.kept.tail l.pairs subscriptions }
 
--- the frames that begin at a position or behind it, the first of all at `position`
+-- the frames that begin at a position or after it, the first of all at `position`
 abbrev pub frames_behind : ℕ → ℕ → List Frame → List Frame
 frames_behind at position [] = []
 frames_behind at position (f ∷ fs) = if nat_le at position then f ∷ fs else frames_behind at (position + span f) fs
@@ -76,7 +76,7 @@ polled_from w subscription limit (Some at) =
     passes w subscription at (passed limit (polled_run at (frames_behind at w.ident.start w.frames)))
 
 -- A poll of a subscription: from its position on frame by frame, until so many fragments were given or there are no
--- more. Pads are passed uncounted; it then stands behind what was passed.
+-- more. Pads are passed uncounted; it then stands after what was passed.
 unfoldable pub polled : Whole → ℕ → ℕ → Poll
 polled w subscription limit = polled_from w subscription limit (position_of w.pairs subscription)
 

@@ -1,4 +1,4 @@
-//! The frames of a log, appended one behind the other.
+//! The frames of a log, appended one after another.
 
 ghost use Rattle.frame_codec.specs.Frame.{padded};
 ghost use Rattle.log_arena.specs.Lease.{lease_bytes, lease_home, lease_len, lease_place};
@@ -27,7 +27,7 @@ use std::marker::Model;
 #[derive(Drop)]
 pub(crate) struct Appender {
     ident: Ident,
-    /// The position behind the last frame.
+    /// The position after the last frame.
     tail: u64,
     /// How many bytes of the newest term are before the tail, and the id of that term: a frame that is appended divides
     /// nothing but where it fills its term.
@@ -281,7 +281,7 @@ impl Appender {
         Frames::new(bytes, end, budget)
     }
 
-    /// Where the term behind that of a position begins, or the tail where that is before it.
+    /// Where the term after that of a position begins, or the tail where that is before it.
     fn next_term(&self, position: u64) -> u64
         requires low { low_of self.now ≤ position }
         requires high { position ≤ self.now.tail }
@@ -293,7 +293,7 @@ impl Appender {
     }
 
     /// The frames from a position on that is held: a frame's start or the tail. They are those of its term, of the next one
-    /// and of the one behind that: all up to the tail.
+    /// and of the one after that: all up to the tail.
     fn terms_from(&self, position: u64) -> (Frames<'_>, Frames<'_>, Frames<'_>)
         requires low { low_of self.now ≤ position }
         requires high { position ≤ self.now.tail }

@@ -17,7 +17,7 @@ pub(crate) struct TermBuffers {
     lease: Lease,
     /// How many bytes a term has.
     term_length: usize,
-    /// Where the buffer of the newest term ends in the lease; behind it stands the oldest, if not at the front.
+    /// Where the buffer of the newest term ends in the lease; after it stands the oldest, if not at the front.
     end: usize,
 }
 

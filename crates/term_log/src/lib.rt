@@ -3,9 +3,9 @@
 //!
 //! [`TermLog::offer`] appends a message, cut into frames, or a pad to the end of a term. [`TermLog::frames_from`] and
 //! [`TermLog::frames_over`] lend frames that are held. Contracts say of which lists of frames a log stands for all
-//! (`StandsFor`), and of which whole logs (`Stands`). [`TermLog::fragments`] and [`TermLog::poll`] are the two halves of a
-//! poll. [`TermLog::status`] and the calls behind it tell how far a sender may send, and when what is due. But
-//! for [`TermLog::open`] and [`LogRoom::new`], by which the memory of a log is taken beforehand, nothing here takes memory.
+//! (`StandsFor`), and of which whole logs (`Stands`). [`TermLog::poll_copies`] is a poll. [`TermLog::status`] and the calls
+//! after it say how far a sender may send, and when what is due. But for [`TermLog::open`] and [`LogRoom::new`], by which the
+//! memory of a log is taken beforehand, and for the copies of a poll, nothing here takes memory.
 #![tactic(auto)]
 
 mod appender;
@@ -26,7 +26,6 @@ pub use ident::{Ident, LogKind};
 pub use laws::{offers_count_messages, polls_give_frames};
 pub use log_pairs::{CopiedFragments, Fragment, FragmentCopies, Pair};
 pub use offer::Offer;
-pub use polling::Fragments;
 pub use ranges::FramesOver;
 pub use reading::{Content, Frames, LogFrame};
 pub use room::LogRoom;

@@ -1,11 +1,11 @@
 /// What becomes of a message that is offered to a log.
 #[derive(Clone, Copy, Debug, PartialEq, Eq)]
 pub enum Offer {
-    /// It is appended; the position behind it.
+    /// It is appended; the position after it.
     At(u64),
     /// It is longer than an eighth of a term.
     TooLong,
-    /// It would end behind the greatest position.
+    /// It would end past the greatest position.
     MaxPosition,
     /// The tail has reached the limit.
     BackPressured,

@@ -10,11 +10,8 @@ ghost use Rattle.term_log.specs.Reading.{given_of};
 use crate::appender::Appender;
 use crate::ranges::FramesOver;
 use crate::reading::{Content, LogFrame};
-use log_pairs::{Fragment, FragmentCopies, PolledFrame, PolledFrames, behind_passed, copy_passed};
+use log_pairs::{Fragment, FragmentCopies, PolledFrame, PolledFrames, copy_passed};
 use std::alloc::{AllocError, Global};
-
-/// The fragments that a poll gives, in order. The log lends their bytes.
-pub type Fragments<'a> = log_pairs::Fragments<FramesOver<'a>>;
 
 /// A frame as a poll comes to it.
 fn polled_frame<'a>(frame: &LogFrame<'a>) -> PolledFrame<Fragment<'a>>
@@ -51,28 +48,6 @@ impl<'a> PolledFrames for FramesOver<'a> {
     }
 }
 
-/// The fragments that a poll gives from a position on that is held: a frame's start or the tail.
-pub(crate) fn fragments_from(log: &Appender, position: u64, limit: usize) -> Fragments<'_>
-    requires low { low_of log.now ≤ position }
-    requires high { position ≤ log.now.tail }
-    ensures { GivesFragments log.now position limit result }
-{
-    Fragments::new(log.frames_behind(position), limit)
-}
-
-/// The position behind the frames that a poll passes from a position on that is held: a frame's start or the tail.
-pub(crate) fn end_of(log: &Appender, position: u64, limit: usize) -> u64
-    requires low { low_of log.now ≤ position }
-    requires high { position ≤ log.now.tail }
-    ensures exact { PassesTo log.now position limit result }
-    ensures ahead { position ≤ result }
-    ensures within { result ≤ log.now.tail }
-{
-    // The frames end from the position on up to the tail, so that the bounds change nothing.
-    let end = behind_passed(log.frames_behind(position), position, limit);
-    end.max(position).min(log.tail())
-}
-
 /// How many bytes copies of so many fragments take at most, where so many positions are left: what stands before the bytes of
 /// one takes no more than the header of its frame does.
 fn room_for(left: u64, limit: usize, mtu: u32) -> usize {
@@ -80,7 +55,7 @@ fn room_for(left: u64, limit: usize, mtu: u32) -> usize {
 }
 
 /// Copies of the fragments that a poll gives from a position on that is held, a frame's start or the tail, and the position
-/// behind the frames that it passes.
+/// after the frames that it passes.
 pub(crate) fn copies_from(
     log: &Appender,
     alloc: Global,
@@ -97,6 +72,6 @@ pub(crate) fn copies_from(
     let tail = log.tail();
     let room = room_for(tail - position, limit, log.ident().mtu);
     let (copies, end) = copy_passed(log.frames_behind(position), alloc, room, position, limit)?;
-    // As for `end_of`, the bounds change nothing.
+    // The frames end from the position on up to the tail, so that the bounds change nothing.
     Ok((copies, end.max(position).min(tail)))
 }

@@ -10,7 +10,7 @@ use crate::reading::{Frames, LogFrame};
 /// The frames of a log whose ranges meet a range of positions, in order. The log lends their bytes.
 #[derive(Clone, Copy, Debug)]
 pub struct FramesOver<'a> {
-    /// The frames of the oldest term that is held, of the one behind it, and of the newest.
+    /// The frames of the oldest term that is held, of the one after it, and of the newest.
     first: Frames<'a>,
     second: Frames<'a>,
     third: Frames<'a>,
@@ -28,7 +28,7 @@ fn meets(position: u64, size: u64, frame: &LogFrame<'_>) -> bool
         && frame.position.saturating_sub(position) < size
 }
 
-/// The frames from the first one on that is a pad or ends behind a position: those before it meet no range that begins there,
+/// The frames from the first one on that is a pad or ends after a position: those before it meet no range that begins there,
 /// and of each no more is read than how long it is.
 fn from_behind<'a>(frames: Frames<'a>, position: u64, _size: u64) -> Frames<'a>
     ensures { filter (meets position _size) (frames_left result) ≡ filter (meets position _size) (frames_left frames.entry) }

@@ -102,7 +102,7 @@ fn first(position: u64, bytes: &[u8]) -> Option<LogFrame<'_>>
     Some(fragment_at(size, position, bytes))
 }
 
-/// The bytes behind a frame; behind a pad there are none.
+/// The bytes after a frame; after a pad there are none.
 fn behind<'a>(frame: &LogFrame<'a>, bytes: &'a [u8]) -> &'a [u8]
     ensures { result.now ≡ behind (given_of frame.now) (frame_of frame.now.content) bytes.now }
 {
@@ -119,7 +119,7 @@ fn behind<'a>(frame: &LogFrame<'a>, bytes: &'a [u8]) -> &'a [u8]
 pub struct Frames<'a> {
     /// The bytes of the term from the next frame on.
     rest: &'a [u8],
-    /// The position behind those bytes.
+    /// The position after those bytes.
     end: u64,
     /// How many bytes of frames are given at most.
     budget: usize,
@@ -140,7 +140,7 @@ impl<'a> Frames<'a> {
         }
     }
 
-    /// The bytes of all frames that are still to come, one behind the other, as they are sent in one datagram, and how many
+    /// The bytes of all frames that are still to come, one after another, as they are sent in one datagram, and how many
     /// positions those frames take.
     pub fn bytes_and_span(&self) -> (&'a [u8], u64)
         ensures bytes { result.0.now ≡ sent_bytes (frames_left self.now) }
@@ -172,7 +172,7 @@ impl<'a> Frames<'a> {
         Some(span as usize)
     }
 
-    /// The frames behind one of so many bytes.
+    /// The frames after one of so many bytes.
     pub(crate) fn pass(self, size: usize) -> Frames<'a>
         requires bytes { size ≤ length self.rest.now }
         requires budget { size ≤ self.budget }

@@ -89,7 +89,7 @@ impl Sender {
         self.position = position;
     }
 
-    /// A status message came, which has that much room behind a position.
+    /// A status message came, which has that much room after a position.
     pub(crate) fn status(&mut self, now: u64, position: u64, room: u32) -> Status
         requires { self.old.position < 2 ^ 63 }
         ensures answer { result ≡ status_of self.old position room }

@@ -17,7 +17,7 @@ use crate::appender::Appender;
 use crate::cutting::size_of;
 use crate::ident::{Ident, LogKind};
 use crate::offer::Offer;
-use crate::polling::{Fragments, copies_from, end_of, fragments_from};
+use crate::polling::copies_from;
 use crate::ranges::FramesOver;
 use crate::reading::Frames;
 use crate::room::LogRoom;
@@ -32,7 +32,7 @@ use std::marker::Model;
 /// No message is longer, however long terms are.
 const GREATEST_MESSAGE: usize = 16_777_216;
 
-/// The log of a publication: a list of frames, each behind the one before, of which the last three terms are held.
+/// The log of a publication: a list of frames, each after the one before, of which the last three terms are held.
 ///
 /// Contracts see what is kept of the frames, the subscriptions that read them with their positions, and what the sender
 /// keeps. `StandsFor` says of which lists of frames what is kept is all that has to be kept.
@@ -107,7 +107,7 @@ impl TermLog {
         (self.appender.ident().term_length as usize / 8).min(GREATEST_MESSAGE)
     }
 
-    /// The position behind the last frame.
+    /// The position after the last frame.
     pub fn tail(&self) -> u64
         ensures { result ≡ self.now.kept.tail }
     {
@@ -131,7 +131,7 @@ impl TermLog {
     }
 
     /// The frames from a position on that is not below [`TermLog::low`], and that is a frame's start or the tail: the
-    /// longest run of whole frames, all of one term, of which at most so many bytes are sent. It ends behind a pad. Of a
+    /// longest run of whole frames, all of one term, of which at most so many bytes are sent. It ends after a pad. Of a
     /// pad its header alone is sent. They end at or below the tail, and a sender that has sent them may say so by
     /// [`TermLog::sent`].
     pub fn frames_from(&self, position: u64, bytes: usize) -> Frames<'_>
@@ -271,35 +271,10 @@ impl TermLog {
         self.pairs.advance(subscription, position);
     }
 
-    /// The fragments that a poll of a subscription gives, over the ends of terms: those from its position on, at most so
-    /// many. None where it does not read the log. Nothing is passed yet: [`TermLog::poll`] does that, once they were taken.
-    pub fn fragments(&self, subscription: u64, limit: usize) -> Fragments<'_>
-        ensures { Fetches self.now subscription limit result }
-    {
-        match self.pair_position(subscription) {
-            Some(position) => fragments_from(&self.appender, position, limit),
-            None => fragments_from(&self.appender, self.appender.tail(), 0),
-        }
-    }
-
-    /// A subscription is polled: it has read the frames from its position on, until so many fragments were given or there
-    /// are no more. Pads do not count, and one behind the last fragment is left.
-    pub fn poll(&mut self, subscription: u64, limit: usize)
-        ensures kept { self.new.kept ≡ self.old.kept }
-        ensures sender { self.new.sender ≡ self.old.sender }
-        ensures whole { Carries self.old self.new (λ w. (polled w subscription limit).after) }
-    {
-        match self.pair_position(subscription) {
-            Some(position) => {
-                let end = end_of(&self.appender, position, limit);
-                self.advance(subscription, end);
-            }
-            None => {}
-        }
-    }
-
-    /// As [`TermLog::poll`], with copies of the fragments that it gives, those of [`TermLog::fragments`]: each frame is looked
-    /// at once, and the memory for all copies is taken at once.
+    /// A subscription is polled: it has read the frames from its position on, over the ends of terms, until so many fragments
+    /// were given or there are no more. Pads do not count, and one after the last fragment is left. The answer has copies of
+    /// the fragments; none where the subscription does not read the log. Each frame is looked at once, and the memory for all
+    /// copies is taken at once.
     ///
     /// # Errors
     /// Nothing is changed where there is no memory for the copies.
@@ -326,7 +301,7 @@ impl TermLog {
     }
 
     /// The position up to which the sender has sent: where a frame begins, or the tail. Over UDP it is held, since no offer
-    /// goes on further than it allows. A log over IPC has no sender, and leaves the position behind.
+    /// goes on further than it allows. A log over IPC has no sender, and the position falls out of what is held.
     pub fn sender_position(&self) -> u64
         ensures value { result ≡ self.now.sender.position }
         ensures within { result ≤ self.now.kept.tail }
@@ -347,7 +322,7 @@ impl TermLog {
     }
 
     /// A status message came at the moment `now`, in nanoseconds: a receiver has taken all up to a position, and has
-    /// room for a window of bytes behind it, of which half a term counts at most.
+    /// room for a window of bytes after it, of which half a term counts at most.
     ///
     /// Beyond the sender's position it is dropped. Else the log may be sent up to the greatest position that any such
     /// message allowed, and is connected.

@@ -1,4 +1,4 @@
--- An image of a publication's session and stream is told the publication's numbers by its SETUP. Own rules.
+-- An image of a publication's session and stream gets the publication's numbers from its SETUP. Own rules.
 use Rattle.std.specs.Prelude.{◌≡◌, ℕ, ◌<◌, List, [], ◌∷◌, All, Some}
 use Rattle.any_log.specs.Whole.{AnyWhole, whole, rebuilt}
 use Rattle.driver_core.specs.declared.peer.Peer.{Peer}

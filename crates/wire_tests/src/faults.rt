@@ -24,7 +24,7 @@ fn failing<W: Wire>(wire: &mut W, buffer: &mut [u8]) -> u64
     if wire.failures() == failed { failed } else { 7 }
 }
 
-/// Whether one call fails behind so many, or all that are left.
+/// Whether one call fails after so many, or all that are left.
 fn fails_there(alloc: Global, ahead: u64, buffer: &mut [u8]) -> bool
     requires { 65507 ≤ length buffer.old }
 {

@@ -1,5 +1,5 @@
--- The frame that was taken stands behind the copy so far.
-use Rattle.std.proofs.Common.{length-append, arith, vec_len}
+-- The frame that was taken stands after the copy so far.
+use Rattle.std.proofs.Common.{vec_len}
 use Rattle.publication_sender.proofs.DatagramLemmas.{copied_more}
 use Rattle.publication_sender.proofs.datagrams.copy_run.Goals as goal
 use Rattle.publication_sender.specs.Datagrams.{frames_in}
@@ -10,14 +10,6 @@ loop-frame-preserved c =
     let more =
     copied_more c.args.term_length c.args.number c.args.mtu (frames_in c.args.frames.now) (frames_in c.loop-frame.frames)
     (frames_in c.next_fitting.new.frames) (given_of c.in-Some.frame) c.loop-frame.copy.items c.extend_from_slice.new.self.items
-    (vec_len c.loop-frame.copy) c.loop-frame.invariant.counted c.loop-frame.invariant.filled c.in-Some.ensures.0
-    (rw (← c.len.ensures) c.in-Some.ensures.1) c.in_ok-extend_from_slice.ensures.items in
-    record {
-      filled = rw (c.in_ok-extend_from_slice.ensures.len) more;
-      counted = omega (
-        arith,
-        c.in_ok-extend_from_slice.ensures.len,
-        c.loop-frame.invariant.counted,
-        length-append c.loop-frame.copy.items (given_of c.in-Some.frame).bytes,
-      );
-    }
+    (vec_len c.loop-frame.copy) c.loop-frame.invariant c.in-Some.ensures.0 (rw (← c.len.ensures) c.in-Some.ensures.1)
+    c.in_ok-extend_from_slice.ensures.items in
+    rw (c.in_ok-extend_from_slice.ensures.len) more

@@ -1,14 +1,11 @@
-use Rattle.std.proofs.Common.{◌≡◌, [], length, vec_len}
-use Rattle.publication_sender.proofs.DatagramLemmas.{Filled}
+use Rattle.std.proofs.Common.{length, vec_len}
+use Rattle.publication_sender.proofs.DatagramLemmas.{Copied}
 use Rattle.publication_sender.specs.Datagrams.{frames_in}
 use Rattle.publication_sender.proofs.datagrams.copy_run.Given as goal
 
 -- what was taken is the copy
 abbrev pub invariant-loop-frame : goal.invariant-loop-frame
-invariant-loop-frame l = record {
-  filled : Filled l.term_length l.number l.mtu (frames_in l.fn.frames) (frames_in l.frames) [] l.copy.items (vec_len l.copy);
-  counted : vec_len l.copy ≡ length l.copy.items;
-}
+invariant-loop-frame l = Copied l.term_length l.number l.mtu (frames_in l.fn.frames) (frames_in l.frames) l.copy.items (vec_len l.copy)
 
 abbrev pub decreases-loop-frame : goal.decreases-loop-frame
 decreases-loop-frame l = length (frames_in l.frames)

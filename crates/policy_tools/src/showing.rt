@@ -1,0 +1,70 @@
+//! The rules of a policy, as lines of text.
+
+ghost use Rattle.policy_tools.specs.Showing.{heads, numbered};
+ghost use Rattle.std.specs.Fmt.{decimal};
+ghost use Rattle.std.specs.Prelude.{◌≡◌, ◌<◌, ◌∷◌, [], IfOk, length, take};
+
+use crate::columns::{Line, in_columns};
+use crate::directory::Directory;
+use crate::source::Source;
+use crate::words::{acts_text, plain, principals_text, streams_text, word_of};
+use byte_strings::Text;
+use policy_core::Rule;
+use std::alloc::{AllocError, Global};
+
+/// The number and the name of a rule.
+fn head(alloc: Global, number: usize, rule: &Rule) -> Result<Line, AllocError>
+    ensures { IfOk result (λ line. line.cells.items ≡ decimal number ∷ rule.now.name ∷ []) }
+{
+    let mut cells = Vec::new(alloc);
+    cells.push(Text::from(format!(in alloc; "{number}")?))?;
+    cells.push(Text::new(alloc, rule.name.as_str())?)?;
+    Ok(Line { cells })
+}
+
+/// The line of a rule.
+fn rule_line(
+    alloc: Global,
+    number: usize,
+    rule: &Rule,
+    pattern: &str,
+    directory: &Directory,
+) -> Result<Line, AllocError>
+    ensures { IfOk result (λ line. take 2 line.cells.items ≡ decimal number ∷ rule.now.name ∷ []) }
+{
+    let mut line = head(alloc, number, rule)?;
+    line.cells
+        .push(principals_text(alloc, rule.principals, directory)?)?;
+    line.cells.push(acts_text(alloc, rule.acts)?)?;
+    line.cells.push(plain(alloc, pattern)?)?;
+    line.cells.push(streams_text(alloc, rule.low, rule.high)?)?;
+    line.cells.push(Text::new(alloc, word_of(rule.allow))?)?;
+    Ok(line)
+}
+
+/// The lines of the rules, each rule once, in their order.
+fn rule_lines(
+    alloc: Global,
+    source: &Source,
+    directory: &Directory,
+) -> Result<Vec<Line>, AllocError>
+    ensures { IfOk result (λ lines. heads lines.items ≡ numbered 1 source.now.policy.rules) }
+{
+    let rules = source.rules();
+    let mut lines = Vec::new(alloc);
+    for at in 0..rules.len() {
+        lines.push(rule_line(alloc, at + 1, &rules[at], source.text(at), directory)?)?;
+    }
+    Ok(lines)
+}
+
+/// The policy as a text: a line for each rule with its number, name, principal, acts, pattern, streams and word; then the
+/// default.
+pub fn show(alloc: Global, source: &Source, directory: &Directory) -> Result<String, AllocError> {
+    let lines = rule_lines(alloc, source, directory)?;
+    let mut text = in_columns(alloc, lines.as_slice())?;
+    text.push_str("default ")?;
+    text.push_str(word_of(source.policy().default_allows()))?;
+    text.push_str("\n")?;
+    Ok(text)
+}

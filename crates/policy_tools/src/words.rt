@@ -1,0 +1,79 @@
+//! The parts of a rule, in words.
+
+use crate::directory::Directory;
+use byte_strings::Text;
+use policy_core::{Act, Acts, Principals};
+use std::alloc::{AllocError, Global};
+
+/// The text, with what is no printable ASCII written by its code point, so that it stays within its line.
+pub fn plain(alloc: Global, text: &str) -> Result<Text, AllocError> {
+    let mut made = String::new(alloc);
+    for letter in text.chars() {
+        if letter >= ' ' && letter <= '~' {
+            made.push(letter)?;
+        } else {
+            let code = letter as u32;
+            write!(made, "<{code}>")?;
+        }
+    }
+    Ok(Text::from(made))
+}
+
+/// The name of whom a rule speaks of, or `*` for everybody; a number that has no name is written after a `#`.
+pub fn principals_text(
+    alloc: Global,
+    principals: Principals,
+    directory: &Directory,
+) -> Result<Text, AllocError> {
+    let Principals::One(number) = principals else {
+        return Text::new(alloc, "*");
+    };
+    match directory.name_of(number) {
+        Some(name) => plain(alloc, name),
+        None => Ok(Text::from(format!(in alloc; "#{number}")?)),
+    }
+}
+
+/// Whether all acts are among these.
+fn are_every(acts: Acts) -> bool {
+    Act::EVERY.iter().all(|act| acts.hold(*act))
+}
+
+/// The names of acts, with commas between them; `*` for all of them.
+pub fn acts_text(alloc: Global, acts: Acts) -> Result<Text, AllocError> {
+    if are_every(acts) {
+        return Text::new(alloc, "*");
+    }
+    let mut text = String::new(alloc);
+    for act in Act::EVERY {
+        if acts.hold(act) {
+            if !text.is_empty() {
+                text.push_str(",")?;
+            }
+            text.push_str(act.name())?;
+        }
+    }
+    Ok(Text::from(text))
+}
+
+/// An interval of streams, as `10..20`; an end that is the least or the greatest stream is left out, and `*` stands for
+/// all streams.
+pub fn streams_text(alloc: Global, low: i32, high: i32) -> Result<Text, AllocError> {
+    let text = if low == i32::MIN && high == i32::MAX {
+        format!(in alloc; "*")?
+    } else if low == high {
+        format!(in alloc; "{low}")?
+    } else if low == i32::MIN {
+        format!(in alloc; "..{high}")?
+    } else if high == i32::MAX {
+        format!(in alloc; "{low}..")?
+    } else {
+        format!(in alloc; "{low}..{high}")?
+    };
+    Ok(Text::from(text))
+}
+
+/// The word of a rule.
+pub fn word_of(allow: bool) -> &'static str {
+    if allow { "allow" } else { "deny" }
+}
