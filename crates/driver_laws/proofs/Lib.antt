@@ -5,6 +5,7 @@ pub mod BlankLemmas
 pub mod ClientComingLemmas
 pub mod ClosedLogLemmas
 pub mod ClosingLemmas
+pub mod CountedLemmas
 pub mod DatagramLemmas
 pub mod DecisionLemmas
 pub mod DenialLemmas
@@ -39,6 +40,7 @@ pub mod PairCountLemmas
 pub mod PublicationLemmas
 pub mod PublishingLemmas
 pub mod PublishingOnlyLemmas
+pub mod ReadWidthLemmas
 pub mod RefusalLemmas
 pub mod ReloadLemmas
 pub mod RemovalLemmas
@@ -56,5 +58,6 @@ pub mod UniqueImageLemmas
 pub mod UniquePublicationLemmas
 pub mod WellLemmas
 pub mod WholeLemmas
+pub mod WidthLemmas
 pub mod WireLemmas
 pub mod WorldLemmas

@@ -1,39 +1,21 @@
 -- In every registry no two live publications are of one medium, stream and session.
-use Rattle.std.proofs.Common.{◌≡◌, ℕ, ◌+◌, ◌<◌, ◌≤◌, ◌^◌, ℤ, pos, Bool, true, false, not, ◌&&◌, cond, List, [], ◌∷◌, length, filter, find, Option, Some, None, Result, Ok, Err, is_some, refl, sym, subst, ap, ◌∙◌, ◌⊎◌, inl, inr, ⊎_elim, arith}
+use Rattle.std.proofs.Common.{◌≡◌, ℕ, ◌+◌, ◌<◌, ◌^◌, ℤ, Bool, true, false, ◌&&◌, cond, List, [], ◌∷◌, length, filter, find, Option, Some, None, Result, Ok, Err, is_some, refl, sym, ap, ◌∙◌, ◌⊎◌, inl, inr, ⊎_elim, arith}
 use Rattle.std.specs.List.{Contains, list_any}
 use Rattle.std.specs.Int.{w32}
 use Rattle.std.specs.Ordering.{int_eq}
 use Rattle.std.specs.Prelude.{FitsSigned}
-use Rattle.std.proofs.lemmas.Bool.{and_parts, cond_both, eq-eqb}
+use Rattle.std.proofs.lemmas.Bool.{and_parts, eq-eqb}
 use Rattle.std.proofs.lemmas.Bool.Decides.{Decides-int_eq}
 use Rattle.std.proofs.lemmas.List.Filters.{length-filter_both}
-use Rattle.std.proofs.Math.Facts.{sfits_to_z}
 use Rattle.driver_core.specs.declared.event.Event.{Event}
-use Rattle.driver_core.specs.declared.event.Event.TheVariants.{Attach, Command, Reload, Setup, Tick}
 use Rattle.driver_core.specs.declared.event.Inputs.{Inputs}
 use Rattle.driver_core.specs.declared.peer.Peer.{Peer}
 use Rattle.driver_core.specs.declared.settings.Settings.{Settings}
-use Rattle.driver_core.specs.Attaching.{attached}
-use Rattle.driver_core.specs.Closing.{close, keep_alive}
-use Rattle.driver_core.specs.Commands.{at_request, heard}
-use Rattle.driver_core.specs.Conduct.{conduct, drafted, state_after, state_of}
-use Rattle.driver_core.specs.Counting.{counted, uncounted, valued, with_counter}
-use Rattle.driver_core.specs.Directing.{directed, recalled, with_destination, without_destination}
-use Rattle.driver_core.specs.Draft.{Draft, answered, refused, replied, replied_opening, told}
-use Rattle.driver_core.specs.Leaving.{all_left, left}
+use Rattle.driver_core.specs.Conduct.{state_after, state_of}
 use Rattle.driver_core.specs.PublicationRequests.{is_sent_as}
-use Rattle.driver_core.specs.Publishing.{published, with_directed_publication, with_publication}
-use Rattle.driver_core.specs.Reloading.{in_force, reloaded}
-use Rattle.driver_core.specs.Renewal.{renewed}
+use Rattle.driver_core.specs.Publishing.{published}
 use Rattle.driver_core.specs.Requests.{wanted_by}
-use Rattle.driver_core.specs.SettingUp.{image_made, with_image}
-use Rattle.driver_core.specs.State.{State, at_moment, opened}
-use Rattle.driver_core.specs.Subscribing.{subscribed, with_subscription}
-use Rattle.driver_core.specs.Terminating.{stopped_for_good, terminated}
-use Rattle.driver_core.specs.Ticking.{closed_past, late, tick, ticked}
-use Rattle.driver_core.specs.Unpublishing.{unpublished}
-use Rattle.driver_core.specs.Unread.{dropping, without_unread}
-use Rattle.driver_core.specs.Unsubscribing.{unsubscribed}
+use Rattle.driver_core.specs.State.{State, opened}
 use Rattle.driver_laws.specs.ClosingLaws.{IsSameLog}
 use Rattle.driver_laws.specs.NumberLaws.{AreRising}
 use Rattle.driver_laws.specs.OwnerLaws.{HaveTheirClients}
@@ -41,10 +23,8 @@ use Rattle.driver_laws.specs.PublishingLaws.{IsImageMadeBy, IsLogMadeBy, WasLive
 use Rattle.driver_laws.specs.UniquePublicationLaws.{AreOfOneStream, HasUniquePublications, PublicationsAreUnique}
 use Rattle.channel_uri.specs.declared.media.Media.{Media}
 use Rattle.channel_uri.specs.declared.media.Media.TheVariants.{Udp, Ipc, Counter}
-use Rattle.channel_uri.specs.Channel.{Shape}
 use Rattle.channel_uri.specs.Media.{media_number}
 use Rattle.channel_uri.specs.Parameters.{stated_session_of}
-use Rattle.log_readers.specs.Unread.{without_unread as without_unread_in}
 use Rattle.policy_core.specs.RuleList.{Rules}
 use Rattle.stream_registry.specs.declared.fault.StreamFault.{StreamFault}
 use Rattle.stream_registry.specs.declared.fault.StreamFault.TheVariants.{Conflict, Full}
@@ -54,97 +34,23 @@ use Rattle.stream_registry.specs.declared.row.Source.{Source}
 use Rattle.stream_registry.specs.declared.wanted.Adding.{Adding}
 use Rattle.stream_registry.specs.declared.wanted.Adding.TheVariants.{Join, Make}
 use Rattle.stream_registry.specs.declared.wanted.Wanted.{Wanted}
-use Rattle.stream_registry.specs.Adding.{added, adding_by, adding_of, has_room_for_log, has_room_for_registration, joining_of, making_of, next_after, session_of, subscribed as subscribed_in}
+use Rattle.stream_registry.specs.Adding.{adding_by, adding_of, has_room_for_log, has_room_for_registration, joining_of, making_of, session_of}
 use Rattle.stream_registry.specs.Few.{AreFew}
 use Rattle.stream_registry.specs.Joining.{contradicts, joined_at}
-use Rattle.stream_registry.specs.Leaving.{left as left_in, unregistered, unsubscribed as unsubscribed_in}
-use Rattle.stream_registry.specs.Lingering.{closed, settled}
 use Rattle.stream_registry.specs.Origins.{is_published, is_published_by, is_remote, unlingering}
 use Rattle.stream_registry.specs.Places.{is_same_media, is_udp}
-use Rattle.stream_registry.specs.Sessions.{after, free_session, has_session, has_session_at, is_stated_again, is_taken}
+use Rattle.stream_registry.specs.Sessions.{free_session, has_session, has_session_at, is_stated_again, is_taken}
 use Rattle.stream_registry.specs.Streams.{Streams}
 use Rattle.stream_registry.proofs.SessionLemmas.{all_free}
 use Rattle.driver_core.proofs.CacheLemmas.{IsFound, found_in}
-use Rattle.driver_core.proofs.EventCases.{Cases, attach_cases, command_cases, reload_cases, set_up_cases}
 use Rattle.driver_core.proofs.ListLemmas.{contains_none}
+use Rattle.driver_laws.proofs.CountedLemmas.{IsCounted, event_counted}
 use Rattle.driver_laws.proofs.DroppingLemmas.{is_any, none_found}
 use Rattle.driver_laws.proofs.LimitLemmas.{IsWithin, event_within, opened_within}
-use Rattle.driver_laws.proofs.NewNumberLemmas.{image_number}
 use Rattle.driver_laws.proofs.NumberLemmas.{event_rises, opened_rises}
 use Rattle.driver_laws.proofs.OwnerLemmas.{opened_owned, stay_owned}
 use Rattle.driver_laws.proofs.PublishingOnlyLemmas.{published_only}
 use Rattle.driver_laws.proofs.RisingLemmas.{rises_unique}
-
--- ---- the counter of sessions has 32 bits
-
-abbrev IsCounted : State → Type 0
-IsCounted s = FitsSigned w32 s.streams.next_session
-
-abbrev DraftCounted : Draft → Type 0
-DraftCounted draft = IsCounted draft.after
-
-after_fits : (session : ℤ) → FitsSigned w32 (after session)
-after_fits session = sfits_to_z (record { fits = omega arith })
-
-next_fits : (s : Streams) (wanted : Wanted) (session : ℤ) → FitsSigned w32 s.next_session →
-    FitsSigned w32 (next_after s wanted session)
-next_fits s wanted session fits =
-    cond_both (is_some (stated_session_of wanted.channel)) s.next_session (after session) (FitsSigned w32)
-    (λ stated. fits) (λ own. after_fits session)
-
-added_fits : (s : Streams) (number client place : ℕ) (wanted : Wanted) (adding : Adding) → FitsSigned w32 s.next_session →
-    FitsSigned w32 (added s number client wanted place adding).next_session
-added_fits s number client place wanted (Join source session) fits = fits
-added_fits s number client place wanted (Make session) fits = next_fits s wanted session fits
-
-command_counted : (s : State) (now handle : ℕ) (bytes : List ℕ) → IsCounted s → Cases DraftCounted (at_moment s now) handle bytes
-unfolding at_moment heard refused replied told subscribed with_subscription subscribed_in published with_directed_publication with_publication replied_opening unpublished unregistered settled unsubscribed unsubscribed_in keep_alive counted with_counter valued uncounted directed with_destination recalled without_destination close left left_in terminated stopped_for_good
-command_counted s now handle bytes fits =
-    record {
-      unheard = λ correlation refusal plain not_heard. fits;
-      refusal = λ decisions client correlation refusal plain was_heard. fits;
-      denial = λ client correlation act channel stream was_heard found asked denies. fits;
-      subscription = λ request was_heard asks allows room. fits;
-      publication = λ request adding was_heard asks allows is room placed.
-          added_fits s.streams (s.last_number + 1) request.client.number _ (wanted_by request) adding fits;
-      publication_removal = λ client correlation fields was_heard asks. fits;
-      removal = λ request was_heard asks. fits;
-      keepalive = λ was_heard. fits;
-      destination = λ request number was_heard asks allows manual is. fits;
-      destination_removal = λ client correlation fields target was_heard asks is. fits;
-      counter = λ client correlation fields was_heard asks allows room. fits;
-      value = λ client correlation fields was_heard asks. fits;
-      counter_removal = λ client correlation fields was_heard asks. fits;
-      closing = λ client correlation was_heard asks. fits;
-      termination = λ client correlation fields was_heard asks allows. fits;
-    }
-
-left_counted : (s : State) (clients : List ℕ) → IsCounted s → IsCounted (all_left s clients)
-unfolding left left_in settled
-left_counted s [] fits = fits
-left_counted s (client ∷ clients) fits = left_counted (left s client) clients fits
-
-ticked_counted : (s : State) (clients silent : List ℕ) → IsCounted s → DraftCounted (ticked s clients silent)
-unfolding ticked closed_past closed
-ticked_counted s clients silent fits = fits
-
-draft_counted : (s : State) (event : Event) (inputs : Inputs) → IsCounted s → DraftCounted (drafted s event inputs)
-unfolding drafted at_moment answered attached reloaded in_force tick image_made with_image
-draft_counted s (Attach now principal) inputs fits =
-    attach_cases DraftCounted (at_moment s now) principal fits fits fits
-draft_counted s (Command now handle bytes) inputs fits =
-    command_cases DraftCounted s now handle bytes inputs (command_counted s now handle bytes fits)
-draft_counted s (Reload now policy) inputs fits =
-    reload_cases DraftCounted (at_moment s now) policy (λ room. fits) (λ full. fits)
-draft_counted s (Tick now) inputs fits =
-    ticked_counted (all_left (at_moment s now) (late (at_moment s now))) (late (at_moment s now)) inputs.silent
-    (left_counted (at_moment s now) (late (at_moment s now)) fits)
-draft_counted s (Setup now local from setup) inputs fits =
-    set_up_cases DraftCounted (at_moment s now) local from setup (λ fault. fits) (λ join place is set. fits)
-
-event_counted : (s : State) (event : Event) (inputs : Inputs) → IsCounted s → IsCounted (state_after s event inputs)
-unfolding conduct renewed dropping without_unread without_unread_in
-event_counted s event inputs fits = draft_counted s event inputs fits
 
 -- ---- a log that is made has a session of its own
 
@@ -166,7 +72,7 @@ either_makes : (exclusive : Bool) (one other wants : Result Adding StreamFault) 
 either_makes true one other wants more is = is
 either_makes false one other wants more is = more is
 
-makes_log : (s : Streams) (wanted : Wanted) (session : ℤ) → adding_of s wanted ≡ Ok (Make session) →
+pub makes_log : (s : Streams) (wanted : Wanted) (session : ℤ) → adding_of s wanted ≡ Ok (Make session) →
     making_of s wanted ≡ Ok (Make session)
 unfolding adding_of
 makes_log s wanted session is =
@@ -179,11 +85,11 @@ making_parts true room own session is = absurd (cc is)
 making_parts false true own session is = (refl, cc is)
 making_parts false false own session is = absurd (cc is)
 
-record IsNewSession (s : Streams) (wanted : Wanted) (session : ℤ) : Type 0 where
-  new : is_stated_again s.sources wanted.channel.media wanted.stream (stated_session_of wanted.channel) ≡ false
-  session_is : session_of s wanted.channel ≡ session
+pub record IsNewSession (s : Streams) (wanted : Wanted) (session : ℤ) : Type 0 where
+  pub new : is_stated_again s.sources wanted.channel.media wanted.stream (stated_session_of wanted.channel) ≡ false
+  pub session_is : session_of s wanted.channel ≡ session
 
-new_session : (s : Streams) (wanted : Wanted) (session : ℤ) → making_of s wanted ≡ Ok (Make session) →
+pub new_session : (s : Streams) (wanted : Wanted) (session : ℤ) → making_of s wanted ≡ Ok (Make session) →
     IsNewSession s wanted session
 unfolding making_of
 new_session s wanted session is =
@@ -234,7 +140,7 @@ origin_kind : (origin : Origin) → is_published_by (unlingering origin) ≡ is_
 origin_kind (Published exclusive since) = refl
 origin_kind (Remote address initial_term join) = refl
 
-kind_alike : (log other : Source) → IsSameLog log other → is_published log ≡ is_published other
+pub kind_alike : (log other : Source) → IsSameLog log other → is_published log ≡ is_published other
 kind_alike log other same =
     sym (origin_kind log.origin) ∙ ap (λ (p : Source). is_published p) same ∙ origin_kind other.origin
 
@@ -262,7 +168,7 @@ were_of_one log other before another one two both = record {
 image_unpublished : (s : State) (event : Event) (log : Source) → IsImageMadeBy s event log → is_published log ≡ false
 image_unpublished s event log made = ap is_published made.log_is
 
-publications_come : (s : State) (event : Event) (inputs : Inputs) (log : Source) →
+pub publications_come : (s : State) (event : Event) (inputs : Inputs) (log : Source) →
     Contains (state_after s event inputs).streams.sources log → is_published log ≡ true →
     WasLive s.streams log ⊎ IsLogMadeBy s event log
 publications_come s event inputs log has published =
@@ -276,7 +182,7 @@ publications_come s event inputs log has published =
     ((published_only s event inputs).logs log has)
 
 record HasRoom (s : State) : Type 0 where
-  counted : IsCounted s
+  counted : FitsSigned w32 s.streams.next_session
   few : length s.streams.sources < 2 ^ 32
 
 -- none of its medium and stream had its session
@@ -393,44 +299,45 @@ few_logs s within =
     let remote = few.remote in
     omega (arith, both, published, remote)
 
-record Holds (s : State) : Type 0 where
+record Holds (settings : Settings) (s : State) : Type 0 where
   rises : AreRising s
   owned : HaveTheirClients s
   within : IsWithin s
-  counted : IsCounted s
+  counted : IsCounted settings s
   unique : HasUniquePublications s
 
-stays_unique : (s : State) (event : Event) (inputs : Inputs) → Holds s → Holds (state_after s event inputs)
-stays_unique s event inputs holds =
+stays_unique : (settings : Settings) (s : State) (event : Event) (inputs : Inputs) → Holds settings s →
+    Holds settings (state_after s event inputs)
+stays_unique settings s event inputs holds =
     let after' : State = state_after s event inputs in
     let rises : AreRising after' = (event_rises s event inputs holds.rises).rises in
     record {
       rises = rises;
       owned = stay_owned s event inputs holds.owned;
       within = event_within s event inputs holds.owned holds.within;
-      counted = event_counted s event inputs holds.counted;
+      counted = event_counted settings s event inputs holds.counted;
       unique = are_unique after' (λ log other has stands both.
           rises_unique (λ (p : Source). p.number) 0 after'.last_number after'.streams.sources log other rises.sources has stands
           (one_number s event inputs log other
-          (record { counted = holds.counted; few = few_logs s holds.within }) holds.unique has stands both));
+          (record { counted = holds.counted.0; few = few_logs s holds.within }) holds.unique has stands both));
     }
 
-all_hold : (s : State) (events : List (Event × Inputs)) → Holds s → Holds (state_of s events)
-all_hold s [] holds = holds
-all_hold s (event ∷ events) holds =
-    all_hold (state_after s event.0 event.1) events (stays_unique s event.0 event.1 holds)
+all_hold : (settings : Settings) (s : State) (events : List (Event × Inputs)) → Holds settings s → Holds settings (state_of s events)
+all_hold settings s [] holds = holds
+all_hold settings s (event ∷ events) holds =
+    all_hold settings (state_after s event.0 event.1) events (stays_unique settings s event.0 event.1 holds)
 
 opened_holds : (settings : Settings) (policy : Rules) (peers : List Peer) → FitsSigned w32 settings.first_session →
-    Holds (opened settings policy peers)
+    Holds settings (opened settings policy peers)
 unfolding opened
 opened_holds settings policy peers fits = record {
   rises = opened_rises settings policy peers;
   owned = opened_owned settings policy peers;
   within = opened_within settings policy peers;
-  counted = fits;
+  counted = (fits, refl);
   unique = are_unique (opened settings policy peers) (λ log other has. absurd (contains_none log has));
 }
 
 pub publications_unique : PublicationsAreUnique
 publications_unique settings policy peers events fits =
-    (all_hold (opened settings policy peers) events (opened_holds settings policy peers fits)).unique
+    (all_hold settings (opened settings policy peers) events (opened_holds settings policy peers fits)).unique

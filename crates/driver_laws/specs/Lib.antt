@@ -30,5 +30,6 @@ pub mod StepActs
 pub mod SubscribingLaws
 pub mod UniqueImageLaws
 pub mod UniquePublicationLaws
+pub mod WidthLaws
 pub mod Wire
 pub mod WorldLaws

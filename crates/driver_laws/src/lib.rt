@@ -30,6 +30,7 @@ ghost use Rattle.driver_laws.specs.SoundnessLaws.{RegistriesAreSound};
 ghost use Rattle.driver_laws.specs.SubscribingLaws.{SubscriptionsAreGrantedExactly, SubscriptionsAreGrantedOnly};
 ghost use Rattle.driver_laws.specs.UniqueImageLaws.{ImagesAreUnique};
 ghost use Rattle.driver_laws.specs.UniquePublicationLaws.{PublicationsAreUnique};
+ghost use Rattle.driver_laws.specs.WidthLaws.{PublicationsAreOf32Bits};
 
 /// A client's well-formed request for a subscription is granted where the first rule that matches allows it, or where
 /// none matches and the default does, and there is room; else it is refused, by the verdict or as full.
@@ -94,6 +95,12 @@ pub fn images_are_unique()
 /// stream for one over datagrams finds the only one.
 pub fn publications_are_unique()
     ensures { PublicationsAreUnique }
+{}
+
+/// In every registry the session and the stream of each live publication, in use or lingering, are numbers of 32 bits, and so
+/// is the term id at which its log begins, whatever bytes came as commands.
+pub fn publications_are_of_32_bits()
+    ensures { PublicationsAreOf32Bits }
 {}
 
 /// Of all replies to an event one for each pair that came, and no other, notifies the subscription's client of an image that is

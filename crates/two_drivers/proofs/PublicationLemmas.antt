@@ -10,6 +10,7 @@ use Rattle.driver_core.specs.Conduct.{state_of}
 use Rattle.driver_core.specs.Soundness.{AreSettings}
 use Rattle.driver_core.specs.State.{State, opened}
 use Rattle.driver_laws.specs.NumberLaws.{AreRising}
+use Rattle.driver_laws.specs.WidthLaws.{AreSettingsOf32Bits, HasNumbersOf32Bits}
 use Rattle.driver_laws.proofs.NumberLemmas.{opened_rises}
 use Rattle.driver_steps.specs.declared.answer.Answer.{Answer}
 use Rattle.driver_steps.specs.declared.answer.Answer.TheVariants.{NoMemory}
@@ -35,7 +36,7 @@ use Rattle.term_log.specs.Frames.{Frame}
 use Rattle.term_log.specs.Whole.{Whole}
 use Rattle.two_drivers.specs.Publication.{AreSole, HasPair, IsSole, IsSoleOf, RunGivesARunOfThePublication, SecondGivesARunOfThePublication, firsts_after, frames_in, last_seen, later_of, seen, seen_in}
 use Rattle.two_drivers.proofs.AskedLemmas.{asked}
-use Rattle.two_drivers.proofs.FitLemmas.{fit_of}
+use Rattle.two_drivers.proofs.FitLemmas.{end_numbers, fit_of}
 use Rattle.two_drivers.proofs.LaterLemmas.{IsLater, IsMore, left_later, more_later, stays_there}
 use Rattle.two_drivers.proofs.NumberLemmas.{IsPast, are_found, drawn_at, left_draws, past_on}
 use Rattle.two_drivers.proofs.PairLemmas.{pair_read}
@@ -90,6 +91,11 @@ next_end opening e next end (one_step reading answer answered is) =
 end_follows : (opening : Opening) (e : RunEnd) → AreSettings opening.settings → IsEnd opening e → Follows e
 end_follows opening e sound end =
     subst Follows (sym end.is) (ends_follow opening.settings opening.policy opening.peers end.readings end.answers sound end.are)
+
+end_fits : (opening : Opening) (e : RunEnd) → AreSettingsOf32Bits opening.settings → IsEnd opening e → HasNumbersOf32Bits e.registry
+end_fits opening e fit end =
+    subst (λ (x : RunEnd). HasNumbersOf32Bits x.registry) (sym end.is)
+    (end_numbers opening.settings opening.policy opening.peers end.readings end.answers fit)
 
 -- ---- what was last seen
 
@@ -205,25 +211,26 @@ all_both P Q R (log ∷ logs) both ps qs =
     (all_both P Q R logs both (All-tail P log logs ps) (All-tail Q log logs qs))
 
 end_only : (opening : Opening) (i : Ident) (all : List Frame) (n : ℕ) (e : RunEnd) (later : List RunEnd) → AreSettings opening.settings →
-    IsEnd opening e → AreNext e later → IsAllOf i all n (e ∷ later) → AreSole i n e → All (IsOverUdp i all) e.logs
-end_only opening i all n e later sound end next is sole =
+    AreSettingsOf32Bits opening.settings → IsEnd opening e → AreNext e later → IsAllOf i all n (e ∷ later) → AreSole i n e →
+    All (IsOverUdp i all) e.logs
+end_only opening i all n e later sound fit end next is sole =
     all_both (λ (log : WholeLog). log_at e.logs log.source ≡ Some log) (IsSole i n) (IsOverUdp i all) e.logs
     (λ log live one. record {
-      only = only_by opening i all n e later log log.whole sound end next is live refl one.sole;
-      fit = fit_of log.source e log (end_follows opening e sound end) live one.numbers;
+      only = only_by opening i all n e later log log.whole sound end next is live refl one;
+      fit = fit_of log.source e log (end_follows opening e sound end) (end_fits opening e fit end) live;
     })
     (are_found e (end_follows opening e sound end) end.rises) sole
 
 ends_only : (opening : Opening) (i : Ident) (all : List Frame) (n : ℕ) (e : RunEnd) (later : List RunEnd) → AreSettings opening.settings →
-    IsEnd opening e → AreNext e later → IsAllOf i all n (e ∷ later) → All (AreSole i n) (e ∷ later) →
+    AreSettingsOf32Bits opening.settings → IsEnd opening e → AreNext e later → IsAllOf i all n (e ∷ later) → All (AreSole i n) (e ∷ later) →
     All (λ (end : RunEnd). All (IsOverUdp i all) end.logs) (e ∷ later)
-ends_only opening i all n e [] sound end next is sole =
+ends_only opening i all n e [] sound fit end next is sole =
     All-cons (λ (x : RunEnd). All (IsOverUdp i all) x.logs) e []
-    (end_only opening i all n e [] sound end next is (All-head (AreSole i n) e [] sole)) (All-nil (λ (x : RunEnd). All (IsOverUdp i all) x.logs))
-ends_only opening i all n e (one ∷ later) sound end next is sole =
+    (end_only opening i all n e [] sound fit end next is (All-head (AreSole i n) e [] sole)) (All-nil (λ (x : RunEnd). All (IsOverUdp i all) x.logs))
+ends_only opening i all n e (one ∷ later) sound fit end next is sole =
     All-cons (λ (x : RunEnd). All (IsOverUdp i all) x.logs) e (one ∷ later)
-    (end_only opening i all n e (one ∷ later) sound end next is (All-head (AreSole i n) e (one ∷ later) sole))
-    (ends_only opening i all n one later sound (next_end opening e one end next.0) next.1 (all_behind i all n e (one ∷ later) is)
+    (end_only opening i all n e (one ∷ later) sound fit end next is (All-head (AreSole i n) e (one ∷ later) sole))
+    (ends_only opening i all n one later sound fit (next_end opening e one end next.0) next.1 (all_behind i all n e (one ∷ later) is)
     (All-tail (AreSole i n) e (one ∷ later) sole))
 
 -- ---- what was last seen is sound
@@ -235,21 +242,20 @@ log_sound : (a : AnyWhole) (last : Whole) → Rattle.two_worlds.proofs.SentLemma
 log_sound (whole w) last well fit is = let same : w ≡ last = cc is in subst IsSoundWhole same (fit, well fit)
 log_sound (rebuilt r) last well fit is = absurd (cc is)
 
-seen_sound : (i : Ident) (n : ℕ) (e : RunEnd) (last : Whole) (o : Option WholeLog) → Follows e → log_at e.logs n ≡ o → All WellLog e.logs → AreSole i n e →
-    seen_in o ≡ Some last → IsSoundWhole last
-seen_sound i n e last None follows found well sole is = absurd (cc is)
-seen_sound i n e last (Some log) follows found well sole is =
-    log_sound log.whole last (found_log WellLog n log e.logs well found).holds (fit_of n e log follows found (found_log (IsSole i n) n log e.logs sole found).holds.numbers) is
+seen_sound : (n : ℕ) (e : RunEnd) (last : Whole) (o : Option WholeLog) → Follows e → HasNumbersOf32Bits e.registry → log_at e.logs n ≡ o →
+    All WellLog e.logs → seen_in o ≡ Some last → IsSoundWhole last
+seen_sound n e last None follows numbers found well is = absurd (cc is)
+seen_sound n e last (Some log) follows numbers found well is =
+    log_sound log.whole last (found_log WellLog n log e.logs well found).holds (fit_of n e log follows numbers found) is
 
-last_sound : (opening : Opening) (i : Ident) (n : ℕ) (e : RunEnd) (later : List RunEnd) (last : Whole) (o : Option Whole) → AreSettings opening.settings →
-    IsEnd opening e →
-    AreNext e later → All (AreSole i n) (e ∷ later) → last_seen n later ≡ o → later_of (seen n e) o ≡ Some last → IsSoundWhole last
-last_sound opening i n e later last None sound end next sole found is =
-    seen_sound i n e last (log_at e.logs n) (end_follows opening e sound end) refl end.well (All-head (AreSole i n) e later sole) is
-last_sound opening i n e [] last (Some x) sound end next sole found is = absurd (cc found)
-last_sound opening i n e (one ∷ later) last (Some x) sound end next sole found is =
-    last_sound opening i n one later last (last_seen n later) sound (next_end opening e one end next.0) next.1
-    (All-tail (AreSole i n) e (one ∷ later) sole) refl (found ∙ is)
+last_sound : (opening : Opening) (n : ℕ) (e : RunEnd) (later : List RunEnd) (last : Whole) (o : Option Whole) → AreSettings opening.settings →
+    AreSettingsOf32Bits opening.settings → IsEnd opening e → AreNext e later → last_seen n later ≡ o → later_of (seen n e) o ≡ Some last →
+    IsSoundWhole last
+last_sound opening n e later last None sound fit end next found is =
+    seen_sound n e last (log_at e.logs n) (end_follows opening e sound end) (end_fits opening e fit end) refl end.well is
+last_sound opening n e [] last (Some x) sound fit end next found is = absurd (cc found)
+last_sound opening n e (one ∷ later) last (Some x) sound fit end next found is =
+    last_sound opening n one later last (last_seen n later) sound fit (next_end opening e one end next.0) next.1 refl (found ∙ is)
 
 -- ---- two worlds
 
@@ -497,7 +503,7 @@ reads_there i all opening source subscription e (step ∷ steps) (answer ∷ ans
 )
 
 pub publication_run : SecondGivesARunOfThePublication
-publication_run first second start before earlier steps answers publication source subscription last sound settings fresh were are seen' sole read =
+publication_run first second start before earlier steps answers publication source subscription last sound fit settings fresh were are seen' sole read =
     let e : TwoEnds = end_of_both start before earlier in
     let i : Ident = last.ident in
     let all : List Frame = last.frames in
@@ -510,11 +516,11 @@ publication_run first second start before earlier steps answers publication sour
     let last_next : AreNext e.first.driver afters =
     subst (AreNext e.first.driver) (append-nil afters) (worlds_next e steps answers [] are (none_next (end_of_both e steps answers).first.driver)) in
     let next : AreNext start.first.driver (befores ++ afters) = worlds_next start before earlier afters were last_next in
-    let fine = last_sound first i publication start.first.driver (befores ++ afters) last (last_seen publication (befores ++ afters)) sound end next sole refl seen' in
+    let fine = last_sound first publication start.first.driver (befores ++ afters) last (last_seen publication (befores ++ afters)) sound fit end next refl seen' in
     let is : IsAllOf i all publication (start.first.driver ∷ befores ++ afters) =
     (λ other found. (let same : last ≡ other = cc (sym seen' ∙ found) in
     (ap (λ (w : Whole). w.ident) (sym same), ap (λ (w : Whole). w.frames) (sym same)))) in
-    let only = ends_only first i all publication start.first.driver (befores ++ afters) sound end next is sole in
+    let only = ends_only first i all publication start.first.driver (befores ++ afters) sound fit end next is sole in
     let only_before = first_part P (start.first.driver ∷ befores) afters only in
     let only_after = All-cons P e.first.driver afters (end_holds P start before earlier only_before) (second_part P (start.first.driver ∷ befores) afters only) in
     let at_start : IsEndOfBoth first start = record { end = end; world = fresh_end first start.first fresh.first } in
@@ -540,8 +546,8 @@ parts_answered e (step ∷ steps) more (answer ∷ answers) given same are =
     let rest = parts_answered (after_both e step answer) steps more answers given (cc same) are.1 in ((are.0, rest.0), rest.1)
 
 pub run_gives : RunGivesARunOfThePublication
-run_gives first second held start before earlier steps answers more others publication source subscription last sound settings fresh stands answered same
+run_gives first second held start before earlier steps answers more others publication source subscription last sound fit settings fresh stands answered same
     same' seen' sole read =
     let both = parts_answered start before (steps ++ more) earlier (answers ++ others) same (answered.on start stands) in
     let there = parts_answered (end_of_both start before earlier) steps more answers others same' both.1 in
-    publication_run first second start before earlier steps answers publication source subscription last sound settings fresh both.0 there.0 seen' sole read
+    publication_run first second start before earlier steps answers publication source subscription last sound fit settings fresh both.0 there.0 seen' sole read

@@ -1,11 +1,11 @@
 -- All frames of a publication, which are those that its log had when it was last there; and the promise, of two worlds. Own
 -- rules.
-use Rattle.std.specs.Prelude.{◌≡◌, ℕ, true, List, [], ◌∷◌, ◌++◌, length, All, FitsSigned, Option, Some, None}
-use Rattle.std.specs.Int.{w32}
+use Rattle.std.specs.Prelude.{◌≡◌, ℕ, true, List, [], ◌∷◌, ◌++◌, length, All, Option, Some, None}
 use Rattle.any_log.specs.Whole.{AnyWhole, whole, rebuilt}
 use Rattle.driver_core.specs.LogRequests.{has_pair}
 use Rattle.driver_core.specs.Renewal.{source_at}
 use Rattle.driver_core.specs.Soundness.{AreSettings}
+use Rattle.driver_laws.specs.WidthLaws.{AreSettingsOf32Bits}
 use Rattle.driver_steps.specs.declared.answer.Answer.{Answer}
 use Rattle.driver_steps.specs.Ends.{RunEnd, log_at}
 use Rattle.driver_steps.specs.Moves.{WholeLog}
@@ -48,19 +48,8 @@ IsSoleOf i publication source (whole w) =
     is_udp w.ident.kind ≡ true → w.ident.session ≡ i.session → w.ident.stream ≡ i.stream → source ≡ publication
 IsSoleOf i publication source (rebuilt r) = Unit {0}
 
--- numbers of 32 bits, as datagrams have them
-pub record AreOf32Bits (i : Ident) : Type 0 where
-  pub session : FitsSigned w32 i.session
-  pub stream : FitsSigned w32 i.stream
-  pub initial_term : FitsSigned w32 i.initial_term
-
-abbrev pub IsOf32Bits : AnyWhole → Type 0
-IsOf32Bits (whole w) = AreOf32Bits w.ident
-IsOf32Bits (rebuilt r) = Unit {0}
-
-pub record IsSole (i : Ident) (publication : ℕ) (log : WholeLog) : Type 0 where
-  pub sole : IsSoleOf i publication log.source log.whole
-  pub numbers : IsOf32Bits log.whole
+abbrev pub IsSole : Ident → ℕ → WholeLog → Type 0
+IsSole i publication log = IsSoleOf i publication log.source log.whole
 
 abbrev pub AreSole : Ident → ℕ → RunEnd → Type 0
 AreSole i publication e = All (IsSole i publication) e.logs
@@ -98,8 +87,8 @@ abbrev pub SecondGivesARunOfThePublication : Type 0
 SecondGivesARunOfThePublication =
     (first second : Opening) (start : TwoEnds) (before : List PairStep) (earlier : List Answer) (steps : List PairStep)
     (answers : List Answer) (publication source subscription : ℕ) (last : Whole) → AreSettings first.settings →
-    AreSettings second.settings → AreFresh first second start → AreAnswersOfBoth start before earlier →
-    AreAnswersOfBoth (end_of_both start before earlier) steps answers →
+    AreSettingsOf32Bits first.settings → AreSettings second.settings → AreFresh first second start →
+    AreAnswersOfBoth start before earlier → AreAnswersOfBoth (end_of_both start before earlier) steps answers →
     last_seen publication (firsts_in start before earlier steps answers) ≡ Some last →
     All (AreSole last.ident publication) (firsts_in start before earlier steps answers) →
     AtEach (HasPair last.ident source subscription) (end_of_both start before earlier) steps answers →
@@ -112,7 +101,8 @@ RunGivesARunOfThePublication =
     (first second : Opening) (held : HeldBoth) (start : TwoEnds) (before : List PairStep) (earlier : List Answer)
     (steps : List PairStep) (answers : List Answer) (more : List PairStep) (others : List Answer)
     (publication source subscription : ℕ) (last : Whole) →
-    AreSettings first.settings → AreSettings second.settings → AreFresh first second start → StandForEnds held start →
+    AreSettings first.settings → AreSettingsOf32Bits first.settings → AreSettings second.settings →
+    AreFresh first second start → StandForEnds held start →
     AnswerBoth held (before ++ (steps ++ more)) (earlier ++ (answers ++ others)) → length before ≡ length earlier →
     length steps ≡ length answers → last_seen publication (firsts_in start before earlier steps answers) ≡ Some last →
     All (AreSole last.ident publication) (firsts_in start before earlier steps answers) →
