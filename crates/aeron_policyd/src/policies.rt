@@ -1,4 +1,4 @@
-//! What is asked of the policy in a file, answered by `policy_tools` and `policy_table`.
+//! What is asked of the policy in a file, answered by `policy_tools`, `policy_lint` and `policy_table`.
 
 use crate::fault::Fault;
 use crate::files::file_bytes;
@@ -7,6 +7,7 @@ use crate::policy_words::{Asked, Asking, Question};
 use crate::{print_line, print_text};
 use channel_uri::Channel;
 use policy_core::{Act, Request};
+use policy_lint::lint;
 use policy_query::{Checked, DecideFault};
 use policy_table::{table, table_of, table_text};
 use policy_tools::{Directory, Report, Source, cases_in, explain, explained, show};
@@ -159,6 +160,43 @@ fn print_table<R: Machine>(
     print_text(rt, text.as_str())
 }
 
+/// Prints what is wrong with a file as a policy, and what is likely not meant.
+fn print_findings<R: Machine, F: Disk>(
+    rt: &R,
+    files: &F,
+    path: &str,
+    strict: bool,
+    directory: &Directory,
+) -> Result<ExitCode, Fault> {
+    let bytes = file_bytes(files, path)?;
+    let report = lint(rt.alloc(), bytes.as_slice(), directory.names())?;
+    let text = report.text(rt.alloc(), path)?;
+    print_text(rt, text.as_str())?;
+    Ok(if report.is_clean(strict) {
+        ExitCode::SUCCESS
+    } else {
+        ExitCode::FAILURE
+    })
+}
+
+/// Answers what is asked of a policy that has no fault.
+fn answer_of<R: Machine, F: Disk>(
+    rt: &R,
+    files: &F,
+    asking: Asking<'_>,
+    directory: &Directory,
+) -> Result<ExitCode, Fault> {
+    let source = source_in(files, asking.policy, directory)?;
+    match asking.asked {
+        Asked::Show => print_rules(rt, &source, directory),
+        Asked::Decide(question) => print_verdict(rt, &source, &question, directory),
+        Asked::Explain(question) => print_explanation(rt, &source, &question, directory),
+        Asked::Test(path) => run_cases(rt, files, &source, path, directory),
+        Asked::Table { principal } => print_table(rt, &source, principal, directory),
+        Asked::Check | Asked::Lint { .. } => print_count(rt, &source),
+    }
+}
+
 /// Answers what is asked of the policy in a file.
 pub(crate) fn answer_asking<R: Machine, F: Disk>(
     rt: &R,
@@ -166,13 +204,8 @@ pub(crate) fn answer_asking<R: Machine, F: Disk>(
     asking: Asking<'_>,
 ) -> Result<ExitCode, Fault> {
     let directory = directory_in(files, asking.names)?;
-    let source = source_in(files, asking.policy, &directory)?;
     match asking.asked {
-        Asked::Check => print_count(rt, &source),
-        Asked::Show => print_rules(rt, &source, &directory),
-        Asked::Decide(question) => print_verdict(rt, &source, &question, &directory),
-        Asked::Explain(question) => print_explanation(rt, &source, &question, &directory),
-        Asked::Test(path) => run_cases(rt, files, &source, path, &directory),
-        Asked::Table { principal } => print_table(rt, &source, principal, &directory),
+        Asked::Lint { strict } => print_findings(rt, files, asking.policy, strict, &directory),
+        _ => answer_of(rt, files, asking, &directory),
     }
 }

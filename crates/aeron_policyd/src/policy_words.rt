@@ -1,8 +1,8 @@
-//! The words that ask what a policy says: `show`, `explain`, `test` and `table`, and `check` and
+//! The words that ask what a policy says: `show`, `explain`, `lint`, `test` and `table`, and `check` and
 //! `decide` with `--names`.
 
 use crate::command_line::{act, channel, policy_file, principal, stream, with};
-use clap::{Arg, ArgMatches, Command};
+use clap::{Arg, ArgAction, ArgMatches, Command};
 use std::alloc::{AllocError, Global};
 
 /// What `show` says.
@@ -66,6 +66,25 @@ Status: 0 where each case passes; 1 where one fails, and after `aeron_policyd: F
 fault of the names, or the first line that is no case, as `cases: line 5: unknown act`; 2 for a command line that is at
 fault.";
 
+/// What `lint` says.
+const LINT: &str = "\
+Example: nothing is wrong with one policy, and a range of another one ends before it begins.
+
+  $ aeron_policyd lint policy.toml
+  no faults, no warnings
+  $ aeron_policyd lint swapped.toml
+  swapped.toml:9:1: error: rule 1 (the house keeps streams 10 to 20): stream = [20, 10]: wanted a low end not above the high one, both within 32 bits
+  1 fault, no warnings
+
+All faults are said, each with the line and the column of its key. Where there is none, warnings are of rules that are
+likely not meant as they stand: a rule that never decides, and by which rules it is hidden; an act that no request of that
+channel or stream has; a key or a value that no channel has; a beginning that ends inside a number; a denial that a channel
+evades by leaving a key out; a grant that does not serve without another one; a type of counters that is the driver's own.
+
+Status: 0; 1 where there is a fault, and with --strict also where there is a warning, and after `aeron_policyd: FAULT` on
+standard error: cannot read file, read failed, too long, a fault of the names, write failed, or no memory; 2 for a command
+line that is at fault.";
+
 /// What `table` says.
 const TABLE: &str = "\
 Example: what may p1 do?
@@ -96,6 +115,8 @@ pub enum Asked<'a> {
     Decide(Question<'a>),
     /// What it decides of a question, and why.
     Explain(Question<'a>),
+    /// What is wrong with it, or likely not meant; whether a warning counts as a fault.
+    Lint { strict: bool },
     /// Whether it gives the answers that the cases in a file want.
     Test(&'a str),
     /// Who may do what under it; of one principal, if one is named.
@@ -161,6 +182,19 @@ fn test<'a>(alloc: Global) -> Result<Command<'a>, AllocError> {
         .arg(names_file(alloc))
 }
 
+fn lint<'a>(alloc: Global) -> Result<Command<'a>, AllocError> {
+    let strict = Arg::new(alloc, "strict")
+        .long("strict")
+        .action(ArgAction::SetTrue)
+        .help("Ends with status 1 where there is a warning, too");
+    Command::new(alloc, "lint")
+        .about("Says all that is wrong with a policy, and what is likely not meant")
+        .after_help(LINT)
+        .arg(policy_file(alloc))?
+        .arg(strict)?
+        .arg(names_file(alloc))
+}
+
 fn table<'a>(alloc: Global) -> Result<Command<'a>, AllocError> {
     let principal = Arg::new(alloc, "principal")
         .long("principal")
@@ -181,6 +215,7 @@ pub(crate) fn with_policies<'a>(
 ) -> Result<Command<'a>, AllocError> {
     let command = with(command, show(alloc))?;
     let command = with(command, explain(alloc))?;
+    let command = with(command, lint(alloc))?;
     let command = with(command, test(alloc))?;
     with(command, table(alloc))
 }
@@ -195,6 +230,10 @@ fn question_in<'m, 'a>(of: &'m ArgMatches<'a>) -> Option<Question<'m>> {
 }
 
 fn listing_in<'m, 'a>(name: &str, of: &'m ArgMatches<'a>) -> Option<Asked<'m>> {
+    if name == "lint" {
+        let strict = of.get_flag("strict");
+        return Some(Asked::Lint { strict });
+    }
     if name == "table" {
         let principal = of.get_str("principal");
         return Some(Asked::Table { principal });

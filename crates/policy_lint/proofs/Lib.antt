@@ -1,0 +1,5 @@
+pub mod HeldLemmas
+pub mod HidingLemmas
+pub mod OverLemmas
+pub mod PushLemmas
+pub mod ReportLemmas

@@ -1,0 +1,10 @@
+use Rattle.std.proofs.Common.{rules}
+use Rattle.policy_lint.proofs.ReportLemmas.{never_each}
+use Rattle.policy_lint.proofs.report.warned.Goals as goal
+
+pub returns : goal.returns
+returns c = record {
+  sound = search rules;
+  hidden = c.in_ok-hidden_in.ensures;
+  never = never_each _ _ c.in_ok-hidden_in.ensures;
+}

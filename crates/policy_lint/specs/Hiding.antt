@@ -1,0 +1,69 @@
+-- When a rule of a policy never decides, since rules before it take each request from it.
+use Rattle.std.specs.Prelude.{◌≡◌, ◌≢◌, ℕ, ◌+◌, ◌<◌, true, ℤ, ◌≤ℤ◌, ◌<ℤ◌, List, Option, Some, slice_get}
+use Rattle.policy_core.specs.declared.act.Act.{Act}
+use Rattle.policy_core.specs.declared.rule.Rule.{Rule}
+use Rattle.policy_core.specs.Acts.{holds}
+use Rattle.policy_core.specs.Question.{Question}
+use Rattle.policy_core.specs.Rule.{matches, speaks_of}
+use Rattle.policy_core.specs.RuleList.{Rules}
+use Rattle.policy_core.specs.Rules.{verdict_of}
+use Rattle.policy_tools.specs.Wider.{IsWider}
+
+-- no request has the rule of this number, counted from 1, as its verdict's rule
+pub record NeverDecides (policy : Rules) (number : ℕ) : Type 0 where
+  pub never : (epoch : ℕ) (question : Question) → (verdict_of policy epoch question).rule ≢ Some number
+
+-- one of the rules at these places, which count from 0, matches the request
+pub record IsTaken (rules : List Rule) (places : List ℕ) (question : Question) : Type 0 where
+  pub index : ℕ
+  pub place : ℕ
+  pub rule : Rule
+  pub listed : slice_get places index ≡ Some place
+  pub stands : slice_get rules place ≡ Some rule
+  pub is_match : matches rule question ≡ true
+
+-- each of these places is before that one
+abbrev pub AreBefore : List ℕ → ℕ → Type 0
+AreBefore places at = (index place : ℕ) → slice_get places index ≡ Some place → place < at
+
+-- the rules at these places stand before the rule at that place, and one of them matches whatever that rule matches
+pub record IsHiddenBy (rules : List Rule) (at : ℕ) (places : List ℕ) : Type 0 where
+  pub before : AreBefore places at
+  pub taken : (question : Question) (rule : Rule) → slice_get rules at ≡ Some rule → matches rule question ≡ true → IsTaken rules places question
+
+-- ---- how it is found
+
+-- everybody of whom the narrow rule speaks is spoken of by the wide one, and each channel that the narrow one's pattern
+-- covers is covered by the wide one's
+pub record IsOver (wide narrow : Rule) : Type 0 where
+  pub principals : (principal : ℕ) → speaks_of narrow.principals principal ≡ true → speaks_of wide.principals principal ≡ true
+  pub channels : IsWider wide.channel narrow.channel
+
+-- so it is of the rules at these places
+abbrev pub IsOverAt : List Rule → ℕ → ℕ → Type 0
+IsOverAt rules place at = (wide narrow : Rule) → slice_get rules place ≡ Some wide → slice_get rules at ≡ Some narrow → IsOver wide narrow
+
+-- each of these places is before that one, with a rule that is over the one there
+pub record AreOver (rules : List Rule) (places : List ℕ) (at : ℕ) : Type 0 where
+  pub before : AreBefore places at
+  pub over : (index place : ℕ) → slice_get places index ≡ Some place → IsOverAt rules place at
+
+-- the rule holds the act, and its range the stream
+pub record Holds (rule : Rule) (act : Act) (stream : ℤ) : Type 0 where
+  pub act_held : holds rule.acts act ≡ true
+  pub low : rule.low ≤ℤ stream
+  pub high : stream ≤ℤ rule.high
+
+-- one of the rules at these places does
+pub record IsHeld (rules : List Rule) (places : List ℕ) (act : Act) (stream : ℤ) : Type 0 where
+  pub index : ℕ
+  pub place : ℕ
+  pub rule : Rule
+  pub listed : slice_get places index ≡ Some place
+  pub stands : slice_get rules place ≡ Some rule
+  pub held : Holds rule act stream
+
+-- for each stream of the rule at that place one of the rules at these places holds the act
+abbrev pub ActIsHeld : List Rule → List ℕ → ℕ → Act → Type 0
+ActIsHeld rules places at act =
+    (rule : Rule) (stream : ℤ) → slice_get rules at ≡ Some rule → holds rule.acts act ≡ true → rule.low ≤ℤ stream → stream ≤ℤ rule.high → IsHeld rules places act stream

@@ -1,0 +1,12 @@
+-- What is reported of a policy.
+use Rattle.std.specs.Prelude.{◌≡◌, ◌+◌, []}
+use Rattle.std.specs.List.{All}
+use Rattle.policy_core.specs.RuleList.{Rules}
+use Rattle.policy_lint.specs.declared.report.Report.{Report}
+use Rattle.policy_lint.specs.Hiding.{IsHiddenBy, NeverDecides}
+
+-- no fault is reported, and each rule that is said never to decide never does: those that are named hide it
+pub record IsOf (policy : Rules) (report : Report) : Type 0 where
+  pub sound : report.faults.items ≡ []
+  pub hidden : All (λ rule. IsHiddenBy policy.rules rule.at rule.by.items) report.hidden.items
+  pub never : All (λ rule. NeverDecides policy (rule.at + 1)) report.hidden.items

@@ -1,0 +1,98 @@
+use crate::places::Place;
+use byte_strings::Text;
+use channel_uri::UriError;
+use policy_text::PolicyFault;
+use std::fmt;
+
+/// Why a part of a text can be no part of a policy.
+#[derive(Drop)]
+pub enum Cause {
+    /// The bytes are no UTF-8.
+    NotText,
+    /// The text is no TOML document; what its reader says of it.
+    NotToml(Text),
+    /// The key has to be there.
+    Missing,
+    /// The key has no meaning there; perhaps this one is meant.
+    UnknownKey(Option<&'static str>),
+    /// This is wanted in place of the value.
+    Wanted(&'static str),
+    /// There is no principal of that name.
+    UnknownPrincipal,
+    /// There is no act of that name; perhaps this one is meant.
+    UnknownAct(Option<&'static str>),
+    /// The value is no pattern.
+    BadPattern(UriError),
+    /// There are so many rules, and 1,024 at most are allowed.
+    TooManyRules(usize),
+    /// The fault as `check` names it.
+    Refused(PolicyFault),
+}
+
+fn write_meant<W: fmt::Write>(f: &mut fmt::Formatter<W>, meant: Option<&str>) -> fmt::Result {
+    match meant {
+        Some(word) => write!(f, "; is `{word}` meant?"),
+        None => Ok(()),
+    }
+}
+
+impl fmt::Display for Cause {
+    fn fmt<W: fmt::Write>(&self, f: &mut fmt::Formatter<W>) -> fmt::Result {
+        match self {
+            Cause::NotText => f.write_str("not UTF-8"),
+            Cause::NotToml(message) => write!(f, "not TOML: {message}"),
+            Cause::Missing => f.write_str("missing"),
+            Cause::UnknownKey(meant) => {
+                f.write_str("no such key")?;
+                write_meant(f, *meant)
+            }
+            Cause::Wanted(wanted) => write!(f, "wanted {wanted}"),
+            Cause::UnknownPrincipal => f.write_str("no such principal"),
+            Cause::UnknownAct(meant) => {
+                f.write_str("no such act")?;
+                write_meant(f, *meant)
+            }
+            Cause::BadPattern(error) => write!(f, "no pattern: {error}"),
+            Cause::TooManyRules(count) => write!(f, "{count} rules, and 1024 at most are allowed"),
+            Cause::Refused(fault) => write!(f, "{fault}"),
+        }
+    }
+}
+
+/// A fault of a policy's text.
+#[derive(Drop)]
+pub struct Fault {
+    /// Where it is.
+    pub place: Place,
+    /// The number of the rule, counted from 1; 0 for the document around the rules.
+    pub rule: usize,
+    /// What the rule is called, where that can be read.
+    pub name: Option<Text>,
+    /// The key; `None` for the text as a whole.
+    pub key: Option<Text>,
+    /// What stands at the key.
+    pub value: Option<Text>,
+    pub cause: Cause,
+}
+
+impl fmt::Display for Fault {
+    fn fmt<W: fmt::Write>(&self, f: &mut fmt::Formatter<W>) -> fmt::Result {
+        if self.rule > 0 {
+            let rule = self.rule;
+            write!(f, "rule {rule}")?;
+            if let Some(name) = &self.name {
+                write!(f, " ({name})")?;
+            }
+            f.write_str(": ")?;
+        }
+        if let Some(key) = &self.key {
+            write!(f, "{key}")?;
+            if let Some(value) = &self.value {
+                write!(f, " = {value}")?;
+            }
+            f.write_str(": ")?;
+        }
+        let cause = &self.cause;
+        write!(f, "{cause}")
+    }
+}

@@ -1,0 +1,360 @@
+ghost use Rattle.std.specs.Prelude.{◌<◌, IfOk, length};
+
+use crate::fault::{Cause, Fault};
+use crate::nearest::nearest;
+use crate::places::{Place, Places, place_after, places_in};
+use byte_strings::Text;
+use channel_uri::Pattern;
+use policy_core::Act;
+use policy_text::{Names, PolicyFault};
+use std::alloc::{AllocError, Global};
+use std::str;
+use toml::value::Array;
+use toml::{Table, Value};
+
+/// The keys of a document.
+const DOCUMENT: [&str; 3] = ["version", "default", "rule"];
+
+/// The keys of a rule.
+const RULE: [&str; 6] = ["name", "principal", "act", "channel", "stream", "allow"];
+
+/// The table of a rule, counted from 1; that of the document for 0.
+#[derive(Clone, Copy)]
+struct Part<'a> {
+    number: usize,
+    table: &'a Table,
+}
+
+impl Part<'_> {
+    fn value(&self, key: &str) -> Option<&Value> {
+        self.table.get(key)
+    }
+
+    fn text(&self, key: &str) -> Option<&str> {
+        self.value(key)?.as_str()
+    }
+
+    /// What the rule is called.
+    fn name(&self, alloc: Global) -> Result<Option<Text>, AllocError> {
+        match self.text("name") {
+            Some(name) if is_name(name) => Ok(Some(Text::new(alloc, name)?)),
+            _ => Ok(None),
+        }
+    }
+}
+
+/// Whether the text can name a rule.
+fn is_name(text: &str) -> bool {
+    !text.is_empty() && text.len() <= 64 && text.bytes().all(|byte| byte >= b' ' && byte <= b'~')
+}
+
+/// The value as it may stand in a text, cut where it is long.
+fn shown(alloc: Global, value: &Value) -> Result<Text, AllocError> {
+    let whole = format!(in alloc; "{value}")?;
+    if whole.len() <= 100 {
+        return Ok(Text::from(whole));
+    }
+    let mut short = String::new(alloc);
+    for c in whole.as_str().chars().take(80) {
+        short.push(c)?;
+    }
+    short.push_str(" ..")?;
+    Ok(Text::from(short))
+}
+
+/// The faults of a text, as they are found.
+#[derive(Drop)]
+struct Found {
+    places: Places,
+    faults: Vec<Fault>,
+}
+
+impl Found {
+    /// Takes a fault of a key, with the value that is to be shown.
+    fn take(
+        &mut self,
+        alloc: Global,
+        part: Part<'_>,
+        key: &str,
+        value: Option<&Value>,
+        cause: Cause,
+    ) -> Result<(), AllocError> {
+        let value = match value {
+            Some(value) => Some(shown(alloc, value)?),
+            None => None,
+        };
+        let name = part.name(alloc)?;
+        self.faults.push(Fault {
+            place: self.places.of(part.number, key),
+            rule: part.number,
+            name,
+            key: Some(Text::new(alloc, key)?),
+            value,
+            cause,
+        })?;
+        Ok(())
+    }
+
+    /// Takes a fault of a key's value, or that the key is missing.
+    fn wrong(
+        &mut self,
+        alloc: Global,
+        part: Part<'_>,
+        key: &str,
+        cause: Cause,
+    ) -> Result<(), AllocError> {
+        match part.value(key) {
+            Some(value) => self.take(alloc, part, key, Some(value), cause),
+            None => self.take(alloc, part, key, None, Cause::Missing),
+        }
+    }
+
+    /// Looks for keys that are none of these words.
+    fn keys(
+        &mut self,
+        alloc: Global,
+        part: Part<'_>,
+        words: &[&'static str],
+    ) -> Result<(), AllocError> {
+        for (key, value) in part.table.iter() {
+            let key = key.as_str();
+            if !words.iter().any(|word| *word == key) {
+                let meant = nearest(alloc, key, words)?;
+                self.take(alloc, part, key, Some(value), Cause::UnknownKey(meant))?;
+            }
+        }
+        Ok(())
+    }
+
+    fn principal(
+        &mut self,
+        alloc: Global,
+        part: Part<'_>,
+        names: &Names,
+    ) -> Result<(), AllocError> {
+        let Some(name) = part.text("principal") else {
+            let wanted = Cause::Wanted("a principal's name, or \"*\"");
+            return self.wrong(alloc, part, "principal", wanted);
+        };
+        if name == "*" || names.number_of(name).is_some() {
+            return Ok(());
+        }
+        self.wrong(alloc, part, "principal", Cause::UnknownPrincipal)
+    }
+
+    /// Looks at the name of an act.
+    fn act(&mut self, alloc: Global, part: Part<'_>, value: &Value) -> Result<(), AllocError> {
+        let Some(name) = value.as_str() else {
+            let wanted = Cause::Wanted("the name of an act");
+            return self.take(alloc, part, "act", Some(value), wanted);
+        };
+        if Act::from_name(name).is_some() {
+            return Ok(());
+        }
+        let meant = nearest_act(alloc, name)?;
+        self.take(alloc, part, "act", Some(value), Cause::UnknownAct(meant))
+    }
+
+    /// Looks at the names of a list of acts.
+    fn listed_acts(
+        &mut self,
+        alloc: Global,
+        part: Part<'_>,
+        items: &Array,
+    ) -> Result<(), AllocError> {
+        if items.is_empty() {
+            return self.wrong(alloc, part, "act", Cause::Wanted("at least one act"));
+        }
+        for value in items {
+            self.act(alloc, part, value)?;
+        }
+        Ok(())
+    }
+
+    fn acts(&mut self, alloc: Global, part: Part<'_>) -> Result<(), AllocError> {
+        if part.text("act") == Some("*") {
+            return Ok(());
+        }
+        let wanted = Cause::Wanted("an act's name, a list of such names, or \"*\"");
+        match part.value("act") {
+            Some(Value::Array(items)) => self.listed_acts(alloc, part, items),
+            Some(value) if value.is_str() => self.act(alloc, part, value),
+            _ => self.wrong(alloc, part, "act", wanted),
+        }
+    }
+
+    fn channel(&mut self, alloc: Global, part: Part<'_>) -> Result<(), AllocError> {
+        let Some(text) = part.text("channel") else {
+            return self.wrong(alloc, part, "channel", Cause::Wanted("a pattern"));
+        };
+        match Pattern::parse(text) {
+            Ok(_) => Ok(()),
+            Err(error) => self.wrong(alloc, part, "channel", Cause::BadPattern(error)),
+        }
+    }
+
+    fn stream(&mut self, alloc: Global, part: Part<'_>) -> Result<(), AllocError> {
+        let Some(value) = part.value("stream") else {
+            return Ok(());
+        };
+        let Some((low, high)) = two_integers(value) else {
+            let wanted = Cause::Wanted("[LOW, HIGH], two integers");
+            return self.wrong(alloc, part, "stream", wanted);
+        };
+        if -2147483648 <= low && low <= high && high <= 2147483647 {
+            return Ok(());
+        }
+        let wanted = Cause::Wanted("a low end not above the high one, both within 32 bits");
+        self.wrong(alloc, part, "stream", wanted)
+    }
+
+    fn rule(&mut self, alloc: Global, part: Part<'_>, names: &Names) -> Result<(), AllocError> {
+        self.keys(alloc, part, &RULE)?;
+        if !is_name(part.text("name").unwrap_or("")) {
+            let wanted = Cause::Wanted("1 to 64 printable ASCII characters");
+            self.wrong(alloc, part, "name", wanted)?;
+        }
+        self.principal(alloc, part, names)?;
+        self.acts(alloc, part)?;
+        self.channel(alloc, part)?;
+        self.stream(alloc, part)?;
+        match part.value("allow") {
+            Some(Value::Boolean(_)) => Ok(()),
+            _ => self.wrong(alloc, part, "allow", Cause::Wanted("true or false")),
+        }
+    }
+
+    fn rules(
+        &mut self,
+        alloc: Global,
+        part: Part<'_>,
+        items: &Array,
+        names: &Names,
+    ) -> Result<(), AllocError> {
+        if items.len() > 1024 {
+            let cause = Cause::TooManyRules(items.len());
+            return self.take(alloc, part, "rule", None, cause);
+        }
+        for (at, value) in items.iter().enumerate() {
+            match value.as_table() {
+                Some(table) => {
+                    let number = at.saturating_add(1);
+                    self.rule(alloc, Part { number, table }, names)?
+                }
+                None => {
+                    let wanted = Cause::Wanted("a table for each rule");
+                    self.take(alloc, part, "rule", Some(value), wanted)?
+                }
+            }
+        }
+        Ok(())
+    }
+
+    fn document(&mut self, alloc: Global, table: &Table, names: &Names) -> Result<(), AllocError> {
+        let part = Part { number: 0, table };
+        match part.value("version") {
+            Some(Value::Integer(1)) => {}
+            _ => self.wrong(alloc, part, "version", Cause::Wanted("1"))?,
+        }
+        self.keys(alloc, part, &DOCUMENT)?;
+        match part.text("default") {
+            Some("allow" | "deny") => {}
+            _ => {
+                let wanted = Cause::Wanted("\"allow\" or \"deny\"");
+                self.wrong(alloc, part, "default", wanted)?
+            }
+        }
+        match part.value("rule") {
+            None => Ok(()),
+            Some(Value::Array(items)) => self.rules(alloc, part, items, names),
+            Some(_) => self.wrong(alloc, part, "rule", Cause::Wanted("an array of tables")),
+        }
+    }
+}
+
+/// The act whose name is nearest.
+fn nearest_act(alloc: Global, name: &str) -> Result<Option<&'static str>, AllocError> {
+    let mut names = Vec::new(alloc);
+    for act in &Act::EVERY {
+        names.push(act.name())?;
+    }
+    nearest(alloc, name, names.as_slice())
+}
+
+/// The integers of a list that is two integers.
+fn two_integers(value: &Value) -> Option<(i64, i64)> {
+    match value.as_array()?.as_slice() {
+        [low, high] => Some((low.as_integer()?, high.as_integer()?)),
+        _ => None,
+    }
+}
+
+/// A fault of the text as a whole.
+fn whole(alloc: Global, place: Place, cause: Cause) -> Result<Vec<Fault>, AllocError>
+    ensures { IfOk result (λ faults. 0 < length faults.items) }
+{
+    let mut faults = Vec::new(alloc);
+    faults.push(Fault {
+        place,
+        rule: 0,
+        name: None,
+        key: None,
+        value: None,
+        cause,
+    })?;
+    Ok(faults)
+}
+
+/// The faults of a text that is none of a document.
+fn unreadable(alloc: Global, text: &str, error: &toml::de::Error) -> Result<Vec<Fault>, AllocError>
+    ensures { IfOk result (λ faults. 0 < length faults.items) }
+{
+    let Some(span) = error.span() else {
+        return Err(AllocError);
+    };
+    let before = text.as_bytes().get(..span.start).unwrap_or(&[]);
+    let message = Text::new(alloc, error.message())?;
+    whole(alloc, place_after(before), Cause::NotToml(message))
+}
+
+/// The faults of the text, which was refused with `fault`.
+fn faults_in(
+    alloc: Global,
+    text: &str,
+    names: &Names,
+    fault: PolicyFault,
+) -> Result<Vec<Fault>, AllocError>
+    ensures { IfOk result (λ faults. 0 < length faults.items) }
+{
+    let table = match toml::table_from_str(alloc, text) {
+        Ok(table) => table,
+        Err(error) => return unreadable(alloc, text, &error),
+    };
+    let mut found = Found {
+        places: places_in(alloc, text)?,
+        faults: Vec::new(alloc),
+    };
+    found.document(alloc, &table, names)?;
+    if found.faults.is_empty() {
+        return whole(alloc, Place { line: 1, column: 1 }, Cause::Refused(fault));
+    }
+    Ok(found.faults)
+}
+
+/// The faults of a file, which was refused with `fault`: all that are found, and at least one.
+pub(crate) fn faults_of(
+    alloc: Global,
+    bytes: &[u8],
+    names: &Names,
+    fault: PolicyFault,
+) -> Result<Vec<Fault>, AllocError>
+    ensures { IfOk result (λ faults. 0 < length faults.items) }
+{
+    match str::from_utf8(bytes) {
+        Ok(text) => faults_in(alloc, text, names, fault),
+        Err(error) => {
+            let before = bytes.get(..error.valid_up_to()).unwrap_or(&[]);
+            whole(alloc, place_after(before), Cause::NotText)
+        }
+    }
+}

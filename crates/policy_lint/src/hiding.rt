@@ -1,0 +1,302 @@
+ghost use Rattle.policy_core.specs.Act.{act_number};
+ghost use Rattle.policy_core.specs.Rule.{speaks_of};
+ghost use Rattle.policy_core.specs.RuleList.{Rules};
+ghost use Rattle.policy_core.specs.declared.act.Act.{Act};
+ghost use Rattle.policy_core.specs.declared.rule.Rule.{Rule};
+ghost use Rattle.policy_lint.specs.Held.{HeldAt};
+ghost use Rattle.policy_lint.specs.Hiding.{ActIsHeld, AreOver, Holds, IsHeld, IsHiddenBy, IsOverAt, NeverDecides};
+ghost use Rattle.std.specs.List.{All};
+ghost use Rattle.std.specs.Prelude.{◌≡◌, ◌+◌, ◌<◌, ◌≤ℤ◌, ◌<ℤ◌, ℕ, ℤ, List, IfOk, OnOk, Some, length, slice_get, true};
+
+use policy_core::{Act, Principals, Rule};
+use policy_tools::{Source, is_wider};
+use std::alloc::{AllocError, Global};
+
+/// A rule that never decides, with rules before it that take each request from it.
+#[derive(Drop)]
+pub struct Hidden {
+    /// The place of the rule in its policy, counted from 0.
+    pub at: usize,
+    /// The places of the rules that hide it.
+    pub by: Vec<usize>,
+}
+
+/// Whether everybody among the narrow ones is found among the wide ones.
+fn includes(wide: Principals, narrow: Principals) -> bool
+    ensures { result ≡ true → (principal : ℕ) → speaks_of narrow principal ≡ true → speaks_of wide principal ≡ true }
+{
+    match wide {
+        Principals::Any => true,
+        Principals::One(one) => match narrow {
+            Principals::Any => false,
+            Principals::One(other) => one == other,
+        },
+    }
+}
+
+/// Whether the rule at `place` is found to be over the one at `at`: acts and streams apart, it matches what that one does.
+fn is_over(source: &Source, place: usize, at: usize) -> bool
+    requires place_within { place < length source.now.policy.rules }
+    requires at_within { at < length source.now.policy.rules }
+    ensures { result ≡ true → IsOverAt source.now.policy.rules place at }
+{
+    let wide = &source.rules()[place];
+    let narrow = &source.rules()[at];
+    includes(wide.principals, narrow.principals)
+        && is_wider(source.text(place), &wide.channel, &narrow.channel)
+}
+
+/// Whether `place` is before `at`, with a rule that is found to be over the one there.
+fn is_over_before(source: &Source, place: usize, at: usize) -> bool
+    requires { at < length source.now.policy.rules }
+    ensures before { result ≡ true → place < at }
+    ensures over { result ≡ true → IsOverAt source.now.policy.rules place at }
+{
+    if place >= at {
+        return false;
+    }
+    is_over(source, place, at)
+}
+
+/// Whether it is so of each of these places.
+fn are_over(source: &Source, places: &[usize], at: usize) -> bool
+    requires { at < length source.now.policy.rules }
+    ensures { result ≡ true → AreOver source.now.policy.rules places.now at }
+{
+    for place in places {
+        if !is_over_before(source, *place, at) {
+            return false;
+        }
+    }
+    true
+}
+
+/// The first stream, from `from` on, for which the rule doesn't hold the act.
+fn next_left(rule: &Rule, act: Act, from: i64) -> i64
+    ensures { (stream : ℤ) → from ≤ℤ stream → stream <ℤ result → Holds rule.now act stream }
+{
+    let (low, high) = (i64::from(rule.low), i64::from(rule.high));
+    if rule.acts.hold(act) && low <= from && from <= high {
+        return high + 1;
+    }
+    from
+}
+
+/// The same of the rule at a place; `from` where there is none.
+fn next_left_at(rules: &[Rule], place: usize, act: Act, from: i64) -> i64
+    ensures { (stream : ℤ) → from ≤ℤ stream → stream <ℤ result → HeldAt rules.now place act stream }
+{
+    let len = rules.len();
+    if place >= len {
+        return from;
+    }
+    let rule = &rules[place];
+    next_left(rule, act, from)
+}
+
+/// A stream up to which, from `low` on, one of the rules at these places holds the act. Where they are in the order of
+/// their lowest streams it is the first one for which none does.
+fn first_left(rules: &[Rule], places: &[usize], act: Act, low: i64) -> i64
+    ensures { (stream : ℤ) → low ≤ℤ stream → stream <ℤ result → IsHeld rules.now places.now act stream }
+{
+    let mut from = low;
+    for place in places {
+        from = next_left_at(rules, *place, act, from);
+    }
+    from
+}
+
+/// Whether the rules at these places are found to hold the act wherever the rule at `at` does.
+fn act_is_held(rules: &[Rule], places: &[usize], at: usize, act: Act) -> bool
+    requires { at < length rules.now }
+    ensures { result ≡ true → ActIsHeld rules.now places.now at act }
+{
+    let rule = &rules[at];
+    if !rule.acts.hold(act) {
+        return true;
+    }
+    let (low, high) = (i64::from(rule.low), i64::from(rule.high));
+    let left = first_left(rules, places, act, low);
+    if left <= high {
+        return false;
+    }
+    true
+}
+
+/// The same of each act.
+fn acts_are_held(rules: &[Rule], places: &[usize], at: usize) -> bool
+    requires { at < length rules.now }
+    ensures { result ≡ true → (act : Act) → ActIsHeld rules.now places.now at act }
+{
+    for number in 0..13 {
+        if !act_is_held(rules, places, at, Act::EVERY[number]) {
+            return false;
+        }
+    }
+    true
+}
+
+/// Whether the rules at these places are found to hide the rule at `at`: each is before it, speaks of everybody and of each
+/// channel of whom it speaks, and for each of its acts and streams one of them has both.
+fn hide(source: &Source, places: &[usize], at: usize) -> bool
+    requires { at < length source.now.policy.rules }
+    ensures { result ≡ true → IsHiddenBy source.now.policy.rules at places.now }
+{
+    if !are_over(source, places, at) {
+        return false;
+    }
+    acts_are_held(source.rules(), places, at)
+}
+
+/// The places of the rules, in the order of their lowest streams.
+fn by_low(alloc: Global, rules: &[Rule]) -> Result<Vec<(i32, usize)>, AllocError> {
+    let mut places = Vec::new(alloc);
+    for (at, rule) in rules.iter().enumerate() {
+        places.push((rule.low, at))?;
+    }
+    places.sort_unstable();
+    Ok(places)
+}
+
+/// Whether the rule at `place` may have a part in hiding the one at `at`.
+fn may_hide(source: &Source, place: usize, at: usize) -> bool
+    requires { at < length source.now.policy.rules }
+{
+    let narrow = &source.rules()[at];
+    match source.rules().get(place) {
+        Some(wide) => {
+            wide.low <= narrow.high && narrow.low <= wide.high && is_over_before(source, place, at)
+        }
+        None => false,
+    }
+}
+
+/// The places of the rules before `at` that are over the one there, in the same order.
+fn candidates(
+    alloc: Global,
+    source: &Source,
+    order: &[(i32, usize)],
+    at: usize,
+) -> Result<Vec<usize>, AllocError>
+    requires { at < length source.now.policy.rules }
+{
+    let mut places = Vec::new(alloc);
+    for (_low, place) in order {
+        if may_hide(source, *place, at) {
+            places.push(*place)?;
+        }
+    }
+    Ok(places)
+}
+
+/// The first rule of these places that hides the one at `at` alone.
+fn alone(rules: &[Rule], places: &[usize], at: usize) -> Option<usize>
+    requires { at < length rules.now }
+{
+    let mut found: Option<usize> = None;
+    for place in places {
+        let is_later = match found {
+            Some(first) => first < *place,
+            None => false,
+        };
+        if !is_later && acts_are_held(rules, &[*place], at) {
+            found = Some(*place);
+        }
+    }
+    found
+}
+
+/// Takes the places whose rules are needed for an act, in the same order.
+fn put_needed(
+    needed: &mut Vec<usize>,
+    rules: &[Rule],
+    places: &[usize],
+    act: Act,
+    range: (i32, i32),
+) -> Result<(), AllocError> {
+    let mut from = i64::from(range.0);
+    for place in places {
+        if from <= i64::from(range.1) {
+            let next = next_left_at(rules, *place, act, from);
+            if next != from && !needed.contains(place) {
+                needed.push(*place)?;
+            }
+            from = next;
+        }
+    }
+    Ok(())
+}
+
+/// Those of the places whose rules are needed to hide the one at `at`.
+fn needed(
+    alloc: Global,
+    rules: &[Rule],
+    places: &[usize],
+    at: usize,
+) -> Result<Vec<usize>, AllocError>
+    requires { at < length rules.now }
+{
+    let rule = &rules[at];
+    let mut needed = Vec::new(alloc);
+    for act in Act::EVERY {
+        if rule.acts.hold(act) {
+            put_needed(&mut needed, rules, places, act, (rule.low, rule.high))?;
+        }
+    }
+    Ok(needed)
+}
+
+/// The places of rules that are likely to hide the one at `at`; none where none are found.
+fn hiders(
+    alloc: Global,
+    source: &Source,
+    order: &[(i32, usize)],
+    at: usize,
+) -> Result<Vec<usize>, AllocError>
+    requires { at < length source.now.policy.rules }
+{
+    let places = candidates(alloc, source, order, at)?;
+    if let Some(place) = alone(source.rules(), places.as_slice(), at) {
+        return Ok(vec![in alloc; place]?);
+    }
+    if !acts_are_held(source.rules(), places.as_slice(), at) {
+        return Ok(Vec::new(alloc));
+    }
+    needed(alloc, source.rules(), places.as_slice(), at)
+}
+
+/// Takes the rule at `at`, where it is found to be hidden.
+fn put_hidden(
+    alloc: Global,
+    source: &Source,
+    order: &[(i32, usize)],
+    at: usize,
+    found: &mut Vec<Hidden>,
+) -> Result<(), AllocError>
+    requires { at < length source.now.policy.rules }
+    ensures { All (λ hidden. IsHiddenBy source.now.policy.rules hidden.at hidden.by.items) found.old.items → OnOk result (All (λ hidden. IsHiddenBy source.now.policy.rules hidden.at hidden.by.items) found.new.items) }
+{
+    let by = hiders(alloc, source, order, at)?;
+    if !hide(source, by.as_slice(), at) {
+        return Ok(());
+    }
+    found.push(Hidden { at, by })?;
+    Ok(())
+}
+
+/// The rules that never decide, as far as they are found, in their order.
+pub fn hidden_in(alloc: Global, source: &Source) -> Result<Vec<Hidden>, AllocError>
+    ensures { IfOk result (λ found. All (λ hidden. IsHiddenBy source.now.policy.rules hidden.at hidden.by.items) found.items) }
+{
+    let order = by_low(alloc, source.rules())?;
+    let mut found = Vec::new(alloc);
+    for at in 0..source.rules().len() {
+        put_hidden(alloc, source, order.as_slice(), at, &mut found)?;
+    }
+    Ok(found)
+}
+
+/// A rule that rules before it hide is no verdict's rule.
+pub fn hidden_rules_never_decide()
+    ensures { (policy : Rules) (at : ℕ) (places : List ℕ) → IsHiddenBy policy.rules at places → NeverDecides policy (at + 1) }
+{}

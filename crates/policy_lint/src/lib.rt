@@ -1,0 +1,25 @@
+//! What is wrong with a policy's text, and what is likely not meant by it.
+//!
+//! `lint` gives a report: the faults of a text that is no policy, each with its place; and of one that is, the warnings:
+//! rules that never decide, acts that no request has there, keys and values that no channel has, and the like.
+#![tactic(auto)]
+
+mod acts;
+mod examples;
+mod fault;
+mod faults;
+mod gaps;
+mod hiding;
+mod keys;
+mod nearest;
+mod pairs;
+mod places;
+mod report;
+mod warning;
+mod warnings;
+
+pub use fault::{Cause, Fault};
+pub use hiding::{Hidden, hidden_in, hidden_rules_never_decide};
+pub use places::{Place, Places, place_after, places_in};
+pub use report::{Report, lint};
+pub use warning::{Doubt, Gap, Warning};

@@ -1,0 +1,163 @@
+use crate::acts::{Shape, has_every_act, has_no_request, shape_of, system_type, why_never};
+use crate::gaps::gap_of;
+use crate::keys::Wanted;
+use crate::pairs::pairs_in;
+use crate::places::Places;
+use crate::warning::{Doubt, Warning};
+use channel_uri::{Keys, Media, Pattern};
+use policy_core::{Act, Rule};
+use policy_tools::Source;
+use std::alloc::{AllocError, Global};
+use toml::Table;
+
+/// The warnings about the rules of a policy, as they are found.
+#[derive(Drop)]
+pub(crate) struct Warned {
+    places: Places,
+    warnings: Vec<Warning>,
+}
+
+/// The rule that is looked at.
+#[derive(Clone, Copy)]
+struct Looked<'a> {
+    /// Its place, counted from 0.
+    at: usize,
+    rule: &'a Rule,
+    /// The text of its pattern.
+    text: &'a str,
+    shape: Shape,
+}
+
+impl Warned {
+    /// Takes a doubt about what stands at a key of a rule.
+    fn take(&mut self, at: usize, key: &str, doubt: Doubt) -> Result<(), AllocError> {
+        let place = self.places.of(at.saturating_add(1), key);
+        self.warnings.push(Warning { at, place, doubt })?;
+        Ok(())
+    }
+
+    fn take_any(&mut self, at: usize, key: &str, doubt: Option<Doubt>) -> Result<(), AllocError> {
+        match doubt {
+            Some(doubt) => self.take(at, key, doubt),
+            None => Ok(()),
+        }
+    }
+
+    /// Looks for acts that no request has there.
+    fn acts(&mut self, looked: Looked<'_>) -> Result<(), AllocError> {
+        let rule = looked.rule;
+        if has_every_act(rule) {
+            if has_no_request(rule, looked.shape) {
+                self.take(looked.at, "channel", Doubt::NoRequest)?;
+            }
+            return Ok(());
+        }
+        for act in Act::EVERY {
+            if rule.acts.hold(act)
+                && let Some(why) = why_never(act, looked.shape, rule.low, rule.high)
+            {
+                self.take(looked.at, "act", Doubt::Impossible(act, why))?;
+            }
+        }
+        Ok(())
+    }
+
+    /// Looks at a key of a pattern.
+    fn key(
+        &mut self,
+        alloc: Global,
+        looked: Looked<'_>,
+        wanted: Wanted<'_>,
+    ) -> Result<(), AllocError> {
+        let doubt = wanted.doubt(alloc)?;
+        self.take_any(looked.at, "channel", doubt)?;
+        let denial = wanted.denial(alloc, looked.rule)?;
+        self.take_any(looked.at, "channel", denial)
+    }
+
+    /// Looks at the keys of a pattern.
+    fn keys(
+        &mut self,
+        alloc: Global,
+        looked: Looked<'_>,
+        media: Media,
+        keys: &Keys,
+    ) -> Result<(), AllocError> {
+        for piece in pairs_in(looked.text).split('|') {
+            if let Some((key, _)) = piece.split_once('=') {
+                let value = keys.get(key).unwrap_or("");
+                self.key(alloc, looked, Wanted { media, key, value })?;
+            }
+        }
+        Ok(())
+    }
+
+    /// Looks at the types of counters.
+    fn types(&mut self, looked: Looked<'_>) -> Result<(), AllocError> {
+        let rule = looked.rule;
+        let Some(number) = system_type(rule.low, rule.high) else {
+            return Ok(());
+        };
+        if looked.shape.media != Some(Media::Counter) {
+            return Ok(());
+        }
+        if rule.acts.hold(Act::Counter) && rule.allow {
+            return self.take(looked.at, "stream", Doubt::SystemType(number));
+        }
+        if rule.acts.hold(Act::List) {
+            return self.take(looked.at, "stream", Doubt::SystemList(number));
+        }
+        Ok(())
+    }
+
+    /// Looks at a rule. `principal` is what the text calls its principal.
+    fn rule(
+        &mut self,
+        alloc: Global,
+        source: &Source,
+        looked: Looked<'_>,
+        principal: &str,
+    ) -> Result<(), AllocError> {
+        self.acts(looked)?;
+        if let Pattern::Of(media, keys) = &looked.rule.channel {
+            self.keys(alloc, looked, *media, keys)?;
+        }
+        self.types(looked)?;
+        match gap_of(alloc, source, looked.at, principal)? {
+            Some(gap) => self.take(looked.at, "act", Doubt::Gap(gap)),
+            None => Ok(()),
+        }
+    }
+}
+
+/// What the text calls the principal of a rule.
+fn principal_at(table: &Table, at: usize) -> Option<&str> {
+    let rules = table.get("rule")?.as_array()?;
+    rules.get(at)?.as_table()?.get("principal")?.as_str()
+}
+
+/// The warnings about the rules of a policy, which the table is the document of, but for those about hidden rules.
+pub(crate) fn warnings_of(
+    alloc: Global,
+    source: &Source,
+    places: Places,
+    table: &Table,
+) -> Result<Vec<Warning>, AllocError> {
+    let mut warned = Warned {
+        places,
+        warnings: Vec::new(alloc),
+    };
+    for at in 0..source.rules().len() {
+        let rule = &source.rules()[at];
+        let text = source.text(at);
+        let looked = Looked {
+            at,
+            rule,
+            text,
+            shape: shape_of(text, &rule.channel),
+        };
+        let principal = principal_at(table, at).unwrap_or("*");
+        warned.rule(alloc, source, looked, principal)?;
+    }
+    Ok(warned.warnings)
+}
