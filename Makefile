@@ -6,7 +6,7 @@
 PREFIX = /usr/local
 
 help:
-	@echo 'make first     runs the program on its first script, before any proof: in about a minute'
+	@echo 'make first     runs the program on its first script, before any proof: in one to two minutes'
 	@echo 'make build     proves the program and what it stands on, and leaves it as build/aeron_policyd'
 	@echo 'make install   puts that program to PREFIX/bin, where PREFIX is /usr/local if not given'
 	@echo 'make test      the merge gate, which proves everything from nothing, and then all cases and examples'
