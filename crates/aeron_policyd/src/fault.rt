@@ -1,11 +1,11 @@
 use crate::replies::RefusalText;
-use channel_uri::{Address, UriError};
+use channel_uri::Address;
 use driver_script::RunFault;
 use media_driver::{MakeFault, PushFault, StartFault};
+use policy_answers::AskFault;
 use policy_core::Verdict;
-use policy_query::DecideFault;
 use policy_text::PolicyFault;
-use policy_tools::{CasesFault, NamesFault};
+use policy_tools::NamesFault;
 use std::alloc::{AllocError, AllocFailed};
 use thiserror::Error;
 
@@ -19,13 +19,9 @@ pub enum Fault {
     #[error("{0}")]
     Policy(PolicyFault),
     #[error("{0}")]
-    Decide(DecideFault),
-    #[error("invalid channel: {0}")]
-    Channel(UriError),
+    Ask(AskFault),
     #[error("{0}")]
     Names(NamesFault),
-    #[error("{0}")]
-    Cases(CasesFault),
     #[error("{0}")]
     Make(MakeFault),
     #[error("{0}")]
@@ -86,21 +82,15 @@ impl From<PolicyFault> for Fault {
     }
 }
 
-impl From<DecideFault> for Fault {
-    fn from(fault: DecideFault) -> Fault {
-        Fault::Decide(fault)
+impl From<AskFault> for Fault {
+    fn from(fault: AskFault) -> Fault {
+        Fault::Ask(fault)
     }
 }
 
 impl From<NamesFault> for Fault {
     fn from(fault: NamesFault) -> Fault {
         Fault::Names(fault)
-    }
-}
-
-impl From<CasesFault> for Fault {
-    fn from(fault: CasesFault) -> Fault {
-        Fault::Cases(fault)
     }
 }
 

@@ -1,12 +1,11 @@
 //! `aeron_policyd`: the shared part of an Aeron media driver under a channel policy, on the command line.
 //!
-//! The work is done in `driver_script`, `policy_query` and `policy_tools`. Here are the words of the command line, the
-//! files, and what the program ends with: 0, or 1 after a fault, a bad line of a script or a case that fails, or 2 where
-//! the command line is at fault.
+//! The words of the command line are `command_words`'. The work is done in `policy_answers`, `driver_script` and
+//! `media_driver`. Here are the files, and what the program ends with: 0, or 1 after a fault, a bad line of a script or a
+//! case that fails, or 2 where the command line is at fault.
 #![tactic(auto)]
 
 mod asking;
-mod command_line;
 mod fault;
 mod files;
 mod input;
@@ -14,27 +13,24 @@ mod machine;
 mod one_client;
 mod options;
 mod policies;
-mod policy_words;
 mod publishing;
 mod replies;
 mod running;
-mod running_line;
 mod starting;
 mod station;
 mod subscribing;
 mod watched;
 
-use crate::command_line::{Task, command, task_in};
 use crate::fault::Fault;
-use crate::files::{file_bytes, open};
+use crate::files::open;
 use crate::machine::{Disk, Machine};
 use crate::policies::answer_asking;
 use crate::starting::start;
 use clap::ArgMatches;
 use clap::error::ErrorKind;
+use command_words::{Task, command, task_in};
 use driver_script::script::Ended;
 use driver_script::{MayFail, script};
-use policy_query::{check, decide};
 use std::io::StdinLock;
 use std::net::{Net, TcpListener, TcpStream};
 use std::process::ExitCode;
@@ -71,42 +67,6 @@ fn explain<R: Print + Eprint>(rt: &R, error: &clap::Error) -> Result<ExitCode, F
     })
 }
 
-/// The line that says how many rules the policy in a file has.
-fn checked_in<R: Files + AllocGlobal>(rt: &R, path: &str) -> Result<String, Fault> {
-    let policy = file_bytes(rt, path)?;
-    let checked = check(rt.alloc(), policy.as_slice())?;
-    Ok(checked.to_string(rt.alloc())?)
-}
-
-/// The line that says what the policy in a file decides of a question.
-fn verdict_in<R: Files + AllocGlobal>(
-    rt: &R,
-    path: &str,
-    principal: &str,
-    act: &str,
-    channel: &str,
-    stream: i32,
-) -> Result<String, Fault> {
-    let policy = file_bytes(rt, path)?;
-    let verdict = decide(
-        rt.alloc(),
-        policy.as_slice(),
-        principal,
-        act,
-        channel,
-        stream,
-    )?;
-    Ok(verdict.to_string(rt.alloc())?)
-}
-
-/// Prints a line that answers the command line.
-fn print_line<R: Print>(rt: &R, line: &str) -> Result<ExitCode, Fault> {
-    match rt.println(line) {
-        Ok(()) => Ok(ExitCode::SUCCESS),
-        Err(_) => Err(Fault::WRITE),
-    }
-}
-
 /// Prints lines that answer the command line.
 fn print_text<R: Print>(rt: &R, text: &str) -> Result<ExitCode, Fault> {
     match rt.print(text) {
@@ -128,19 +88,8 @@ fn run_script<R: Machine, F: Disk>(rt: &R, files: &F, path: &str) -> Result<Exit
 /// Does a task.
 fn perform<R: Machine, F: Disk>(rt: &R, files: &F, task: Task<'_>) -> Result<ExitCode, Fault> {
     match task {
-        Task::Check { policy } => print_line(rt, checked_in(files, policy)?.as_str()),
-        Task::Decide {
-            policy,
-            principal,
-            act,
-            channel,
-            stream,
-        } => print_line(
-            rt,
-            verdict_in(files, policy, principal, act, channel, stream)?.as_str(),
-        ),
         Task::Script { file } => run_script(rt, files, file),
-        Task::Ask(asking) => answer_asking(rt, files, asking),
+        Task::Ask(asking) => answer_asking(rt, files, &asking),
         Task::Start(asked) => {
             start(rt, files, asked)?;
             Ok(ExitCode::SUCCESS)

@@ -1,12 +1,15 @@
 use crate::play::is_shown;
-use policy_query::{DecideFault, check, decide};
+use policy_query::{DecideFault, check, decide, principals};
 use std::alloc::Global;
 
 const OPEN: &[u8] = b"version = 1\ndefault = \"allow\"\n";
 
 /// Whether the bytes are checked so.
 fn is_checked(alloc: Global, policy: &[u8], text: &str) -> bool {
-    match check(alloc, policy) {
+    let Ok(names) = principals(alloc) else {
+        return false;
+    };
+    match check(alloc, policy, &names) {
         Ok(checked) => is_shown(alloc, &checked, text),
         Err(_) => false,
     }
@@ -14,7 +17,10 @@ fn is_checked(alloc: Global, policy: &[u8], text: &str) -> bool {
 
 /// Whether a question of p1 on that channel is answered so: by the verdict, or the fault.
 fn is_answered(alloc: Global, policy: &[u8], channel: &str, stream: i32, text: &str) -> bool {
-    match decide(alloc, policy, "p1", "spy", channel, stream) {
+    let Ok(names) = principals(alloc) else {
+        return false;
+    };
+    match decide(alloc, policy, &names, "p1", "spy", channel, stream) {
         Ok(verdict) => is_shown(alloc, &verdict, text),
         Err(fault) => is_shown(alloc, &fault, text),
     }

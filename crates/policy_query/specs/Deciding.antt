@@ -34,8 +34,8 @@ abbrev pub count_of : Result Rules PolicyFault → Result ℕ PolicyFault
 count_of (Ok policy) = Ok (length policy.rules)
 count_of (Err fault) = Err fault
 
-unfoldable pub rules_in : List ℕ → Result ℕ PolicyFault
-rules_in bytes = count_of (policy_in principals bytes)
+unfoldable pub rules_in : Known → List ℕ → Result ℕ PolicyFault
+rules_in names bytes = count_of (policy_in names bytes)
 
 abbrev pub checked_text : ℕ → List ℕ
 checked_text rules = codes "ok: " ++ (decimal rules ++ codes " rules")
@@ -69,10 +69,10 @@ subject_of word = if bytes_eq word (codes "aeron:counter") then Ok counter_shape
 
 -- the verdict of the policy in the file, as policy 1; or the first fault of the policy, the principal, the act and the
 -- channel
-unfoldable pub decided : List ℕ → List ℕ → List ℕ → List ℕ → ℤ → Result Verdict DecideFault
-decided bytes principal act channel stream =
-    sound (policy_in principals bytes) >>= λ policy.
-    known UnknownPrincipal (number_of principal principals) >>= λ number.
+unfoldable pub decided : Known → List ℕ → List ℕ → List ℕ → List ℕ → ℤ → Result Verdict DecideFault
+decided names bytes principal act channel stream =
+    sound (policy_in names bytes) >>= λ policy.
+    known UnknownPrincipal (number_of principal names) >>= λ number.
     known UnknownAct (act_named act) >>= λ named.
     subject_of channel >>= λ shape.
     Ok (verdict_of policy 1 (record { principal = number; act = named; channel = shape; stream = stream }))

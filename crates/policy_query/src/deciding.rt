@@ -128,23 +128,23 @@ fn subject_of(word: &str) -> Result<Channel, DecideFault>
     }
 }
 
-/// Whether the bytes of a file are a policy, and how many rules it has. Its principals are [`principals`].
+/// Whether the bytes of a file are a policy over these names of principals, and how many rules it has.
 ///
 /// # Errors
 /// The first fault of the text; bytes that are not UTF-8 are no TOML.
 #[tactic(auto, unfolding(crate::specs::Deciding::rules_in))]
-pub fn check(alloc: Global, policy: &[u8]) -> Result<Checked, PolicyFault>
-    ensures { GivesPolicy (λ checked. checked.rules) result (rules_in policy.now) }
+pub fn check(alloc: Global, policy: &[u8], names: &Names) -> Result<Checked, PolicyFault>
+    ensures { GivesPolicy (λ checked. checked.rules) result (rules_in names.now policy.now) }
 {
-    let names = principals(alloc)?;
-    let policy = policy_in(alloc, policy, &names)?;
+    let policy = policy_in(alloc, policy, names)?;
     Ok(Checked {
         rules: policy.rules().len(),
     })
 }
 
 /// What the policy in a file, whose number is 1, decides of a question: may this principal do this on this channel and
-/// stream? The channel is a channel's text, or `aeron:counter`; a spy is decided like the channel that it reads.
+/// stream? The names are those of principals, in the policy and in the question. The channel is a channel's text, or
+/// `aeron:counter`; a spy is decided like the channel that it reads.
 ///
 /// # Errors
 /// The first fault, in the order of [`DecideFault`].
@@ -152,15 +152,15 @@ pub fn check(alloc: Global, policy: &[u8]) -> Result<Checked, PolicyFault>
 pub fn decide(
     alloc: Global,
     policy: &[u8],
+    names: &Names,
     principal: &str,
     act: &str,
     channel: &str,
     stream: i32,
 ) -> Result<Verdict, DecideFault>
-    ensures { Gives (λ verdict. verdict) result (decided policy.now principal.now act.now channel.now stream) }
+    ensures { Gives (λ verdict. verdict) result (decided names.now policy.now principal.now act.now channel.now stream) }
 {
-    let names = principals(alloc)?;
-    let policy = sound_policy(alloc, policy, &names)?;
+    let policy = sound_policy(alloc, policy, names)?;
     let principal = names
         .number_of(principal)
         .ok_or(DecideFault::UnknownPrincipal)?;

@@ -1,9 +1,55 @@
-//! The words that ask what a policy says: `show`, `explain`, `lint`, `test` and `table`, and `check` and
-//! `decide` with `--names`.
+//! The words that ask what a policy says: `check`, `decide`, `show`, `explain`, `lint`, `test` and `table`.
 
-use crate::command_line::{act, channel, policy_file, principal, stream, with};
-use clap::{Arg, ArgAction, ArgMatches, Command};
+use crate::command_line::with;
+use clap::{Arg, ArgAction, ArgMatches, Command, value_parser};
 use std::alloc::{AllocError, Global};
+
+/// What `check` says.
+const CHECK: &str = "\
+Example: a policy of two rules, and one whose first rule ends its range of streams before it begins.
+
+  $ aeron_policyd check policy.toml
+  ok: 2 rules
+  $ aeron_policyd check swapped.toml
+  aeron_policyd: rule 1: bad range
+
+A policy is TOML: `version = 1`, `default = \"allow\"` or `\"deny\"`, and any `[[rule]]` with `name`, `principal`, `act`,
+`channel`, `allow` and perhaps `stream = [LOW, HIGH]`. Principals are `nobody` and `p1` to `p63`, or `*` for everybody.
+
+With --names FILE principals have the names of that file, whose lines are `principal NAME NUMBER` as in a script.
+
+  $ aeron_policyd check named.toml
+  aeron_policyd: rule 1: unknown principal
+  $ aeron_policyd check --names desk.names named.toml
+  ok: 1 rules
+
+Status: 0; 1 after `aeron_policyd: FAULT` on standard error: cannot read file, read failed, too long, the first fault of
+the names or of the policy, write failed, or no memory; 2 for a command line that is at fault.";
+
+/// What `decide` says.
+const DECIDE: &str = "\
+Example: rule 1 of the policy denies everybody streams 10 to 20; rule 2 allows p1 to subscribe to `aeron:ipc`.
+
+  $ aeron_policyd decide policy.toml p1 subscribe aeron:ipc 10
+  denied by rule 1 in policy 1
+  $ aeron_policyd decide policy.toml p1 subscribe aeron:ipc 9
+  allowed by rule 2 in policy 1
+  $ aeron_policyd decide policy.toml p2 subscribe aeron:ipc 9
+  denied by default in policy 1
+  $ aeron_policyd decide policy.toml p64 subscribe aeron:ipc 9
+  aeron_policyd: unknown principal
+
+The first rule that matches decides, whatever the others say; where none does, the default stands. Acts are publish,
+publish-exclusive, subscribe, spy, destination, counter, terminate, offer, image, receive, send, retransmit and list.
+
+With --names FILE principals have the names of that file, whose lines are `principal NAME NUMBER` as in a script.
+
+  $ aeron_policyd decide --names desk.names named.toml gateway publish aeron:ipc 1010
+  allowed by rule 1 in policy 1
+
+Status: 0; 1 after `aeron_policyd: FAULT` on standard error, the first of: cannot read file, read failed, too long, a
+fault of the names or of the policy, unknown principal, unknown act, invalid channel; or write failed, or no memory; 2
+for a command line that is at fault.";
 
 /// What `show` says.
 const SHOW: &str = "\
@@ -142,12 +188,64 @@ pub struct Asking<'a> {
     pub asked: Asked<'a>,
 }
 
+/// The argument that names a policy's file.
+fn policy_file<'a>(alloc: Global) -> Arg<'a> {
+    Arg::new(alloc, "POLICY")
+        .required(true)
+        .help("The policy's file, of at most 16,777,216 bytes")
+}
+
 /// The option that names the file of names.
-pub(crate) fn names_file<'a>(alloc: Global) -> Arg<'a> {
+fn names_file<'a>(alloc: Global) -> Arg<'a> {
     Arg::new(alloc, "names")
         .long("names")
         .value_name("FILE")
         .help("Names of principals, lines `principal NAME NUMBER`, in place of p1 to p63")
+}
+
+fn check<'a>(alloc: Global) -> Result<Command<'a>, AllocError> {
+    Command::new(alloc, "check")
+        .about("Says how many rules a policy has, or its first fault")
+        .after_help(CHECK)
+        .arg(policy_file(alloc))?
+        .arg(names_file(alloc))
+}
+
+fn principal<'a>(alloc: Global) -> Arg<'a> {
+    Arg::new(alloc, "PRINCIPAL").required(true).help(
+        "Who asks: nobody, p1 to p63, or a name that --names gives",
+    )
+}
+
+fn act<'a>(alloc: Global) -> Arg<'a> {
+    Arg::new(alloc, "ACT")
+        .required(true)
+        .help("What is asked, one of the acts below")
+}
+
+fn channel<'a>(alloc: Global) -> Arg<'a> {
+    Arg::new(alloc, "CHANNEL").required(true).help(
+        "On which channel, such as aeron:ipc; aeron:counter where a counter is meant",
+    )
+}
+
+fn stream<'a>(alloc: Global) -> Arg<'a> {
+    Arg::new(alloc, "STREAM")
+        .required(true)
+        .value_parser(value_parser!(i32).range(0..))
+        .help("On which stream, 0 to 2147483647; for a counter its type id")
+}
+
+fn decide<'a>(alloc: Global) -> Result<Command<'a>, AllocError> {
+    Command::new(alloc, "decide")
+        .about("Says what a policy decides of a question, and by which rule")
+        .after_help(DECIDE)
+        .arg(policy_file(alloc))?
+        .arg(principal(alloc))?
+        .arg(act(alloc))?
+        .arg(channel(alloc))?
+        .arg(stream(alloc))?
+        .arg(names_file(alloc))
 }
 
 fn show<'a>(alloc: Global) -> Result<Command<'a>, AllocError> {
@@ -213,6 +311,8 @@ pub(crate) fn with_policies<'a>(
     alloc: Global,
     command: Command<'a>,
 ) -> Result<Command<'a>, AllocError> {
+    let command = with(command, check(alloc))?;
+    let command = with(command, decide(alloc))?;
     let command = with(command, show(alloc))?;
     let command = with(command, explain(alloc))?;
     let command = with(command, lint(alloc))?;

@@ -1,6 +1,8 @@
-use crate::policy_words::{Asking, asking_in, names_file, with_policies};
+//! The words of the whole command line, and of `script`.
+
+use crate::policy_words::{Asking, asking_in, with_policies};
 use crate::running_line::{self, Start};
-use clap::{Arg, ArgMatches, Command, value_parser};
+use clap::{Arg, ArgMatches, Command};
 use std::alloc::{AllocError, Global};
 
 /// What the program is.
@@ -43,53 +45,6 @@ Example: may p1 subscribe to `aeron:ipc`, stream 10, under the policy in `policy
 
 Status: 0 for an answer; 1 after `aeron_policyd: FAULT` on standard error, and after a bad line of a script; 2 for a
 command line that is at fault.";
-
-/// What `check` says.
-const CHECK: &str = "\
-Example: a policy of two rules, and one whose first rule ends its range of streams before it begins.
-
-  $ aeron_policyd check policy.toml
-  ok: 2 rules
-  $ aeron_policyd check swapped.toml
-  aeron_policyd: rule 1: bad range
-
-A policy is TOML: `version = 1`, `default = \"allow\"` or `\"deny\"`, and any `[[rule]]` with `name`, `principal`, `act`,
-`channel`, `allow` and perhaps `stream = [LOW, HIGH]`. Principals are `nobody` and `p1` to `p63`, or `*` for everybody.
-
-With --names FILE principals have the names of that file, whose lines are `principal NAME NUMBER` as in a script.
-
-  $ aeron_policyd check named.toml
-  aeron_policyd: rule 1: unknown principal
-  $ aeron_policyd check --names desk.names named.toml
-  ok: 1 rules
-
-Status: 0; 1 after `aeron_policyd: FAULT` on standard error: cannot read file, read failed, too long, the first fault of
-the names or of the policy, write failed, or no memory; 2 for a command line that is at fault.";
-
-/// What `decide` says.
-const DECIDE: &str = "\
-Example: rule 1 of the policy denies everybody streams 10 to 20; rule 2 allows p1 to subscribe to `aeron:ipc`.
-
-  $ aeron_policyd decide policy.toml p1 subscribe aeron:ipc 10
-  denied by rule 1 in policy 1
-  $ aeron_policyd decide policy.toml p1 subscribe aeron:ipc 9
-  allowed by rule 2 in policy 1
-  $ aeron_policyd decide policy.toml p2 subscribe aeron:ipc 9
-  denied by default in policy 1
-  $ aeron_policyd decide policy.toml p64 subscribe aeron:ipc 9
-  aeron_policyd: unknown principal
-
-The first rule that matches decides, whatever the others say; where none does, the default stands. Acts are publish,
-publish-exclusive, subscribe, spy, destination, counter, terminate, offer, image, receive, send, retransmit and list.
-
-With --names FILE principals have the names of that file, whose lines are `principal NAME NUMBER` as in a script.
-
-  $ aeron_policyd decide --names desk.names named.toml gateway publish aeron:ipc 1010
-  allowed by rule 1 in policy 1
-
-Status: 0; 1 after `aeron_policyd: FAULT` on standard error, the first of: cannot read file, read failed, too long, a
-fault of the names or of the policy, unknown principal, unknown act, invalid channel; or write failed, or no memory; 2
-for a command line that is at fault.";
 
 /// Two scripts with their answers.
 const SCRIPT: &str = "\
@@ -179,78 +134,12 @@ file, read failed, too long, write failed, no memory); 2 for a command line that
 /// What the command line asks for.
 #[derive(Clone, Copy)]
 pub enum Task<'a> {
-    /// Whether a file is a policy.
-    Check {
-        policy: &'a str,
-    },
-    /// What the policy in a file decides of a question.
-    Decide {
-        policy: &'a str,
-        principal: &'a str,
-        act: &'a str,
-        channel: &'a str,
-        stream: i32,
-    },
-    /// To run the script in a file.
-    Script {
-        file: &'a str,
-    },
     /// To answer what is asked of the policy in a file.
     Ask(Asking<'a>),
+    /// To run the script in a file.
+    Script { file: &'a str },
     /// To start a driver.
     Start(Start<'a>),
-}
-
-/// The argument that names a policy's file.
-pub(crate) fn policy_file<'a>(alloc: Global) -> Arg<'a> {
-    Arg::new(alloc, "POLICY")
-        .required(true)
-        .help("The policy's file, of at most 16,777,216 bytes")
-}
-
-fn check<'a>(alloc: Global) -> Result<Command<'a>, AllocError> {
-    Command::new(alloc, "check")
-        .about("Says how many rules a policy has, or its first fault")
-        .after_help(CHECK)
-        .arg(policy_file(alloc))?
-        .arg(names_file(alloc))
-}
-
-pub(crate) fn principal<'a>(alloc: Global) -> Arg<'a> {
-    Arg::new(alloc, "PRINCIPAL").required(true).help(
-        "Who asks: nobody, p1 to p63, or a name that --names gives",
-    )
-}
-
-pub(crate) fn act<'a>(alloc: Global) -> Arg<'a> {
-    Arg::new(alloc, "ACT")
-        .required(true)
-        .help("What is asked, one of the acts below")
-}
-
-pub(crate) fn channel<'a>(alloc: Global) -> Arg<'a> {
-    Arg::new(alloc, "CHANNEL").required(true).help(
-        "On which channel, such as aeron:ipc; aeron:counter where a counter is meant",
-    )
-}
-
-pub(crate) fn stream<'a>(alloc: Global) -> Arg<'a> {
-    Arg::new(alloc, "STREAM")
-        .required(true)
-        .value_parser(value_parser!(i32).range(0..))
-        .help("On which stream, 0 to 2147483647; for a counter its type id")
-}
-
-fn decide<'a>(alloc: Global) -> Result<Command<'a>, AllocError> {
-    Command::new(alloc, "decide")
-        .about("Says what a policy decides of a question, and by which rule")
-        .after_help(DECIDE)
-        .arg(policy_file(alloc))?
-        .arg(principal(alloc))?
-        .arg(act(alloc))?
-        .arg(channel(alloc))?
-        .arg(stream(alloc))?
-        .arg(names_file(alloc))
 }
 
 fn script<'a>(alloc: Global) -> Result<Command<'a>, AllocError> {
@@ -272,34 +161,17 @@ pub(crate) fn with<'a>(
 }
 
 /// The words that the program takes.
-pub(crate) fn command<'a>(alloc: Global) -> Result<Command<'a>, AllocError> {
+pub fn command<'a>(alloc: Global) -> Result<Command<'a>, AllocError> {
     let command = Command::new(alloc, "aeron_policyd")
         .version(VERSION)
         .about(ABOUT)
         .after_help(USES)
         .subcommand_required(true);
-    let command = with(command, check(alloc))?;
-    let command = with(command, decide(alloc))?;
     let command = with_policies(alloc, command)?;
     let command = with(command, script(alloc))?;
     let command = with(command, running_line::run(alloc))?;
     let command = with(command, running_line::publish(alloc))?;
     with(command, running_line::subscribe(alloc))
-}
-
-fn decide_task<'m, 'a>(of: &'m ArgMatches<'a>) -> Option<Task<'m>> {
-    Some(Task::Decide {
-        policy: of.get_str("POLICY")?,
-        principal: of.get_str("PRINCIPAL")?,
-        act: of.get_str("ACT")?,
-        channel: of.get_str("CHANNEL")?,
-        stream: of.get_one::<i32>("STREAM")?,
-    })
-}
-
-fn check_task<'m, 'a>(of: &'m ArgMatches<'a>) -> Option<Task<'m>> {
-    let policy = of.get_str("POLICY")?;
-    Some(Task::Check { policy })
 }
 
 fn script_task<'m, 'a>(of: &'m ArgMatches<'a>) -> Option<Task<'m>> {
@@ -319,13 +191,7 @@ fn subcommand_task<'m, 'a>(name: &str, of: &'m ArgMatches<'a>) -> Option<Task<'m
 }
 
 /// What the words ask for, once they were found to be of the form.
-pub(crate) fn task_in<'m, 'a>(matches: &'m ArgMatches<'a>) -> Option<Task<'m>> {
+pub fn task_in<'m, 'a>(matches: &'m ArgMatches<'a>) -> Option<Task<'m>> {
     let (name, of) = matches.subcommand()?;
-    if name == "check" && of.get_str("names").is_none() {
-        return check_task(of);
-    }
-    if name == "decide" && of.get_str("names").is_none() {
-        return decide_task(of);
-    }
     subcommand_task(name, of)
 }

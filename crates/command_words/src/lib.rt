@@ -1,0 +1,10 @@
+//! The words of the command line of `aeron_policyd`, and its help.
+#![tactic(auto)]
+
+mod command_line;
+mod policy_words;
+mod running_line;
+
+pub use command_line::{Task, command, task_in};
+pub use policy_words::{Asked, Asking, Question};
+pub use running_line::{Start, Talk};
