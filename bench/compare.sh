@@ -24,10 +24,10 @@ below() {
     ' "$bench/../crates.txt"
 }
 
-# compare PROGRAM LIBRARY CRATES: proves LIBRARY, which uses those crates, links PROGRAM.rs with it, and runs that.
-compare() {
-    mkdir -p "$out/crates/$2/src"
-    for crate in $(below "$3"); do
+# copy CRATES: copies of those crates and of all that they stand on, with their lines of crates.txt.
+copy() {
+    mkdir -p "$out"
+    for crate in $(below "$1"); do
         for part in src specs proofs; do
             rm -rf "$out/crates/$crate/$part"
             mkdir -p "$out/crates/$crate"
@@ -37,6 +37,12 @@ compare() {
         done
         grep "^$crate[: ]" "$bench/../crates.txt"
     done >"$out/crates.txt"
+}
+
+# compare PROGRAM LIBRARY CRATES: proves LIBRARY, which uses those crates, links PROGRAM.rs with it, and runs that.
+compare() {
+    copy "$3"
+    mkdir -p "$out/crates/$2/src"
     echo "$2 staticlib: $3" >>"$out/crates.txt"
     cp "$bench/$2.rt.txt" "$out/crates/$2/src/lib.rt"
     (cd "$out/crates/$2" && ${RT:-rt} lib)
