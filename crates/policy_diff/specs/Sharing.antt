@@ -17,7 +17,7 @@ share_principal (One number) Any = true
 share_principal (One number) (One another) = number == another
 
 -- both hold some act
-abbrev pub share_act : Acts → Acts → Bool
+unfoldable pub share_act : Acts → Acts → Bool
 share_act one other = list_any (λ act. holds one act && holds other act) every_act
 
 -- both ranges hold some stream
@@ -40,7 +40,7 @@ covers_principals (One number) Any = false
 covers_principals (One number) (One another) = number == another
 
 -- each act of the narrow ones is one of the wide ones
-abbrev pub covers_acts : Acts → Acts → Bool
+unfoldable pub covers_acts : Acts → Acts → Bool
 covers_acts wide narrow = list_all (λ act. not (holds narrow act) || holds wide act) every_act
 
 -- the narrow range is within the wide one

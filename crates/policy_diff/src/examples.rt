@@ -223,7 +223,7 @@ fn asker_of(common: Common, principal: u32) -> u32 {
 /// A request that is decided by the two of a row, where one is found among a few that are likely: of `principal`, unless a
 /// rule names another one; on the lowest streams, and on a channel that has the values of both patterns. There may be one
 /// where none is found, and there may be none.
-pub fn example(
+pub fn example_of(
     alloc: Global,
     old: &Source,
     new: &Source,

@@ -1,5 +1,5 @@
 use crate::columns::{change_cell, channel_cell, example_cell};
-use crate::examples::{common_of, example};
+use crate::examples::{common_of, example_of};
 use crate::rows::Row;
 use policy_core::{Principals, Rule};
 use policy_tools::{Directory, Line, Source, acts_text, in_columns, principals_text, streams_text};
@@ -42,7 +42,7 @@ fn line_of(
     cells.push(channel_cell(alloc, old, new, row)?)?;
     cells.push(streams_text(alloc, common.low, common.high)?)?;
     cells.push(change_cell(alloc, old, new, row)?)?;
-    let found = example(alloc, old, new, row, principal)?;
+    let found = example_of(alloc, old, new, row, principal)?;
     cells.push(example_cell(alloc, found, directory)?)?;
     Ok(Line { cells })
 }

@@ -1,6 +1,6 @@
 //! Where in each policy the requests of a rule are all decided.
 
-ghost use Rattle.policy_diff.specs.Reach.{first_over, is_upto, reach_of, reaches_all, within};
+ghost use Rattle.policy_diff.specs.Reach.{first_over, is_upto, reach_of};
 ghost use Rattle.policy_diff.specs.Sharing.{is_over};
 ghost use Rattle.std.specs.Prelude.{◌≡◌, ◌<◌, IfOk, length, map, slice_index_or};
 

@@ -1,4 +1,4 @@
-ghost use Rattle.policy_diff.specs.Diff.{IsDecider, IsDiff, all_rows, is_row, is_within, may_decide, meet, reach_from, rows_from, rule_of, word_of};
+ghost use Rattle.policy_diff.specs.Diff.{IsDecider, IsDiff, all_rows, is_row, is_within, meet, reach_from, rows_from, rule_of, word_of};
 ghost use Rattle.std.specs.Prelude.{◌≡◌, ◌++◌, ◌∷◌, [], IfOk, OnOk, filter, length, map};
 ghost use Rattle.policy_diff.specs.Reach.{reach_of};
 

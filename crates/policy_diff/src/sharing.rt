@@ -21,6 +21,7 @@ fn share_principal(one: Principals, other: Principals) -> bool
 }
 
 /// Whether both hold some act.
+#[tactic(auto, unfolding(crate::specs::Sharing::share_act))]
 fn share_act(one: Acts, other: Acts) -> bool
     ensures { result ≡ share_act one other }
 {
@@ -38,6 +39,7 @@ fn share_stream(one: &Rule, other: &Rule) -> bool
 
 /// Whether some request may match both rules, of which the first has a pattern of that text. It is false only where none
 /// does, and takes no memory.
+#[tactic(auto, unfolding(crate::specs::Sharing::may_meet))]
 pub(crate) fn may_meet(text: &str, one: &Rule, other: &Rule) -> bool
     requires { pattern_of text.now ≡ Ok one.now.channel }
     ensures { result ≡ may_meet one.now other.now }
@@ -62,6 +64,7 @@ fn covers_principals(wide: Principals, narrow: Principals) -> bool
 }
 
 /// Whether each act of the narrow ones is one of the wide ones.
+#[tactic(auto, unfolding(crate::specs::Sharing::covers_acts))]
 fn covers_acts(wide: Acts, narrow: Acts) -> bool
     ensures { result ≡ covers_acts wide narrow }
 {
@@ -79,6 +82,7 @@ fn covers_streams(wide: &Rule, narrow: &Rule) -> bool
 
 /// Whether the wide rule, whose pattern has that text, is found to match each request that the narrow one matches. It takes
 /// no memory.
+#[tactic(auto, unfolding(crate::specs::Sharing::is_over))]
 pub(crate) fn is_over(text: &str, wide: &Rule, narrow: &Rule) -> bool
     requires { pattern_of text.now ≡ Ok wide.now.channel }
     ensures { result ≡ is_over wide.now narrow.now }
