@@ -1,0 +1,80 @@
+-- The difference of two policies: what may decide a request in the one and in the other, with different words.
+use Rattle.std.specs.Prelude.{◌≡◌, ◌≢◌, ◌&&◌, ◌<◌, ◌++◌, ◌∷◌, [], not, ℕ, Bool, true, false, List, Option, Some, None, length, map, filter, flat_map, slice_get}
+use Rattle.std.specs.Bool.{beq}
+use Rattle.std.specs.List.{Contains, range_with_len}
+use Rattle.policy_core.specs.Question.{Question}
+use Rattle.policy_core.specs.RuleList.{Rules}
+use Rattle.policy_core.specs.Rules.{verdict_at, verdict_of, word_at}
+use Rattle.policy_core.specs.declared.rule.Rule.{Rule}
+use Rattle.policy_diff.specs.Reach.{is_upto, reach_of}
+use Rattle.policy_diff.specs.Sharing.{may_meet}
+use Rattle.policy_diff.specs.declared.reach.Reach.{Reach}
+use Rattle.policy_diff.specs.declared.rows.Row.{Row}
+
+-- all that may decide: the rules of a policy with so many, by their places, and the default
+abbrev pub deciders : ℕ → List (Option ℕ)
+deciders count = map (λ at. Some at) (range_with_len 0 count) ++ None ∷ []
+
+-- it is one of the policy's
+abbrev pub IsDecider : Rules → Option ℕ → Type 0
+IsDecider policy (Some at) = at < length policy.rules
+IsDecider policy None = Unit {0}
+
+-- its word
+abbrev pub word_of : Rules → Option ℕ → Bool
+word_of policy (Some at) = word_at policy.rules at
+word_of policy None = policy.default_allows
+
+-- the rule, where it is one
+abbrev pub rule_of : Rules → Option ℕ → Option Rule
+rule_of policy (Some at) = slice_get policy.rules at
+rule_of policy None = None
+
+-- where the requests of the rule are all decided; those of the default may be decided anywhere
+abbrev pub reach_from : Rules → Rules → Option Rule → Reach
+reach_from old new None = record { old = None; new = None }
+reach_from old new (Some rule) = reach_of old new rule
+
+-- both stand where those requests are decided
+abbrev pub is_within : Row → Reach → Bool
+is_within row reach = is_upto row.old reach.old && is_upto row.new reach.new
+
+-- some request may match both; the default may meet each
+abbrev pub meet_from : Option Rule → Option Rule → Bool
+meet_from None other = true
+meet_from (Some one) None = true
+meet_from (Some one) (Some other) = may_meet one other
+
+abbrev pub meet : Rules → Rules → Row → Bool
+meet old new row = meet_from (rule_of old row.old) (rule_of new row.new)
+
+-- the words differ, no rule before either takes all requests of one of the two, and these may meet
+abbrev pub is_row : Rules → Rules → Row → Bool
+is_row old new row =
+    not (beq (word_of old row.old) (word_of new row.new))
+    && is_within row (reach_from old new (rule_of old row.old))
+    && is_within row (reach_from old new (rule_of new row.new))
+    && meet old new row
+
+-- the rows of what decides in the old policy, in the order of what decides in the new one
+abbrev pub rows_from : Rules → Rules → Option ℕ → List Row
+rows_from old new decider =
+    filter (is_row old new) (map (λ other. record { old = decider; new = other }) (deciders (length new.rules)))
+
+-- all rows, in the order of what decides in the old policy
+abbrev pub all_rows : Rules → Rules → List Row
+all_rows old new = flat_map (rows_from old new) (deciders (length old.rules))
+
+-- the request is decided by the two of a row
+pub record IsOf (old new : Rules) (question : Question) (row : Row) : Type 0 where
+  pub by_old : (epoch : ℕ) → verdict_of old epoch question ≡ verdict_at old epoch row.old
+  pub by_new : (epoch : ℕ) → verdict_of new epoch question ≡ verdict_at new epoch row.new
+
+-- the policies give the request different words
+abbrev pub AreApart : Rules → Rules → Question → Type 0
+AreApart old new question = (verdict_of old 1 question).allow ≢ (verdict_of new 1 question).allow
+
+-- exactly those rows are listed, and each request with different words is of one of them
+pub record IsDiff (old new : Rules) (rows : List Row) : Type 0 where
+  pub exact : rows ≡ all_rows old new
+  pub complete : (question : Question) → AreApart old new question → (row : Row) × Contains rows row × IsOf old new question row

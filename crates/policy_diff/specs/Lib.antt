@@ -1,0 +1,5 @@
+pub mod Diff
+pub mod Examples
+pub mod Patterns
+pub mod Reach
+pub mod Sharing

@@ -1,0 +1,121 @@
+//! What two patterns have to do with each other.
+
+ghost use Rattle.channel_uri.specs.Pattern.{front_of, pattern_of};
+ghost use Rattle.channel_uri.specs.Pieces.{pieces_in};
+ghost use Rattle.policy_diff.specs.Patterns.{key_passes, passes_from, patterns_pass, value_passes};
+ghost use Rattle.policy_tools.specs.Wider.{all_keys, value_wider};
+ghost use Rattle.std.specs.List.{starts_with};
+ghost use Rattle.std.specs.Prelude.{◌≡◌, Ok, nat_eq, option_copied};
+
+use crate::pieces::{first_piece, key_of, pairs_in};
+use channel_uri::{Keys, Pattern};
+
+/// What is asked of two patterns.
+#[derive(Clone, Copy, Debug, PartialEq, Eq)]
+pub(crate) enum Relation {
+    /// Whether some channel may be covered by both.
+    Meets,
+    /// Whether the first covers each channel that the second covers.
+    Covers,
+}
+
+/// What stands before a final `*`.
+fn front_of(wanted: &str) -> Option<&str>
+    ensures { option_copied result ≡ front_of wanted.now }
+{
+    wanted.strip_suffix("*")
+}
+
+/// Whether the text begins with that front.
+fn begins_with(text: &str, front: &str) -> bool
+    ensures { result ≡ starts_with nat_eq text.now front.now }
+{
+    text.starts_with(front)
+}
+
+/// Whether each value that fits the narrow one also fits the wide one.
+pub(crate) fn value_wider(wide: &str, narrow: &str) -> bool
+    ensures { result ≡ value_wider wide.now narrow.now }
+{
+    if wide == narrow {
+        return true;
+    }
+    let Some(front) = front_of(wide) else {
+        return false;
+    };
+    match front_of(narrow) {
+        Some(other) => begins_with(other, front),
+        None => begins_with(narrow, front),
+    }
+}
+
+/// Whether so it is of the values of a key.
+fn value_passes(relation: Relation, one: &str, other: &str) -> bool
+    ensures { result ≡ value_passes relation one.now other.now }
+{
+    match relation {
+        Relation::Meets => value_wider(one, other) || value_wider(other, one),
+        Relation::Covers => value_wider(one, other),
+    }
+}
+
+/// The same, where the second pattern may not have the key.
+fn passes_from(relation: Relation, one: &str, other: Option<&str>) -> bool
+    ensures { result ≡ passes_from relation one.now (option_copied other.entry) }
+{
+    match other {
+        Some(other) => value_passes(relation, one, other),
+        None => match relation {
+            Relation::Meets => true,
+            Relation::Covers => false,
+        },
+    }
+}
+
+/// The same of a key of the first pattern; a key that it does not have passes.
+fn key_passes(relation: Relation, one: &Keys, other: &Keys, key: &str) -> bool
+    ensures { result ≡ key_passes relation one.now other.now key.now }
+{
+    match one.get(key) {
+        Some(value) => passes_from(relation, value, other.get(key)),
+        None => true,
+    }
+}
+
+/// Whether the key of each of these pieces passes.
+fn pieces_pass(relation: Relation, pairs: Option<&str>, one: &Keys, other: &Keys) -> bool
+    ensures { result ≡ all_keys (key_passes relation one.now other.now) (pieces_in (option_copied pairs.entry)) }
+{
+    let mut rest = pairs;
+    while let Some(text) = rest {
+        let (piece, after) = first_piece(text);
+        let key = key_of(piece);
+        if !key_passes(relation, one, other, key) {
+            return false;
+        }
+        rest = after;
+    }
+    true
+}
+
+/// Whether so it is of two patterns, of which the first has that text. It takes no memory.
+pub(crate) fn patterns_pass(
+    relation: Relation,
+    text: &str,
+    one: &Pattern,
+    other: &Pattern,
+) -> bool
+    requires { pattern_of text.now ≡ Ok one.now }
+    ensures { result ≡ patterns_pass relation one.now other.now }
+{
+    let Pattern::Of(media, keys) = one else {
+        return true;
+    };
+    let Pattern::Of(medium, others) = other else {
+        return relation == Relation::Meets;
+    };
+    if *media != *medium {
+        return false;
+    }
+    pieces_pass(relation, pairs_in(text), keys, others)
+}

@@ -1,0 +1,149 @@
+ghost use Rattle.policy_diff.specs.Diff.{IsDecider, IsDiff, all_rows, is_row, is_within, meet, reach_from, rows_from, rule_of, word_of};
+ghost use Rattle.std.specs.Prelude.{◌≡◌, ◌++◌, ◌∷◌, [], IfOk, OnOk, filter, length, map};
+ghost use Rattle.policy_diff.specs.Reach.{reach_of};
+
+use crate::reach::{Reach, is_upto, reaches_of};
+use crate::sharing::may_meet;
+use policy_core::Policy;
+use policy_tools::Source;
+use std::alloc::{AllocError, Global};
+
+/// What decides in an old policy and what in a new one: the place of a rule, counted from 0, or `None` for the default.
+#[derive(Clone, Copy, Debug, PartialEq, Eq)]
+pub struct Row {
+    pub old: Option<usize>,
+    pub new: Option<usize>,
+}
+
+/// The word of what decides.
+pub(crate) fn word_of(policy: &Policy, decider: Option<usize>) -> bool
+    requires { IsDecider policy.now decider }
+    ensures { result ≡ word_of policy.now decider }
+{
+    match decider {
+        Some(at) => policy.rules()[at].allow,
+        None => policy.default_allows(),
+    }
+}
+
+/// Whether the two of a row stand where the requests of a rule may be decided.
+fn is_within(row: Row, reach: Reach) -> bool
+    ensures { result ≡ is_within row reach }
+{
+    is_upto(row.old, reach.old) && is_upto(row.new, reach.new)
+}
+
+/// Whether some request may match the two rules of a row; the default may meet each.
+fn meet(old: &Source, new: &Source, row: Row) -> bool
+    requires old_decider { IsDecider old.now.policy row.old }
+    requires new_decider { IsDecider new.now.policy row.new }
+    ensures { result ≡ meet old.now.policy new.now.policy row }
+{
+    let Some(at) = row.old else {
+        return true;
+    };
+    match row.new {
+        Some(other) => may_meet(old.text(at), &old.rules()[at], &new.rules()[other]),
+        None => true,
+    }
+}
+
+/// Whether it is a row, where the reaches of its two are known.
+fn is_row(old: &Source, new: &Source, row: Row, one: Reach, other: Reach) -> bool
+    requires old_decider { IsDecider old.now.policy row.old }
+    requires new_decider { IsDecider new.now.policy row.new }
+    requires old_reach { one ≡ reach_from old.now.policy new.now.policy (rule_of old.now.policy row.old) }
+    requires new_reach { other ≡ reach_from old.now.policy new.now.policy (rule_of new.now.policy row.new) }
+    ensures { result ≡ is_row old.now.policy new.now.policy row }
+{
+    if word_of(old.policy(), row.old) == word_of(new.policy(), row.new) {
+        return false;
+    }
+    is_within(row, one) && is_within(row, other) && meet(old, new, row)
+}
+
+/// Adds a row, if it is one.
+fn push_row(
+    old: &Source,
+    new: &Source,
+    row: Row,
+    reaches: (Reach, Reach),
+    rows: &mut Vec<Row>,
+) -> Result<(), AllocError>
+    requires old_decider { IsDecider old.now.policy row.old }
+    requires new_decider { IsDecider new.now.policy row.new }
+    requires old_reach { reaches.0 ≡ reach_from old.now.policy new.now.policy (rule_of old.now.policy row.old) }
+    requires new_reach { reaches.1 ≡ reach_from old.now.policy new.now.policy (rule_of new.now.policy row.new) }
+    ensures { OnOk result (rows.new.items ≡ rows.old.items ++ filter (is_row old.now.policy new.now.policy) (row ∷ [])) }
+{
+    if is_row(old, new, row, reaches.0, reaches.1) {
+        rows.push(row)?;
+    }
+    Ok(())
+}
+
+/// Adds the rows of what decides in the old policy.
+fn push_rows(
+    old: &Source,
+    new: &Source,
+    decider: Option<usize>,
+    reach: Reach,
+    reaches: &[Reach],
+    rows: &mut Vec<Row>,
+) -> Result<(), AllocError>
+    requires old_decider { IsDecider old.now.policy decider }
+    requires old_reach { reach ≡ reach_from old.now.policy new.now.policy (rule_of old.now.policy decider) }
+    requires new_reaches { reaches.now ≡ map (reach_of old.now.policy new.now.policy) new.now.policy.rules }
+    ensures { OnOk result (rows.new.items ≡ rows.old.items ++ rows_from old.now.policy new.now.policy decider) }
+{
+    for at in 0..reaches.len() {
+        let row = Row {
+            old: decider,
+            new: Some(at),
+        };
+        push_row(old, new, row, (reach, reaches[at]), rows)?;
+    }
+    let last = Row {
+        old: decider,
+        new: None,
+    };
+    push_row(old, new, last, (reach, Reach::ALL), rows)
+}
+
+/// Adds the rows of each rule of the old policy, and of its default.
+fn push_all(
+    old: &Source,
+    new: &Source,
+    old_reaches: &[Reach],
+    new_reaches: &[Reach],
+    rows: &mut Vec<Row>,
+) -> Result<(), AllocError>
+    requires of_old { old_reaches.now ≡ map (reach_of old.now.policy new.now.policy) old.now.policy.rules }
+    requires of_new { new_reaches.now ≡ map (reach_of old.now.policy new.now.policy) new.now.policy.rules }
+    ensures { OnOk result (rows.new.items ≡ rows.old.items ++ all_rows old.now.policy new.now.policy) }
+{
+    for at in 0..old_reaches.len() {
+        push_rows(old, new, Some(at), old_reaches[at], new_reaches, rows)?;
+    }
+    push_rows(old, new, None, Reach::ALL, new_reaches, rows)
+}
+
+/// The rows of two policies: all pairs of what decides in the old one and in the new one, with different words, of which
+/// some request may be decided by the one and by the other. They stand in the order of the old policy's rules, and under
+/// each rule in that of the new one's; the default is the last one. Each request that one policy allows and the other denies
+/// is decided by the two of a row.
+pub fn differences(alloc: Global, old: &Source, new: &Source) -> Result<Vec<Row>, AllocError>
+    ensures { IfOk result (λ rows. IsDiff old.now.policy new.now.policy rows.items) }
+{
+    let old_reaches = reaches_of(alloc, old, new, old.rules())?;
+    let new_reaches = reaches_of(alloc, old, new, new.rules())?;
+    let mut rows = Vec::new(alloc);
+    push_all(
+        old,
+        new,
+        old_reaches.as_slice(),
+        new_reaches.as_slice(),
+        &mut rows,
+    )?;
+    Ok(rows)
+}
