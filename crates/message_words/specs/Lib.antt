@@ -6,6 +6,7 @@ pub mod Frames
 pub mod Given
 pub mod Hex
 pub mod Key
+pub mod Laws
 pub mod Message
 pub mod Name
 pub mod Replies

@@ -10,6 +10,7 @@ use Rattle.command_codec.specs.declared.command.Body.{Body}
 use Rattle.command_codec.specs.declared.command.Body.TheVariants as bodies
 use Rattle.command_codec.specs.declared.command.Command.{Command}
 use Rattle.command_codec.specs.declared.destination.Destination.{Destination}
+use Rattle.command_codec.specs.declared.removal.Removal.{Removal}
 use Rattle.command_codec.specs.declared.set_counter.SetCounter.{SetCounter}
 use Rattle.command_codec.specs.declared.terminate_driver.TerminateDriver.{TerminateDriver}
 use Rattle.hex.specs.Hex.{encode_lower}
@@ -64,22 +65,57 @@ abbrev pub fields_text : List Field → List ℕ
 fields_text [] = []
 fields_text (field ∷ fields) = 32 ∷ (field_text field ++ fields_text fields)
 
+-- a name and its fields as words, and as the line that a shell reads as those words
+abbrev pub words_of : List ℕ → List Field → List (List ℕ)
+words_of name fields = name ∷ map field_word fields
+
+abbrev pub line_of : List ℕ → List Field → List ℕ
+line_of name fields = name ++ fields_text fields
+
 -- ---- commands
 
+abbrev pub channel_field : List ℕ → Field
+channel_field channel = text_field keys.Channel keys.ChannelHex channel
+
+abbrev pub publication_fields : AddPublication → List Field
+publication_fields fields = bare keys.Stream (signed_decimal fields.stream) ∷ channel_field fields.channel ∷ []
+
+abbrev pub removal_fields : Removal → List Field
+removal_fields fields = bare keys.Registration (decimal fields.registration) ∷ []
+
+abbrev pub subscription_fields : AddSubscription → List Field
+subscription_fields fields =
+    bare keys.RegistrationCorrelation (decimal fields.registration_correlation) ∷ bare keys.Stream (signed_decimal fields.stream)
+    ∷ channel_field fields.channel ∷ []
+
+abbrev pub destination_fields : Destination → List Field
+destination_fields fields = bare keys.Registration (decimal fields.registration) ∷ channel_field fields.channel ∷ []
+
+abbrev pub counter_fields : AddCounter → List Field
+counter_fields fields =
+    bare keys.TypeId (signed_decimal fields.type_id) ∷ bare keys.CounterKey (encode_lower fields.key)
+    ∷ text_field keys.Label keys.LabelHex fields.label ∷ []
+
+abbrev pub token_fields : TerminateDriver → List Field
+token_fields fields = bare keys.Token (encode_lower fields.token) ∷ []
+
+abbrev pub value_fields : SetCounter → List Field
+value_fields fields = bare keys.Registration (decimal fields.registration) ∷ bare keys.Value (signed_decimal fields.value) ∷ []
+
 abbrev pub body_fields : Body → List Field
-body_fields (bodies.AddPublication fields) = bare keys.Stream (signed_decimal fields.stream) ∷ text_field keys.Channel keys.ChannelHex fields.channel ∷ []
-body_fields (bodies.RemovePublication fields) = bare keys.Registration (decimal fields.registration) ∷ []
-body_fields (bodies.AddExclusivePublication fields) = bare keys.Stream (signed_decimal fields.stream) ∷ text_field keys.Channel keys.ChannelHex fields.channel ∷ []
-body_fields (bodies.AddSubscription fields) = bare keys.RegistrationCorrelation (decimal fields.registration_correlation) ∷ bare keys.Stream (signed_decimal fields.stream) ∷ text_field keys.Channel keys.ChannelHex fields.channel ∷ []
-body_fields (bodies.RemoveSubscription fields) = bare keys.Registration (decimal fields.registration) ∷ []
+body_fields (bodies.AddPublication fields) = publication_fields fields
+body_fields (bodies.RemovePublication fields) = removal_fields fields
+body_fields (bodies.AddExclusivePublication fields) = publication_fields fields
+body_fields (bodies.AddSubscription fields) = subscription_fields fields
+body_fields (bodies.RemoveSubscription fields) = removal_fields fields
 body_fields bodies.ClientKeepalive = []
-body_fields (bodies.AddDestination fields) = bare keys.Registration (decimal fields.registration) ∷ text_field keys.Channel keys.ChannelHex fields.channel ∷ []
-body_fields (bodies.RemoveDestination fields) = bare keys.Registration (decimal fields.registration) ∷ text_field keys.Channel keys.ChannelHex fields.channel ∷ []
-body_fields (bodies.AddCounter fields) = bare keys.TypeId (signed_decimal fields.type_id) ∷ bare keys.CounterKey (encode_lower fields.key) ∷ text_field keys.Label keys.LabelHex fields.label ∷ []
-body_fields (bodies.RemoveCounter fields) = bare keys.Registration (decimal fields.registration) ∷ []
+body_fields (bodies.AddDestination fields) = destination_fields fields
+body_fields (bodies.RemoveDestination fields) = destination_fields fields
+body_fields (bodies.AddCounter fields) = counter_fields fields
+body_fields (bodies.RemoveCounter fields) = removal_fields fields
 body_fields bodies.ClientClose = []
-body_fields (bodies.TerminateDriver fields) = bare keys.Token (encode_lower fields.token) ∷ []
-body_fields (bodies.SetCounter fields) = bare keys.Registration (decimal fields.registration) ∷ bare keys.Value (signed_decimal fields.value) ∷ []
+body_fields (bodies.TerminateDriver fields) = token_fields fields
+body_fields (bodies.SetCounter fields) = value_fields fields
 
 abbrev pub body_name : Body → CommandName
 body_name (bodies.AddPublication fields) = commands.AddPublication
@@ -101,54 +137,8 @@ command_fields command = bare keys.Client (decimal command.client) ∷ bare keys
 
 -- the words that denote a command
 abbrev pub command_words : Command → List (List ℕ)
-command_words command = command_text (body_name command.body) ∷ map field_word (command_fields command)
+command_words command = words_of (command_text (body_name command.body)) (command_fields command)
 
--- ---- the line that a shell reads as those words
-
-abbrev pub channel_text : List ℕ → List ℕ
-channel_text channel = field_text (text_field keys.Channel keys.ChannelHex channel)
-
-abbrev pub registration_text : ℕ → List ℕ
-registration_text registration = codes " registration=" ++ decimal registration
-
-abbrev pub publication_text : AddPublication → List ℕ
-publication_text fields = codes " stream=" ++ (signed_decimal fields.stream ++ (codes " " ++ channel_text fields.channel))
-
-abbrev pub subscription_text : AddSubscription → List ℕ
-subscription_text fields =
-    codes " registration-correlation=" ++ (decimal fields.registration_correlation ++ (codes " stream=" ++ (signed_decimal fields.stream
-    ++ (codes " " ++ channel_text fields.channel))))
-
-abbrev pub destination_text : Destination → List ℕ
-destination_text fields = codes " registration=" ++ (decimal fields.registration ++ (codes " " ++ channel_text fields.channel))
-
-abbrev pub counter_text : AddCounter → List ℕ
-counter_text fields =
-    codes " type-id=" ++ (signed_decimal fields.type_id ++ (codes " key=" ++ (encode_lower fields.key
-    ++ (codes " " ++ field_text (text_field keys.Label keys.LabelHex fields.label)))))
-
-abbrev pub token_text : TerminateDriver → List ℕ
-token_text fields = codes " token=" ++ encode_lower fields.token
-
-abbrev pub value_text : SetCounter → List ℕ
-value_text fields = codes " registration=" ++ (decimal fields.registration ++ (codes " value=" ++ signed_decimal fields.value))
-
-abbrev pub body_text : Body → List ℕ
-body_text (bodies.AddPublication fields) = publication_text fields
-body_text (bodies.RemovePublication fields) = registration_text fields.registration
-body_text (bodies.AddExclusivePublication fields) = publication_text fields
-body_text (bodies.AddSubscription fields) = subscription_text fields
-body_text (bodies.RemoveSubscription fields) = registration_text fields.registration
-body_text bodies.ClientKeepalive = []
-body_text (bodies.AddDestination fields) = destination_text fields
-body_text (bodies.RemoveDestination fields) = destination_text fields
-body_text (bodies.AddCounter fields) = counter_text fields
-body_text (bodies.RemoveCounter fields) = registration_text fields.registration
-body_text bodies.ClientClose = []
-body_text (bodies.TerminateDriver fields) = token_text fields
-body_text (bodies.SetCounter fields) = value_text fields
-
+-- the line that a shell reads as those words
 unfoldable pub command_line : Command → List ℕ
-command_line command =
-    command_text (body_name command.body) ++ (codes " client=" ++ (decimal command.client ++ (codes " correlation="
-    ++ (decimal command.correlation ++ body_text command.body))))
+command_line command = line_of (command_text (body_name command.body)) (command_fields command)

@@ -1,7 +1,7 @@
 //! Commands in words.
 
 ghost use Rattle.hex.specs.Hex.{encode_lower};
-ghost use Rattle.message_words.specs.Shown.{body_name, body_text, channel_text, command_line, counter_text, destination_text, field_text, is_bare, is_plain, publication_text, registration_text, subscription_text, text_field, token_text, value_text};
+ghost use Rattle.message_words.specs.Shown.{body_fields, body_name, channel_field, command_line, counter_fields, destination_fields, field_text, fields_text, is_bare, is_plain, publication_fields, removal_fields, subscription_fields, text_field, token_fields, value_fields};
 ghost use Rattle.std.specs.List.{list_all};
 ghost use Rattle.std.specs.Prelude.{◌≡◌, IfOk};
 
@@ -9,7 +9,7 @@ use crate::key::Key;
 use crate::name::CommandName;
 use byte_strings::Text;
 use command_codec::{
-    AddCounter, AddPublication, AddSubscription, Body, Command, Destination, SetCounter,
+    AddCounter, AddPublication, AddSubscription, Body, Command, Destination, Removal, SetCounter,
     TerminateDriver,
 };
 use std::alloc::{AllocError, Global};
@@ -78,7 +78,7 @@ pub(crate) fn text_shown(
 }
 
 fn channel_shown(alloc: Global, channel: &Text) -> Result<Text, AllocError>
-    ensures { IfOk result (λ shown. shown ≡ channel_text channel.now) }
+    ensures { IfOk result (λ shown. shown ≡ field_text (channel_field channel.now)) }
 {
     text_shown(alloc, Key::Channel, Key::ChannelHex, channel.as_str())
 }
@@ -104,22 +104,25 @@ fn name_of(body: &Body) -> CommandName
     }
 }
 
-fn registration_shown(alloc: Global, registration: u64) -> Result<Text, AllocError>
-    ensures { IfOk result (λ shown. shown ≡ registration_text registration) }
+#[tactic(auto, using(crate::proofs::Texts::nothing_follows))]
+fn removal_shown(alloc: Global, fields: &Removal) -> Result<Text, AllocError>
+    ensures { IfOk result (λ shown. shown ≡ fields_text (removal_fields fields.now)) }
 {
+    let registration = fields.registration;
     Ok(Text::from(format!(in alloc; " registration={registration}")?))
 }
 
 fn publication_shown(alloc: Global, fields: &AddPublication) -> Result<Text, AllocError>
-    ensures { IfOk result (λ shown. shown ≡ publication_text fields.now) }
+    ensures { IfOk result (λ shown. shown ≡ fields_text (publication_fields fields.now)) }
 {
     let stream = fields.stream;
     let channel = channel_shown(alloc, &fields.channel)?;
     Ok(Text::from(format!(in alloc; " stream={stream} {channel}")?))
 }
 
+#[tactic(auto, using(crate::proofs::Texts::nothing_follows))]
 fn subscription_shown(alloc: Global, fields: &AddSubscription) -> Result<Text, AllocError>
-    ensures { IfOk result (λ shown. shown ≡ subscription_text fields.now) }
+    ensures { IfOk result (λ shown. shown ≡ fields_text (subscription_fields fields.now)) }
 {
     let registration = fields.registration_correlation;
     let stream = fields.stream;
@@ -129,8 +132,9 @@ fn subscription_shown(alloc: Global, fields: &AddSubscription) -> Result<Text, A
     )?))
 }
 
+#[tactic(auto, using(crate::proofs::Texts::nothing_follows))]
 fn destination_shown(alloc: Global, fields: &Destination) -> Result<Text, AllocError>
-    ensures { IfOk result (λ shown. shown ≡ destination_text fields.now) }
+    ensures { IfOk result (λ shown. shown ≡ fields_text (destination_fields fields.now)) }
 {
     let registration = fields.registration;
     let channel = channel_shown(alloc, &fields.channel)?;
@@ -138,7 +142,7 @@ fn destination_shown(alloc: Global, fields: &Destination) -> Result<Text, AllocE
 }
 
 fn counter_shown(alloc: Global, fields: &AddCounter) -> Result<Text, AllocError>
-    ensures { IfOk result (λ shown. shown ≡ counter_text fields.now) }
+    ensures { IfOk result (λ shown. shown ≡ fields_text (counter_fields fields.now)) }
 {
     let type_id = fields.type_id;
     let key = hex_of(alloc, fields.key.as_slice())?;
@@ -147,14 +151,15 @@ fn counter_shown(alloc: Global, fields: &AddCounter) -> Result<Text, AllocError>
 }
 
 fn token_shown(alloc: Global, fields: &TerminateDriver) -> Result<Text, AllocError>
-    ensures { IfOk result (λ shown. shown ≡ token_text fields.now) }
+    ensures { IfOk result (λ shown. shown ≡ fields_text (token_fields fields.now)) }
 {
     let token = hex_of(alloc, fields.token.as_slice())?;
     Ok(Text::from(format!(in alloc; " token={token}")?))
 }
 
+#[tactic(auto, using(crate::proofs::Texts::nothing_follows))]
 fn value_shown(alloc: Global, fields: &SetCounter) -> Result<Text, AllocError>
-    ensures { IfOk result (λ shown. shown ≡ value_text fields.now) }
+    ensures { IfOk result (λ shown. shown ≡ fields_text (value_fields fields.now)) }
 {
     let registration = fields.registration;
     let value = fields.value;
@@ -163,19 +168,19 @@ fn value_shown(alloc: Global, fields: &SetCounter) -> Result<Text, AllocError>
 
 /// The fields of what a command asks for.
 fn body_shown(alloc: Global, body: &Body) -> Result<Text, AllocError>
-    ensures { IfOk result (λ shown. shown ≡ body_text body.now) }
+    ensures { IfOk result (λ shown. shown ≡ fields_text (body_fields body.now)) }
 {
     match body {
         Body::AddPublication(fields) => publication_shown(alloc, fields),
-        Body::RemovePublication(fields) => registration_shown(alloc, fields.registration),
+        Body::RemovePublication(fields) => removal_shown(alloc, fields),
         Body::AddExclusivePublication(fields) => publication_shown(alloc, fields),
         Body::AddSubscription(fields) => subscription_shown(alloc, fields),
-        Body::RemoveSubscription(fields) => registration_shown(alloc, fields.registration),
+        Body::RemoveSubscription(fields) => removal_shown(alloc, fields),
         Body::ClientKeepalive => Text::new(alloc, ""),
         Body::AddDestination(fields) => destination_shown(alloc, fields),
         Body::RemoveDestination(fields) => destination_shown(alloc, fields),
         Body::AddCounter(fields) => counter_shown(alloc, fields),
-        Body::RemoveCounter(fields) => registration_shown(alloc, fields.registration),
+        Body::RemoveCounter(fields) => removal_shown(alloc, fields),
         Body::ClientClose => Text::new(alloc, ""),
         Body::TerminateDriver(fields) => token_shown(alloc, fields),
         Body::SetCounter(fields) => value_shown(alloc, fields),
