@@ -47,7 +47,7 @@ bytes_within most key bytes few =
     rw fits refl
 
 -- ASCII is of bytes
-ascii_bytes : (text : List ℕ) → list_all is_ascii text ≡ true → IsBytes text
+pub ascii_bytes : (text : List ℕ) → list_all is_ascii text ≡ true → IsBytes text
 ascii_bytes [] all i = omega arith
 ascii_bytes (x ∷ xs) all zero = omega (arith, ltb-true x 128 (and_parts (is_ascii x) (list_all is_ascii xs) all).0)
 ascii_bytes (x ∷ xs) all (suc i) = ascii_bytes xs (and_parts (is_ascii x) (list_all is_ascii xs) all).1 i

@@ -2,9 +2,12 @@
 
 ghost use Rattle.command_codec.specs.Command.{IsCommand};
 ghost use Rattle.command_codec.specs.declared.command.Command.{Command};
+ghost use Rattle.message_words.specs.Datagrams.{ended};
+ghost use Rattle.message_words.specs.Decoding.{decoded};
 ghost use Rattle.message_words.specs.Laws.{HasBytes};
-ghost use Rattle.message_words.specs.Message.{message_of};
-ghost use Rattle.message_words.specs.Shown.{command_words};
+ghost use Rattle.message_words.specs.Message.{message_hex, message_of};
+ghost use Rattle.message_words.specs.Shown.{command_line, command_words};
+ghost use Rattle.message_words.specs.declared.decoding.Reading.TheVariants as readings;
 ghost use Rattle.message_words.specs.declared.message.Message.TheVariants as messages;
 ghost use Rattle.std.specs.Prelude.{◌≡◌, Ok};
 
@@ -12,4 +15,11 @@ ghost use Rattle.std.specs.Prelude.{◌≡◌, Ok};
 #[tactic(auto, using(crate::proofs::CommandsBack::words_back))]
 pub fn words_denote_their_command()
     ensures { (command : Command) → IsCommand command → HasBytes command.body → message_of (command_words command) ≡ Ok (messages.Command command) }
+{}
+
+/// The hexadecimal that is given of a command is shown as that command's line.
+#[tactic(auto, using(crate::proofs::CommandBytes::command_told))]
+pub fn commands_are_shown()
+    ensures { (command : Command) → IsCommand command → HasBytes command.body
+        → decoded readings.Command (message_hex (messages.Command command)) ≡ Ok (ended (command_line command)) }
 {}
