@@ -4,4 +4,5 @@ pub mod CommandsBack
 pub mod Fronts
 pub mod HexBack
 pub mod NumbersBack
+pub mod SoundWords
 pub mod Texts

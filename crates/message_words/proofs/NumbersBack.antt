@@ -60,7 +60,7 @@ long_back (negsuc n) fits = signed_negative (2 ^ 63) n (omega (arith, fits.sfits
 
 -- ---- what is read fits
 
-some_is : {A : Type 0} (x y : A) (o : Option A) → o ≡ Some x → o ≡ Some y → x ≡ y
+pub some_is : {A : Type 0} (x y : A) (o : Option A) → o ≡ Some x → o ≡ Some y → x ≡ y
 some_is x y o first second = cc
 
 below_by : (low : Bool) (limit found n : ℕ) → nat_lt found limit ≡ low → cond {A = Option ℕ} low (Some found) None ≡ Some n → n < limit
