@@ -14,39 +14,42 @@ use Rattle.frame_codec.specs.declared.nak.Nak.{Nak}
 use Rattle.frame_codec.specs.declared.setup.Setup.{Setup}
 use Rattle.frame_codec.specs.declared.status_message.StatusMessage.{StatusMessage}
 use Rattle.hex.specs.Hex.{encode_lower}
+use Rattle.message_words.specs.Name.{frame_text}
+use Rattle.message_words.specs.Shown.{Field, bare, fields_text}
+use Rattle.message_words.specs.declared.key.Key.TheVariants as keys
+use Rattle.message_words.specs.declared.name.FrameName.{FrameName}
+use Rattle.message_words.specs.declared.name.FrameName.TheVariants as names
 
-abbrev pub place_text : TermPlace → List ℕ
-place_text place =
-    codes " session=" ++ (signed_decimal place.session_id ++ (codes " stream=" ++ (signed_decimal place.stream_id
-    ++ (codes " term=" ++ (signed_decimal place.term_id ++ (codes " offset=" ++ decimal place.term_offset))))))
+-- ---- the fields of frames
 
-abbrev pub flags_text : Flags → List ℕ
-flags_text flags = codes " flags=" ++ encode_lower (flags.bits ∷ [])
+unfoldable pub place_fields : TermPlace → List Field
+place_fields place =
+    bare keys.Session (signed_decimal place.session_id) ∷ bare keys.Stream (signed_decimal place.stream_id)
+    ∷ bare keys.Term (signed_decimal place.term_id) ∷ bare keys.Offset (decimal place.term_offset) ∷ []
 
--- flags that are not written here are shown where there are some
-abbrev pub other_flags : Flags → List ℕ
-other_flags flags = if flags.bits == 0 then [] else flags_text flags
+abbrev pub flags_field : Flags → Field
+flags_field flags = bare keys.Flags (encode_lower (flags.bits ∷ []))
 
--- a reserved value, which is written as 0 here, is shown where it is another
-abbrev pub reserved_text : ℕ → List ℕ
-reserved_text value = if value == 0 then [] else codes " reserved=" ++ decimal value
+-- what stands after the place
+abbrev pub data_rest : Flags → List ℕ → List Field
+data_rest flags payload = flags_field flags ∷ bare keys.Payload (encode_lower payload) ∷ []
 
-abbrev pub place_and_flags : Header → List ℕ
-place_and_flags header = place_text header.place ++ flags_text header.flags
+abbrev pub pad_rest : Flags → ℕ → List Field
+pad_rest flags size = flags_field flags ∷ bare keys.Length (decimal size) ∷ []
 
-abbrev pub frame_as : Kind → Sent → List ℕ
-frame_as Data frame = codes "data" ++ (place_and_flags frame.header ++ (codes " payload=" ++ (encode_lower (drop 32 frame.bytes) ++ reserved_text frame.header.reserved_value)))
-frame_as Pad frame = codes "pad" ++ (place_and_flags frame.header ++ (codes " length=" ++ (decimal frame.header.length ++ reserved_text frame.header.reserved_value)))
+abbrev pub beat_rest : Flags → List Field
+beat_rest flags = flags_field flags ∷ []
 
-abbrev pub frame_line : Sent → List ℕ
-frame_line frame = frame_as frame.header.kind frame
+abbrev pub nak_rest : Nak → List Field
+nak_rest nak = bare keys.Length (signed_decimal nak.length) ∷ []
 
-abbrev pub frame_lines : List Sent → List ℕ
-frame_lines [] = []
-frame_lines (frame ∷ frames) = frame_line frame ++ (10 ∷ frame_lines frames)
+abbrev pub status_rest : StatusMessage → List Field
+status_rest message = bare keys.Window (decimal message.receiver_window) ∷ bare keys.Receiver (decimal message.receiver_id) ∷ []
 
-abbrev pub beat_line : Header → List ℕ
-beat_line header = codes "heartbeat" ++ (place_and_flags header ++ reserved_text header.reserved_value)
+abbrev pub setup_rest : Setup → List Field
+setup_rest setup =
+    bare keys.InitialTerm (signed_decimal setup.initial_term_id) ∷ bare keys.TermLength (signed_decimal setup.term_length)
+    ∷ bare keys.Mtu (signed_decimal setup.mtu) ∷ []
 
 -- the place that a NAK, a status message or a SETUP names
 abbrev pub nak_place : Nak → TermPlace
@@ -58,26 +61,45 @@ status_place message = record { session_id = message.session_id; stream_id = mes
 abbrev pub setup_place : Setup → TermPlace
 setup_place setup = record { session_id = setup.session_id; stream_id = setup.stream_id; term_id = setup.active_term_id; term_offset = setup.term_offset }
 
-abbrev pub nak_line : Nak → List ℕ
-nak_line nak = codes "nak" ++ (place_text (nak_place nak) ++ (codes " length=" ++ (signed_decimal nak.length ++ other_flags nak.flags)))
+-- ---- what a frame may have and no word gives: it is shown where it is not 0
 
-abbrev pub window_text : StatusMessage → List ℕ
-window_text message = codes " window=" ++ (decimal message.receiver_window ++ (codes " receiver=" ++ decimal message.receiver_id))
+abbrev pub reserved_text : ℕ → List ℕ
+reserved_text value = if value == 0 then [] else codes " reserved=" ++ decimal value
 
-abbrev pub status_line : StatusMessage → List ℕ
-status_line message = codes "status-message" ++ (place_text (status_place message) ++ (window_text message ++ other_flags message.flags))
+abbrev pub flags_text : Flags → List ℕ
+flags_text flags = if flags.bits == 0 then [] else codes " flags=" ++ encode_lower (flags.bits ∷ [])
 
--- a TTL, which is written as 0 here, is shown after the flags where it is another
 abbrev pub ttl_text : ℤ → List ℕ
 ttl_text ttl = if int_eq ttl (pos 0) then [] else codes " ttl=" ++ signed_decimal ttl
 
-abbrev pub stream_text : Setup → List ℕ
-stream_text setup =
-    codes " initial-term=" ++ (signed_decimal setup.initial_term_id ++ (codes " term-length=" ++ (signed_decimal setup.term_length
-    ++ (codes " mtu=" ++ signed_decimal setup.mtu))))
+-- ---- lines
+
+-- the name of a frame, its place, and the text of its other fields
+unfoldable pub placed_line : FrameName → TermPlace → List ℕ → List ℕ
+placed_line name place rest = frame_text name ++ (fields_text (place_fields place) ++ rest)
+
+abbrev pub frame_as : Kind → Sent → List ℕ
+frame_as Data frame = placed_line names.Data frame.header.place (fields_text (data_rest frame.header.flags (drop 32 frame.bytes))) ++ reserved_text frame.header.reserved_value
+frame_as Pad frame = placed_line names.Pad frame.header.place (fields_text (pad_rest frame.header.flags frame.header.length)) ++ reserved_text frame.header.reserved_value
+
+abbrev pub frame_line : Sent → List ℕ
+frame_line frame = frame_as frame.header.kind frame
+
+abbrev pub frame_lines : List Sent → List ℕ
+frame_lines [] = []
+frame_lines (frame ∷ frames) = frame_line frame ++ (10 ∷ frame_lines frames)
+
+abbrev pub beat_line : Header → List ℕ
+beat_line header = placed_line names.Heartbeat header.place (fields_text (beat_rest header.flags)) ++ reserved_text header.reserved_value
+
+abbrev pub nak_line : Nak → List ℕ
+nak_line nak = placed_line names.Nak (nak_place nak) (fields_text (nak_rest nak)) ++ flags_text nak.flags
+
+abbrev pub status_line : StatusMessage → List ℕ
+status_line message = placed_line names.StatusMessage (status_place message) (fields_text (status_rest message)) ++ flags_text message.flags
 
 abbrev pub setup_line : Setup → List ℕ
-setup_line setup = codes "setup" ++ (place_text (setup_place setup) ++ (stream_text setup ++ (other_flags setup.flags ++ ttl_text setup.ttl)))
+setup_line setup = placed_line names.Setup (setup_place setup) (fields_text (setup_rest setup)) ++ (flags_text setup.flags ++ ttl_text setup.ttl)
 
 abbrev pub ended : List ℕ → List ℕ
 ended line = line ++ (10 ∷ [])

@@ -61,9 +61,11 @@ abbrev pub field_text : Field → List ℕ
 field_text (bare key value) = key_text key ++ (61 ∷ value)
 field_text (quoted key text) = key_text key ++ (61 ∷ shell_text text)
 
+-- fields, each after a space
 abbrev pub fields_text : List Field → List ℕ
 fields_text [] = []
-fields_text (field ∷ fields) = 32 ∷ (field_text field ++ fields_text fields)
+fields_text (field ∷ []) = 32 ∷ field_text field
+fields_text (field ∷ next ∷ fields) = 32 ∷ (field_text field ++ fields_text (next ∷ fields))
 
 -- a name and its fields as words, and as the line that a shell reads as those words
 abbrev pub words_of : List ℕ → List Field → List (List ℕ)

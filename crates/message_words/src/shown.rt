@@ -104,7 +104,6 @@ fn name_of(body: &Body) -> CommandName
     }
 }
 
-#[tactic(auto, using(crate::proofs::Texts::nothing_follows))]
 fn removal_shown(alloc: Global, fields: &Removal) -> Result<Text, AllocError>
     ensures { IfOk result (λ shown. shown ≡ fields_text (removal_fields fields.now)) }
 {
@@ -120,7 +119,6 @@ fn publication_shown(alloc: Global, fields: &AddPublication) -> Result<Text, All
     Ok(Text::from(format!(in alloc; " stream={stream} {channel}")?))
 }
 
-#[tactic(auto, using(crate::proofs::Texts::nothing_follows))]
 fn subscription_shown(alloc: Global, fields: &AddSubscription) -> Result<Text, AllocError>
     ensures { IfOk result (λ shown. shown ≡ fields_text (subscription_fields fields.now)) }
 {
@@ -132,7 +130,6 @@ fn subscription_shown(alloc: Global, fields: &AddSubscription) -> Result<Text, A
     )?))
 }
 
-#[tactic(auto, using(crate::proofs::Texts::nothing_follows))]
 fn destination_shown(alloc: Global, fields: &Destination) -> Result<Text, AllocError>
     ensures { IfOk result (λ shown. shown ≡ fields_text (destination_fields fields.now)) }
 {
@@ -157,7 +154,6 @@ fn token_shown(alloc: Global, fields: &TerminateDriver) -> Result<Text, AllocErr
     Ok(Text::from(format!(in alloc; " token={token}")?))
 }
 
-#[tactic(auto, using(crate::proofs::Texts::nothing_follows))]
 fn value_shown(alloc: Global, fields: &SetCounter) -> Result<Text, AllocError>
     ensures { IfOk result (λ shown. shown ≡ fields_text (value_fields fields.now)) }
 {
