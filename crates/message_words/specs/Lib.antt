@@ -1,0 +1,14 @@
+pub mod Commands
+pub mod Datagrams
+pub mod Decoding
+pub mod Fault
+pub mod Frames
+pub mod Given
+pub mod Hex
+pub mod Key
+pub mod Laws
+pub mod Message
+pub mod Name
+pub mod Replies
+pub mod Shown
+pub mod Values
