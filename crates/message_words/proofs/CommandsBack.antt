@@ -41,7 +41,7 @@ use Rattle.message_words.proofs.NumbersBack.{integer_back, long_back, number_bac
 
 -- ---- byte strings and texts
 
-bytes_within : (most : ℕ) (key : Key) (bytes : List ℕ) → length bytes ≤ most → within most key bytes ≡ Ok bytes
+pub bytes_within : (most : ℕ) (key : Key) (bytes : List ℕ) → length bytes ≤ most → within most key bytes ≡ Ok bytes
 bytes_within most key bytes few =
     let fits : nat_lt most (length bytes) ≡ false = grind (arith, nat_tests, few) in
     rw fits refl
