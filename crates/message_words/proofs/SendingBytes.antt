@@ -1,13 +1,11 @@
 -- What is written of a datagram is bytes, and is read as that datagram.
-use Rattle.std.proofs.Common.{◌≡◌, ℕ, zero, suc, ◌+◌, ◌<◌, ◌^◌, ℤ, pos, List, [], ◌∷◌, ◌++◌, length, drop, Result, Ok, refl, sym, ap, ◌∙◌, arith}
+use Rattle.std.proofs.Common.{◌≡◌, ℕ, zero, suc, ◌<◌, ℤ, pos, List, [], ◌∷◌, Ok, refl, sym, ap, ◌∙◌, arith}
 use Rattle.std.specs.Int.{w32, cast_unsigned}
 use Rattle.std.proofs.lemmas.List.{append-nil, drop_at}
 use Rattle.command_codec.specs.Fields.{IsBytes}
-use Rattle.frame_codec.specs.declared.fault.BadPacket.{BadPacket}
 use Rattle.frame_codec.specs.declared.flags.Flags.{Flags}
 use Rattle.frame_codec.specs.declared.header.Header.{Header}
 use Rattle.frame_codec.specs.declared.header.Kind.TheVariants as kinds
-use Rattle.frame_codec.specs.declared.header.TermPlace.{TermPlace}
 use Rattle.frame_codec.specs.declared.nak.Nak.{Nak}
 use Rattle.frame_codec.specs.declared.setup.Setup.{Setup}
 use Rattle.frame_codec.specs.declared.status_message.StatusMessage.{StatusMessage}
@@ -19,13 +17,12 @@ use Rattle.frame_codec.specs.Nak.{nak_bytes}
 use Rattle.frame_codec.specs.Setup.{setup_bytes}
 use Rattle.frame_codec.specs.StatusMessage.{status_bytes}
 use Rattle.frame_codec.specs.Writing.{front_bytes, no_flags, number_bytes, signed_bytes}
-use Rattle.frame_codec.specs.Written.{all_bytes, all_frames, padding, part, written_frame}
+use Rattle.frame_codec.specs.Written.{padding, part, written_frame}
 use Rattle.frame_codec.proofs.FramesAgain.{beat_again, frames_again}
 use Rattle.frame_codec.proofs.RoundTrips.{nak_again, setup_again, status_again}
 use Rattle.frame_codec.proofs.WritingLemmas.{length-header_bytes}
 use Rattle.message_words.specs.Datagrams.{beat_line, beat_rest, content_lines, data_rest, ended, frame_line, nak_line, nak_place, nak_rest, pad_rest, setup_line, setup_place, setup_rest, status_line, status_place, status_rest}
-use Rattle.message_words.specs.Decoding.{bytes_said, datagram_said, decoded}
-use Rattle.message_words.specs.declared.decoding.DecodeFault.{DecodeFault}
+use Rattle.message_words.specs.Decoding.{bytes_said, decoded}
 use Rattle.message_words.specs.declared.decoding.Reading.TheVariants as readings
 use Rattle.message_words.specs.Frames.{sending_bytes}
 use Rattle.message_words.specs.Laws.{IsSending, message_line}
