@@ -1,5 +1,5 @@
 -- What is written of a command is bytes, and is read as that command.
-use Rattle.std.proofs.Common.{◌≡◌, ℕ, List, ◌++◌, length, Ok, refl, arith}
+use Rattle.std.proofs.Common.{◌≡◌, ℕ, List, length, Ok, refl, arith}
 use Rattle.std.specs.Int.{w32, w64, cast_unsigned}
 use Rattle.command_codec.specs.declared.command.Body.{Body}
 use Rattle.command_codec.specs.declared.command.Body.TheVariants as bodies

@@ -1,10 +1,8 @@
 -- The words of a command denote it.
-use Rattle.std.proofs.Common.{◌≡◌, ℕ, zero, suc, ◌^◌, ◌<◌, ◌≤◌, ℤ, Bool, true, false, cond, List, [], ◌∷◌, length, map, Option, Some, None, Result, Ok, refl, nat_lt, arith}
+use Rattle.std.proofs.Common.{◌≡◌, ℕ, zero, suc, ◌≤◌, Bool, true, false, cond, List, [], ◌∷◌, length, map, Some, None, Ok, refl, nat_lt, arith}
 use Rattle.std.specs.Char.{is_ascii}
 use Rattle.std.specs.Fmt.{decimal, signed_decimal}
-use Rattle.std.specs.Int.{w32, w64}
 use Rattle.std.specs.List.{list_all}
-use Rattle.std.specs.Prelude.{FitsSigned}
 use Rattle.std.proofs.lemmas.Bool.{and_parts, ltb-true}
 use Rattle.std.proofs.lemmas.Bool.Decides.{nat_tests}
 use Rattle.command_codec.specs.declared.add_counter.AddCounter.{AddCounter}
@@ -24,13 +22,12 @@ use Rattle.command_codec.specs.Fields.{IsBytes, IsText, longest}
 use Rattle.hex.specs.Hex.{encode_lower}
 use Rattle.hex.proofs.HexLemmas.{decode_of-encode_lower}
 use Rattle.message_words.specs.Commands.{body_in, command_in}
-use Rattle.message_words.specs.Given.{given, unknown_at, ◌>>=◌}
+use Rattle.message_words.specs.Given.{given, unknown_at}
 use Rattle.message_words.specs.Laws.{HasBytes}
 use Rattle.message_words.specs.Message.{message_of}
 use Rattle.message_words.specs.Name.{command_keys, command_text, name_of}
 use Rattle.message_words.specs.Shown.{Field, bare, quoted, body_fields, body_name, command_words, field_word, is_plain, text_field}
 use Rattle.message_words.specs.Values.{ascii_within, hex_text_in, within}
-use Rattle.message_words.specs.declared.fault.WordFault.{WordFault}
 use Rattle.message_words.specs.declared.key.Key.{Key}
 use Rattle.message_words.specs.declared.key.Key.TheVariants as keys
 use Rattle.message_words.specs.declared.message.Message.TheVariants as messages
@@ -41,7 +38,7 @@ use Rattle.message_words.proofs.NumbersBack.{integer_back, long_back, number_bac
 
 -- ---- byte strings and texts
 
-bytes_within : (most : ℕ) (key : Key) (bytes : List ℕ) → length bytes ≤ most → within most key bytes ≡ Ok bytes
+pub bytes_within : (most : ℕ) (key : Key) (bytes : List ℕ) → length bytes ≤ most → within most key bytes ≡ Ok bytes
 bytes_within most key bytes few =
     let fits : nat_lt most (length bytes) ≡ false = grind (arith, nat_tests, few) in
     rw fits refl

@@ -1,5 +1,5 @@
 -- The hexadecimal of bytes, field by field, is read back as those bytes.
-use Rattle.std.proofs.Common.{◌≡◌, ℕ, zero, suc, ◌/◌, ◌%◌, ◌==◌, ◌<◌, Bool, true, false, not, List, [], ◌∷◌, ◌++◌, take, drop, filter, slice_index, Ok, refl, sym, ap, ◌∙◌, arith}
+use Rattle.std.proofs.Common.{◌≡◌, ℕ, zero, suc, ◌/◌, ◌%◌, ◌==◌, ◌<◌, Bool, true, not, List, [], ◌∷◌, ◌++◌, take, drop, replicate, slice_index, Ok, refl, sym, ap, ◌∙◌, arith}
 use Rattle.std.specs.Int.{byte_at, bytes_low_first}
 use Rattle.std.specs.List.{list_all}
 use Rattle.std.proofs.lemmas.Bool.{and_parts}
@@ -71,3 +71,8 @@ pub IsBytes-low_first : (from count number : ℕ) → IsBytes (bytes_low_first f
 IsBytes-low_first from zero number at = omega arith
 IsBytes-low_first from (suc count) number zero = byte_fits from number
 IsBytes-low_first from (suc count) number (suc at) = IsBytes-low_first (suc from) count number at
+
+pub IsBytes-zeros : (count : ℕ) → IsBytes (replicate count 0)
+IsBytes-zeros zero at = omega arith
+IsBytes-zeros (suc count) zero = omega arith
+IsBytes-zeros (suc count) (suc at) = IsBytes-zeros count at

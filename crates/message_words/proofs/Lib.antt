@@ -3,6 +3,9 @@ pub mod CommandBytes
 pub mod CommandsBack
 pub mod Fronts
 pub mod HexBack
+pub mod MessagesBack
 pub mod NumbersBack
+pub mod SendingBytes
+pub mod SendingsBack
 pub mod SoundWords
 pub mod Texts

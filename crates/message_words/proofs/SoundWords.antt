@@ -6,11 +6,7 @@ use Rattle.std.specs.List.{list_all}
 use Rattle.std.specs.Prelude.{FitsSigned, option_and_then}
 use Rattle.std.proofs.lemmas.Bool.{eqb-true, ltb-false}
 use Rattle.std.proofs.lemmas.Bool.Decides.{nat_tests}
-use Rattle.command_codec.specs.declared.add_counter.AddCounter.{AddCounter}
-use Rattle.command_codec.specs.declared.add_publication.AddPublication.{AddPublication}
-use Rattle.command_codec.specs.declared.add_subscription.AddSubscription.{AddSubscription}
 use Rattle.command_codec.specs.declared.command.Body.{Body}
-use Rattle.command_codec.specs.declared.command.Body.TheVariants as bodies
 use Rattle.command_codec.specs.declared.command.Command.{Command}
 use Rattle.command_codec.specs.AddCounter.{IsAddCounter, longest_key, longest_label}
 use Rattle.command_codec.specs.AddPublication.{IsAddPublication}
@@ -333,8 +329,15 @@ nak_makes : (words : List (List ℕ)) → Makes IsNak (nak_in words)
 nak_makes words =
     next IsPlace IsNak (place_in words) _ (place_makes words) (λ place fits.
     next Signed32 IsNak (integer_at keys.Length words) _ (integer_makes keys.Length words) (λ size size_fits.
-    made IsNak _ (record { no_flags = refl; session_id = fits.session_id; stream_id = fits.stream_id; term_id = fits.term_id;
-    offset_fits = fits.offset_fits; offset_aligned = fits.offset_aligned; size = size_fits })))
+    made IsNak _ (record {
+      no_flags = refl;
+      session_id = fits.session_id;
+      stream_id = fits.stream_id;
+      term_id = fits.term_id;
+      offset_fits = fits.offset_fits;
+      offset_aligned = fits.offset_aligned;
+      size = size_fits;
+    })))
 
 abbrev Natural : ℕ → Type 0
 Natural number = number < 2 ^ 31
@@ -347,8 +350,15 @@ status_makes words =
     next Natural IsStatusMessage (natural_or keys.Offset 0 words) _ (default_makes Natural keys.Offset words natural_of 0 (omega arith) natural_fits) (λ offset offset_low.
     next Natural IsStatusMessage (natural_at keys.Window words) _ (at_makes Natural keys.Window words natural_of natural_fits) (λ window window_low.
     next Fits64 IsStatusMessage (number_or keys.Receiver 0 words) _ (number_or_makes keys.Receiver words) (λ receiver receiver_low.
-    made IsStatusMessage _ (record { no_flags = refl; session_id = session_fits; stream_id = stream_fits; term_id = term_fits;
-    offset_fits = offset_low; window_fits = window_low; receiver_fits = receiver_low })))))))
+    made IsStatusMessage _ (record {
+      no_flags = refl;
+      session_id = session_fits;
+      stream_id = stream_fits;
+      term_id = term_fits;
+      offset_fits = offset_low;
+      window_fits = window_low;
+      receiver_fits = receiver_low;
+    })))))))
 
 integer_or_makes : (key : Key) (default : ℤ) (words : List (List ℕ)) → Signed32 default → Makes Signed32 (integer_or key default words)
 integer_or_makes key default words fits = default_makes Signed32 key words integer_of default fits integer_fits
@@ -359,8 +369,18 @@ setup_makes words =
     next Signed32 IsSetup (integer_or keys.InitialTerm place.term_id words) _ (integer_or_makes keys.InitialTerm place.term_id words fits.term_id) (λ initial initial_fits.
     next Signed32 IsSetup (integer_or keys.TermLength (pos 65536) words) _ (integer_or_makes keys.TermLength (pos 65536) words (record { sfits = omega arith })) (λ term_length length_fits.
     next Signed32 IsSetup (integer_or keys.Mtu (pos 1408) words) _ (integer_or_makes keys.Mtu (pos 1408) words (record { sfits = omega arith })) (λ mtu mtu_fits.
-    made IsSetup _ (record { no_flags = refl; offset_fits = fits.offset_fits; offset_aligned = fits.offset_aligned; session_id = fits.session_id;
-    stream_id = fits.stream_id; initial_term_id = initial_fits; active_term_id = fits.term_id; term_length = length_fits; mtu = mtu_fits; no_ttl = refl })))))
+    made IsSetup _ (record {
+      no_flags = refl;
+      offset_fits = fits.offset_fits;
+      offset_aligned = fits.offset_aligned;
+      session_id = fits.session_id;
+      stream_id = fits.stream_id;
+      initial_term_id = initial_fits;
+      active_term_id = fits.term_id;
+      term_length = length_fits;
+      mtu = mtu_fits;
+      no_ttl = refl;
+    })))))
 
 sending_makes : (name : FrameName) (words : List (List ℕ)) → Makes IsSending (sending_in name words)
 unfolding sending_in

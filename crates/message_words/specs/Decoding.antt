@@ -1,5 +1,6 @@
 -- What `decode` answers: the words of the command, the reply or the datagram that bytes are, or why they are not.
-use Rattle.std.specs.Prelude.{◌≡◌, ℕ, List, Result, Ok, Err, codes}
+use Rattle.std.specs.Prelude.{◌≡◌, ℕ, List, [], ◌∷◌, Option, Result, Ok, Err, codes, find}
+use Rattle.std.specs.Str.{bytes_eq}
 use Rattle.command_codec.specs.Command.{command_of}
 use Rattle.command_codec.specs.Reply.{reply_of}
 use Rattle.command_codec.specs.declared.command.Command.{Command}
@@ -18,6 +19,18 @@ use Rattle.message_words.specs.declared.decoding.DecodeFault.{DecodeFault}
 use Rattle.message_words.specs.declared.decoding.DecodeFault.TheVariants as faults
 use Rattle.message_words.specs.declared.decoding.Reading.{Reading}
 use Rattle.message_words.specs.declared.decoding.Reading.TheVariants as readings
+
+-- ---- what bytes are said to be
+
+abbrev pub reading_text : Reading → List ℕ
+reading_text readings.Command = codes "command"
+reading_text readings.Reply = codes "reply"
+reading_text readings.Datagram = codes "datagram"
+
+unfoldable pub reading_named : List ℕ → Option Reading
+reading_named text = find (λ reading. bytes_eq (reading_text reading) text) (readings.Command ∷ readings.Reply ∷ readings.Datagram ∷ [])
+
+-- ---- what is said of bytes
 
 -- the answer is what is said, unless memory ran out
 abbrev pub Answers : Result (List ℕ) DecodeFault → Result (List ℕ) DecodeFault → Type 0
@@ -57,12 +70,12 @@ decoded reading text = digits_said reading (bytes_of text)
 -- ---- the texts of faults; a datagram's are those by which a driver drops it
 
 abbrev pub decode_fault_text : DecodeFault → List ℕ
-decode_fault_text faults.BadHex = codes "no hexadecimal"
+decode_fault_text faults.BadHex = codes "bad hexadecimal"
 decode_fault_text (faults.Command causes.Unknown) = codes "unknown command type"
 decode_fault_text (faults.Command causes.Malformed) = codes "malformed command"
-decode_fault_text (faults.Command causes.NoMemory) = codes "out of memory"
+decode_fault_text (faults.Command causes.NoMemory) = codes "no memory"
 decode_fault_text (faults.Reply causes.Unknown) = codes "unknown reply type"
 decode_fault_text (faults.Reply causes.Malformed) = codes "malformed reply"
-decode_fault_text (faults.Reply causes.NoMemory) = codes "out of memory"
+decode_fault_text (faults.Reply causes.NoMemory) = codes "no memory"
 decode_fault_text (faults.Datagram fault) = fault_text fault
-decode_fault_text faults.NoMemory = codes "out of memory"
+decode_fault_text faults.NoMemory = codes "no memory"

@@ -6,10 +6,10 @@ use Rattle.message_words.specs.declared.fault.WordFault.TheVariants.{NoName, Unk
 use Rattle.message_words.specs.Key.{key_text}
 
 abbrev pub word_fault_text : WordFault → List ℕ
-word_fault_text NoName = codes "no command and no datagram is named"
+word_fault_text NoName = codes "no name"
 word_fault_text UnknownName = codes "unknown command or datagram"
-word_fault_text (UnknownWord at) = codes "word " ++ (decimal at ++ codes " gives no value to a key of this command or datagram")
+word_fault_text (UnknownWord at) = codes "word " ++ (decimal at ++ codes " after the name: unknown key")
 word_fault_text (Twice key) = key_text key ++ codes " is given twice"
 word_fault_text (Missing key) = key_text key ++ codes " is missing"
 word_fault_text (BadValue key) = key_text key ++ codes " has a bad value"
-word_fault_text NoMemory = codes "out of memory"
+word_fault_text NoMemory = codes "no memory"

@@ -1,5 +1,5 @@
 -- Words as a command or a datagram, and its bytes in hexadecimal. Own rules.
-use Rattle.std.specs.Prelude.{ℕ, List, [], ◌∷◌, Option, Some, None, Result, Ok, Err, length}
+use Rattle.std.specs.Prelude.{ℕ, ◌+◌, List, [], ◌∷◌, Option, Some, None, Result, Ok, Err, length}
 use Rattle.command_codec.specs.Command.{command_bytes}
 use Rattle.command_codec.specs.declared.command.Body.{Body}
 use Rattle.command_codec.specs.declared.command.Body.TheVariants as bodies
@@ -23,10 +23,10 @@ abbrev pub message_as : Name → List (List ℕ) → Result Message WordFault
 message_as (names.Command name) words = command_in name words >>= λ command. Ok (messages.Command command)
 message_as (names.Frame name) words = sending_in name words >>= λ sending. Ok (messages.Datagram sending)
 
--- where each word gives a value to a key of that name
+-- where each word gives a value to a key of that name; words are counted from 1
 abbrev pub message_with : Name → List (List ℕ) → Option ℕ → Result Message WordFault
 message_with name words None = message_as name words
-message_with name words (Some at) = Err (UnknownWord at)
+message_with name words (Some at) = Err (UnknownWord (at + 1))
 
 abbrev pub message_named : Option Name → List (List ℕ) → Result Message WordFault
 message_named None words = Err UnknownName

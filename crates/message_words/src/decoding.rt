@@ -3,7 +3,7 @@
 ghost use Rattle.command_codec.specs.Command.{command_of};
 ghost use Rattle.command_codec.specs.Reply.{reply_of};
 ghost use Rattle.frame_codec.specs.Datagram.{packet_of};
-ghost use Rattle.message_words.specs.Decoding.{Answers, bytes_said, command_said, datagram_said, decode_fault_text, decoded, reply_said};
+ghost use Rattle.message_words.specs.Decoding.{Answers, bytes_said, command_said, datagram_said, decode_fault_text, decoded, reading_named, reading_text, reply_said};
 ghost use Rattle.message_words.specs.Datagrams.{ended};
 ghost use Rattle.message_words.specs.Hex.{digits_in};
 ghost use Rattle.message_words.specs.declared.decoding.DecodeFault.TheVariants.{NoMemory};
@@ -29,18 +29,26 @@ pub enum Reading {
 }
 
 impl Reading {
-    /// What a word says that bytes are: `command`, `reply` or `datagram`.
-    pub fn from_text(text: &str) -> Option<Reading> {
-        if text == "command" {
-            return Some(Reading::Command);
+    /// Every reading.
+    pub const EVERY: [Reading; 3] = [Reading::Command, Reading::Reply, Reading::Datagram];
+
+    /// The word that says so: `command`, `reply` or `datagram`.
+    pub fn text(self) -> &'static str
+        ensures { result.now ≡ reading_text self }
+    {
+        match self {
+            Reading::Command => "command",
+            Reading::Reply => "reply",
+            Reading::Datagram => "datagram",
         }
-        if text == "reply" {
-            return Some(Reading::Reply);
-        }
-        if text == "datagram" {
-            return Some(Reading::Datagram);
-        }
-        None
+    }
+
+    /// What such a word says that bytes are.
+    #[tactic(auto, unfolding(crate::specs::Decoding::reading_named))]
+    pub fn from_text(text: &str) -> Option<Reading>
+        ensures { result ≡ reading_named text.now }
+    {
+        Reading::EVERY.iter().copied().find(|reading| reading.text() == text)
     }
 }
 
@@ -71,7 +79,7 @@ impl fmt::Display for DecodeFault {
 
     fn fmt<W: fmt::Write>(&self, f: &mut fmt::Formatter<W>) -> fmt::Result {
         match self {
-            DecodeFault::BadHex => f.write_str("no hexadecimal"),
+            DecodeFault::BadHex => f.write_str("bad hexadecimal"),
             DecodeFault::Command(CommandFault::Unknown) => f.write_str("unknown command type"),
             DecodeFault::Command(CommandFault::Malformed) => f.write_str("malformed command"),
             DecodeFault::Reply(CommandFault::Unknown) => f.write_str("unknown reply type"),
@@ -80,9 +88,9 @@ impl fmt::Display for DecodeFault {
                 let fault = *fault;
                 write!(f, "{fault}")
             }
-            DecodeFault::Command(CommandFault::NoMemory) => f.write_str("out of memory"),
-            DecodeFault::Reply(CommandFault::NoMemory) => f.write_str("out of memory"),
-            DecodeFault::NoMemory => f.write_str("out of memory"),
+            DecodeFault::Command(CommandFault::NoMemory) => f.write_str("no memory"),
+            DecodeFault::Reply(CommandFault::NoMemory) => f.write_str("no memory"),
+            DecodeFault::NoMemory => f.write_str("no memory"),
         }
     }
 }

@@ -14,7 +14,7 @@ pub enum WordFault {
     NoName,
     /// No command and no datagram has the name that the first word is.
     UnknownName,
-    /// The word at this place, counted from 0 after the name, gives no value to a key of that name.
+    /// The word at this place, counted from 1 after the name, gives no value to a key of that name.
     UnknownWord(usize),
     /// A key is given twice; or both as a text and in hexadecimal.
     Twice(Key),
@@ -38,14 +38,11 @@ impl fmt::Display for WordFault {
 
     fn fmt<W: fmt::Write>(&self, f: &mut fmt::Formatter<W>) -> fmt::Result {
         match self {
-            WordFault::NoName => f.write_str("no command and no datagram is named"),
+            WordFault::NoName => f.write_str("no name"),
             WordFault::UnknownName => f.write_str("unknown command or datagram"),
             WordFault::UnknownWord(at) => {
                 let at = *at;
-                write!(
-                    f,
-                    "word {at} gives no value to a key of this command or datagram"
-                )
+                write!(f, "word {at} after the name: unknown key")
             }
             WordFault::Twice(key) => {
                 let key = *key;
@@ -59,7 +56,7 @@ impl fmt::Display for WordFault {
                 let key = *key;
                 write!(f, "{key} has a bad value")
             }
-            WordFault::NoMemory => f.write_str("out of memory"),
+            WordFault::NoMemory => f.write_str("no memory"),
         }
     }
 }

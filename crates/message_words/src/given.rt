@@ -69,7 +69,8 @@ fn is_known(keys: &[Key], word: &str) -> bool
 /// The place of the first word that gives no value to one of these keys.
 #[tactic(auto, unfolding(crate::specs::Given::unknown_at))]
 pub(crate) fn unknown_at(keys: &[Key], words: &[Text]) -> Option<usize>
-    ensures { result ≡ unknown_at keys.now words.now }
+    ensures place { result ≡ unknown_at keys.now words.now }
+    ensures within { IfSome result (λ at. at < length words.now) }
 {
     words.iter().position(|word| !is_known(keys, word.as_str()))
 }

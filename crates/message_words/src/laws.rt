@@ -1,32 +1,25 @@
-//! What holds of all commands in words: each function does nothing, and its clause is the law.
+//! What holds of all commands and datagrams in words: each function does nothing, and its clause is the law.
 
-ghost use Rattle.command_codec.specs.Command.{IsCommand};
-ghost use Rattle.command_codec.specs.declared.command.Command.{Command};
-ghost use Rattle.message_words.specs.Datagrams.{ended};
-ghost use Rattle.message_words.specs.Decoding.{decoded};
-ghost use Rattle.message_words.specs.Laws.{HasBytes, IsMessage};
-ghost use Rattle.message_words.specs.Message.{message_hex, message_of};
-ghost use Rattle.message_words.specs.Shown.{command_line, command_words};
-ghost use Rattle.message_words.specs.declared.decoding.Reading.TheVariants as readings;
+ghost use Rattle.message_words.specs.Laws.{IsMessage, IsToldAgain, message_words};
+ghost use Rattle.message_words.specs.Message.{message_of};
 ghost use Rattle.message_words.specs.declared.message.Message.{Message};
-ghost use Rattle.message_words.specs.declared.message.Message.TheVariants as messages;
-ghost use Rattle.std.specs.Prelude.{◌≡◌, Ok, ℕ, List};
+ghost use Rattle.std.specs.Prelude.{◌≡◌, List, Ok, ℕ};
 
-/// The words that are shown of a command denote that command.
-#[tactic(auto, using(crate::proofs::CommandsBack::words_back))]
-pub fn words_denote_their_command()
-    ensures { (command : Command) → IsCommand command → HasBytes command.body → message_of (command_words command) ≡ Ok (messages.Command command) }
-{}
-
-/// The hexadecimal that is given of a command is shown as that command's line.
-#[tactic(auto, using(crate::proofs::CommandBytes::command_told))]
-pub fn commands_are_shown()
-    ensures { (command : Command) → IsCommand command → HasBytes command.body
-        → decoded readings.Command (message_hex (messages.Command command)) ≡ Ok (ended (command_line command)) }
-{}
-
-/// Words denote only what can be written and is then read again.
+/// Words denote only what can be written and is then read again: each number fits its field, texts are ASCII, and texts and
+/// byte strings keep their bounds.
 #[tactic(auto, using(crate::proofs::SoundWords::message_sound))]
 pub fn words_denote_sound_messages()
     ensures { (words : List (List ℕ)) (message : Message) → message_of words ≡ Ok message → IsMessage message }
+{}
+
+/// Whatever can be written and is then read again has words, and they denote it.
+#[tactic(auto, using(crate::proofs::MessagesBack::message_back))]
+pub fn words_denote_their_message()
+    ensures { (message : Message) → IsMessage message → message_of (message_words message) ≡ Ok message }
+{}
+
+/// Of what `encode` gives for words, `decode` names the same fields: its answer is the line that a shell reads as words
+/// which denote the same command or datagram.
+pub fn what_is_encoded_is_told_again()
+    ensures { (words : List (List ℕ)) (message : Message) → message_of words ≡ Ok message → IsToldAgain message }
 {}

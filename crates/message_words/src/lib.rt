@@ -22,7 +22,9 @@ pub use decoding::{DecodeFault, Reading, decode};
 pub use fault::WordFault;
 pub use frames::{Beat, DataFrame, Pad, Sending};
 pub use key::Key;
-pub use laws::words_denote_their_command;
+pub use laws::{
+    what_is_encoded_is_told_again, words_denote_sound_messages, words_denote_their_message,
+};
 pub use message::{Message, encode};
 pub use name::{CommandName, FrameName, Name};
 pub use replies::reply_line;

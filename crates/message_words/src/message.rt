@@ -40,7 +40,7 @@ fn message_named(alloc: Global, name: Option<Name>, words: &[Text]) -> Result<Me
         return Err(WordFault::UnknownName);
     };
     match unknown_at(name.keys(), words) {
-        Some(at) => Err(WordFault::UnknownWord(at)),
+        Some(at) => Err(WordFault::UnknownWord(at + 1)),
         None => message_as(alloc, name, words),
     }
 }
