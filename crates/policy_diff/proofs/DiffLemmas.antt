@@ -1,5 +1,5 @@
 -- The rows, one after the other, and why none is missed.
-use Rattle.std.proofs.Common.{◌≡◌, ◌≢◌, ℕ, zero, suc, ◌+◌, ◌<◌, ◌≤◌, Bool, true, false, not, ◌&&◌, List, [], ◌∷◌, ◌++◌, Option, Some, None, Result, Ok, Err, refl, sym, ap, ◌∙◌, subst, get_or, slice_get, length, map, position, append_assoc, zero-add, arith, ⊎_elim, inl, inr}
+use Rattle.std.proofs.Common.{◌≡◌, ℕ, zero, suc, ◌+◌, ◌<◌, ◌≤◌, Bool, true, false, not, List, [], ◌∷◌, ◌++◌, Option, Some, None, Result, Ok, Err, refl, sym, ap, ◌∙◌, subst, get_or, slice_get, length, map, position, append_assoc, zero-add, arith, ⊎_elim, inl, inr}
 use Rattle.std.specs.Bool.{beq}
 use Rattle.std.specs.Prelude.{◌⊎◌, filter, flat_map}
 use Rattle.std.specs.Result.{OnOk}
@@ -16,7 +16,7 @@ use Rattle.policy_core.specs.Rule.{matches}
 use Rattle.policy_core.specs.RuleList.{Rules}
 use Rattle.policy_core.specs.Rules.{verdict_at, verdict_of}
 use Rattle.policy_core.specs.declared.rule.Rule.{Rule}
-use Rattle.policy_diff.specs.Diff.{AreApart, IsDecider, IsDiff, IsOf, all_rows, deciders, is_row, is_within, meet, meet_from, reach_from, rows_from, rule_of, word_of}
+use Rattle.policy_diff.specs.Diff.{AreApart, IsDecider, IsDiff, IsOf, all_rows, deciders, is_row, is_within, meet_from, reach_from, rows_from, rule_of, word_of}
 use Rattle.policy_diff.specs.Reach.{reach_of}
 use Rattle.policy_diff.specs.declared.reach.Reach.{Reach}
 use Rattle.policy_diff.specs.declared.rows.Row.{Row}
@@ -232,16 +232,24 @@ missed_by_none old new question apart =
     let is : is_row old new row ≡ true =
     and_from _ _
     (and_from _ _ (and_from _ _ words (within_from old new question (rule_of old one) a.is_match)) (within_from old new question (rule_of new other) b.is_match))
-    (meet_matched question (rule_of old one) (rule_of new other) a.is_match b.is_match) in
-    (
+    (meet_matched question (rule_of old one) (rule_of new other) a.is_match b.is_match) in (
       row,
       contained (all_rows old new) row
-      (among_flat_map (rows_from old new) (deciders (length old.rules)) one row
-      (among_deciders old one a.of_policy)
-      (among_filter (is_row old new) (map (row_with one) (deciders (length new.rules))) row is
-      (among_map (row_with one) (deciders (length new.rules)) other (among_deciders new other b.of_policy)))),
+          (among_flat_map (rows_from old new) (deciders (length old.rules)) one row
+          (among_deciders old one a.of_policy)
+          (among_filter (is_row old new) (map (row_with one) (deciders (length new.rules))) row is
+          (among_map (row_with one) (deciders (length new.rules)) other (among_deciders new other b.of_policy)))),
       record { by_old = λ epoch. refl; by_new = λ epoch. refl },
     )
+
+-- a request that is decided by the two of a row is of it
+pub is_of_deciders : (old new : Rules) (question : Question) (row : Row) → position (λ rule. matches rule question) old.rules ≡ row.old →
+    position (λ rule. matches rule question) new.rules ≡ row.new → IsOf old new question row
+unfolding verdict_of
+is_of_deciders old new question row first second = record {
+  by_old = λ epoch. ap (verdict_at old epoch) first;
+  by_new = λ epoch. ap (verdict_at new epoch) second;
+}
 
 pub is_diff : (old new : Rules) (rows : List Row) → rows ≡ all_rows old new → IsDiff old new rows
 is_diff old new rows is = record {

@@ -1,5 +1,5 @@
 -- Two rules that match one request, and a rule that is over another one.
-use Rattle.std.proofs.Common.{◌≡◌, ℕ, ◌<◌, Bool, true, false, ◌&&◌, ◌||◌, ◌==◌, not, ℤ, ◌≤ℤ◌, refl, sym, ap, ◌∙◌, subst, get_or, length, arith, ⊎_elim, eqb}
+use Rattle.std.proofs.Common.{◌≡◌, ℕ, ◌<◌, Bool, true, ◌&&◌, ◌||◌, not, ℤ, ◌≤ℤ◌, refl, sym, ap, ◌∙◌, get_or, arith, ⊎_elim}
 use Rattle.std.specs.Prelude.{int_le}
 use Rattle.std.specs.List.{list_all, list_any}
 use Rattle.std.proofs.lemmas.Bool.{and_from, and_parts, eq-eqb, eqb-true, false≢true, not_from_true, or_cases}
@@ -18,8 +18,8 @@ use Rattle.policy_core.specs.declared.rule.Principals.{Principals}
 use Rattle.policy_core.specs.declared.rule.Principals.TheVariants.{Any, One}
 use Rattle.policy_core.specs.declared.rule.Rule.{Rule}
 use Rattle.policy_diff.specs.Patterns.{patterns_pass}
-use Rattle.policy_diff.specs.Sharing.{covers_acts, covers_principals, covers_streams, is_over, may_meet, share_act, share_principal, share_stream}
-use Rattle.policy_diff.specs.declared.patterns.Relation.TheVariants.{Meets, Covers}
+use Rattle.policy_diff.specs.Sharing.{covers_acts, covers_principals, covers_streams, is_over, may_meet, share_act, share_principal}
+use Rattle.policy_diff.specs.declared.patterns.Relation.TheVariants.{Covers}
 use Rattle.policy_diff.proofs.PatternLemmas.{patterns_cover, patterns_meet}
 
 le_from_test : (a b : ℤ) → int_le a b ≡ true → a ≤ℤ b

@@ -1,5 +1,5 @@
 -- The difference of two policies: what may decide a request in the one and in the other, with different words.
-use Rattle.std.specs.Prelude.{◌≡◌, ◌≢◌, ◌&&◌, ◌<◌, ◌++◌, ◌∷◌, [], not, ℕ, Bool, true, false, List, Option, Some, None, length, map, filter, flat_map, slice_get}
+use Rattle.std.specs.Prelude.{◌≡◌, ◌≢◌, ◌&&◌, ◌<◌, ◌++◌, ◌∷◌, [], not, ℕ, Bool, true, List, Option, Some, None, length, map, filter, flat_map, slice_get}
 use Rattle.std.specs.Bool.{beq}
 use Rattle.std.specs.List.{Contains, range_with_len}
 use Rattle.policy_core.specs.Question.{Question}

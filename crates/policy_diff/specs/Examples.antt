@@ -1,5 +1,4 @@
 -- A request that shows a row.
-use Rattle.std.specs.Prelude.{ℕ, Option}
 use Rattle.policy_core.specs.Question.{Question}
 use Rattle.policy_diff.specs.declared.examples.Example.{Example}
 

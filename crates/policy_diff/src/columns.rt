@@ -91,7 +91,5 @@ pub(crate) fn example_cell(
     let asker = principals_text(alloc, Principals::One(example.principal), directory)?;
     let channel = plain(alloc, channel_text(alloc, &example)?.as_str())?;
     let (act, stream) = (example.act.name(), example.stream);
-    Ok(Text::from(
-        format!(in alloc; "{asker} {act} {channel} {stream}")?,
-    ))
+    Ok(Text::from(format!(in alloc; "{asker} {act} {channel} {stream}")?))
 }

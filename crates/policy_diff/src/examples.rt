@@ -1,8 +1,8 @@
 ghost use Rattle.policy_core.specs.Question.{question_of};
-ghost use Rattle.policy_core.specs.Rules.{verdict_at, verdict_of};
-ghost use Rattle.policy_diff.specs.Diff.{IsDecider, IsOf};
+ghost use Rattle.policy_core.specs.Rule.{matches};
+ghost use Rattle.policy_diff.specs.Diff.{IsOf};
 ghost use Rattle.policy_diff.specs.Examples.{asked_by};
-ghost use Rattle.std.specs.Prelude.{◌≡◌, ℕ, IfOk, IfSome, true};
+ghost use Rattle.std.specs.Prelude.{◌≡◌, IfOk, IfSome, position, true};
 
 use crate::requests::{ENDS, Written, channel_over, medium_of};
 use crate::rows::Row;
@@ -92,27 +92,23 @@ pub(crate) fn written_at(source: &Source, decider: Option<usize>) -> Option<Writ
     })
 }
 
-/// Whether the policy decides the request by that one.
-fn is_decided_by(policy: &Policy, decider: Option<usize>, request: &Request<'_>) -> bool
-    ensures { result ≡ true → (epoch : ℕ) → verdict_of policy.now epoch (question_of request.now) ≡ verdict_at policy.now epoch decider }
+/// What decides a request.
+fn decider_of(policy: &Policy, request: &Request<'_>) -> Option<usize>
+    ensures { result ≡ position (λ rule. matches rule (question_of request.now)) policy.now.rules }
 {
-    match (policy.verdict(1, request).rule, decider) {
-        (Some(number), Some(at)) => number > 0 && number as usize - 1 == at,
-        (None, None) => true,
-        _ => false,
-    }
+    policy.rules().iter().position(|rule| rule.matches(request))
 }
 
 /// Whether the request is decided by the two of a row.
 fn is_of(old: &Policy, new: &Policy, row: Row, request: &Request<'_>) -> bool
     ensures { result ≡ true → IsOf old.now new.now (question_of request.now) row }
 {
-    is_decided_by(old, row.old, request) && is_decided_by(new, row.new, request)
+    decider_of(old, request) == row.old && decider_of(new, request) == row.new
 }
 
 /// The highest stream of the rule by which the policy decides the request, where it is another one than that.
 fn taken_to(policy: &Policy, decider: Option<usize>, request: &Request<'_>) -> Option<i32> {
-    let at = (policy.verdict(1, request).rule? as usize).checked_sub(1)?;
+    let at = decider_of(policy, request)?;
     if decider == Some(at) {
         return None;
     }
@@ -128,12 +124,22 @@ fn next_stream(old: &Policy, new: &Policy, row: Row, request: &Request<'_>) -> O
     last.checked_add(1)
 }
 
+/// The stream that is tried first: 0 or the lowest one after it, since questions have no stream below 0; the lowest one where
+/// all are below 0.
+fn first_stream(common: Common) -> i32 {
+    if common.high < 0 {
+        common.low
+    } else {
+        common.low.max(0)
+    }
+}
+
 /// How many streams are tried for an act on a channel.
 const TRIES: u32 = 16;
 
 /// A stream on which the request is decided by the two of the row, from its own to `high`.
 fn stream_of(old: &Policy, new: &Policy, row: Row, request: Request<'_>, high: i32) -> Option<i32>
-    ensures { IfSome result (λ stream. IsOf old.now new.now (record { principal = request.principal; act = request.act; channel = request.channel.now; stream = stream }) row) }
+    ensures { IfSome result (λ stream. IsOf old.now new.now (question_of (record request.entry { stream = stream })) row) }
 {
     let mut stream = request.stream;
     for _ in 0..TRIES {
@@ -166,7 +172,7 @@ fn act_of(
                 principal,
                 act,
                 channel,
-                stream: common.low,
+                stream: first_stream(common),
             };
             if let Some(stream) = stream_of(old, new, row, request, common.high) {
                 return Some((act, stream));
@@ -191,14 +197,7 @@ fn example_over(
     let (one, other) = (written_at(old, row.old), written_at(new, row.new));
     for end in ENDS {
         if let Some(channel) = channel_over(alloc, media, one, other, end)? {
-            let found = act_of(
-                old.policy(),
-                new.policy(),
-                row,
-                common,
-                principal,
-                &channel,
-            );
+            let found = act_of(old.policy(), new.policy(), row, common, principal, &channel);
             if let Some((act, stream)) = found {
                 return Ok(Some(Example {
                     principal,

@@ -99,12 +99,7 @@ fn pieces_pass(relation: Relation, pairs: Option<&str>, one: &Keys, other: &Keys
 }
 
 /// Whether so it is of two patterns, of which the first has that text. It takes no memory.
-pub(crate) fn patterns_pass(
-    relation: Relation,
-    text: &str,
-    one: &Pattern,
-    other: &Pattern,
-) -> bool
+pub(crate) fn patterns_pass(relation: Relation, text: &str, one: &Pattern, other: &Pattern) -> bool
     requires { pattern_of text.now ≡ Ok one.now }
     ensures { result ≡ patterns_pass relation one.now other.now }
 {

@@ -1,5 +1,8 @@
 //! Requests that may show a row, channel by channel.
 
+ghost use Rattle.channel_uri.specs.Pattern.{pattern_of};
+ghost use Rattle.std.specs.Prelude.{◌≡◌, Ok};
+
 use crate::patterns::value_wider;
 use crate::pieces::{key_of, pairs_in};
 use channel_uri::{Channel, Keys, Media, Pattern};
@@ -25,6 +28,7 @@ pub(crate) const ENDS: [&str; 11] = [
 pub(crate) struct Written<'a> {
     pub(crate) text: &'a str,
     pub(crate) pattern: &'a Pattern,
+    ghost is_text: { pattern_of text.now ≡ Ok pattern.now },
 }
 
 /// The medium of the patterns; `None` where each is `*`, or there are none.

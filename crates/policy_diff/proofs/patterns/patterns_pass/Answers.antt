@@ -1,4 +1,4 @@
-use Rattle.std.proofs.Common.{◌≡◌, ◌∙◌, ◌&&◌, ℕ, List, Option, Ok, ap, option_copied, rules, subst, sym}
+use Rattle.std.proofs.Common.{◌≡◌, ◌∙◌, ◌&&◌, ℕ, List, Option, Ok, ap, rules, sym}
 use Rattle.std.proofs.lemmas.Bool.{eq-eqb}
 use Rattle.channel_uri.specs.Media.{media_number}
 use Rattle.channel_uri.specs.Pieces.{pieces_in}

@@ -1,4 +1,4 @@
-use Rattle.std.proofs.Common.{◌≡◌, ◌<◌, ◌∙◌, List, length, subst, sym, arith}
+use Rattle.std.proofs.Common.{◌<◌, ◌∙◌, List, length, subst, sym, arith}
 use Rattle.policy_core.specs.declared.rule.Rule.{Rule}
 use Rattle.policy_diff.specs.Sharing.{is_over}
 use Rattle.policy_diff.proofs.ReachLemmas.{position_is, position_none}

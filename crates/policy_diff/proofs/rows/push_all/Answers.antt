@@ -1,4 +1,4 @@
-use Rattle.std.proofs.Common.{◌≡◌, ◌+◌, ◌∙◌, ap, length, arith}
+use Rattle.std.proofs.Common.{◌≡◌, ◌∙◌, ap, length, arith}
 use Rattle.std.proofs.lemmas.List.{length-map}
 use Rattle.policy_diff.specs.Reach.{reach_of}
 use Rattle.policy_diff.proofs.DiffLemmas.{all_more, all_whole, ok_then}
