@@ -2,6 +2,7 @@ use crate::replies::RefusalText;
 use channel_uri::Address;
 use driver_script::RunFault;
 use media_driver::{MakeFault, PushFault, StartFault};
+use message_words::{DecodeFault, WordFault};
 use policy_answers::AskFault;
 use policy_core::Verdict;
 use policy_text::PolicyFault;
@@ -22,6 +23,12 @@ pub enum Fault {
     Ask(AskFault),
     #[error("{0}")]
     Names(NamesFault),
+    #[error("{0}")]
+    Words(WordFault),
+    #[error("{0}")]
+    Bytes(DecodeFault),
+    #[error("unknown kind: it is command, reply or datagram")]
+    UnknownKind,
     #[error("{0}")]
     Make(MakeFault),
     #[error("{0}")]
@@ -91,6 +98,24 @@ impl From<AskFault> for Fault {
 impl From<NamesFault> for Fault {
     fn from(fault: NamesFault) -> Fault {
         Fault::Names(fault)
+    }
+}
+
+impl From<WordFault> for Fault {
+    fn from(fault: WordFault) -> Fault {
+        match fault {
+            WordFault::NoMemory => Fault::NO_MEMORY,
+            _ => Fault::Words(fault),
+        }
+    }
+}
+
+impl From<DecodeFault> for Fault {
+    fn from(fault: DecodeFault) -> Fault {
+        match fault {
+            DecodeFault::NoMemory => Fault::NO_MEMORY,
+            _ => Fault::Bytes(fault),
+        }
     }
 }
 

@@ -10,6 +10,7 @@ mod fault;
 mod files;
 mod input;
 mod machine;
+mod messages;
 mod one_client;
 mod options;
 mod policies;
@@ -24,6 +25,7 @@ mod watched;
 use crate::fault::Fault;
 use crate::files::open;
 use crate::machine::{Disk, Machine};
+use crate::messages::answer_messages;
 use crate::policies::answer_asking;
 use crate::starting::start;
 use clap::ArgMatches;
@@ -88,6 +90,7 @@ fn run_script<R: Machine, F: Disk>(rt: &R, files: &F, path: &str) -> Result<Exit
 /// Does a task.
 fn perform<R: Machine, F: Disk>(rt: &R, files: &F, task: Task<'_>) -> Result<ExitCode, Fault> {
     match task {
+        Task::Messages(asked) => answer_messages(rt, asked),
         Task::Script { file } => run_script(rt, files, file),
         Task::Ask(asking) => answer_asking(rt, files, &asking),
         Task::Start(asked) => {

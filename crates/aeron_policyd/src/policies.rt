@@ -6,8 +6,8 @@ use crate::machine::{Disk, Machine};
 use crate::print_text;
 use command_words::{Asked, Asking, Question};
 use policy_answers::{
-    Answer, AskFault, check, decide, explain, find_faults, show, table_of_all, table_of_one,
-    try_cases,
+    Answer, AskFault, check, compare, decide, explain, find_faults, show, table_of_all,
+    table_of_one, try_cases,
 };
 use policy_tools::Directory;
 use std::alloc::Global;
@@ -67,6 +67,17 @@ fn tried<F: Disk>(
     Ok(try_cases(files.alloc(), policy, directory, cases.as_slice())?)
 }
 
+/// What would be decided otherwise under the policy in another file.
+fn compared<F: Disk>(
+    files: &F,
+    policy: &[u8],
+    directory: &Directory,
+    path: &str,
+) -> Result<Answer, Fault> {
+    let new = file_bytes(files, path)?;
+    Ok(compare(files.alloc(), policy, new.as_slice(), directory)?)
+}
+
 /// What is answered to what is asked of a policy.
 fn answered<F: Disk>(
     files: &F,
@@ -83,6 +94,7 @@ fn answered<F: Disk>(
         Asked::Lint { strict } => find_faults(alloc, policy, directory, asking.policy, *strict)?,
         Asked::Test(path) => tried(files, policy, directory, path)?,
         Asked::Table { principal } => table(alloc, policy, directory, *principal)?,
+        Asked::Diff(path) => compared(files, policy, directory, path)?,
     })
 }
 

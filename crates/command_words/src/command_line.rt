@@ -1,5 +1,6 @@
 //! The words of the whole command line, and of `script`.
 
+use crate::message_words::{Messages, messages_in, with_messages};
 use crate::policy_words::{Asking, asking_in, with_policies};
 use crate::running_line::{self, Start};
 use clap::{Arg, ArgMatches, Command};
@@ -138,6 +139,8 @@ pub enum Task<'a> {
     Ask(Asking<'a>),
     /// To run the script in a file.
     Script { file: &'a str },
+    /// To answer what is asked of a message.
+    Messages(Messages<'a>),
     /// To start a driver.
     Start(Start<'a>),
 }
@@ -169,6 +172,7 @@ pub fn command<'a>(alloc: Global) -> Result<Command<'a>, AllocError> {
         .subcommand_required(true);
     let command = with_policies(alloc, command)?;
     let command = with(command, script(alloc))?;
+    let command = with_messages(alloc, command)?;
     let command = with(command, running_line::run(alloc))?;
     let command = with(command, running_line::publish(alloc))?;
     with(command, running_line::subscribe(alloc))
@@ -183,6 +187,9 @@ fn script_task<'m, 'a>(of: &'m ArgMatches<'a>) -> Option<Task<'m>> {
 fn subcommand_task<'m, 'a>(name: &str, of: &'m ArgMatches<'a>) -> Option<Task<'m>> {
     if name == "script" {
         return script_task(of);
+    }
+    if let Some(messages) = messages_in(name, of) {
+        return Some(Task::Messages(messages));
     }
     match running_line::start_in(name, of) {
         Some(start) => Some(Task::Start(start)),

@@ -2,9 +2,11 @@
 #![tactic(auto)]
 
 mod command_line;
+mod message_words;
 mod policy_words;
 mod running_line;
 
 pub use command_line::{Task, command, task_in};
+pub use message_words::Messages;
 pub use policy_words::{Asked, Asking, Question};
 pub use running_line::{Start, Talk};

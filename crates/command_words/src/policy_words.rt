@@ -1,4 +1,4 @@
-//! The words that ask what a policy says: `check`, `decide`, `show`, `explain`, `lint`, `test` and `table`.
+//! The words that ask what a policy says: `check`, `decide`, `show`, `explain`, `lint`, `test`, `table` and `diff`.
 
 use crate::command_line::with;
 use clap::{Arg, ArgAction, ArgMatches, Command, value_parser};
@@ -150,6 +150,24 @@ others.
 Status: 0; 1 after `aeron_policyd: FAULT` on standard error: those of `check`, a fault of the names, or unknown principal;
 2 for a command line that is at fault.";
 
+/// What `diff` says.
+const DIFF: &str = "\
+Example: what would be decided otherwise under open.toml than under policy.toml?
+
+  $ aeron_policyd diff policy.toml open.toml
+  *  *  *  10..20  deny by rule 1 (the house keeps streams 10 to 20) -> allow by default  p2 publish aeron:ipc 10
+  *  *  *  *       deny by default -> allow by default                                    p2 publish aeron:ipc 0
+  2 rows differ
+
+Each row is of what decides under the old policy and under the new one, a rule or the default, with different words: the
+principal, the acts, the channels and the streams of which both speak, the change, and a request as an example, where one is
+found. A request that one policy allows and the other denies is in a row. A row without an example may be one that no request
+has.
+
+Status: 0 where nothing would be decided otherwise; 1 where something would, and after `aeron_policyd: FAULT` on standard
+error: those of `check`, for the old policy and then for the new one, or a fault of the names; 2 for a command line that is at
+fault.";
+
 /// What is asked of a policy.
 #[derive(Clone, Copy)]
 pub enum Asked<'a> {
@@ -167,6 +185,8 @@ pub enum Asked<'a> {
     Test(&'a str),
     /// Who may do what under it; of one principal, if one is named.
     Table { principal: Option<&'a str> },
+    /// What would be decided otherwise under the policy in another file.
+    Diff(&'a str),
 }
 
 /// The words of a question.
@@ -306,6 +326,18 @@ fn table<'a>(alloc: Global) -> Result<Command<'a>, AllocError> {
         .arg(names_file(alloc))
 }
 
+fn diff<'a>(alloc: Global) -> Result<Command<'a>, AllocError> {
+    let new = Arg::new(alloc, "NEW").required(true).help(
+        "The file of the policy that would take its place, of at most 16,777,216 bytes",
+    );
+    Command::new(alloc, "diff")
+        .about("Says what would be decided otherwise under another policy")
+        .after_help(DIFF)
+        .arg(policy_file(alloc))?
+        .arg(new)?
+        .arg(names_file(alloc))
+}
+
 /// Adds the words that ask what a policy says.
 pub(crate) fn with_policies<'a>(
     alloc: Global,
@@ -317,7 +349,8 @@ pub(crate) fn with_policies<'a>(
     let command = with(command, explain(alloc))?;
     let command = with(command, lint(alloc))?;
     let command = with(command, test(alloc))?;
-    with(command, table(alloc))
+    let command = with(command, table(alloc))?;
+    with(command, diff(alloc))
 }
 
 fn question_in<'m, 'a>(of: &'m ArgMatches<'a>) -> Option<Question<'m>> {
@@ -337,6 +370,9 @@ fn listing_in<'m, 'a>(name: &str, of: &'m ArgMatches<'a>) -> Option<Asked<'m>> {
     if name == "table" {
         let principal = of.get_str("principal");
         return Some(Asked::Table { principal });
+    }
+    if name == "diff" {
+        return Some(Asked::Diff(of.get_str("NEW")?));
     }
     None
 }

@@ -1,8 +1,9 @@
-//! What is wrong with a policy, and whether it gives the answers that are wanted.
+//! What is wrong with a policy, whether it gives the answers that are wanted, and what another one would change.
 
 use crate::answer::Answer;
 use crate::fault::AskFault;
 use byte_strings::Text;
+use policy_diff::{diff_text, differences};
 use policy_lint::lint;
 use policy_tools::{Directory, Failure, Report, Source, cases_in};
 use std::alloc::{AllocError, Global};
@@ -61,5 +62,25 @@ pub fn try_cases(
     Ok(Answer {
         text: Text::from(report_text(alloc, &report)?),
         is_well: report.failures.is_empty(),
+    })
+}
+
+/// What would be decided otherwise if the new policy took the old one's place. It is well where nothing would.
+///
+/// # Errors
+/// The first fault of the old policy, or of the new one.
+pub fn compare(
+    alloc: Global,
+    old: &[u8],
+    new: &[u8],
+    directory: &Directory,
+) -> Result<Answer, AskFault> {
+    let old = Source::read(alloc, old, directory.names())?;
+    let new = Source::read(alloc, new, directory.names())?;
+    let rows = differences(alloc, &old, &new)?;
+    let text = diff_text(alloc, &old, &new, rows.as_slice(), directory)?;
+    Ok(Answer {
+        text: Text::from(text),
+        is_well: rows.is_empty(),
     })
 }
