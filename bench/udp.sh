@@ -11,7 +11,7 @@ cat >"$out/udp.policy" <<'POLICY'
 version = 1
 default = "allow"
 POLICY
-count=300000
+count=100000
 at=127.0.0.1:40123
 
 # rate WHAT COUNT NANOSECONDS
