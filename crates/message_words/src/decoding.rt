@@ -48,7 +48,10 @@ impl Reading {
     pub fn from_text(text: &str) -> Option<Reading>
         ensures { result ≡ reading_named text.now }
     {
-        Reading::EVERY.iter().copied().find(|reading| reading.text() == text)
+        Reading::EVERY
+            .iter()
+            .copied()
+            .find(|reading| reading.text() == text)
     }
 }
 

@@ -19,7 +19,7 @@ use Rattle.policy_core.specs.declared.rule.Rule.{Rule}
 use Rattle.policy_diff.specs.Diff.{AreApart, IsDecider, IsDiff, IsOf, all_rows, deciders, is_row, is_within, meet_from, reach_from, rows_from, rule_of, word_of}
 use Rattle.policy_diff.specs.Reach.{reach_of}
 use Rattle.policy_diff.specs.declared.reach.Reach.{Reach}
-use Rattle.policy_diff.specs.declared.rows.Row.{Row}
+use Rattle.policy_diff.specs.declared.pairs.Row.{Row}
 use Rattle.policy_diff.proofs.ReachLemmas.{upto}
 use Rattle.policy_diff.proofs.SharingLemmas.{met}
 

@@ -9,7 +9,7 @@ use Rattle.policy_core.specs.declared.rule.Rule.{Rule}
 use Rattle.policy_diff.specs.Reach.{is_upto, reach_of}
 use Rattle.policy_diff.specs.Sharing.{may_meet}
 use Rattle.policy_diff.specs.declared.reach.Reach.{Reach}
-use Rattle.policy_diff.specs.declared.rows.Row.{Row}
+use Rattle.policy_diff.specs.declared.pairs.Row.{Row}
 
 -- all that may decide: the rules of a policy with so many, by their places, and the default
 abbrev pub deciders : ℕ → List (Option ℕ)

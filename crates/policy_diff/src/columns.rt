@@ -1,9 +1,9 @@
 //! Cells of rows.
 
 use crate::examples::{Example, rule_at, written_at};
+use crate::pairs::Row;
 use crate::patterns::{Relation, patterns_pass};
 use crate::requests::Written;
-use crate::rows::Row;
 use byte_strings::Text;
 use channel_uri::Media;
 use policy_core::Principals;

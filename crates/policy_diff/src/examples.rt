@@ -4,8 +4,8 @@ ghost use Rattle.policy_diff.specs.Diff.{IsOf};
 ghost use Rattle.policy_diff.specs.Examples.{asked_by};
 ghost use Rattle.std.specs.Prelude.{◌≡◌, IfOk, IfSome, position, true};
 
+use crate::pairs::Row;
 use crate::requests::{ENDS, Written, channel_over, medium_of};
-use crate::rows::Row;
 use channel_uri::{Channel, Media};
 use policy_core::{Act, Acts, Policy, Principals, Request, Rule};
 use policy_tools::Source;

@@ -8,13 +8,13 @@
 mod columns;
 mod examples;
 mod lines;
+mod pairs;
 mod patterns;
 mod pieces;
 mod reach;
 mod requests;
-mod rows;
 mod sharing;
 
 pub use examples::{Example, example_of};
 pub use lines::diff_text;
-pub use rows::{Row, differences};
+pub use pairs::{Row, differences};

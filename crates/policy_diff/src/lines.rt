@@ -1,6 +1,6 @@
 use crate::columns::{change_cell, channel_cell, example_cell};
 use crate::examples::{common_of, example_of};
-use crate::rows::Row;
+use crate::pairs::Row;
 use policy_core::{Principals, Rule};
 use policy_tools::{Directory, Line, Source, acts_text, in_columns, principals_text, streams_text};
 use std::alloc::{AllocError, Global};

@@ -2,7 +2,7 @@ use Rattle.std.proofs.Common.{◌≡◌, ◌∙◌, ap, length, arith}
 use Rattle.std.proofs.lemmas.List.{length-map}
 use Rattle.policy_diff.specs.Reach.{reach_of}
 use Rattle.policy_diff.proofs.DiffLemmas.{ok_then, rows_more, rows_whole}
-use Rattle.policy_diff.proofs.rows.push_rows.Goals as goal
+use Rattle.policy_diff.proofs.pairs.push_rows.Goals as goal
 
 pub loop-at-preserved : goal.loop-at-preserved
 loop-at-preserved c =

@@ -1,7 +1,7 @@
 use Rattle.std.proofs.Common.{◌∙◌, ◌++◌, ap}
 use Rattle.policy_diff.specs.Diff.{all_rows}
 use Rattle.policy_diff.proofs.DiffLemmas.{is_diff}
-use Rattle.policy_diff.proofs.rows.differences.Goals as goal
+use Rattle.policy_diff.proofs.pairs.differences.Goals as goal
 
 pub returns : goal.returns
 returns c =
