@@ -1,6 +1,6 @@
 -- The keys of a pattern's text are those of the pattern, so that a look at the one is a look at the other.
 use Rattle.std.proofs.Common.{◌≡◌, ℕ, Bool, true, false, cond, List, [], ◌∷◌, Option, Some, Ok, refl, sym, subst}
-use Rattle.std.specs.List.{AllByRecursion, list_all}
+use Rattle.std.specs.List.{AllByRecursion}
 use Rattle.std.specs.Str.{bytes_eq}
 use Rattle.std.proofs.lemmas.Bool.{and_parts}
 use Rattle.std.proofs.lemmas.Slice.Eq.{bytes_eq-Decides}
@@ -14,10 +14,6 @@ use Rattle.policy_tools.proofs.WiderLemmas.{IsFound, OfKey, each_found, keys_of_
 use Rattle.policy_diff.specs.Patterns.{key_from, key_passes, keys_pass, passes_from}
 use Rattle.policy_diff.specs.declared.patterns.Relation.{Relation}
 
--- each pair passes
-abbrev pub pairs_pass : Relation → List Pair → List Pair → Bool
-pairs_pass relation es other = list_all (λ pair. passes_from relation pair.1 (value_at pair.0 other)) es
-
 -- ---- from the pairs to any key
 
 looked_from : (relation : Relation) (e : Pair) (es other : List Pair) (key : List ℕ) (b : Bool) → bytes_eq key e.0 ≡ b →
@@ -28,11 +24,11 @@ looked_from relation e es other key true same here later =
     subst (λ (k : List ℕ). passes_from relation e.1 (value_at k other) ≡ true) is here
 looked_from relation e es other key false same here later = later
 
-looked : (relation : Relation) (es other : List Pair) (key : List ℕ) → pairs_pass relation es other ≡ true →
+looked : (relation : Relation) (es other : List Pair) (key : List ℕ) → keys_pass relation es other ≡ true →
     key_from relation (value_at key es) (value_at key other) ≡ true
 looked relation [] other key all = refl
 looked relation (e ∷ es) other key all =
-    let both = and_parts (passes_from relation e.1 (value_at e.0 other)) (pairs_pass relation es other) all in
+    let both = and_parts (passes_from relation e.1 (value_at e.0 other)) (keys_pass relation es other) all in
     looked_from relation e es other key (bytes_eq key e.0) refl both.0 (looked relation es other key both.1)
 
 all_pieces_pass : (test : List ℕ → Bool) (pieces : List (List ℕ)) → ((key : List ℕ) → test key ≡ true) → all_keys test pieces ≡ true
@@ -42,7 +38,7 @@ all_pieces_pass test (piece ∷ pieces) each = rw (each (key_of piece)) (all_pie
 -- ---- from the pieces to the pairs
 
 pairs_from_pieces : (relation : Relation) (keys other es : List Pair) → AllByRecursion (OfKey (key_passes relation keys other)) es →
-    AllByRecursion (IsFound keys) es → pairs_pass relation es other ≡ true
+    AllByRecursion (IsFound keys) es → keys_pass relation es other ≡ true
 pairs_from_pieces relation keys other [] each found = refl
 pairs_from_pieces relation keys other (e ∷ es) each found =
     let here : passes_from relation e.1 (value_at e.0 other) ≡ true =

@@ -16,7 +16,6 @@ use Rattle.channel_uri.specs.declared.pattern.Pattern.TheVariants.{Any, Of}
 use Rattle.policy_tools.specs.Wider.{front_wider, value_wider}
 use Rattle.policy_diff.specs.Patterns.{keys_pass, passes_from, patterns_pass}
 use Rattle.policy_diff.specs.declared.patterns.Relation.TheVariants.{Meets, Covers}
-use Rattle.policy_diff.proofs.KeyLemmas.{pairs_pass}
 
 -- ---- texts that begin alike
 
@@ -155,7 +154,7 @@ meets_from one key others keys None is fits here = refl
 meets_from one key others keys (Some other) is fits here = both_fit one other (value_at key keys) here (wanted_fits others keys key other is fits)
 
 -- patterns of one medium that cover one channel meet
-pairs_meet : (es others keys : List Pair) → all_fit es keys ≡ true → all_fit others keys ≡ true → pairs_pass Meets es others ≡ true
+pairs_meet : (es others keys : List Pair) → all_fit es keys ≡ true → all_fit others keys ≡ true → keys_pass Meets es others ≡ true
 pairs_meet [] others keys fits also = refl
 pairs_meet (e ∷ es) others keys fits also =
     let both = and_parts (is_fit e.1 (value_at e.0 keys)) (all_fit es keys) fits in
@@ -172,10 +171,10 @@ covers_from wide key narrow keys None is fits passes = absurd (false≢true pass
 covers_from wide key narrow keys (Some other) is fits passes = fit_within wide other (value_at key keys) passes (wanted_fits narrow keys key other is fits)
 
 -- a channel that fits the keys of a covered pattern fits those of the one that covers it
-pairs_cover : (es narrow keys : List Pair) → pairs_pass Covers es narrow ≡ true → all_fit narrow keys ≡ true → all_fit es keys ≡ true
+pairs_cover : (es narrow keys : List Pair) → keys_pass Covers es narrow ≡ true → all_fit narrow keys ≡ true → all_fit es keys ≡ true
 pairs_cover [] narrow keys passes fits = refl
 pairs_cover (e ∷ es) narrow keys passes fits =
-    let both = and_parts (passes_from Covers e.1 (value_at e.0 narrow)) (pairs_pass Covers es narrow) passes in
+    let both = and_parts (passes_from Covers e.1 (value_at e.0 narrow)) (keys_pass Covers es narrow) passes in
     let here : is_fit e.1 (value_at e.0 keys) ≡ true = covers_from e.1 e.0 narrow keys (value_at e.0 narrow) refl fits both.0 in
     rw here (pairs_cover es narrow keys both.1 fits)
 
