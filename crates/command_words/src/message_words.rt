@@ -44,8 +44,8 @@ Example: a reply that a script wrote, and the command that it answers.
   $ aeron_policyd decode command 04000000_0100000000000000_0b00000000000000_0000000000000000_0a000000_09000000_6165726f6e3a697063
   add-subscription client=1 correlation=11 registration-correlation=0 stream=10 channel=aeron:ipc
 
-A command and a reply have one line, a datagram has one for each frame. A line of a command or of a frame is what `encode`
-takes. Bytes that are no command, no reply or no datagram are refused with the driver's word for the cause.
+A command and a reply have one line, a datagram has one for each frame. What `encode` gave has the same fields again. Bytes
+that are no command, no reply or no datagram are refused with the driver's word for the cause.
 
 Status: 0; 1 after `aeron_policyd: FAULT` on standard error; 2 for a command line that is at fault.";
 
