@@ -1,0 +1,153 @@
+// A driver whose agents are turned by hand.
+ghost use Rattle.driver_core.specs.Soundness.{IsSound};
+ghost use Rattle.published_registry.specs.Histories.{registry_of};
+ghost use Rattle.std.specs.Prelude.{◌≡◌, IfOk};
+
+use crate::common::{Common, Open};
+use crate::hand::{Ends, Hand};
+use crate::parts::{Parts, Pieces};
+use command_queue::Taker;
+use driver_core::{Address, Event};
+use log_arena::Arena;
+use log_slots::Region;
+use media_agents::{Conductor, DriverNaming, Ring, Rings, Works};
+use published_registry::{Pass, Publisher};
+use rows::Rows;
+use rtrb::RingBuffer;
+use std::alloc::{AllocError, Global};
+use std::sync::Wait;
+
+// One ring, whose replies nobody takes.
+fn rings<N: DriverNaming>(alloc: Global) -> Result<Rings<N>, AllocError> {
+    let (producer, _consumer) = RingBuffer::new(alloc, 256)?;
+    let mut rings = Vec::new(alloc);
+    rings.push(Ring::new(producer))?;
+    Ok(Rings::new(rings))
+}
+
+// What the conductor alone works with.
+#[derive(Drop)]
+struct Store<N: DriverNaming> {
+    region: Region<N>,
+    rings: Rings<N>,
+    room: Rows<u64, 512>,
+}
+
+impl<N: DriverNaming> Store<N> {
+    fn new(alloc: Global, arena: Arena) -> Result<Store<N>, AllocError>
+        requires { arena.home ≡ N.home }
+    {
+        Ok(Store {
+            region: Region::new(arena),
+            rings: rings(alloc)?,
+            room: Rows::new(alloc)?,
+        })
+    }
+}
+
+// All that a driver takes memory for as it starts.
+#[derive(Drop)]
+struct Outfit<N: DriverNaming> {
+    store: Store<N>,
+    common: Common<N>,
+    taker: Taker<Event>,
+    hand: Hand<N>,
+}
+
+// The agents that are turned beside the conductor, and its end of the queue.
+fn make_hand<N: DriverNaming>(
+    alloc: Global,
+    common: &Common<N>,
+    local: Address,
+    passes: Vec<Pass>,
+) -> Result<(Taker<Event>, Hand<N>), AllocError> {
+    let (senders, taker) = command_queue::make(alloc, 2)?;
+    let mut ends = Ends { passes, senders };
+    let hand = Hand::new(alloc, common, local, &mut ends)?;
+    Ok((taker, hand))
+}
+
+impl<N: DriverNaming> Outfit<N> {
+    fn new(alloc: Global, pieces: Pieces) -> Result<Outfit<N>, AllocError>
+        requires home { pieces.arena.home ≡ N.home }
+        requires names { (pieces.slots.name ≡ N.slot_ledger) × (pieces.slots.parts ≡ N.slot_parts) }
+        requires three { pieces.slots.parts ≡ 3 }
+    {
+        let Pieces {
+            arena,
+            passes,
+            slots,
+            local,
+        } = pieces;
+        let store = Store::new(alloc, arena)?;
+        let common = Common::new(alloc, slots)?;
+        let (taker, hand) = make_hand(alloc, &common, local, passes)?;
+        Ok(Outfit {
+            store,
+            common,
+            taker,
+            hand,
+        })
+    }
+
+    // The driver that publishes by this publisher.
+    fn driver(self, alloc: Global, publisher: Publisher) -> Driver<N>
+        requires book { publisher.book ≡ N.book }
+        requires sound { IsSound (registry_of publisher) }
+    {
+        let Outfit {
+            store,
+            common,
+            taker,
+            hand,
+        } = self;
+        let Store {
+            region,
+            rings,
+            room,
+        } = store;
+        let Common { slots, desk, gate } = common;
+        let works = Works::new(publisher, rings, desk, region, slots, room, alloc);
+        Driver {
+            conductor: Conductor::new(taker, works, gate),
+            hand,
+        }
+    }
+}
+
+// It can't be let go: its conductor ends its registry.
+pub struct Driver<N: DriverNaming> {
+    pub conductor: Conductor<N, Open>,
+    pub hand: Hand<N>,
+}
+
+impl<N: DriverNaming> Driver<N> {
+    // A driver of these parts, which `N` names; `None` where there is no memory.
+    pub fn start<R: Wait>(rt: &R, alloc: Global, parts: Parts) -> Option<Driver<N>>
+        requires book { parts.publisher.book ≡ N.book }
+        requires sound { IsSound (registry_of parts.publisher) }
+        requires home { parts.pieces.arena.home ≡ N.home }
+        requires names { (parts.pieces.slots.name ≡ N.slot_ledger) × (parts.pieces.slots.parts ≡ N.slot_parts) }
+        requires three { parts.pieces.slots.parts ≡ 3 }
+    {
+        let Parts { publisher, pieces } = parts;
+        match Outfit::new(alloc, pieces) {
+            Ok(outfit) => Some(outfit.driver(alloc, publisher)),
+            Err(_) => {
+                drop(publisher.end(rt));
+                None
+            }
+        }
+    }
+
+    // The conductor has a turn: how many events were refused memory.
+    pub fn conducts<R: Wait>(&mut self, rt: &R, now: u64) -> u32 {
+        self.conductor.turn(rt, now)
+    }
+
+    // Its conductor ends, and with it all logs.
+    pub fn end<R: Wait>(self, rt: &R) {
+        let Driver { conductor, hand: _ } = self;
+        drop(conductor.end(rt));
+    }
+}

@@ -1,0 +1,70 @@
+// What a driver is made of, before it starts.
+ghost use Rattle.driver_core.specs.Soundness.{AreSettings, IsSound};
+ghost use Rattle.published_registry.specs.Histories.{registry_of};
+ghost use Rattle.std.specs.Prelude.{◌≡◌, IfOk, IfSome};
+
+use driver_core::{Address, Registry, Settings};
+use log_arena::Arena;
+use policy_core::Policy;
+use published_registry::{Pass, Publisher, make};
+use std::alloc::{AllocError, Global};
+use std::sync::Wait;
+use std::sync::ledger::Blank;
+
+// What of it may be let go.
+#[derive(Drop)]
+pub struct Pieces {
+    pub arena: Arena,
+    pub passes: Vec<Pass>,
+    // The ledger of what logs took, before it is opened: a part for each of three slots.
+    pub slots: Blank,
+    // From where datagrams are sent.
+    pub local: Address,
+}
+
+// It can't be let go, since its publisher can't.
+pub struct Parts {
+    pub publisher: Publisher,
+    pub pieces: Pieces,
+}
+
+// A registry before its first event, under a policy that allows all.
+fn opened(alloc: Global, settings: Settings) -> Result<Registry, AllocError>
+    requires { AreSettings settings }
+    ensures { IfOk result (λ registry. IsSound registry) }
+{
+    let policy = Policy::new(Vec::new(alloc), true)?;
+    let registry = Registry::new(alloc, settings, policy, &[])?;
+    Ok(registry)
+}
+
+// The registry, shown to three passes.
+fn published<R: Wait>(rt: &R, alloc: Global, settings: Settings) -> Option<(Publisher, Vec<Pass>)>
+    requires { AreSettings settings }
+    ensures { IfSome result (λ made. IsSound (registry_of made.0)) }
+{
+    let registry = opened(alloc, settings).ok()?;
+    let (publisher, passes) = make(rt, alloc, registry, 3).ok()?;
+    Some((publisher, passes))
+}
+
+impl Parts {
+    // The parts of a driver with such settings; `None` where there is no memory.
+    pub fn make<R: Wait>(rt: &R, alloc: Global, settings: Settings) -> Option<Parts>
+        requires { AreSettings settings }
+        ensures sound { IfSome result (λ parts. IsSound (registry_of parts.publisher)) }
+        ensures three { IfSome result (λ parts. parts.pieces.slots.parts ≡ 3) }
+    {
+        let arena = Arena::new(alloc, settings.arena_pages as usize).ok()?;
+        let (publisher, passes) = published(rt, alloc, settings)?;
+        Some(Parts {
+            publisher,
+            pieces: Pieces {
+                arena,
+                passes,
+                slots: Blank::new(3),
+                local: settings.send_address,
+            },
+        })
+    }
+}
