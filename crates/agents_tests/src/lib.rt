@@ -8,6 +8,8 @@ mod common;
 #[cfg(test)]
 mod driver;
 #[cfg(test)]
+mod failing_wires;
+#[cfg(test)]
 mod hand;
 #[cfg(test)]
 mod onlooker;
