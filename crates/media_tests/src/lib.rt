@@ -1,0 +1,19 @@
+//! Tests of `media_driver`: drivers that run, on threads of their own, and their clients.
+#![tactic(auto)]
+
+#[cfg(test)]
+mod asking;
+#[cfg(test)]
+mod cases;
+#[cfg(test)]
+mod clients;
+#[cfg(test)]
+mod gates;
+#[cfg(test)]
+mod opening;
+#[cfg(test)]
+mod order;
+#[cfg(test)]
+mod publishers;
+#[cfg(test)]
+mod running;
