@@ -49,6 +49,16 @@ fn read_all<W: Wire, R: Wait>(
     false
 }
 
+/// Whether the address is read from now on, and nothing came before.
+fn opens<W: Wire>(wire: &mut W, address: &Address, buffer: &mut [u8]) -> bool
+    requires { 65507 ≤ length buffer.old }
+{
+    match wire.recv(address, buffer) {
+        Ok(came) => came.is_none(),
+        Err(_) => false,
+    }
+}
+
 fn are_shared<W: Wire + Drop + Send + 'static, R: Threads + Wait + Copy + Send + 'static>(
     rt: &R,
     alloc: Global,
@@ -64,6 +74,10 @@ fn are_shared<W: Wire + Drop + Send + 'static, R: Threads + Wait + Copy + Send +
     let Ok(mut other) = one.another() else {
         return false;
     };
+    // What is sent to an address that nobody reads yet is lost.
+    if !opens(&mut one, &ways.1, buffer) {
+        return false;
+    }
     match thread::spawn(rt, move || send_all(&mut other, &ways)) {
         Ok(sender) => {
             let came = read_all(rt, &mut one, &ways, buffer);
