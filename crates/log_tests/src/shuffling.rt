@@ -47,7 +47,7 @@ fn open_in(room: ImageRoom, arena: &mut Arena, ident: Ident, join: u64) -> Resul
     requires join { (join % 32 ≡ 0) × (join < 65536) }
     ensures pairs { IfOk result (λ log. log.rebuilt.pairs ≡ []) }
 {
-    let lease = arena.lease(196_608)?;
+    let lease = arena.lease(3 * ident.term_length as usize)?;
     Ok(ImageLog::open(room, lease, ident, join))
 }
 
