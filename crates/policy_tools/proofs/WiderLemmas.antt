@@ -115,14 +115,14 @@ of_text test text keys is all =
 -- ---- values that fit
 
 -- a text begins with this front
-begins : (text front : List ℕ) → starts_with nat_eq text front ≡ true → (rest : List ℕ) × (text ≡ front ++ rest)
+pub begins : (text front : List ℕ) → starts_with nat_eq text front ≡ true → (rest : List ℕ) × (text ≡ front ++ rest)
 begins text front is = (drop (length front) text, (starts_is Decides-eqb text front _ refl).0 is)
 
-begins_from : (text front rest : List ℕ) → text ≡ front ++ rest → starts_with nat_eq text front ≡ true
+pub begins_from : (text front rest : List ℕ) → text ≡ front ++ rest → starts_with nat_eq text front ≡ true
 begins_from text front rest is = (starts_is Decides-eqb text front _ refl).1 rest is
 
 -- what stands before a final `*`, with it, is the text
-front_whole : (text front : List ℕ) → front_of text ≡ Some front → (rest : List ℕ) × (text ≡ front ++ rest)
+pub front_whole : (text front : List ℕ) → front_of text ≡ Some front → (rest : List ℕ) × (text ≡ front ++ rest)
 front_whole text front is =
     ⊎_elim
     (λ ends. let found = (ends_is Decides-eqb text (codes "*") _ refl).0 ends in
@@ -169,7 +169,7 @@ looked_up_from e es keys key wanted true same is here later =
     subst (λ (v : List ℕ). is_fit v (value_at key keys) ≡ true) value_is (subst (λ (k : List ℕ). is_fit e.1 (value_at k keys) ≡ true) key_is here)
 looked_up_from e es keys key wanted false same is here later = later is
 
-looked_up : (narrow keys : List Pair) (key wanted : List ℕ) → value_at key narrow ≡ Some wanted → all_fit narrow keys ≡ true → is_fit wanted (value_at key keys) ≡ true
+pub looked_up : (narrow keys : List Pair) (key wanted : List ℕ) → value_at key narrow ≡ Some wanted → all_fit narrow keys ≡ true → is_fit wanted (value_at key keys) ≡ true
 looked_up [] keys key wanted is fits = absurd (cc)
 looked_up (e ∷ es) keys key wanted is fits =
     let both = and_parts (is_fit e.1 (value_at e.0 keys)) (all_fit es keys) fits in
@@ -179,7 +179,7 @@ wanted_from : (wide value : List ℕ) (narrow : Option (List ℕ)) → wanted_wi
 wanted_from wide value None is = absurd (cc)
 wanted_from wide value (Some other) is = (other, refl, is)
 
-is_fit_within : (wide narrow : List ℕ) (value : Option (List ℕ)) → value_wider wide narrow ≡ true → is_fit narrow value ≡ true → is_fit wide value ≡ true
+pub is_fit_within : (wide narrow : List ℕ) (value : Option (List ℕ)) → value_wider wide narrow ≡ true → is_fit narrow value ≡ true → is_fit wide value ≡ true
 is_fit_within wide narrow None wider fits = fits
 is_fit_within wide narrow (Some value) wider fits = value_within wide narrow value wider fits
 
