@@ -10,7 +10,7 @@ use crate::any_log::AnyLog;
 use byte_strings::{Bytes, Items};
 use frame_codec::{Nak, StatusMessage};
 use policy_core::{Decision, Verdict};
-use publication_sender::{Datagrams, NakAnswer, StatusAnswer, note_nak, receive_status};
+use publication_sender::{Datagrams, NakAnswer, StatusAnswer, answer_nak, receive_status};
 use retransmit_gate::Gate;
 use std::alloc::{AllocError, Global};
 use term_log::TermLog;
@@ -44,25 +44,34 @@ fn copies_of(alloc: Global, datagrams: Datagrams<'_>) -> Result<Items<Bytes>, Al
     Ok(copies)
 }
 
-/// What becomes of a NAK of the log's session and stream.
+/// What becomes of a NAK of the log's session and stream. Where there is no memory for the datagrams, the gate is as it was.
 fn reply(
     log: &TermLog,
     alloc: Global,
-    gate: &Gate,
+    gate: &mut Gate,
     now: u64,
     nak: &Nak,
     decision: &Decision,
 ) -> Result<NakReply, AllocError>
-    ensures reply { IfOk result (λ reply. RepliesTo decision.now now nak.now gate.now log.now reply) }
-    ensures without_memory { OnErr result (IsGranted decision.now now nak.now gate.now log.now) }
+    ensures reply { IfOk result (λ reply. RepliesTo decision.now now nak.now gate.old log.now reply) }
+    ensures gate { OnOk result (gate.new ≡ gate_after decision.now.verdict.allow gate.old (asking_of now log.now nak.now)) }
+    ensures err { OnErr result (gate.new ≡ gate.old) }
+    ensures without_memory { OnErr result (IsGranted decision.now now nak.now gate.old log.now) }
 {
-    match publication_sender::answer_nak(log, gate, now, nak, decision) {
+    let before = gate.copy();
+    match answer_nak(log, gate, now, nak, decision) {
         NakAnswer::Denied(decision) => Ok(NakReply::Denied(decision.verdict)),
         NakAnswer::Empty => Ok(NakReply::Empty),
         NakAnswer::OutOfWindow => Ok(NakReply::OutOfWindow),
         NakAnswer::Lingering => Ok(NakReply::Lingering),
         NakAnswer::Busy => Ok(NakReply::Busy),
-        NakAnswer::Resent(datagrams) => Ok(NakReply::Resent(copies_of(alloc, datagrams)?)),
+        NakAnswer::Resent(datagrams) => match copies_of(alloc, datagrams) {
+            Ok(copies) => Ok(NakReply::Resent(copies)),
+            Err(refused) => {
+                *gate = before;
+                Err(refused)
+            }
+        },
     }
 }
 
@@ -103,8 +112,6 @@ impl AnyLog {
         let AnyLog::Term(log) = self else {
             return Ok(None);
         };
-        let reply = reply(log, alloc, gate, now, nak, decision)?;
-        note_nak(log, gate, now, nak, decision);
-        Ok(Some(reply))
+        Ok(Some(reply(log, alloc, gate, now, nak, decision)?))
     }
 }

@@ -87,9 +87,9 @@ impl AnyLog {
         let AnyLog::Image(log) = self else {
             return Ok(None);
         };
-        let due = receiver.due(now, log);
-        let datagrams = datagrams_of(alloc, &log.ident(), receiver_id, &due)?;
-        receiver.tick(now, log);
+        let turn = receiver.due(now, log);
+        let datagrams = datagrams_of(alloc, &log.ident(), receiver_id, &turn.due)?;
+        receiver.pass(now, log, turn);
         Ok(Some(datagrams))
     }
 }

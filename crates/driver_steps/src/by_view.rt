@@ -1,8 +1,7 @@
 //! Steps of actors on the open logs, by whichever registry is shown.
 
 ghost use Rattle.driver_core.specs.LogRequests.{offering_of};
-ghost use Rattle.driver_steps.specs.declared.answer.Answer.TheVariants.{Gone, NoMemory, Offered as OfferedAs};
-ghost use Rattle.driver_steps.specs.declared.answer.Offered.TheVariants.{Closed};
+ghost use Rattle.driver_steps.specs.declared.answer.Answer.TheVariants.{Gone, NoMemory};
 ghost use Rattle.driver_steps.specs.Decided.{DecidesAs, DecidesUnless, offer_decided, poll_decided};
 ghost use Rattle.driver_steps.specs.Ends.{on_image, on_log, on_offered_by};
 ghost use Rattle.driver_steps.specs.Moves.{poll_move};
@@ -15,9 +14,10 @@ ghost use Rattle.frame_codec.specs.Datagram.{content, frames as data_frames};
 ghost use Rattle.frame_codec.specs.Frames.{frames_left};
 ghost use Rattle.std.specs.Prelude.{◌≡◌, None};
 
-use crate::answer::{Answer, Offered};
+use crate::answer::Answer;
 use crate::asking::Asks;
 use crate::cause::Cause;
+use crate::offering::closed;
 use crate::open_logs::OpenLogs;
 use crate::packets::PacketRequest;
 use crate::told::Told;
@@ -33,17 +33,6 @@ fn refused() -> Told
 {
     Told {
         answer: Answer::NoMemory,
-        decision: None,
-    }
-}
-
-/// The client has no such registration.
-#[inline(always)]
-fn unregistered() -> Told
-    ensures { result ≡ record { answer = OfferedAs Closed; decision = None } }
-{
-    Told {
-        answer: Answer::Offered(Offered::Closed),
         decision: None,
     }
 }
@@ -66,7 +55,7 @@ pub(crate) fn offer_by<V: View, A: Asks>(
 {
     match asker.offering(view.registry(), client, registration) {
         Some(request) => logs.offer(view, now, client, registration, &request, message),
-        None => unregistered(),
+        None => closed(),
     }
 }
 

@@ -202,27 +202,23 @@ impl Driver {
         packet_by(&mut self.logs, alloc, now, from, packet, request)
     }
 
-    /// The sender has a turn with a publication.
-    pub fn send(&mut self, alloc: Global, now: u64, source: u64) -> Answer
+    /// As [`Driver::send`], by the newest registry.
+    pub(crate) fn send_newest(&mut self, alloc: Global, now: u64, source: u64) -> Answer
         ensures { Serves self.old self.new (Send now source) result }
     {
         send_by(&self.registry, &mut self.logs, alloc, now, source)
     }
 
-    /// The receiver has a turn with an image.
-    pub fn report(&mut self, alloc: Global, now: u64, source: u64) -> Answer
+    /// As [`Driver::report`], by the newest registry.
+    pub(crate) fn report_newest(&mut self, alloc: Global, now: u64, source: u64) -> Answer
         ensures { Serves self.old self.new (Image now source) result }
     {
         report_by(&self.registry, &mut self.logs, alloc, now, source)
     }
 
-    /// A datagram came to the address `local`, from the address `from`: the frames of data and a heartbeat go to the image of
-    /// that address, session and stream, where they are from its publisher; a NAK and a status message go to the publication of
-    /// their session and stream, whatever address they came to. A SETUP is an event: it is handed back, and nothing is
-    /// changed. `read` is what [`Datagram::read`](frame_codec::Datagram::read) says of the bytes: whoever calls asked it whose step
-    /// this is.
+    /// As [`Driver::datagram`], by the newest registry.
     #[inline(always)]
-    pub fn datagram(
+    pub(crate) fn datagram_newest(
         &mut self,
         alloc: Global,
         now: u64,
@@ -262,9 +258,9 @@ impl Driver {
         frames_by(&mut self.logs, alloc, now, frames, image)
     }
 
-    /// As [`Driver::datagram`], of the frames that the bytes were read as. No policy is asked, so there is no decision to report.
+    /// As [`Driver::frames`], by the newest registry.
     #[inline(always)]
-    pub fn frames(
+    pub(crate) fn frames_newest(
         &mut self,
         alloc: Global,
         now: u64,
@@ -281,8 +277,14 @@ impl Driver {
         self.receive(alloc, now, local, from, frames)
     }
 
-    /// A client offers a message. It takes no memory.
-    pub fn offer(&mut self, now: u64, client: u64, registration: u64, message: &[u8]) -> Told
+    /// As [`Driver::offer`], by the newest registry and the client's cache.
+    pub(crate) fn offer_newest(
+        &mut self,
+        now: u64,
+        client: u64,
+        registration: u64,
+        message: &[u8],
+    ) -> Told
         ensures serves { Serves self.old self.new (Offer now client registration message.now) result.answer }
         ensures decides { DecidesAs self.old (λ e. offer_decided e client registration) result.decision }
     {
@@ -297,8 +299,8 @@ impl Driver {
         )
     }
 
-    /// A client polls a log.
-    pub fn poll(
+    /// As [`Driver::poll`], by the newest registry and the client's cache.
+    pub(crate) fn poll_newest(
         &mut self,
         alloc: Global,
         _now: u64,
@@ -322,8 +324,8 @@ impl Driver {
         )
     }
 
-    /// A client looks at the counters that it may see. The decisions by which the others are left out are reported.
-    pub fn list(&self, alloc: Global, _now: u64, client: u64) -> Looked
+    /// As [`Driver::list`], by the newest registry.
+    pub(crate) fn list_newest(&self, alloc: Global, _now: u64, client: u64) -> Looked
         ensures serves { Serves self.now self.now (Lists _now client) result.answer }
         ensures leaves_out { LeavesOut self.now.registry client result.answer result.denials }
     {
@@ -339,8 +341,8 @@ impl Driver {
         }
     }
 
-    /// A client looks at one counter. It takes no memory.
-    pub fn value(&self, _now: u64, client: u64, number: u64) -> Told
+    /// As [`Driver::value`], by the newest registry.
+    pub(crate) fn value_newest(&self, _now: u64, client: u64, number: u64) -> Told
         ensures serves { Serves self.now self.now (Value _now client number) result.answer }
         ensures decides { result.decision ≡ shown_decision (value self.now.registry client number) }
     {

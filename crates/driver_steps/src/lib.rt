@@ -50,7 +50,6 @@ pub use open_log::OpenLog;
 pub use opening::{ident_of, stream_ident};
 pub use packets::{PacketRequest, packet_request, packet_step};
 pub use polling::poll_step;
-pub use receiving::frames_step;
 pub use reporting::image_step;
 pub use sending::send_step;
 pub use step::Step;

@@ -41,8 +41,9 @@ fn offer_to(log: &mut TermLog, now: u64, timeout: u64, verdict: Verdict, message
     Answer::Offered(Offered::of(log.offer(message)))
 }
 
-/// The client's registration is with no such log.
-fn closed() -> Told
+/// The client has no such registration, or one with another log.
+#[inline(always)]
+pub(crate) fn closed() -> Told
     ensures { result ≡ record { answer = OfferedAs Closed; decision = None } }
 {
     Told {

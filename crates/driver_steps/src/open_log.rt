@@ -71,7 +71,7 @@ impl OpenLog {
     }
 
     /// The log of a remote stream, without frames, which joins at that position, and whose sender is heard at the moment `now`
-    /// in nanoseconds, in a lease of three terms and in memory that was taken before.
+    /// in nanoseconds, in a lease of three terms, all zeros, and in memory that was taken before.
     pub fn of_image(
         memory: ImageRoom,
         lease: Lease,
@@ -84,6 +84,7 @@ impl OpenLog {
         requires memory { memory ≡ lease_len lease }
         requires terms { (65536 ≤ ident.term_length) × (ident.term_length ≤ 16777216) }
         requires len { lease_len lease ≡ 3 * ident.term_length }
+        requires zeros { lease_bytes lease ≡ replicate (3 * ident.term_length) 0 }
         requires join { (join % 32 ≡ 0) × (join < ident.term_length * 2 ^ 31) }
         ensures exact { result ≡ record {
           source = source;

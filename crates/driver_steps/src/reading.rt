@@ -1,4 +1,5 @@
-//! Steps that go by the newest registry or by an older one that is handed in.
+//! Steps by the newest registry, or by an older one that is handed in: each is one call, and `driver.rt` and `seeing.rt` have
+//! the two ways on.
 
 ghost use Rattle.driver_core.specs.Listing.{value};
 ghost use Rattle.driver_steps.specs.Decided.{DecidesAs, DecidesUnless, LeavesOut, offer_decided, poll_decided, shown_decision};
@@ -18,8 +19,8 @@ use frame_codec::{BadPacket, Frames, Packet};
 use std::alloc::Global;
 
 impl Driver {
-    /// [`Driver::offer`] or [`Driver::offer_seen`].
-    pub fn offer_read(
+    /// A client offers a message, by the newest registry or by the older one that it looked at. It takes no memory.
+    pub fn offer(
         &mut self,
         older: Option<&Registry>,
         now: u64,
@@ -31,13 +32,13 @@ impl Driver {
         ensures decides { DecidesAs (held_seen self.old (option_copied older.entry)) (λ e. offer_decided e client registration) result.decision }
     {
         match older {
-            None => self.offer(now, client, registration, message),
+            None => self.offer_newest(now, client, registration, message),
             Some(older) => self.offer_seen(older, now, client, registration, message),
         }
     }
 
-    /// [`Driver::poll`] or [`Driver::poll_seen`].
-    pub fn poll_read(
+    /// A client polls a log, by the newest registry or by the older one.
+    pub fn poll(
         &mut self,
         older: Option<&Registry>,
         alloc: Global,
@@ -51,29 +52,23 @@ impl Driver {
         ensures decides { DecidesUnless (held_seen self.old (option_copied older.entry)) (λ e. poll_decided e client subscription source) result.answer result.decision }
     {
         match older {
-            None => self.poll(alloc, now, client, subscription, source, limit),
+            None => self.poll_newest(alloc, now, client, subscription, source, limit),
             Some(older) => self.poll_seen(older, alloc, now, client, subscription, source, limit),
         }
     }
 
-    /// [`Driver::send`] or [`Driver::send_seen`].
-    pub fn send_read(
-        &mut self,
-        older: Option<&Registry>,
-        alloc: Global,
-        now: u64,
-        source: u64,
-    ) -> Answer
+    /// The sender has a turn with a publication, by the newest registry or by the older one.
+    pub fn send(&mut self, older: Option<&Registry>, alloc: Global, now: u64, source: u64) -> Answer
         ensures { Reads (option_copied older.entry) self.old self.new (Send now source) result }
     {
         match older {
-            None => self.send(alloc, now, source),
+            None => self.send_newest(alloc, now, source),
             Some(older) => self.send_seen(older, alloc, now, source),
         }
     }
 
-    /// [`Driver::report`] or [`Driver::report_seen`].
-    pub fn report_read(
+    /// The receiver has a turn with an image, by the newest registry or by the older one.
+    pub fn report(
         &mut self,
         older: Option<&Registry>,
         alloc: Global,
@@ -83,42 +78,41 @@ impl Driver {
         ensures { Reads (option_copied older.entry) self.old self.new (Image now source) result }
     {
         match older {
-            None => self.report(alloc, now, source),
+            None => self.report_newest(alloc, now, source),
             Some(older) => self.report_seen(older, alloc, now, source),
         }
     }
 
-    /// [`Driver::list`] or [`Driver::list_seen`].
-    pub fn list_read(
-        &self,
-        older: Option<&Registry>,
-        alloc: Global,
-        now: u64,
-        client: u64,
-    ) -> Looked
+    /// A client looks at the counters that it may see, by the newest registry or by the older one. The decisions by which the
+    /// others are left out are reported.
+    pub fn list(&self, older: Option<&Registry>, alloc: Global, now: u64, client: u64) -> Looked
         ensures reads { Reads (option_copied older.entry) self.now self.now (Lists now client) result.answer }
         ensures leaves_out { LeavesOut (looks_at self.now (option_copied older.entry)) client result.answer result.denials }
     {
         match older {
-            None => self.list(alloc, now, client),
+            None => self.list_newest(alloc, now, client),
             Some(older) => self.list_seen(older, alloc, now, client),
         }
     }
 
-    /// [`Driver::value`] or [`Driver::value_seen`].
-    pub fn value_read(&self, older: Option<&Registry>, now: u64, client: u64, number: u64) -> Told
+    /// A client looks at one counter, by the newest registry or by the older one. It takes no memory.
+    pub fn value(&self, older: Option<&Registry>, now: u64, client: u64, number: u64) -> Told
         ensures reads { Reads (option_copied older.entry) self.now self.now (Value now client number) result.answer }
         ensures decides { result.decision ≡ shown_decision (value (looks_at self.now (option_copied older.entry)) client number) }
     {
         match older {
-            None => self.value(now, client, number),
+            None => self.value_newest(now, client, number),
             Some(older) => self.value_seen(older, now, client, number),
         }
     }
 
-    /// [`Driver::datagram`] or [`Driver::datagram_seen`].
+    /// A datagram came to the address `local`, from the address `from`: the frames of data and a heartbeat go to the image of
+    /// that address, session and stream, where they are from its publisher; a NAK and a status message go to the publication of
+    /// their session and stream, whatever address they came to. A SETUP is an event: it is handed back, and nothing is
+    /// changed. Frames and heartbeats of an image that the newest registry does not have any more are of no stream. `read` is
+    /// what [`Datagram::read`](frame_codec::Datagram::read) says of the bytes: whoever calls asked it whose step this is.
     #[inline(always)]
-    pub fn datagram_read(
+    pub fn datagram(
         &mut self,
         older: Option<&Registry>,
         alloc: Global,
@@ -132,14 +126,15 @@ impl Driver {
         ensures { ComesRead (option_copied older.entry) self.old self.new now local.now from.now bytes.now result }
     {
         match older {
-            None => self.datagram(alloc, now, local, from, bytes, read),
+            None => self.datagram_newest(alloc, now, local, from, bytes, read),
             Some(older) => self.datagram_seen(older, alloc, now, local, from, bytes, read),
         }
     }
 
-    /// [`Driver::frames`] or [`Driver::frames_seen`].
+    /// As [`Driver::datagram`], of the frames that the bytes were read as. No policy is asked, so there is no decision to
+    /// report.
     #[inline(always)]
-    pub fn frames_read(
+    pub fn frames(
         &mut self,
         older: Option<&Registry>,
         alloc: Global,
@@ -153,7 +148,7 @@ impl Driver {
         ensures { ComesRead (option_copied older.entry) self.old self.new now local.now from.now bytes.now (CameTold (record { answer = result; decision = None })) }
     {
         match older {
-            None => self.frames(alloc, now, local, from, bytes, frames),
+            None => self.frames_newest(alloc, now, local, from, bytes, frames),
             Some(older) => self.frames_seen(older, alloc, now, local, from, bytes, frames),
         }
     }

@@ -43,7 +43,7 @@ pub(crate) fn receive_step(
 /// # Errors
 /// Nothing is changed where there is no memory for the words. Any other answer takes none.
 #[inline(always)]
-pub fn frames_step(
+pub(crate) fn frames_step(
     log: &mut OpenLog,
     alloc: Global,
     now: u64,

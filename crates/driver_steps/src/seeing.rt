@@ -27,7 +27,7 @@ use std::alloc::Global;
 impl Driver {
     /// As [`Driver::offer`], by the registry that the view shows. A call of its own, since few offers go by it.
     #[inline(never)]
-    pub fn offer_seen<V: View>(
+    pub(crate) fn offer_seen<V: View>(
         &mut self,
         view: &V,
         now: u64,
@@ -51,7 +51,7 @@ impl Driver {
 
     /// As [`Driver::poll`], by the registry that the view shows. A call of its own, as [`Driver::offer_seen`] is.
     #[inline(never)]
-    pub fn poll_seen<V: View>(
+    pub(crate) fn poll_seen<V: View>(
         &mut self,
         view: &V,
         alloc: Global,
@@ -78,21 +78,39 @@ impl Driver {
 
     /// As [`Driver::send`], by the registry that the view shows. It is made in place, as [`Driver::frames_seen`] is.
     #[inline(always)]
-    pub fn send_seen<V: View>(&mut self, view: &V, alloc: Global, now: u64, source: u64) -> Answer
+    pub(crate) fn send_seen<V: View>(
+        &mut self,
+        view: &V,
+        alloc: Global,
+        now: u64,
+        source: u64,
+    ) -> Answer
         ensures { Sees (V.shows view.now) self.old self.new (Send now source) result }
     {
         send_by(view, &mut self.logs, alloc, now, source)
     }
 
     /// As [`Driver::report`], by the registry that the view shows.
-    pub fn report_seen<V: View>(&mut self, view: &V, alloc: Global, now: u64, source: u64) -> Answer
+    pub(crate) fn report_seen<V: View>(
+        &mut self,
+        view: &V,
+        alloc: Global,
+        now: u64,
+        source: u64,
+    ) -> Answer
         ensures { Sees (V.shows view.now) self.old self.new (Image now source) result }
     {
         report_by(view, &mut self.logs, alloc, now, source)
     }
 
     /// As [`Driver::list`], by the registry that the view shows.
-    pub fn list_seen<V: View>(&self, view: &V, alloc: Global, _now: u64, client: u64) -> Looked
+    pub(crate) fn list_seen<V: View>(
+        &self,
+        view: &V,
+        alloc: Global,
+        _now: u64,
+        client: u64,
+    ) -> Looked
         ensures sees { Sees (V.shows view.now) self.now self.now (Lists _now client) result.answer }
         ensures leaves_out { LeavesOut (V.shows view.now) client result.answer result.denials }
     {
@@ -110,7 +128,7 @@ impl Driver {
     }
 
     /// As [`Driver::value`], by the registry that the view shows.
-    pub fn value_seen<V: View>(&self, view: &V, _now: u64, client: u64, number: u64) -> Told
+    pub(crate) fn value_seen<V: View>(&self, view: &V, _now: u64, client: u64, number: u64) -> Told
         ensures sees { Sees (V.shows view.now) self.now self.now (Value _now client number) result.answer }
         ensures decides { result.decision ≡ shown_decision (value (V.shows view.now) client number) }
     {
@@ -138,7 +156,7 @@ impl Driver {
 
     /// As [`Driver::datagram`], by the registry that the view shows. Frames and heartbeats of an image that the newest
     /// registry does not have any more are of no stream.
-    pub fn datagram_seen<V: View>(
+    pub(crate) fn datagram_seen<V: View>(
         &mut self,
         view: &V,
         alloc: Global,
@@ -163,9 +181,9 @@ impl Driver {
     }
 
     /// As [`Driver::frames`], by the registry that the view shows. It is made in place: as a call it would return its answer where
-    /// that of [`Driver::frames`] is returned, which then could not stay in registers.
+    /// that of [`Driver::frames_newest`] is returned, which then could not stay in registers.
     #[inline(always)]
-    pub fn frames_seen<V: View>(
+    pub(crate) fn frames_seen<V: View>(
         &mut self,
         view: &V,
         alloc: Global,

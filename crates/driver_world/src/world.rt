@@ -304,7 +304,7 @@ impl World {
         let now = look.at(now);
         match self
             .driver
-            .datagram_read(look.older(), alloc, now, local, from, bytes, read)
+            .datagram(look.older(), alloc, now, local, from, bytes, read)
         {
             Came::SetUp(_) => unreachable!(),
             Came::Told(told) => {
@@ -337,7 +337,7 @@ impl World {
         let now = look.at(now);
         let answer = self
             .driver
-            .frames_read(look.older(), alloc, now, local, from, bytes, frames);
+            .frames(look.older(), alloc, now, local, from, bytes, frames);
         self.sit(Actor::Receiver, look, now, &answer);
         answer
     }
@@ -410,7 +410,7 @@ impl World {
         let now = look.at(now);
         let told = self
             .driver
-            .offer_read(look.older(), now, client, registration, message);
+            .offer(look.older(), now, client, registration, message);
         self.audits.tell_client(client, told.decision);
         self.sit(actor, look, now, &told.answer);
         told.answer
@@ -435,7 +435,7 @@ impl World {
             Err(answer) => return answer,
         };
         let now = look.at(now);
-        let told = self.driver.poll_read(
+        let told = self.driver.poll(
             look.older(),
             alloc,
             now,
@@ -458,7 +458,7 @@ impl World {
             Err(answer) => return answer,
         };
         let now = look.at(now);
-        let answer = self.driver.send_read(look.older(), alloc, now, source);
+        let answer = self.driver.send(look.older(), alloc, now, source);
         self.audits.tell_sent(&answer);
         self.sit(Actor::Sender, look, now, &answer);
         answer
@@ -473,7 +473,7 @@ impl World {
             Err(answer) => return answer,
         };
         let now = look.at(now);
-        let answer = self.driver.report_read(look.older(), alloc, now, source);
+        let answer = self.driver.report(look.older(), alloc, now, source);
         self.sit(Actor::Receiver, look, now, &answer);
         answer
     }
@@ -488,7 +488,7 @@ impl World {
             Err(answer) => return answer,
         };
         let now = look.at(now);
-        let looked = self.driver.list_read(look.older(), alloc, now, client);
+        let looked = self.driver.list(look.older(), alloc, now, client);
         self.audits.tell_denials(client, looked.denials.as_slice());
         self.sit(actor, look, now, &looked.answer);
         looked.answer
@@ -511,7 +511,7 @@ impl World {
             Err(answer) => return answer,
         };
         let now = look.at(now);
-        let told = self.driver.value_read(look.older(), now, client, number);
+        let told = self.driver.value(look.older(), now, client, number);
         self.audits.tell_client(client, told.decision);
         self.sit(actor, look, now, &told.answer);
         told.answer

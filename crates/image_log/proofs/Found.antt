@@ -4,7 +4,7 @@ use Rattle.std.proofs.lemmas.List.{length-map}
 use Rattle.std.specs.List.{list_any, insert}
 use Rattle.std.proofs.lemmas.List.{length-replicate, with_items_is}
 use Rattle.std.specs.Vec.{with_items}
-use Rattle.log_arena.specs.Lease.{lease_len, with_bytes}
+use Rattle.log_arena.specs.Lease.{lease_bytes, lease_len, with_bytes}
 use Rattle.log_arena.specs.declared.lease.Lease.{Lease}
 use Rattle.image_log.specs.Frame.{Frame, framed, end_of}
 use Rattle.image_log.specs.Kept.{content, contents, Fits, IsStore}
@@ -82,15 +82,13 @@ pub stand : (n : ℕ) (bs : List ℕ) (ps : List Place) → StandIn n (contents 
 stand n bs [] = tt
 stand n bs (p ∷ ps) = (take_taken p.size (drop (p.position % n) bs), stand n bs ps)
 
--- a lease that is cleared holds no frame
-pub cleared : (lease : Lease) (out : List ℕ) (low room : ℕ) (ps : List Place) → ps ≡ [] → out ≡ replicate lease.bytes.len 0 → lease_len lease / 32 ≤ room → low + lease_len lease < 2 ^ 63
-    → IsStore (with_bytes lease out) low ps room
+-- a lease whose bytes are all zeros holds no frame
+pub cleared : (lease : Lease) (low room : ℕ) (ps : List Place) → ps ≡ [] → lease_bytes lease ≡ replicate (lease_len lease) 0 → lease_len lease / 32 ≤ room → low + lease_len lease < 2 ^ 63
+    → IsStore lease low ps room
 unfolding IsBlank
-cleared lease out low room ps none is roomy high =
-    let long : length out ≡ lease.bytes.len = ap (λ (l : List ℕ). length l) is ∙ length-replicate {A = ℕ} lease.bytes.len 0 in
-    let kept : (with_items lease.bytes out).items ≡ replicate lease.bytes.len 0 = with_items_is lease.bytes out long ∙ is in
-    subst (λ (l : List Place). IsStore (with_bytes lease out) low l room) (sym none)
-    (record { order = tt; fits = tt; blank = λ i _. ap (λ (l : List ℕ). get_or l i 0) kept ∙ zeros_at lease.bytes.len i; roomy = roomy; high = high })
+cleared lease low room ps none is roomy high =
+    subst (λ (l : List Place). IsStore lease low l room) (sym none)
+    (record { order = tt; fits = tt; blank = λ i _. ap (λ (l : List ℕ). get_or l i 0) is ∙ zeros_at (lease_len lease) i; roomy = roomy; high = high })
 
 pub put_frames : (n low at : ℕ) (ws xs : List ℕ) (ps : List Place) (p : Place) → 0 < n → length xs ≡ n → Fits n ps → at ≤ length ps → p.size ≡ length ws → length ws ≤ p.span → p.position % n + p.span ≤ n
     → Ordered low (low + n) (insert (contents n xs ps) at (framed p.position p.span ws))

@@ -1,4 +1,4 @@
-ghost use Rattle.std.specs.Prelude.{◌≡◌, ℕ, ◌+◌, ◌*◌, ◌%◌, ◌^◌, ◌<◌, ◌≤◌, insert, length, map, max, IfOk, IfErr, IfSome, OnErr, OnOk, Some};
+ghost use Rattle.std.specs.Prelude.{◌≡◌, ℕ, ◌+◌, ◌*◌, ◌%◌, ◌^◌, ◌<◌, ◌≤◌, insert, length, map, max, replicate, IfOk, IfErr, IfSome, OnErr, OnOk, Some};
 ghost use Rattle.log_arena.specs.Lease.{lease_bytes, lease_len};
 ghost use Rattle.image_log.specs.Frame.{framed};
 ghost use Rattle.image_log.specs.Handed.{AreFor, IsFor, offset_of, span_of};
@@ -82,8 +82,7 @@ fn window_of(term_length: u32) -> u64
 }
 
 impl ImageLog {
-    /// A log without a frame, in a lease of three terms, which is cleared. It joins at a position, below which nothing
-    /// is kept. Room for the places of all frames that the lease can hold, and for 512 pairs, is taken here; no later
+    /// A log without a frame, in a lease of three terms, all zeros. It joins at a position, below which nothing is kept. Room for the places of all frames that the lease can hold, and for 512 pairs, is taken here; no later
     /// call takes memory. Without memory the lease comes back.
     pub fn open(
         alloc: Global,
@@ -93,6 +92,7 @@ impl ImageLog {
     ) -> Result<ImageLog, (Lease, NoMemory)>
         requires terms { (65536 ≤ ident.term_length) × (ident.term_length ≤ 16777216) }
         requires lease { lease_len lease ≡ 3 * ident.term_length }
+        requires zeros { lease_bytes lease ≡ replicate (3 * ident.term_length) 0 }
         requires join { (join % 32 ≡ 0) × (join < ident.term_length * 2 ^ 31) }
         ensures ok { IfOk result (λ l. l ≡ record { held = held_of lease; rebuilt = opened ident join }) }
         ensures err { IfErr result (λ e. e.0 ≡ lease) }
@@ -108,6 +108,7 @@ impl ImageLog {
         requires room { room ≡ lease_len lease }
         requires terms { (65536 ≤ ident.term_length) × (ident.term_length ≤ 16777216) }
         requires lease { lease_len lease ≡ 3 * ident.term_length }
+        requires zeros { lease_bytes lease ≡ replicate (3 * ident.term_length) 0 }
         requires join { (join % 32 ≡ 0) × (join < ident.term_length * 2 ^ 31) }
         ensures { result ≡ record { held = held_of lease; rebuilt = opened ident join } }
     {

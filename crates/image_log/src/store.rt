@@ -58,16 +58,15 @@ fn start_in(len: usize, low: u64, offset: usize, position: u64) -> usize
 }
 
 impl Store {
-    /// No frame yet, in a lease that is cleared; none will begin below `low`. There is room for the places of all frames
-    /// that the lease can hold.
+    /// No frame yet, in a lease whose bytes are all zeros; none will begin below `low`. There is room for the places of all
+    /// frames that the lease can hold.
     pub(crate) fn open(places: VecDeque<Place>, lease: Lease, low: u64) -> Store
         requires none { places.items ≡ [] }
         requires roomy { lease_len lease / 32 ≤ deque_capacity places }
         requires high { low + lease_len lease < 2 ^ 63 }
+        requires zeros { lease_bytes lease ≡ replicate (lease_len lease) 0 }
         ensures { result ≡ stored_in (held_of lease) low }
     {
-        let mut lease = lease;
-        clear(lease.bytes_mut());
         let offset = (low % lease.len() as u64) as usize;
         Store {
             lease,
@@ -309,13 +308,6 @@ fn clear_at(out: &mut [u8], at: usize, count: usize)
     ensures { out.new ≡ written at (replicate count 0) out.old }
 {
     out[at..at + count].fill(0);
-}
-
-/// Writes zeros over all bytes.
-fn clear(out: &mut [u8])
-    ensures { out.new ≡ replicate (length out.old) 0 }
-{
-    out.fill(0);
 }
 
 /// An insert for which there is room. A frame that comes in order goes after all others.

@@ -1,7 +1,7 @@
 //! When a receiver sends a NAK of an image's gap, and when a status message.
 
 ghost use Rattle.std.specs.Prelude.{◌≡◌};
-ghost use Rattle.image_receiver.specs.Receiver.{after_status, begun, due_of, log_after, receiver_after, status_due};
+ghost use Rattle.image_receiver.specs.Receiver.{begun, due_of, log_after, receiver_after, status_due};
 
 use image_log::ImageLog;
 use retransmit_gate::{Nak, Nakker};
@@ -21,6 +21,13 @@ pub struct Status {
 pub struct Due {
     pub nak: Option<Nak>,
     pub status: Option<Status>,
+}
+
+/// A turn of a receiver: what is due, and what it knows once that has gone.
+#[derive(Debug, Drop)]
+pub struct Turn {
+    pub due: Due,
+    pub after: Receiver,
 }
 
 /// What a receiver knows of an image beside its log.
@@ -59,17 +66,6 @@ fn status_due(log: &ImageLog, moment: u64, interval: u64) -> Option<Status>
     })
 }
 
-/// The status message that is due at a moment. The log keeps that it was sent.
-#[tactic(auto, unfolding(crate::specs::Receiver::status_due, crate::specs::Receiver::after_status))]
-fn status_at(log: &mut ImageLog, moment: u64, interval: u64) -> Option<Status>
-    ensures status { result ≡ status_due interval moment log.old.rebuilt }
-    ensures after { log.new ≡ record log.old { rebuilt = after_status interval moment log.old.rebuilt } }
-{
-    let status = status_due(log, moment, interval)?;
-    log.status_sent(moment);
-    Some(status)
-}
-
 impl Receiver {
     /// The receiver of an image of which nothing was sent yet. A status message is due past each `status_interval`
     /// nanoseconds, a NAK past `nak_delay` since a gap was first seen, and then past each `nak_repeat`.
@@ -83,34 +79,42 @@ impl Receiver {
         }
     }
 
-    /// What [`Receiver::tick`] would give at the moment `now`, in nanoseconds. Nothing is changed.
-    #[tactic(auto, unfolding(crate::specs::Receiver::due_of))]
-    pub fn due(&self, now: u64, log: &ImageLog) -> Due
-        ensures { result ≡ due_of self.now log.now.rebuilt now }
-    {
-        let moment = self.latest.max(now);
-        let mut nakker = self.nakker.copy();
-        Due {
-            nak: nakker.on_tick(moment, log.gap()),
-            status: status_due(log, moment, self.interval),
-        }
-    }
-
-    /// What is due at the moment `now`, in nanoseconds, and counts as sent then: a NAK of the log's gap past the two delays;
-    /// a status message where none was sent yet, past the interval since the last one, and where the base moved by a quarter
-    /// of the window since.
+    /// What is due at the moment `now`, in nanoseconds: a NAK of the log's gap past the two delays; a status message where
+    /// none was sent yet, past the interval since the last one, and where the base moved by a quarter of the window since.
+    /// Nothing is changed: [`Receiver::pass`] moves the receiver and the log on.
     ///
     /// A moment earlier than one already seen counts as the one seen.
     #[tactic(auto, unfolding(crate::specs::Receiver::due_of, crate::specs::Receiver::receiver_after))]
-    pub fn tick(&mut self, now: u64, log: &mut ImageLog) -> Due
-        ensures due { result ≡ due_of self.old log.old.rebuilt now }
+    pub fn due(&self, now: u64, log: &ImageLog) -> Turn
+        ensures due { result.due ≡ due_of self.now log.now.rebuilt now }
+        ensures after { result.after ≡ receiver_after self.now log.now.rebuilt now }
+    {
+        let moment = self.latest.max(now);
+        let mut nakker = self.nakker.copy();
+        let nak = nakker.on_tick(moment, log.gap());
+        let status = status_due(log, moment, self.interval);
+        Turn {
+            due: Due { nak, status },
+            after: Receiver {
+                interval: self.interval,
+                latest: moment,
+                nakker,
+            },
+        }
+    }
+
+    /// What was due at the moment `now`, in nanoseconds, has gone, as [`Receiver::due`] gave it: from then on it counts as
+    /// sent.
+    #[tactic(auto, unfolding(crate::specs::Receiver::due_of, crate::specs::Receiver::status_due, crate::specs::Receiver::after_status))]
+    pub fn pass(&mut self, now: u64, log: &mut ImageLog, turn: Turn)
+        requires due { turn.due ≡ due_of self.old log.old.rebuilt now }
+        requires after { turn.after ≡ receiver_after self.old log.old.rebuilt now }
         ensures after { self.new ≡ receiver_after self.old log.old.rebuilt now }
         ensures log { log.new ≡ record log.old { rebuilt = log_after self.old log.old.rebuilt now } }
     {
-        let moment = self.latest.max(now);
-        self.latest = moment;
-        let nak = self.nakker.on_tick(moment, log.gap());
-        let status = status_at(log, moment, self.interval);
-        Due { nak, status }
+        if turn.due.status.is_some() {
+            log.status_sent(self.latest.max(now));
+        }
+        *self = turn.after;
     }
 }

@@ -4,7 +4,7 @@ use crate::datagrams::{STREAM, cut, status};
 use crate::opening::opened;
 use frame_codec::{Flags, Nak};
 use policy_core::{Act, Decision, Verdict};
-use publication_sender::{Datagrams, NakAnswer, StatusAnswer, answer_nak, note_nak};
+use publication_sender::{Datagrams, NakAnswer, StatusAnswer, answer_nak};
 use retransmit_gate::Gate;
 use std::alloc::Global;
 use term_log::{Ident, Offer, TermLog};
@@ -120,9 +120,7 @@ fn ask<'a>(
             epoch: 1,
         },
     };
-    let answer = answer_nak(log, gate, now, &nak, &decision);
-    note_nak(log, gate, now, &nak, &decision);
-    answer
+    answer_nak(log, gate, now, &nak, &decision)
 }
 
 /// The first bytes of a frame, the byte that fills the rest, and how many bytes there are in all; none is no frame.

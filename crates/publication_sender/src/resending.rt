@@ -52,25 +52,26 @@ fn asked_at(ident: &Ident, nak: &Nak) -> u64
     )
 }
 
-/// What a NAK of the log's session and stream is answered that came at the moment `now`, in nanoseconds; `decision` is what
-/// the policy says of sending again to who asks. A NAK that is denied is not seen by the log's gate. Else the gate decides,
-/// of what is held within one term below the sender's position; where it grants, each frame that the NAK's range meets is
-/// sent again, whole. Nothing is changed: [`note_nak`] notes it in the gate.
+/// A NAK of the log's session and stream came at the moment `now`, in nanoseconds; `decision` is what the policy says of
+/// sending again to who asks. A NAK that is denied is not seen by the log's gate. Else the gate decides, of what is held
+/// within one term below the sender's position; where it grants, each frame that the NAK's range meets is sent again, whole,
+/// and lingers in the gate from then on.
 pub fn answer_nak<'a>(
     log: &'a TermLog,
-    gate: &Gate,
+    gate: &mut Gate,
     now: u64,
     nak: &Nak,
     decision: &Decision,
 ) -> NakAnswer<'a>
-    ensures { IsNakAnswer decision.now (answer_to gate.now (asking_of now log.now nak.now)) log.now nak.now result }
+    ensures answer { IsNakAnswer decision.now (answer_to gate.old (asking_of now log.now nak.now)) log.now nak.now result }
+    ensures gate { gate.new ≡ gate_after decision.now.verdict.allow gate.old (asking_of now log.now nak.now) }
 {
     if !decision.verdict.allow {
         return NakAnswer::Denied(*decision);
     }
     let ident = log.ident();
     let position = asked_at(&ident, nak);
-    match gate.answer_to(now, position, nak.length, &window_of(log)) {
+    match gate.on_nak(now, position, nak.length, window_of(log)) {
         Answer::Empty => NakAnswer::Empty,
         Answer::OutOfWindow => NakAnswer::OutOfWindow,
         Answer::Lingering => NakAnswer::Lingering,
@@ -79,15 +80,5 @@ pub fn answer_nak<'a>(
             let frames = log.frames_over(position, u64::from(nak.length.unsigned_abs()));
             NakAnswer::Resent(Datagrams::new(frames, ident.term_length, ident.mtu))
         }
-    }
-}
-
-/// The gate of a log sees a NAK that was answered: what is sent again lingers. It does not see one that was denied.
-pub fn note_nak(log: &TermLog, gate: &mut Gate, now: u64, nak: &Nak, decision: &Decision)
-    ensures { gate.new ≡ gate_after decision.now.verdict.allow gate.old (asking_of now log.now nak.now) }
-{
-    if decision.verdict.allow {
-        let position = asked_at(&log.ident(), nak);
-        let _answer = gate.on_nak(now, position, nak.length, window_of(log));
     }
 }

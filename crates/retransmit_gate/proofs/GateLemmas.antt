@@ -3,8 +3,7 @@ use Rattle.std.proofs.Common.{◌≡◌, ℕ, ◌<◌, ◌≤◌, ℤ, Bool, tru
 use Rattle.std.proofs.lemmas.List.Elements.{filter-append}
 use Rattle.std.proofs.lemmas.Bool.Decides.{nat_tests}
 use Rattle.std.proofs.lemmas.List.Sums.{count_by-le-length, length-filter}
-use Rattle.std.specs.List.{list_any}
-use Rattle.std.specs.Prelude.{filter, ◌&&◌, ◌||◌}
+use Rattle.std.specs.Prelude.{filter}
 use Rattle.std.specs.declared.ops.Range.{Range}
 use Rattle.retransmit_gate.specs.Gate.{Resends, lingers, lingering, answer_among, answer_of, after_nak, joined, kept_of}
 use Rattle.retransmit_gate.specs.declared.answer.Answer.{Answer}
@@ -16,16 +15,6 @@ use Rattle.retransmit_gate.specs.declared.resent.Resent.{Resent}
 pub room_left : {X : Type 0} (p : X → Bool) (xs : List X) (i n : ℕ) → i < length xs → length xs ≤ n → length (filter p (take i xs)) < n
 room_left p xs i n before within =
     omega (arith, length-filter p (take i xs), count_by-le-length p (take i xs), length-take-le i xs (omega arith))
-
--- a test of what another test keeps
-pub any_kept : {X : Type 0} (q p : X → Bool) (xs : List X) → list_any p (filter q xs) ≡ list_any (λ x. q x && p x) xs
-any_kept q p [] = refl
-any_kept q p (x ∷ xs) =
-    let rest = any_kept q p xs in
-    elim (q x) as (λ b. list_any p (cond b (x ∷ filter q xs) (filter q xs)) ≡ ((b && p x) || list_any (λ y. q y && p y) xs)) [
-      | true ↦ ap (λ b. p x || b) rest
-      | false ↦ rest
-    ]
 
 -- where as many are kept as there are, each is
 pub all_kept : {X : Type 0} (q : X → Bool) (xs : List X) → length xs ≤ length (filter q xs) → filter q xs ≡ xs

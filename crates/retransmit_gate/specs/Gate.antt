@@ -29,10 +29,6 @@ lingering linger moment list = filter (lingers linger moment) list
 abbrev pub meets : ℕ → ℕ → Resent → Bool
 meets start end resent = nat_lt (max start resent.start) (min end resent.end)
 
--- it lingers still, and meets the range
-abbrev pub meets_still : ℕ → ℕ → ℕ → ℕ → Resent → Bool
-meets_still linger moment start end resent = lingers linger moment resent && meets start end resent
-
 -- the range of that many positions lies within the window
 abbrev pub is_within : ℕ → ℕ → Range ℕ → Bool
 is_within position size window = nat_le window.start position && nat_le (position + size) window.end

@@ -1,10 +1,10 @@
 ghost use Rattle.std.specs.Prelude.{◌≡◌, ◌+◌, ◌^◌, ◌<◌, ◌≤◌, unsigned_abs, true};
 ghost use Rattle.std.specs.List.{list_any};
-ghost use Rattle.retransmit_gate.specs.Gate.{Resends, lingering, meets, meets_still, is_within, answer_among, answer_of, after_nak, joined, kept_of, opened};
+ghost use Rattle.retransmit_gate.specs.Gate.{Resends, lingering, meets, is_within, answer_among, answer_of, after_nak, joined, kept_of, opened};
 
 use crate::answer::Answer;
 use crate::moment::{is_past, later_of};
-use crate::resent::{ROOM, Resent, ResentList, count_lingering};
+use crate::resent::{Resent, ResentList};
 use std::marker::Model;
 use std::ops::Range;
 
@@ -41,49 +41,6 @@ fn meets_any(start: u64, end: u64, list: &[Resent]) -> bool
 {
     list.iter()
         .any(|resent| start.max(resent.start) < end.min(resent.end))
-}
-
-/// One of these lingers and meets the range from `start` to `end`.
-fn any_meets_still(linger: u64, moment: u64, start: u64, end: u64, list: &[Resent]) -> bool
-    ensures { result ≡ list_any (meets_still linger moment start end) list.now }
-{
-    list.iter().any(|resent| {
-        !is_past(moment, resent.moment, linger) && start.max(resent.start) < end.min(resent.end)
-    })
-}
-
-/// The range from `start` to `end` meets one of those that linger.
-fn meets_lingering(linger: u64, moment: u64, start: u64, end: u64, list: &[Resent]) -> bool
-    ensures { result ≡ list_any (meets start end) (lingering linger moment list.now) }
-{
-    any_meets_still(linger, moment, start, end, list)
-}
-
-/// The first that applies, where those of these ranges linger that do at a moment. They stay as they are.
-fn answer_over(
-    linger: u64,
-    moment: u64,
-    resent: &ResentList,
-    position: u64,
-    length: i32,
-    window: &Range<u64>,
-) -> Answer
-    ensures { result ≡ answer_among (lingering linger moment resent.now) position length window.now }
-{
-    if length <= 0 {
-        return Answer::Empty;
-    }
-    if !is_within(position, length.unsigned_abs(), window) {
-        return Answer::OutOfWindow;
-    }
-    let end = position + u64::from(length.unsigned_abs());
-    if meets_lingering(linger, moment, position, end, resent.as_slice()) {
-        return Answer::Lingering;
-    }
-    if count_lingering(linger, moment, resent.as_slice()) >= ROOM {
-        return Answer::Busy;
-    }
-    Answer::Resend
 }
 
 /// The first that applies, where these ranges linger.
@@ -155,16 +112,6 @@ impl Gate {
             latest: 0,
             resent: ResentList::new(),
         }
-    }
-
-    /// What a NAK is answered by [`Gate::on_nak`], which it does not see yet: nothing is changed.
-    #[tactic(auto, unfolding(crate::specs::Gate::answer_of))]
-    pub fn answer_to(&self, now: u64, position: u64, length: i32, window: &Range<u64>) -> Answer
-        ensures answer { result ≡ answer_of self.now now position length window.now }
-        ensures answer_of_all { (resends : Resends) → self.now ≡ kept_of resends → result ≡ answer_of resends now position length window.now }
-    {
-        let moment = later_of(self.latest, now);
-        answer_over(self.linger, moment, &self.resent, position, length, window)
     }
 
     /// Decides a NAK that came at the moment `now`, in nanoseconds, of `length` bytes from `position` on. `window` is

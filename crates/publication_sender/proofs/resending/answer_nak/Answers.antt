@@ -12,8 +12,8 @@ use Rattle.term_log.specs.declared.ranges.FramesOver.{FramesOver}
 use Rattle.term_log.specs.Log.{Log}
 use Rattle.term_log.specs.Ranges.{GivesOver, over_left}
 
-pub returns-in-Resend : goal.returns-in-Resend
-returns-in-Resend c =
+pub returns-in-Resend-clause-answer : goal.returns-in-Resend-clause-answer
+returns-in-Resend-clause-answer c =
     let l : Log = c.args.log.now in
     let nak : Nak = c.args.nak.now in
     let over : FramesOver = c.frames_over-frames.result in

@@ -13,6 +13,6 @@ datagrams_of-requires c = omega (arith, c.ident.ensures.terms.0)
 pub returns-clause-lies : goal.returns-clause-lies
 returns-clause-lies c =
     let r : Rebuilt = c.in-Image.log.rebuilt in
-    subst (λ (old : AnyLog). Lies old (Image c.tick.new.log)) (sym c.in-Image.is)
-    (image_lies c.in-Image.log c.tick.new.log (log_after c.args.receiver.now r c.args.now) c.tick.ensures.log
+    subst (λ (old : AnyLog). Lies old (Image c.pass.new.log)) (sym c.in-Image.is)
+    (image_lies c.in-Image.log c.pass.new.log (log_after c.args.receiver.now r c.args.now) c.pass.ensures.log
     (report_ident c.args.receiver.now r c.args.now))

@@ -12,7 +12,7 @@ pub returns : goal.returns
 returns c =
     rw (← c.look.ensures.same, ← c.self.view_is)
     (offer_served (record { driver = c.self.inside.driver; audits = c.self.inside.audits.audits; past = c.self.inside.past.past; seats = c.self.inside.seats.seats })
-    c.sit.new.self c.offer_read-told.new.self c.tell_client.new.self.audits c.args.view c.args.now c.args.client c.args.registration c.args.message.now c.in-Ok.look
-    c.offer_read-told.result.answer c.offer_read-told.result.decision (look_in _ c.args.self.now (Client c.args.client) c.args.view c.in-Ok.look (c.self.view_is ∙ c.look.ensures.same) c.in-Ok.ensures.ok)
-    (rw (← c.at-now.ensures, ← c.older.ensures) c.offer_read-told.ensures.reads)
-    (rw (← c.older.ensures) c.offer_read-told.ensures.decides) c.tell_client.ensures (rw (← c.at-now.ensures) c.sit.ensures))
+    c.sit.new.self c.offer-told.new.self c.tell_client.new.self.audits c.args.view c.args.now c.args.client c.args.registration c.args.message.now c.in-Ok.look
+    c.offer-told.result.answer c.offer-told.result.decision (look_in _ c.args.self.now (Client c.args.client) c.args.view c.in-Ok.look (c.self.view_is ∙ c.look.ensures.same) c.in-Ok.ensures.ok)
+    (rw (← c.at-now.ensures, ← c.older.ensures) c.offer-told.ensures.reads)
+    (rw (← c.older.ensures) c.offer-told.ensures.decides) c.tell_client.ensures (rw (← c.at-now.ensures) c.sit.ensures))

@@ -12,6 +12,6 @@ pub returns : goal.returns
 returns c =
     rw (← c.look.ensures.same, ← c.self.view_is)
     (report_served (record { driver = c.self.inside.driver; audits = c.self.inside.audits.audits; past = c.self.inside.past.past; seats = c.self.inside.seats.seats })
-    c.sit.new.self c.report_read-answer.new.self c.args.view c.args.now c.args.source c.in-Ok.look
-    c.report_read-answer.result (look_in _ c.args.self.now Receiver c.args.view c.in-Ok.look (c.self.view_is ∙ c.look.ensures.same) c.in-Ok.ensures.ok)
-    (rw (← c.at-now.ensures, ← c.older.ensures) c.report_read-answer.ensures) (rw (← c.at-now.ensures) c.sit.ensures))
+    c.sit.new.self c.report-answer.new.self c.args.view c.args.now c.args.source c.in-Ok.look
+    c.report-answer.result (look_in _ c.args.self.now Receiver c.args.view c.in-Ok.look (c.self.view_is ∙ c.look.ensures.same) c.in-Ok.ensures.ok)
+    (rw (← c.at-now.ensures, ← c.older.ensures) c.report-answer.ensures) (rw (← c.at-now.ensures) c.sit.ensures))

@@ -12,6 +12,6 @@ pub returns : goal.returns
 returns c =
     rw (← c.look.ensures.same, ← c.self.view_is)
     (send_served (record { driver = c.self.inside.driver; audits = c.self.inside.audits.audits; past = c.self.inside.past.past; seats = c.self.inside.seats.seats })
-    c.sit.new.self c.send_read-answer.new.self c.tell_sent.new.self.audits c.args.view c.args.now c.args.source c.in-Ok.look
-    c.send_read-answer.result (look_in _ c.args.self.now Sender c.args.view c.in-Ok.look (c.self.view_is ∙ c.look.ensures.same) c.in-Ok.ensures.ok)
-    (rw (← c.at-now.ensures, ← c.older.ensures) c.send_read-answer.ensures) c.tell_sent.ensures (rw (← c.at-now.ensures) c.sit.ensures))
+    c.sit.new.self c.send-answer.new.self c.tell_sent.new.self.audits c.args.view c.args.now c.args.source c.in-Ok.look
+    c.send-answer.result (look_in _ c.args.self.now Sender c.args.view c.in-Ok.look (c.self.view_is ∙ c.look.ensures.same) c.in-Ok.ensures.ok)
+    (rw (← c.at-now.ensures, ← c.older.ensures) c.send-answer.ensures) c.tell_sent.ensures (rw (← c.at-now.ensures) c.sit.ensures))

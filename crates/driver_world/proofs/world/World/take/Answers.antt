@@ -17,12 +17,12 @@ returns-in-Err c =
 pub returns : goal.returns
 returns c =
     let reader : c.reader_of-actor.result ≡ reader_of (packet_of c.args.bytes.now) = c.reader_of-actor.ensures (packet_of c.args.bytes.now) c.requires.reads in
-    let comes : ComesRead (shown_state c.in-Ok.look.older) c.self.inside.driver c.datagram_read.new.self c.at-now.result c.args.local.now c.args.from.now c.args.bytes.now (came.Told c.in-Told.told) =
-    subst (λ (came : Came). ComesRead (shown_state c.in-Ok.look.older) c.self.inside.driver c.datagram_read.new.self c.at-now.result c.args.local.now c.args.from.now c.args.bytes.now came) c.in-Told.is
-    (rw (← c.older.ensures) c.datagram_read.ensures) in
+    let comes : ComesRead (shown_state c.in-Ok.look.older) c.self.inside.driver c.datagram.new.self c.at-now.result c.args.local.now c.args.from.now c.args.bytes.now (came.Told c.in-Told.told) =
+    subst (λ (came : Came). ComesRead (shown_state c.in-Ok.look.older) c.self.inside.driver c.datagram.new.self c.at-now.result c.args.local.now c.args.from.now c.args.bytes.now came) c.in-Told.is
+    (rw (← c.older.ensures) c.datagram.ensures) in
     rw (← c.look.ensures.same, ← c.self.view_is)
     (packet_served (record { driver = c.self.inside.driver; audits = c.self.inside.audits.audits; past = c.self.inside.past.past; seats = c.self.inside.seats.seats })
-    c.sit.new.self c.datagram_read.new.self c.tell_sender.new.self.audits c.args.view c.args.now c.args.local.now c.args.from.now c.args.bytes.now c.in-Ok.look
+    c.sit.new.self c.datagram.new.self c.tell_sender.new.self.audits c.args.view c.args.now c.args.local.now c.args.from.now c.args.bytes.now c.in-Ok.look
     c.in-Told.told c.requires.looks
     (look_in _ c.args.self.now (reader_of (packet_of c.args.bytes.now)) c.args.view c.in-Ok.look (c.self.view_is ∙ c.look.ensures.same) (rw (← reader) c.in-Ok.ensures.ok))
     (rw (← c.at-now.ensures) comes) c.tell_sender.ensures (rw (← c.at-now.ensures, ← reader) c.sit.ensures))

@@ -1,7 +1,7 @@
 use Rattle.std.proofs.Common.{rules}
 use Rattle.driver_steps.proofs.CachingLemmas.{cached_at, cached_set}
 use Rattle.driver_steps.proofs.SeenLemmas.{offer_newest}
-use Rattle.driver_steps.proofs.driver.Driver.offer.Goals as goal
+use Rattle.driver_steps.proofs.driver.Driver.offer_newest.Goals as goal
 
 pub invariant_of-self : goal.invariant_of-self
 invariant_of-self c = (

@@ -1,7 +1,7 @@
 use Rattle.std.proofs.Common.{rules, ◌≡◌, Ok}
 use Rattle.driver_steps.specs.Packets.{IsOpenContent}
 use Rattle.driver_steps.proofs.RequestLemmas.{comes_told, read_as}
-use Rattle.driver_steps.proofs.driver.Driver.datagram.Goals as goal
+use Rattle.driver_steps.proofs.driver.Driver.datagram_newest.Goals as goal
 use Rattle.frame_codec.specs.Datagram.{content, packet_of}
 
 pub returns-in-Ok : goal.returns-in-Ok

@@ -5,7 +5,7 @@ use Rattle.driver_steps.specs.declared.step.Step.TheVariants.{Send}
 use Rattle.driver_steps.specs.Ends.{on_log}
 use Rattle.driver_steps.specs.Sending.{send_move}
 use Rattle.driver_steps.proofs.SeenLemmas.{step_newest}
-use Rattle.driver_steps.proofs.driver.Driver.send.Goals as goal
+use Rattle.driver_steps.proofs.driver.Driver.send_newest.Goals as goal
 
 pub invariant_of-self : goal.invariant_of-self
 invariant_of-self c = (c.send_by.ensures.kept.on c.self.inside.registry c.self.invariant.0, c.self.invariant.1)

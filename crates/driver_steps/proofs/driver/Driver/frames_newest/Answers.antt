@@ -1,5 +1,5 @@
 use Rattle.driver_steps.proofs.RequestLemmas.{frames_come}
-use Rattle.driver_steps.proofs.driver.Driver.frames.Goals as goal
+use Rattle.driver_steps.proofs.driver.Driver.frames_newest.Goals as goal
 use Rattle.frame_codec.specs.Frames.{frames_left}
 
 pub returns : goal.returns

@@ -6,7 +6,7 @@ use Rattle.driver_steps.specs.Ends.{on_log}
 use Rattle.driver_steps.specs.Moves.{poll_move}
 use Rattle.driver_steps.proofs.CachingLemmas.{cached_at, cached_set}
 use Rattle.driver_steps.proofs.SeenLemmas.{step_newest}
-use Rattle.driver_steps.proofs.driver.Driver.poll.Goals as goal
+use Rattle.driver_steps.proofs.driver.Driver.poll_newest.Goals as goal
 
 pub invariant_of-self : goal.invariant_of-self
 invariant_of-self c = (

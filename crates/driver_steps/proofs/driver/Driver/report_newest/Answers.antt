@@ -5,7 +5,7 @@ use Rattle.driver_steps.specs.declared.step.Step.TheVariants.{Image}
 use Rattle.driver_steps.specs.Ends.{on_report_by}
 use Rattle.driver_steps.proofs.ReportLemmas.{report_goes}
 use Rattle.driver_steps.proofs.SeenLemmas.{step_newest}
-use Rattle.driver_steps.proofs.driver.Driver.report.Goals as goal
+use Rattle.driver_steps.proofs.driver.Driver.report_newest.Goals as goal
 
 pub invariant_of-self : goal.invariant_of-self
 invariant_of-self c = (c.report_by.ensures.kept.on c.self.inside.registry c.self.invariant.0, c.self.invariant.1)
