@@ -1,5 +1,11 @@
 //! The words of the whole command line, and of `script`.
 
+ghost use Rattle.clap.specs.Words.{found_of, rows_of, subcommand_rows_of};
+ghost use Rattle.clap.specs.declared.parser.matches.Found.{Found};
+ghost use Rattle.command_words.specs.Needs.{Answers, HasText, all_needs};
+ghost use Rattle.command_words.specs.Tasks.{AreFound, IsTask, task_name, task_stream, task_texts};
+ghost use Rattle.std.specs.Prelude.{◌≡◌, ℕ, IfSome, List, Some, codes, is_some, true};
+
 use crate::message_words::{Messages, messages_in, with_messages};
 use crate::policy_words::{Asking, asking_in, with_policies};
 use crate::running_line::{self, Start};
@@ -178,13 +184,21 @@ pub fn command<'a>(alloc: Global) -> Result<Command<'a>, AllocError> {
     with(command, running_line::subscribe(alloc))
 }
 
-fn script_task<'m, 'a>(of: &'m ArgMatches<'a>) -> Option<Task<'m>> {
+fn script_task<'m, 'a>(of: &'m ArgMatches<'a>) -> Option<Task<'m>>
+    ensures name { IfSome result (λ task. task_name task ≡ codes "script") }
+    ensures given { IfSome result (λ task. AreFound (found_of of.now) (task_texts task) (task_stream task)) }
+    ensures answers { HasText (found_of of.now) (codes "FILE") → is_some result ≡ true }
+{
     let file = of.get_str("FILE")?;
     Some(Task::Script { file })
 }
 
 /// What the words of the subcommand ask for.
-fn subcommand_task<'m, 'a>(name: &str, of: &'m ArgMatches<'a>) -> Option<Task<'m>> {
+fn subcommand_task<'m, 'a>(name: &str, of: &'m ArgMatches<'a>) -> Option<Task<'m>>
+    ensures name { IfSome result (λ task. name.now ≡ task_name task) }
+    ensures given { IfSome result (λ task. AreFound (found_of of.now) (task_texts task) (task_stream task)) }
+    ensures answers { Answers (found_of of.now) name.now all_needs result }
+{
     if name == "script" {
         return script_task(of);
     }
@@ -198,7 +212,10 @@ fn subcommand_task<'m, 'a>(name: &str, of: &'m ArgMatches<'a>) -> Option<Task<'m
 }
 
 /// What the words ask for, once they were found to be of the form.
-pub fn task_in<'m, 'a>(matches: &'m ArgMatches<'a>) -> Option<Task<'m>> {
+pub fn task_in<'m, 'a>(matches: &'m ArgMatches<'a>) -> Option<Task<'m>>
+    ensures given { IfSome result (λ task. IsTask matches.now task) }
+    ensures answers { (name : List ℕ) (found : Found) → subcommand_rows_of matches.now ≡ Some (name, rows_of found) → Answers found name all_needs result }
+{
     let (name, of) = matches.subcommand()?;
     subcommand_task(name, of)
 }

@@ -3,6 +3,7 @@
 
 mod command_line;
 mod message_words;
+mod numbers;
 mod policy_words;
 mod running_line;
 

@@ -1,5 +1,10 @@
 //! The words that ask for bytes or words of a message: `encode` and `decode`.
 
+ghost use Rattle.clap.specs.Words.{found_of};
+ghost use Rattle.command_words.specs.Needs.{Answers, message_needs};
+ghost use Rattle.command_words.specs.Tasks.{AreFirst, messages_name, messages_texts};
+ghost use Rattle.std.specs.Prelude.{◌≡◌, IfSome};
+
 use crate::command_line::with;
 use clap::{Arg, ArgAction, ArgMatches, Command};
 use std::alloc::{AllocError, Global};
@@ -94,7 +99,11 @@ pub(crate) fn with_messages<'a>(
 }
 
 /// What the words of such a subcommand ask, if it is one.
-pub(crate) fn messages_in<'m, 'a>(name: &str, of: &'m ArgMatches<'a>) -> Option<Messages<'m>> {
+pub(crate) fn messages_in<'m, 'a>(name: &str, of: &'m ArgMatches<'a>) -> Option<Messages<'m>>
+    ensures name { IfSome result (λ messages. name.now ≡ messages_name messages) }
+    ensures given { IfSome result (λ messages. AreFirst (found_of of.now) (messages_texts messages)) }
+    ensures answers { Answers (found_of of.now) name.now message_needs result }
+{
     if name == "encode" {
         return Some(Messages::Encode(of.get_strs("WORD")?));
     }

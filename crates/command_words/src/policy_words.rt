@@ -1,6 +1,13 @@
 //! The words that ask what a policy says: `check`, `decide`, `show`, `explain`, `lint`, `test`, `table` and `diff`.
 
+ghost use Rattle.clap.specs.Words.{found_of};
+ghost use Rattle.command_words.specs.Needs.{Answers, HasAll, HasStream, HasText, ask_needs, word_needs};
+ghost use Rattle.command_words.specs.Tasks.{AreFound, asked_stream, asked_texts, asked_word, asking_texts, every_word, question_texts, word_name};
+ghost use Rattle.std.specs.List.{AllByRecursion};
+ghost use Rattle.std.specs.Prelude.{◌≡◌, ◌∷◌, [], IfSome, Some, codes, is_some, true};
+
 use crate::command_line::with;
+use crate::numbers::stream_in;
 use clap::{Arg, ArgAction, ArgMatches, Command, value_parser};
 use std::alloc::{AllocError, Global};
 
@@ -256,16 +263,22 @@ fn stream<'a>(alloc: Global) -> Arg<'a> {
         .help("On which stream, 0 to 2147483647; for a counter its type id")
 }
 
-fn decide<'a>(alloc: Global) -> Result<Command<'a>, AllocError> {
-    Command::new(alloc, "decide")
-        .about("Says what a policy decides of a question, and by which rule")
-        .after_help(DECIDE)
+/// The arguments of a question about a policy.
+fn with_question<'a>(alloc: Global, command: Command<'a>) -> Result<Command<'a>, AllocError> {
+    command
         .arg(policy_file(alloc))?
         .arg(principal(alloc))?
         .arg(act(alloc))?
         .arg(channel(alloc))?
         .arg(stream(alloc))?
         .arg(names_file(alloc))
+}
+
+fn decide<'a>(alloc: Global) -> Result<Command<'a>, AllocError> {
+    let command = Command::new(alloc, "decide")
+        .about("Says what a policy decides of a question, and by which rule")
+        .after_help(DECIDE);
+    with_question(alloc, command)
 }
 
 fn show<'a>(alloc: Global) -> Result<Command<'a>, AllocError> {
@@ -277,15 +290,10 @@ fn show<'a>(alloc: Global) -> Result<Command<'a>, AllocError> {
 }
 
 fn explain<'a>(alloc: Global) -> Result<Command<'a>, AllocError> {
-    Command::new(alloc, "explain")
+    let command = Command::new(alloc, "explain")
         .about("Says what a policy decides of a question, and why")
-        .after_help(EXPLAIN)
-        .arg(policy_file(alloc))?
-        .arg(principal(alloc))?
-        .arg(act(alloc))?
-        .arg(channel(alloc))?
-        .arg(stream(alloc))?
-        .arg(names_file(alloc))
+        .after_help(EXPLAIN);
+    with_question(alloc, command)
 }
 
 fn test<'a>(alloc: Global) -> Result<Command<'a>, AllocError> {
@@ -353,52 +361,80 @@ pub(crate) fn with_policies<'a>(
     with(command, diff(alloc))
 }
 
-fn question_in<'m, 'a>(of: &'m ArgMatches<'a>) -> Option<Question<'m>> {
+fn question_in<'m, 'a>(of: &'m ArgMatches<'a>) -> Option<Question<'m>>
+    ensures given { IfSome result (λ question. AreFound (found_of of.now) (question_texts question) (Some question.stream)) }
+    ensures answers { AllByRecursion (HasText (found_of of.now)) (codes "PRINCIPAL" ∷ codes "ACT" ∷ codes "CHANNEL" ∷ []) → HasStream (found_of of.now) (codes "STREAM") → is_some result ≡ true }
+{
     Some(Question {
         principal: of.get_str("PRINCIPAL")?,
         act: of.get_str("ACT")?,
         channel: of.get_str("CHANNEL")?,
-        stream: of.get_one::<i32>("STREAM")?,
+        stream: stream_in(of)?,
     })
 }
 
-fn listing_in<'m, 'a>(name: &str, of: &'m ArgMatches<'a>) -> Option<Asked<'m>> {
-    if name == "lint" {
-        let strict = of.get_flag("strict");
-        return Some(Asked::Lint { strict });
-    }
-    if name == "table" {
-        let principal = of.get_str("principal");
-        return Some(Asked::Table { principal });
-    }
-    if name == "diff" {
-        return Some(Asked::Diff(of.get_str("NEW")?));
-    }
-    None
+/// A subcommand that asks what a policy says.
+#[derive(Clone, Copy)]
+enum Word {
+    Check,
+    Decide,
+    Show,
+    Explain,
+    Lint,
+    Test,
+    Table,
+    Diff,
 }
 
-fn asked_in<'m, 'a>(name: &str, of: &'m ArgMatches<'a>) -> Option<Asked<'m>> {
-    if name == "check" {
-        return Some(Asked::Check);
+impl Word {
+    /// The subcommand of that name, if it is one of these.
+    fn named(name: &str) -> Option<Word>
+        ensures name { IfSome result (λ word. name.now ≡ word_name word) }
+        ensures answers { AllByRecursion (λ word. name.now ≡ word_name word → result ≡ Some word) every_word }
+    {
+        match name {
+            "check" => Some(Word::Check),
+            "decide" => Some(Word::Decide),
+            "show" => Some(Word::Show),
+            "explain" => Some(Word::Explain),
+            "lint" => Some(Word::Lint),
+            "test" => Some(Word::Test),
+            "table" => Some(Word::Table),
+            "diff" => Some(Word::Diff),
+            _ => None,
+        }
     }
-    if name == "show" {
-        return Some(Asked::Show);
-    }
-    if name == "decide" {
-        return Some(Asked::Decide(question_in(of)?));
-    }
-    if name == "explain" {
-        return Some(Asked::Explain(question_in(of)?));
-    }
-    if name == "test" {
-        return Some(Asked::Test(of.get_str("CASES")?));
-    }
-    listing_in(name, of)
+}
+
+/// What the words of such a subcommand ask.
+fn asked_in<'m, 'a>(word: Word, of: &'m ArgMatches<'a>) -> Option<Asked<'m>>
+    ensures word { IfSome result (λ asked. asked_word asked ≡ word) }
+    ensures given { IfSome result (λ asked. AreFound (found_of of.now) (asked_texts asked) (asked_stream asked)) }
+    ensures answers { HasAll (found_of of.now) (word_needs word) → is_some result ≡ true }
+{
+    Some(match word {
+        Word::Check => Asked::Check,
+        Word::Decide => Asked::Decide(question_in(of)?),
+        Word::Show => Asked::Show,
+        Word::Explain => Asked::Explain(question_in(of)?),
+        Word::Lint => Asked::Lint {
+            strict: of.get_flag("strict"),
+        },
+        Word::Test => Asked::Test(of.get_str("CASES")?),
+        Word::Table => Asked::Table {
+            principal: of.get_str("principal"),
+        },
+        Word::Diff => Asked::Diff(of.get_str("NEW")?),
+    })
 }
 
 /// What the words of such a subcommand ask, if it is one.
-pub(crate) fn asking_in<'m, 'a>(name: &str, of: &'m ArgMatches<'a>) -> Option<Asking<'m>> {
-    let asked = asked_in(name, of)?;
+pub(crate) fn asking_in<'m, 'a>(name: &str, of: &'m ArgMatches<'a>) -> Option<Asking<'m>>
+    ensures name { IfSome result (λ asking. name.now ≡ word_name (asked_word asking.asked)) }
+    ensures given { IfSome result (λ asking. AreFound (found_of of.now) (asking_texts asking) (asked_stream asking.asked)) }
+    ensures answers { Answers (found_of of.now) name.now ask_needs result }
+{
+    let asked = asked_in(Word::named(name)?, of)?;
     Some(Asking {
         policy: of.get_str("POLICY")?,
         names: of.get_str("names"),

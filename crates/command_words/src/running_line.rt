@@ -1,5 +1,11 @@
 //! The words of the subcommands that start a driver: `run`.
 
+ghost use Rattle.clap.specs.Words.{found_of};
+ghost use Rattle.command_words.specs.Needs.{Answers, HasAll, HasNumber, HasText, start_needs, talk_needs};
+ghost use Rattle.command_words.specs.Tasks.{AreFound, start_name, start_stream, start_texts, talk_texts};
+ghost use Rattle.std.specs.Prelude.{◌≡◌, ◌∷◌, [], IfSome, Some, codes, is_some, true};
+
+use crate::numbers::{number_in, stream_in};
 use clap::{Arg, ArgAction, ArgMatches, Command, value_parser};
 use message_lines::Cut;
 use std::alloc::{AllocError, Global};
@@ -301,54 +307,73 @@ pub(crate) fn subscribe<'a>(alloc: Global) -> Result<Command<'a>, AllocError> {
 }
 
 /// What `publish` and `subscribe` have in common.
-fn talk_in<'m, 'a>(of: &'m ArgMatches<'a>) -> Option<Talk<'m>> {
+fn talk_in<'m, 'a>(of: &'m ArgMatches<'a>) -> Option<Talk<'m>>
+    ensures given { IfSome result (λ talk. AreFound (found_of of.now) (talk_texts talk) (Some talk.stream)) }
+    ensures answers { HasAll (found_of of.now) (talk_needs []) → is_some result ≡ true }
+{
     Some(Talk {
         policy: of.get_str("policy")?,
         principal: of.get_str("as")?,
         settings: of.get_strs("setting").unwrap_or(&[]),
         peers: of.get_strs("peer").unwrap_or(&[]),
         channel: of.get_str("CHANNEL")?,
-        stream: of.get_one::<i32>("STREAM")?,
-        reload_every: of.get_one::<u64>("reload-every"),
+        stream: stream_in(of)?,
+        reload_every: number_in(of, "reload-every"),
         stats: of.get_flag("stats"),
     })
 }
 
 /// How `publish` cuts its input.
 fn cut_in(of: &ArgMatches<'_>) -> Cut {
-    match of.get_one::<u64>("bytes") {
+    match number_in(of, "bytes") {
         Some(length) => Cut::Pieces(length as usize),
         None => Cut::Lines,
     }
 }
 
-fn publish_in<'m, 'a>(of: &'m ArgMatches<'a>) -> Option<Start<'m>> {
+fn publish_in<'m, 'a>(of: &'m ArgMatches<'a>) -> Option<Start<'m>>
+    ensures name { IfSome result (λ start. start_name start ≡ codes "publish") }
+    ensures given { IfSome result (λ start. AreFound (found_of of.now) (start_texts start) (start_stream start)) }
+    ensures answers { HasAll (found_of of.now) (talk_needs (codes "wait" ∷ codes "linger" ∷ [])) → is_some result ≡ true }
+{
     Some(Start::Publish {
         talk: talk_in(of)?,
         by: cut_in(of),
-        wait: of.get_one::<u64>("wait")?,
-        linger: of.get_one::<u64>("linger")?,
+        wait: number_in(of, "wait")?,
+        linger: number_in(of, "linger")?,
     })
 }
 
-fn subscribe_in<'m, 'a>(of: &'m ArgMatches<'a>) -> Option<Start<'m>> {
+fn subscribe_in<'m, 'a>(of: &'m ArgMatches<'a>) -> Option<Start<'m>>
+    ensures name { IfSome result (λ start. start_name start ≡ codes "subscribe") }
+    ensures given { IfSome result (λ start. AreFound (found_of of.now) (start_texts start) (start_stream start)) }
+    ensures answers { HasAll (found_of of.now) (talk_needs []) → is_some result ≡ true }
+{
     Some(Start::Subscribe {
         talk: talk_in(of)?,
-        count: of.get_one::<u64>("count"),
+        count: number_in(of, "count"),
         raw: of.get_flag("raw"),
         until_gone: of.get_flag("until-gone"),
     })
 }
 
-fn run_in<'m, 'a>(of: &'m ArgMatches<'a>) -> Option<Start<'m>> {
+fn run_in<'m, 'a>(of: &'m ArgMatches<'a>) -> Option<Start<'m>>
+    ensures name { IfSome result (λ start. start_name start ≡ codes "run") }
+    ensures given { IfSome result (λ start. AreFound (found_of of.now) (start_texts start) (start_stream start)) }
+    ensures answers { HasText (found_of of.now) (codes "policy") → HasNumber (found_of of.now) (codes "turns") → is_some result ≡ true }
+{
     Some(Start::Run {
         policy: of.get_str("policy")?,
-        tries: of.get_one::<u64>("turns")?,
+        tries: number_in(of, "turns")?,
     })
 }
 
 /// What the words of a subcommand that starts a driver ask for, once they were found to be of the form.
-pub(crate) fn start_in<'m, 'a>(name: &str, of: &'m ArgMatches<'a>) -> Option<Start<'m>> {
+pub(crate) fn start_in<'m, 'a>(name: &str, of: &'m ArgMatches<'a>) -> Option<Start<'m>>
+    ensures name { IfSome result (λ start. name.now ≡ start_name start) }
+    ensures given { IfSome result (λ start. AreFound (found_of of.now) (start_texts start) (start_stream start)) }
+    ensures answers { Answers (found_of of.now) name.now start_needs result }
+{
     if name == "run" {
         return run_in(of);
     }

@@ -65,7 +65,7 @@ impl OpenLog {
     {
         OpenLog {
             source,
-            log: AnyLog::Term(TermLog::open_in(memory, lease, ident)),
+            log: AnyLog::Term(TermLog::open(memory, lease, ident)),
             recovery: Recovery::new(settings),
         }
     }
@@ -93,7 +93,7 @@ impl OpenLog {
         } }
         ensures stands { StandsFor result.log (rebuilt (heard_at now (image_opened ident join))) }
     {
-        let mut log = ImageLog::open_in(memory, lease, ident, join);
+        let mut log = ImageLog::open(memory, lease, ident, join);
         log.heard(now);
         OpenLog {
             source,

@@ -3,8 +3,8 @@
 //! `ImageLog::insert` says what becomes of a frame; `contiguous` and `gap` say how far the stream is whole and what is
 //! missing; `frames_from` lends what is whole to readers; frames below the term of the slowest subscription go.
 //! `poll_copies` is a poll. Contracts see a log as the lease that it has and a map from positions to frames whose ranges do
-//! not meet. But for `ImageLog::open` and `ImageRoom::new`, by which the memory of a log is taken beforehand, and for the
-//! copies of a poll, nothing here takes memory. Positions and frames are those of the Aeron Transport Protocol Specification.
+//! not meet. But for `ImageRoom::new`, by which the memory of a log is taken beforehand, and for the copies of a
+//! poll, nothing here takes memory. Positions and frames are those of the Aeron Transport Protocol Specification.
 #![tactic(auto)]
 
 mod handed;

@@ -1,4 +1,4 @@
-ghost use Rattle.std.specs.Prelude.{◌≡◌, ℕ, ◌+◌, ◌*◌, ◌%◌, ◌^◌, ◌<◌, ◌≤◌, insert, length, map, max, replicate, IfOk, IfErr, IfSome, OnErr, OnOk, Some};
+ghost use Rattle.std.specs.Prelude.{◌≡◌, ℕ, ◌+◌, ◌*◌, ◌%◌, ◌^◌, ◌<◌, ◌≤◌, insert, length, map, max, replicate, IfOk, IfSome, OnErr, OnOk, Some};
 ghost use Rattle.log_arena.specs.Lease.{lease_bytes, lease_len};
 ghost use Rattle.image_log.specs.Frame.{framed};
 ghost use Rattle.image_log.specs.Handed.{AreFor, IsFor, offset_of, span_of};
@@ -19,7 +19,7 @@ use crate::reading::{Frames, Run};
 use crate::room::ImageRoom;
 use crate::status::{self, LastStatus};
 use crate::store::Store;
-use log_arena::{Lease, NoMemory};
+use log_arena::Lease;
 use log_pairs::{FragmentCopies, Pair, Pairs, copy_passed};
 use std::alloc::{AllocError, Global};
 use std::marker::Model;
@@ -82,29 +82,9 @@ fn window_of(term_length: u32) -> u64
 }
 
 impl ImageLog {
-    /// A log without a frame, in a lease of three terms, all zeros. It joins at a position, below which nothing is kept. Room for the places of all frames that the lease can hold, and for 512 pairs, is taken here; no later
-    /// call takes memory. Without memory the lease comes back.
-    pub fn open(
-        alloc: Global,
-        lease: Lease,
-        ident: Ident,
-        join: u64,
-    ) -> Result<ImageLog, (Lease, NoMemory)>
-        requires terms { (65536 ≤ ident.term_length) × (ident.term_length ≤ 16777216) }
-        requires lease { lease_len lease ≡ 3 * ident.term_length }
-        requires zeros { lease_bytes lease ≡ replicate (3 * ident.term_length) 0 }
-        requires join { (join % 32 ≡ 0) × (join < ident.term_length * 2 ^ 31) }
-        ensures ok { IfOk result (λ l. l ≡ record { held = held_of lease; rebuilt = opened ident join }) }
-        ensures err { IfErr result (λ e. e.0 ≡ lease) }
-    {
-        match ImageRoom::new(alloc, lease.len()) {
-            Ok(room) => Ok(ImageLog::open_in(room, lease, ident, join)),
-            Err(refused) => Err((lease, refused)),
-        }
-    }
-
-    /// A log without a frame, in a lease of three terms, as [`ImageLog::open`] opens it, in memory that was taken before.
-    pub fn open_in(room: ImageRoom, lease: Lease, ident: Ident, join: u64) -> ImageLog
+    /// A log without a frame, in a lease of three terms, all zeros, and in memory that was taken before: no later call takes
+    /// any but the copies of a poll. It joins at a position, below which nothing is kept.
+    pub fn open(room: ImageRoom, lease: Lease, ident: Ident, join: u64) -> ImageLog
         requires room { room ≡ lease_len lease }
         requires terms { (65536 ≤ ident.term_length) × (ident.term_length ≤ 16777216) }
         requires lease { lease_len lease ≡ 3 * ident.term_length }

@@ -2,7 +2,7 @@ ghost use Rattle.std.specs.Prelude.{◌≡◌, [], IfOk};
 
 use crate::image_reading::{fill, gives, is_start, join, polls, read_to, reads};
 use crate::receiving::{beat_is_heard, is_answered_in_time};
-use crate::shuffling::{agree, go_on, hand_in, hand_in_cell, open, open_later};
+use crate::shuffling::{agree, go_on, hand_in, hand_in_cell, open};
 use crate::table::{Cell, Table};
 use image_log::{Ident, ImageLog, Insert};
 use log_arena::NoRoom;
@@ -25,8 +25,6 @@ enum Opening {
     /// Subscription 4 from 0 on, and 9 from 64 on; 128 is whole.
     Two,
     /// At 64.
-    Behind,
-    /// At 64, in memory that was taken before.
     Later,
 }
 
@@ -440,15 +438,14 @@ static PLAYS: [Play; 19] = [
     (Opening::One, &READ_TERMS_GO, Some(65_536)),
     (Opening::Nobody, &FRAME_COMES_BACK, Some(64)),
     (Opening::Later, &LATER_LOG, Some(64)),
-    (Opening::Behind, &GAP_GOES_ON, None),
+    (Opening::Later, &GAP_GOES_ON, None),
 ];
 
 fn opened(alloc: Global, opening: Opening) -> Result<ImageLog, NoRoom>
     ensures { IfOk result (λ log. log.rebuilt.pairs ≡ []) }
 {
     match opening {
-        Opening::Behind => open(alloc, STREAM, 64),
-        Opening::Later => open_later(alloc, STREAM, 64),
+        Opening::Later => open(alloc, STREAM, 64),
         _ => open(alloc, STREAM, 0),
     }
 }

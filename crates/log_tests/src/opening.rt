@@ -4,7 +4,7 @@ ghost use Rattle.term_log.specs.Ident.{IsIdent};
 
 use log_arena::{Arena, NoRoom};
 use std::alloc::Global;
-use term_log::{Ident, TermLog};
+use term_log::{Ident, LogRoom, TermLog};
 
 /// A log without frames, in a lease of this arena. `NoRoom` where there is no room for its terms or its pairs.
 fn open(alloc: Global, arena: &mut Arena, ident: Ident) -> Result<TermLog, NoRoom>
@@ -15,11 +15,11 @@ fn open(alloc: Global, arena: &mut Arena, ident: Ident) -> Result<TermLog, NoRoo
     ensures sent { IfOk result (λ log. log.sender.position ≡ ident.start) }
     ensures pairs { IfOk result (λ log. log.pairs ≡ []) }
 {
+    let Ok(room) = LogRoom::new(alloc) else {
+        return Err(NoRoom);
+    };
     let lease = arena.lease(3 * ident.term_length as usize)?;
-    match TermLog::open(alloc, lease, ident) {
-        Ok(log) => Ok(log),
-        Err(_) => Err(NoRoom),
-    }
+    Ok(TermLog::open(room, lease, ident))
 }
 
 /// A log without frames, in an arena of its own, which its lease outlives.

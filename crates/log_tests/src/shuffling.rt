@@ -41,16 +41,14 @@ fn place_of(ident: &Ident, position: u64) -> Option<TermPlace> {
 }
 
 // A log in a lease of this arena.
-fn open_in(alloc: Global, arena: &mut Arena, ident: Ident, join: u64) -> Result<ImageLog, NoRoom>
+fn open_in(room: ImageRoom, arena: &mut Arena, ident: Ident, join: u64) -> Result<ImageLog, NoRoom>
+    requires room { room ≡ 196608 }
     requires terms { ident.term_length ≡ 65536 }
     requires join { (join % 32 ≡ 0) × (join < 65536) }
     ensures pairs { IfOk result (λ log. log.rebuilt.pairs ≡ []) }
 {
-    let lease = arena.lease(196_608)?;
-    match ImageLog::open(alloc, lease, ident, join) {
-        Ok(log) => Ok(log),
-        Err(_) => Err(NoRoom),
-    }
+    let lease = arena.lease(3 * ident.term_length as usize)?;
+    Ok(ImageLog::open(room, lease, ident, join))
 }
 
 /// A log of three terms of 64 KiB, in an arena of its own, which its lease outlives. `NoRoom` where there is no memory.
@@ -59,39 +57,11 @@ pub(crate) fn open(alloc: Global, ident: Ident, join: u64) -> Result<ImageLog, N
     requires join { (join % 32 ≡ 0) × (join < 65536) }
     ensures pairs { IfOk result (λ log. log.rebuilt.pairs ≡ []) }
 {
-    match Arena::new(alloc, 48) {
-        Ok(mut arena) => open_in(alloc, &mut arena, ident, join),
-        Err(_) => Err(NoRoom),
-    }
-}
-
-// As `open_in`, in memory that was taken before.
-fn open_in_room(
-    room: ImageRoom,
-    arena: &mut Arena,
-    ident: Ident,
-    join: u64,
-) -> Result<ImageLog, NoRoom>
-    requires room { room ≡ 196608 }
-    requires terms { ident.term_length ≡ 65536 }
-    requires join { (join % 32 ≡ 0) × (join < 65536) }
-    ensures pairs { IfOk result (λ log. log.rebuilt.pairs ≡ []) }
-{
-    let lease = arena.lease(196_608)?;
-    Ok(ImageLog::open_in(room, lease, ident, join))
-}
-
-/// As [`open`], with all memory taken first.
-pub(crate) fn open_later(alloc: Global, ident: Ident, join: u64) -> Result<ImageLog, NoRoom>
-    requires terms { ident.term_length ≡ 65536 }
-    requires join { (join % 32 ≡ 0) × (join < 65536) }
-    ensures pairs { IfOk result (λ log. log.rebuilt.pairs ≡ []) }
-{
     let Ok(room) = ImageRoom::new(alloc, 196_608) else {
         return Err(NoRoom);
     };
     match Arena::new(alloc, 48) {
-        Ok(mut arena) => open_in_room(room, &mut arena, ident, join),
+        Ok(mut arena) => open_in(room, &mut arena, ident, join),
         Err(_) => Err(NoRoom),
     }
 }

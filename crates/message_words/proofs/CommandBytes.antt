@@ -62,8 +62,8 @@ command_is_bytes command sound fits =
     IsBytes-append _ _ (IsBytes-append _ _ (IsBytes-append _ _ (number_is_bytes 4 (kind_number (kind_in command.body)))
     (number_is_bytes 8 command.client)) (number_is_bytes 8 command.correlation)) (fields_are_bytes command.body sound.body fits)
 
-pub command_told : (command : Command) → IsCommand command → HasBytes command.body
+pub command_decoded : (command : Command) → IsCommand command → HasBytes command.body
     → decoded readings.Command (message_hex (messages.Command command)) ≡ Ok (ended (command_line command))
 unfolding message_hex message_bytes bytes_said
-command_told command sound fits =
+command_decoded command sound fits =
     rw (bytes_back (body_widths command.body) (command_bytes command) (command_is_bytes command sound fits), command_again command sound) refl

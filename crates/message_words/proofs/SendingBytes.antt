@@ -112,31 +112,31 @@ setup_line_is setup sound = rw (sound.no_flags, sound.no_ttl) (append-nil _ ∙ 
 
 -- ---- what is said of the bytes
 
-told_from : (sending : Sending) (content : Content) → IsSending sending → packet_of (sending_bytes sending) ≡ Ok content
+decoded_from : (sending : Sending) (content : Content) → IsSending sending → packet_of (sending_bytes sending) ≡ Ok content
     → content_lines content ≡ ended (message_line (messages.Datagram sending))
     → decoded readings.Datagram (message_hex (messages.Datagram sending)) ≡ Ok (ended (message_line (messages.Datagram sending)))
 unfolding message_hex message_bytes bytes_said
-told_from sending content sound read line =
+decoded_from sending content sound read line =
     rw (bytes_back (sending_widths sending) (sending_bytes sending) (sending_is_bytes sending sound), read, line) refl
 
-pub sending_told : (sending : Sending) → IsSending sending
+pub sending_decoded : (sending : Sending) → IsSending sending
     → decoded readings.Datagram (message_hex (messages.Datagram sending)) ≡ Ok (ended (message_line (messages.Datagram sending)))
 unfolding sending_bytes content_lines
-sending_told (sendings.Data fields) sound =
-    told_from (sendings.Data fields) _ sound
+sending_decoded (sendings.Data fields) sound =
+    decoded_from (sendings.Data fields) _ sound
     (ap packet_of (sym (append-nil (data_bytes fields.flags fields.place fields.payload))) ∙ frames_again (part fields.flags fields.place fields.payload) [] sound.1 tt)
     (ap ended (data_line fields))
-sending_told (sendings.Pad fields) sound =
-    told_from (sendings.Pad fields) _ sound
+sending_decoded (sendings.Pad fields) sound =
+    decoded_from (sendings.Pad fields) _ sound
     (ap packet_of (sym (append-nil (pad_bytes fields.flags fields.place fields.size))) ∙ frames_again (padding fields.flags fields.place fields.size) [] sound.1 tt)
     (ap ended (pad_line fields))
-sending_told (sendings.Heartbeat fields) sound =
-    told_from (sendings.Heartbeat fields) _ sound (beat_again fields.flags fields.place sound.1) (ap ended (heartbeat_line fields))
-sending_told (sendings.Nak nak) sound =
-    told_from (sendings.Nak nak) (contents.nak nak) sound (ap packet_of (sym (append-nil (nak_bytes nak))) ∙ nak_again nak [] sound) (ap ended (nak_line_is nak sound))
-sending_told (sendings.StatusMessage message) sound =
-    told_from (sendings.StatusMessage message) (contents.status message) sound
+sending_decoded (sendings.Heartbeat fields) sound =
+    decoded_from (sendings.Heartbeat fields) _ sound (beat_again fields.flags fields.place sound.1) (ap ended (heartbeat_line fields))
+sending_decoded (sendings.Nak nak) sound =
+    decoded_from (sendings.Nak nak) (contents.nak nak) sound (ap packet_of (sym (append-nil (nak_bytes nak))) ∙ nak_again nak [] sound) (ap ended (nak_line_is nak sound))
+sending_decoded (sendings.StatusMessage message) sound =
+    decoded_from (sendings.StatusMessage message) (contents.status message) sound
     (ap packet_of (sym (append-nil (status_bytes message))) ∙ status_again message [] sound) (ap ended (status_line_is message sound))
-sending_told (sendings.Setup setup) sound =
-    told_from (sendings.Setup setup) (contents.setup setup) sound
+sending_decoded (sendings.Setup setup) sound =
+    decoded_from (sendings.Setup setup) (contents.setup setup) sound
     (ap packet_of (sym (append-nil (setup_bytes setup))) ∙ setup_again setup [] sound) (ap ended (setup_line_is setup sound))

@@ -89,6 +89,6 @@ reading_of (messages.Command command) = readings.Command
 reading_of (messages.Datagram sending) = readings.Datagram
 
 -- `decode` of what `encode` gives of a message is the line of words that denote that message
-pub record IsToldAgain (message : Message) : Type 0 where
+pub record IsDecoded (message : Message) : Type 0 where
   pub line : decoded (reading_of message) (message_hex message) ≡ Ok (ended (message_line message))
   pub words : message_of (message_words message) ≡ Ok message

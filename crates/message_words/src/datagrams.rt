@@ -32,19 +32,20 @@ fn place_shown(alloc: Global, place: &TermPlace) -> Result<Text, AllocError>
     )?))
 }
 
-/// The line of a frame, with the text of what stands after its place.
+/// The line of a frame, with the texts of the fields after its place and of what no word gives.
 #[tactic(auto, unfolding(crate::specs::Datagrams::placed_line))]
 fn placed(
     alloc: Global,
     name: FrameName,
     place: &TermPlace,
     rest: &Text,
+    unnamed: &Text,
 ) -> Result<Text, AllocError>
-    ensures { IfOk result (λ line. line ≡ placed_line name place.now rest.now) }
+    ensures { IfOk result (λ line. line ≡ placed_line name place.now rest.now ++ unnamed.now) }
 {
     let name = name.text();
     let place = place_shown(alloc, place)?;
-    Ok(Text::from(format!(in alloc; "{name}{place}{rest}")?))
+    Ok(Text::from(format!(in alloc; "{name}{place}{rest}{unnamed}")?))
 }
 
 /// Flags that no word gives, where there are some.
@@ -86,12 +87,12 @@ fn data_rest(alloc: Global, flags: Flags, payload: &[u8]) -> Result<Text, AllocE
     Ok(Text::from(format!(in alloc; " flags={flags} payload={payload}")?))
 }
 
-/// A data frame without its reserved value.
-fn data_shown(alloc: Global, header: &Header, payload: &[u8]) -> Result<Text, AllocError>
-    ensures { IfOk result (λ shown. shown ≡ placed_line names.Data header.now.place (fields_text (data_rest header.now.flags payload.now))) }
+fn data_line(alloc: Global, header: &Header, payload: &[u8]) -> Result<Text, AllocError>
+    ensures { IfOk result (λ line. line ≡ placed_line names.Data header.now.place (fields_text (data_rest header.now.flags payload.now)) ++ reserved_text header.now.reserved_value) }
 {
     let rest = data_rest(alloc, header.flags, payload)?;
-    placed(alloc, FrameName::Data, &header.place, &rest)
+    let reserved = reserved_text(alloc, header.reserved_value)?;
+    placed(alloc, FrameName::Data, &header.place, &rest, &reserved)
 }
 
 fn pad_rest(alloc: Global, flags: Flags, length: u32) -> Result<Text, AllocError>
@@ -101,38 +102,21 @@ fn pad_rest(alloc: Global, flags: Flags, length: u32) -> Result<Text, AllocError
     Ok(Text::from(format!(in alloc; " flags={flags} length={length}")?))
 }
 
-/// A pad without its reserved value.
-fn pad_shown(alloc: Global, header: &Header) -> Result<Text, AllocError>
-    ensures { IfOk result (λ shown. shown ≡ placed_line names.Pad header.now.place (fields_text (pad_rest header.now.flags header.now.length))) }
+fn pad_line(alloc: Global, header: &Header) -> Result<Text, AllocError>
+    ensures { IfOk result (λ line. line ≡ placed_line names.Pad header.now.place (fields_text (pad_rest header.now.flags header.now.length)) ++ reserved_text header.now.reserved_value) }
 {
     let rest = pad_rest(alloc, header.flags, header.length)?;
-    placed(alloc, FrameName::Pad, &header.place, &rest)
-}
-
-fn beat_rest(alloc: Global, flags: Flags) -> Result<Text, AllocError>
-    ensures { IfOk result (λ rest. rest ≡ fields_text (beat_rest flags)) }
-{
-    let flags = hex_of(alloc, &[flags.bits])?;
-    Ok(Text::from(format!(in alloc; " flags={flags}")?))
-}
-
-/// A heartbeat without its reserved value.
-fn beat_shown(alloc: Global, header: &Header) -> Result<Text, AllocError>
-    ensures { IfOk result (λ shown. shown ≡ placed_line names.Heartbeat header.now.place (fields_text (beat_rest header.now.flags))) }
-{
-    let rest = beat_rest(alloc, header.flags)?;
-    placed(alloc, FrameName::Heartbeat, &header.place, &rest)
+    let reserved = reserved_text(alloc, header.reserved_value)?;
+    placed(alloc, FrameName::Pad, &header.place, &rest, &reserved)
 }
 
 fn frame_line(alloc: Global, frame: &Frame<'_>) -> Result<Text, AllocError>
     ensures { IfOk result (λ line. line ≡ frame_line (sent frame.now)) }
 {
-    let reserved = reserved_text(alloc, frame.header.reserved_value)?;
-    let shown = match frame.header.kind {
-        Kind::Data => data_shown(alloc, &frame.header, frame.payload())?,
-        Kind::Pad => pad_shown(alloc, &frame.header)?,
-    };
-    Ok(Text::from(format!(in alloc; "{shown}{reserved}")?))
+    match frame.header.kind {
+        Kind::Data => data_line(alloc, &frame.header, frame.payload()),
+        Kind::Pad => pad_line(alloc, &frame.header),
+    }
 }
 
 fn push_line(alloc: Global, out: &mut String, frame: &Frame<'_>) -> Result<(), AllocError>
@@ -153,12 +137,19 @@ fn frame_lines(alloc: Global, frames: Frames<'_>) -> Result<Text, AllocError>
     Ok(Text::from(out))
 }
 
-fn beat_line(alloc: Global, header: &Header) -> Result<Text, AllocError>
-    ensures { IfOk result (λ line. line ≡ ended (beat_line header.now)) }
+fn beat_rest(alloc: Global, flags: Flags) -> Result<Text, AllocError>
+    ensures { IfOk result (λ rest. rest ≡ fields_text (beat_rest flags)) }
 {
-    let shown = beat_shown(alloc, header)?;
+    let flags = hex_of(alloc, &[flags.bits])?;
+    Ok(Text::from(format!(in alloc; " flags={flags}")?))
+}
+
+fn beat_line(alloc: Global, header: &Header) -> Result<Text, AllocError>
+    ensures { IfOk result (λ line. line ≡ beat_line header.now) }
+{
+    let rest = beat_rest(alloc, header.flags)?;
     let reserved = reserved_text(alloc, header.reserved_value)?;
-    Ok(Text::from(format!(in alloc; "{shown}{reserved}\n")?))
+    placed(alloc, FrameName::Heartbeat, &header.place, &rest, &reserved)
 }
 
 fn nak_rest(alloc: Global, nak: &Nak) -> Result<Text, AllocError>
@@ -168,26 +159,18 @@ fn nak_rest(alloc: Global, nak: &Nak) -> Result<Text, AllocError>
     Ok(Text::from(format!(in alloc; " length={length}")?))
 }
 
-/// A NAK without its flags.
-fn nak_shown(alloc: Global, nak: &Nak) -> Result<Text, AllocError>
-    ensures { IfOk result (λ shown. shown ≡ placed_line names.Nak (nak_place nak.now) (fields_text (nak_rest nak.now))) }
+fn nak_line(alloc: Global, nak: &Nak) -> Result<Text, AllocError>
+    ensures { IfOk result (λ line. line ≡ nak_line nak.now) }
 {
     let rest = nak_rest(alloc, nak)?;
+    let flags = flags_text(alloc, nak.flags)?;
     let place = TermPlace {
         session_id: nak.session_id,
         stream_id: nak.stream_id,
         term_id: nak.term_id,
         term_offset: nak.term_offset,
     };
-    placed(alloc, FrameName::Nak, &place, &rest)
-}
-
-fn nak_line(alloc: Global, nak: &Nak) -> Result<Text, AllocError>
-    ensures { IfOk result (λ line. line ≡ ended (nak_line nak.now)) }
-{
-    let shown = nak_shown(alloc, nak)?;
-    let flags = flags_text(alloc, nak.flags)?;
-    Ok(Text::from(format!(in alloc; "{shown}{flags}\n")?))
+    placed(alloc, FrameName::Nak, &place, &rest, &flags)
 }
 
 fn status_rest(alloc: Global, message: &StatusMessage) -> Result<Text, AllocError>
@@ -198,26 +181,18 @@ fn status_rest(alloc: Global, message: &StatusMessage) -> Result<Text, AllocErro
     Ok(Text::from(format!(in alloc; " window={window} receiver={receiver}")?))
 }
 
-/// A status message without its flags.
-fn status_shown(alloc: Global, message: &StatusMessage) -> Result<Text, AllocError>
-    ensures { IfOk result (λ shown. shown ≡ placed_line names.StatusMessage (status_place message.now) (fields_text (status_rest message.now))) }
+fn status_line(alloc: Global, message: &StatusMessage) -> Result<Text, AllocError>
+    ensures { IfOk result (λ line. line ≡ status_line message.now) }
 {
     let rest = status_rest(alloc, message)?;
+    let flags = flags_text(alloc, message.flags)?;
     let place = TermPlace {
         session_id: message.session_id,
         stream_id: message.stream_id,
         term_id: message.consumption_term_id,
         term_offset: message.consumption_term_offset,
     };
-    placed(alloc, FrameName::StatusMessage, &place, &rest)
-}
-
-fn status_line(alloc: Global, message: &StatusMessage) -> Result<Text, AllocError>
-    ensures { IfOk result (λ line. line ≡ ended (status_line message.now)) }
-{
-    let shown = status_shown(alloc, message)?;
-    let flags = flags_text(alloc, message.flags)?;
-    Ok(Text::from(format!(in alloc; "{shown}{flags}\n")?))
+    placed(alloc, FrameName::StatusMessage, &place, &rest, &flags)
 }
 
 fn setup_rest(alloc: Global, setup: &Setup) -> Result<Text, AllocError>
@@ -229,27 +204,34 @@ fn setup_rest(alloc: Global, setup: &Setup) -> Result<Text, AllocError>
     Ok(Text::from(format!(in alloc; " initial-term={initial} term-length={length} mtu={mtu}")?))
 }
 
-/// A SETUP without its flags and its TTL.
-fn setup_shown(alloc: Global, setup: &Setup) -> Result<Text, AllocError>
-    ensures { IfOk result (λ shown. shown ≡ placed_line names.Setup (setup_place setup.now) (fields_text (setup_rest setup.now))) }
+/// The flags and the TTL of a SETUP.
+fn setup_unnamed(alloc: Global, setup: &Setup) -> Result<Text, AllocError>
+    ensures { IfOk result (λ text. text ≡ flags_text setup.now.flags ++ ttl_text setup.now.ttl) }
+{
+    let flags = flags_text(alloc, setup.flags)?;
+    let ttl = ttl_text(alloc, setup.ttl)?;
+    Ok(Text::from(format!(in alloc; "{flags}{ttl}")?))
+}
+
+fn setup_line(alloc: Global, setup: &Setup) -> Result<Text, AllocError>
+    ensures { IfOk result (λ line. line ≡ setup_line setup.now) }
 {
     let rest = setup_rest(alloc, setup)?;
+    let unnamed = setup_unnamed(alloc, setup)?;
     let place = TermPlace {
         session_id: setup.session_id,
         stream_id: setup.stream_id,
         term_id: setup.active_term_id,
         term_offset: setup.term_offset,
     };
-    placed(alloc, FrameName::Setup, &place, &rest)
+    placed(alloc, FrameName::Setup, &place, &rest, &unnamed)
 }
 
-fn setup_line(alloc: Global, setup: &Setup) -> Result<Text, AllocError>
-    ensures { IfOk result (λ line. line ≡ ended (setup_line setup.now)) }
+/// The line with a line feed after it.
+fn ended(alloc: Global, line: &Text) -> Result<Text, AllocError>
+    ensures { IfOk result (λ text. text ≡ ended line.now) }
 {
-    let shown = setup_shown(alloc, setup)?;
-    let flags = flags_text(alloc, setup.flags)?;
-    let ttl = ttl_text(alloc, setup.ttl)?;
-    Ok(Text::from(format!(in alloc; "{shown}{flags}{ttl}\n")?))
+    Ok(Text::from(format!(in alloc; "{line}\n")?))
 }
 
 /// The lines of a datagram, a line a frame, each ended by a line feed.
@@ -259,9 +241,9 @@ pub fn datagram_lines(alloc: Global, packet: Packet<'_>) -> Result<Text, AllocEr
 {
     match packet {
         Packet::Data(frames) => frame_lines(alloc, frames),
-        Packet::Beat(header) => beat_line(alloc, &header),
-        Packet::Nak(nak) => nak_line(alloc, &nak),
-        Packet::Sm(message) => status_line(alloc, &message),
-        Packet::Setup(setup) => setup_line(alloc, &setup),
+        Packet::Beat(header) => ended(alloc, &beat_line(alloc, &header)?),
+        Packet::Nak(nak) => ended(alloc, &nak_line(alloc, &nak)?),
+        Packet::Sm(message) => ended(alloc, &status_line(alloc, &message)?),
+        Packet::Setup(setup) => ended(alloc, &setup_line(alloc, &setup)?),
     }
 }

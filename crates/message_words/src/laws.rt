@@ -1,6 +1,6 @@
 //! What holds of all commands and datagrams in words: each function does nothing, and its clause is the law.
 
-ghost use Rattle.message_words.specs.Laws.{IsMessage, IsToldAgain, message_words};
+ghost use Rattle.message_words.specs.Laws.{IsMessage, IsDecoded, message_words};
 ghost use Rattle.message_words.specs.Message.{message_of};
 ghost use Rattle.message_words.specs.declared.message.Message.{Message};
 ghost use Rattle.std.specs.Prelude.{◌≡◌, List, Ok, ℕ};
@@ -20,6 +20,6 @@ pub fn words_denote_their_message()
 
 /// Of what `encode` gives for words, `decode` names the same fields: its answer is the line that a shell reads as words
 /// which denote the same command or datagram.
-pub fn what_is_encoded_is_told_again()
-    ensures { (words : List (List ℕ)) (message : Message) → message_of words ≡ Ok message → IsToldAgain message }
+pub fn what_is_encoded_is_decoded()
+    ensures { (words : List (List ℕ)) (message : Message) → message_of words ≡ Ok message → IsDecoded message }
 {}

@@ -23,7 +23,7 @@ pub use fault::WordFault;
 pub use frames::{Beat, DataFrame, Pad, Sending};
 pub use key::Key;
 pub use laws::{
-    what_is_encoded_is_told_again, words_denote_sound_messages, words_denote_their_message,
+    what_is_encoded_is_decoded, words_denote_sound_messages, words_denote_their_message,
 };
 pub use message::{Message, encode};
 pub use name::{CommandName, FrameName, Name};

@@ -10,7 +10,6 @@ mod examples;
 mod lines;
 mod pairs;
 mod patterns;
-mod pieces;
 mod reach;
 mod requests;
 mod sharing;

@@ -1,14 +1,13 @@
 //! What two patterns have to do with each other.
 
-ghost use Rattle.channel_uri.specs.Pattern.{front_of, pattern_of};
+ghost use Rattle.channel_uri.specs.Pattern.{pattern_of};
 ghost use Rattle.channel_uri.specs.Pieces.{pieces_in};
 ghost use Rattle.policy_diff.specs.Patterns.{key_passes, passes_from, patterns_pass, value_passes};
-ghost use Rattle.policy_tools.specs.Wider.{all_keys, value_wider};
-ghost use Rattle.std.specs.List.{starts_with};
-ghost use Rattle.std.specs.Prelude.{◌≡◌, Ok, nat_eq, option_copied};
+ghost use Rattle.policy_tools.specs.Wider.{all_keys};
+ghost use Rattle.std.specs.Prelude.{◌≡◌, Ok, option_copied};
 
-use crate::pieces::{first_piece, key_of, pairs_in};
 use channel_uri::{Keys, Pattern};
+use policy_tools::{first_piece, key_of, pairs_in, value_wider};
 
 /// What is asked of two patterns.
 #[derive(Clone, Copy, Debug, PartialEq, Eq)]
@@ -17,36 +16,6 @@ pub(crate) enum Relation {
     Meets,
     /// Whether the first covers each channel that the second covers.
     Covers,
-}
-
-/// What stands before a final `*`.
-fn front_of(wanted: &str) -> Option<&str>
-    ensures { option_copied result ≡ front_of wanted.now }
-{
-    wanted.strip_suffix("*")
-}
-
-/// Whether the text begins with that front.
-fn begins_with(text: &str, front: &str) -> bool
-    ensures { result ≡ starts_with nat_eq text.now front.now }
-{
-    text.starts_with(front)
-}
-
-/// Whether each value that fits the narrow one also fits the wide one.
-pub(crate) fn value_wider(wide: &str, narrow: &str) -> bool
-    ensures { result ≡ value_wider wide.now narrow.now }
-{
-    if wide == narrow {
-        return true;
-    }
-    let Some(front) = front_of(wide) else {
-        return false;
-    };
-    match front_of(narrow) {
-        Some(other) => begins_with(other, front),
-        None => begins_with(narrow, front),
-    }
 }
 
 /// Whether so it is of the values of a key.

@@ -3,9 +3,8 @@
 ghost use Rattle.channel_uri.specs.Pattern.{pattern_of};
 ghost use Rattle.std.specs.Prelude.{◌≡◌, Ok};
 
-use crate::patterns::value_wider;
-use crate::pieces::{key_of, pairs_in};
 use channel_uri::{Channel, Keys, Media, Pattern};
+use policy_tools::{key_of, pairs_in, value_wider};
 use std::alloc::{AllocError, Global};
 
 /// What may stand after the beginning of a value so that it is one; an address, mostly.

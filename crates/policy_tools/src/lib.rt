@@ -1,5 +1,6 @@
 //! What can be asked of a policy before it is put in force: which rule has which number, why it decides as it does,
-//! whether it keeps the answers that are wanted, and when one pattern covers all that another does.
+//! whether it keeps the answers that are wanted, and when one pattern covers all that another does, which
+//! is found by the pieces of their texts.
 #![tactic(auto)]
 
 mod case_lines;
@@ -21,5 +22,5 @@ pub use explaining::{ChannelMiss, Explanation, Miss, channel_miss, explain, miss
 pub use reasons::explained;
 pub use showing::show;
 pub use source::Source;
-pub use wider::is_wider;
+pub use wider::{first_piece, is_wider, key_of, pairs_in, value_wider};
 pub use words::{acts_text, plain, principals_text, streams_text, word_of};

@@ -22,7 +22,7 @@ pub(crate) fn begins_with(text: &str, front: &str) -> bool
 }
 
 /// Whether each value that fits the narrow one also fits the wide one.
-fn value_wider(wide: &str, narrow: &str) -> bool
+pub fn value_wider(wide: &str, narrow: &str) -> bool
     ensures { result ≡ value_wider wide.now narrow.now }
 {
     if wide == narrow {
@@ -58,7 +58,7 @@ fn key_wider(wide: &Keys, narrow: &Keys, key: &str) -> bool
 }
 
 /// The key of a piece of a pattern's text.
-pub(crate) fn key_of(piece: &str) -> &str
+pub fn key_of(piece: &str) -> &str
     ensures { result.now ≡ key_of piece.now }
 {
     match piece.split_once('=') {
@@ -68,7 +68,7 @@ pub(crate) fn key_of(piece: &str) -> &str
 }
 
 /// The first piece, and the text after its `|`, where there is one.
-pub(crate) fn first_piece(text: &str) -> (&str, Option<&str>)
+pub fn first_piece(text: &str) -> (&str, Option<&str>)
     ensures { (result.0.now, option_copied result.1) ≡ first_piece text.now }
 {
     match text.split_once('|') {
@@ -88,7 +88,7 @@ fn after_mark(text: &str) -> Option<&str>
 }
 
 /// The text of the pairs of a pattern's text, where there is a `?`.
-pub(crate) fn pairs_in(text: &str) -> Option<&str>
+pub fn pairs_in(text: &str) -> Option<&str>
     ensures { option_copied result ≡ pairs_in text.now }
 {
     match text.strip_prefix("aeron:") {

@@ -4,8 +4,8 @@
 //! [`TermLog::offer`] appends a message, cut into frames, or a pad to the end of a term. [`TermLog::frames_from`] and
 //! [`TermLog::frames_over`] lend frames that are held. Contracts say of which lists of frames a log stands for all
 //! (`StandsFor`), and of which whole logs (`Stands`). [`TermLog::poll_copies`] is a poll. [`TermLog::status`] and the calls
-//! after it say how far a sender may send, and when what is due. But for [`TermLog::open`] and [`LogRoom::new`], by which the
-//! memory of a log is taken beforehand, and for the copies of a poll, nothing here takes memory.
+//! after it say how far a sender may send, and when what is due. But for [`LogRoom::new`], by which the memory of a log is
+//! taken beforehand, and for the copies of a poll, nothing here takes memory.
 #![tactic(auto)]
 
 mod appender;

@@ -2,7 +2,7 @@
 
 ghost use Rattle.log_arena.specs.Lease.{lease_bytes, lease_home, lease_len, lease_place};
 ghost use Rattle.log_pairs.specs.Pairs.{ReadsUpTo, is_other, moved_one, position_of};
-ghost use Rattle.std.specs.Prelude.{◌≡◌, ◌+◌, ◌*◌, ◌/◌, ◌%◌, ◌^◌, ◌<◌, ◌≤◌, ◌++◌, ◌∷◌, [], All, IfErr, IfOk, IfSome, OnErr, OnOk, List, length, map, min, filter, replicate, true};
+ghost use Rattle.std.specs.Prelude.{◌≡◌, ◌+◌, ◌*◌, ◌/◌, ◌%◌, ◌^◌, ◌<◌, ◌≤◌, ◌++◌, ◌∷◌, [], All, IfOk, IfSome, OnErr, OnOk, List, length, map, min, filter, replicate, true};
 ghost use Rattle.term_log.specs.Frames.{Frame};
 ghost use Rattle.term_log.specs.Ident.{IsIdent};
 ghost use Rattle.term_log.specs.Kept.{StandsFor, after_frames, opened};
@@ -24,7 +24,7 @@ use crate::room::LogRoom;
 use crate::sender::Sender;
 use crate::status::Status;
 use frame_codec::Header;
-use log_arena::{Lease, NoMemory};
+use log_arena::Lease;
 use log_pairs::{FragmentCopies, Pair, Pairs};
 use std::alloc::{AllocError, Global};
 use std::marker::Model;
@@ -56,28 +56,9 @@ impl Model for TermLog {
 }
 
 impl TermLog {
-    /// A log without frames, in a fresh lease of three terms. Room for 512 pairs is reserved here; no later call takes
-    /// memory.
-    ///
-    /// # Errors
-    /// The lease and `NoMemory` where there was no memory.
-    pub fn open(alloc: Global, lease: Lease, ident: Ident) -> Result<TermLog, (Lease, NoMemory)>
-        requires ident { IsIdent ident }
-        requires len { lease_len lease ≡ 3 * ident.term_length }
-        requires zeros { lease_bytes lease ≡ replicate (3 * ident.term_length) 0 }
-        ensures opened { IfOk result (λ log. log ≡ record { kept = opened lease ident; pairs = []; sender = sending ident.start }) }
-        ensures stands { IfOk result (λ log. StandsFor log.kept []) }
-        ensures whole { IfOk result (λ log. Stands log (fresh ident)) }
-        ensures err { IfErr result (λ refused. refused.0 ≡ lease) }
-    {
-        match LogRoom::new(alloc) {
-            Ok(room) => Ok(TermLog::open_in(room, lease, ident)),
-            Err(refused) => Err((lease, refused)),
-        }
-    }
-
-    /// A log without frames, in a fresh lease of three terms, as [`TermLog::open`] opens it, in memory that was taken before.
-    pub fn open_in(room: LogRoom, lease: Lease, ident: Ident) -> TermLog
+    /// A log without frames, in a lease of three terms, all zeros, and in memory that was taken before, that for 512 pairs: no
+    /// later call takes any but the copies of a poll.
+    pub fn open(room: LogRoom, lease: Lease, ident: Ident) -> TermLog
         requires ident { IsIdent ident }
         requires len { lease_len lease ≡ 3 * ident.term_length }
         requires zeros { lease_bytes lease ≡ replicate (3 * ident.term_length) 0 }

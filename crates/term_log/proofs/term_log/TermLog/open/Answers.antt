@@ -3,7 +3,7 @@ use Rattle.term_log.specs.Kept.{Kept, StandsFor}
 use Rattle.term_log.specs.Log.{Log}
 use Rattle.term_log.proofs.Standing.{fresh_stands}
 use Rattle.term_log.proofs.Stands.{opened_stands}
-use Rattle.term_log.proofs.term_log.TermLog.open_in.Goals as goal
+use Rattle.term_log.proofs.term_log.TermLog.open.Goals as goal
 
 pub returns-clause-stands : goal.returns-clause-stands
 returns-clause-stands c =

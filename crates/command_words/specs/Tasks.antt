@@ -1,0 +1,142 @@
+-- The task that the words of the command line ask for: its subcommand, and the values of its arguments, as clap found them.
+use Rattle.std.specs.Prelude.{◌≡◌, ◌++◌, ℕ, ℤ, List, [], ◌∷◌, Option, Some, None, codes, option_copied}
+use Rattle.std.specs.List.{AllByRecursion}
+use Rattle.std.specs.Str.Parse.{signed_digits_value}
+use Rattle.clap.specs.Words.{first_value, one_text, rows_of, subcommand_rows_of}
+use Rattle.clap.specs.declared.parser.matches.ArgMatches.{ArgMatches}
+use Rattle.clap.specs.declared.parser.matches.Found.{Found}
+use Rattle.command_words.specs.declared.command_line.Task.{Task}
+use Rattle.command_words.specs.declared.command_line.Task.TheVariants as tasks
+use Rattle.command_words.specs.declared.message_words.Messages.{Messages}
+use Rattle.command_words.specs.declared.message_words.Messages.TheVariants as messages
+use Rattle.command_words.specs.declared.policy_words.Asked.{Asked}
+use Rattle.command_words.specs.declared.policy_words.Asked.TheVariants as asks
+use Rattle.command_words.specs.declared.policy_words.Asking.{Asking}
+use Rattle.command_words.specs.declared.policy_words.Question.{Question}
+use Rattle.command_words.specs.declared.policy_words.Word.{Word}
+use Rattle.command_words.specs.declared.policy_words.Word.TheVariants as words
+use Rattle.command_words.specs.declared.running_line.Start.{Start}
+use Rattle.command_words.specs.declared.running_line.Start.TheVariants as starts
+use Rattle.command_words.specs.declared.running_line.Talk.{Talk}
+
+-- an argument's id, and its first value, where it has one
+abbrev pub Texts : Type 0
+Texts = List (List ℕ × Option (List ℕ))
+
+-- ---- the texts and the stream of a task
+
+abbrev pub question_texts : Question → Texts
+question_texts question =
+    (codes "PRINCIPAL", Some question.principal.now) ∷ (codes "ACT", Some question.act.now)
+    ∷ (codes "CHANNEL", Some question.channel.now) ∷ []
+
+abbrev pub asked_texts : Asked → Texts
+asked_texts asks.Check = []
+asked_texts asks.Show = []
+asked_texts (asks.Decide question) = question_texts question
+asked_texts (asks.Explain question) = question_texts question
+asked_texts (asks.Lint strict) = []
+asked_texts (asks.Test cases) = (codes "CASES", Some cases.now) ∷ []
+asked_texts (asks.Table principal) = (codes "principal", option_copied principal) ∷ []
+asked_texts (asks.Diff new) = (codes "NEW", Some new.now) ∷ []
+
+abbrev pub asking_texts : Asking → Texts
+asking_texts asking =
+    (codes "POLICY", Some asking.policy.now) ∷ (codes "names", option_copied asking.names) ∷ asked_texts asking.asked
+
+abbrev pub messages_texts : Messages → Texts
+messages_texts (messages.Encode words) = []
+messages_texts (messages.Decode kind hex) = (codes "KIND", Some kind.now) ∷ (codes "HEX", Some hex.now) ∷ []
+
+abbrev pub talk_texts : Talk → Texts
+talk_texts talk =
+    (codes "policy", Some talk.policy.now) ∷ (codes "as", Some talk.principal.now) ∷ (codes "CHANNEL", Some talk.channel.now) ∷ []
+
+abbrev pub start_texts : Start → Texts
+start_texts (starts.Run policy tries) = (codes "policy", Some policy.now) ∷ []
+start_texts (starts.Publish talk by wait linger) = talk_texts talk
+start_texts (starts.Subscribe talk count raw until_gone) = talk_texts talk
+
+abbrev pub task_texts : Task → Texts
+task_texts (tasks.Ask asking) = asking_texts asking
+task_texts (tasks.Script file) = (codes "FILE", Some file.now) ∷ []
+task_texts (tasks.Messages messages) = messages_texts messages
+task_texts (tasks.Start start) = start_texts start
+
+abbrev pub asked_stream : Asked → Option ℤ
+asked_stream (asks.Decide question) = Some question.stream
+asked_stream (asks.Explain question) = Some question.stream
+asked_stream _ = None
+
+abbrev pub start_stream : Start → Option ℤ
+start_stream (starts.Run policy tries) = None
+start_stream (starts.Publish talk by wait linger) = Some talk.stream
+start_stream (starts.Subscribe talk count raw until_gone) = Some talk.stream
+
+abbrev pub task_stream : Task → Option ℤ
+task_stream (tasks.Ask asking) = asked_stream asking.asked
+task_stream (tasks.Start start) = start_stream start
+task_stream _ = None
+
+-- ---- the name of its subcommand
+
+abbrev pub word_name : Word → List ℕ
+word_name words.Check = codes "check"
+word_name words.Decide = codes "decide"
+word_name words.Show = codes "show"
+word_name words.Explain = codes "explain"
+word_name words.Lint = codes "lint"
+word_name words.Test = codes "test"
+word_name words.Table = codes "table"
+word_name words.Diff = codes "diff"
+
+abbrev pub every_word : List Word
+every_word =
+    words.Check ∷ words.Decide ∷ words.Show ∷ words.Explain ∷ words.Lint ∷ words.Test ∷ words.Table ∷ words.Diff ∷ []
+
+abbrev pub asked_word : Asked → Word
+asked_word asks.Check = words.Check
+asked_word asks.Show = words.Show
+asked_word (asks.Decide question) = words.Decide
+asked_word (asks.Explain question) = words.Explain
+asked_word (asks.Lint strict) = words.Lint
+asked_word (asks.Test cases) = words.Test
+asked_word (asks.Table principal) = words.Table
+asked_word (asks.Diff new) = words.Diff
+
+abbrev pub messages_name : Messages → List ℕ
+messages_name (messages.Encode words) = codes "encode"
+messages_name (messages.Decode kind hex) = codes "decode"
+
+abbrev pub start_name : Start → List ℕ
+start_name (starts.Run policy tries) = codes "run"
+start_name (starts.Publish talk by wait linger) = codes "publish"
+start_name (starts.Subscribe talk count raw until_gone) = codes "subscribe"
+
+abbrev pub task_name : Task → List ℕ
+task_name (tasks.Ask asking) = word_name (asked_word asking.asked)
+task_name (tasks.Script file) = codes "script"
+task_name (tasks.Messages messages) = messages_name messages
+task_name (tasks.Start start) = start_name start
+
+-- ---- what clap found
+
+-- each text is the first value of its argument
+abbrev pub AreFirst : Found → Texts → Type 0
+AreFirst found texts = AllByRecursion (λ text. first_value found text.0 ≡ text.1) texts
+
+-- the stream is the number that the first value of `STREAM` writes
+abbrev pub IsStream : Found → Option ℤ → Type 0
+IsStream found None = Unit {0}
+IsStream found (Some stream) = (text : List ℕ) → one_text found (codes "STREAM") ≡ Some text → stream ≡ signed_digits_value 10 text
+
+-- texts and stream are those that were found
+pub record AreFound (found : Found) (texts : Texts) (stream : Option ℤ) : Type 0 where
+  pub first : AreFirst found texts
+  pub number : IsStream found stream
+
+-- the subcommand that was entered is the task's, and its texts and its stream are those that were found
+pub record IsTask (matches : ArgMatches) (task : Task) : Type 0 where
+  pub found : Found
+  pub entered : subcommand_rows_of matches ≡ Some (task_name task, rows_of found)
+  pub given : AreFound found (task_texts task) (task_stream task)

@@ -1,6 +1,0 @@
-use Rattle.std.proofs.Common.{codes}
-use Rattle.channel_uri.proofs.EndingLemmas.{before_end-stripped}
-use Rattle.policy_diff.proofs.patterns.front_of.Goals as goal
-
-pub returns : goal.returns
-returns c = before_end-stripped (codes "*") c.args.wanted.now c.strip_suffix.result c.strip_suffix.ensures.cases
