@@ -1,6 +1,7 @@
+ghost use Rattle.std.specs.Prelude.{◌≡◌, true};
+ghost use Rattle.std.specs.String.{string_bytes};
+
 use byte_strings::Text;
-use std::alloc::{AllocError, Global};
-use std::fmt;
 
 /// What is answered.
 #[derive(Debug, Drop)]
@@ -13,17 +14,12 @@ pub struct Answer {
 
 impl Answer {
     /// A text that answers a question of which nothing was to hold.
-    pub(crate) fn of(text: String) -> Answer {
+    pub(crate) fn of(text: String) -> Answer
+        ensures { result ≡ record { text = string_bytes text; is_well = true } }
+    {
         Answer {
             text: Text::from(text),
             is_well: true,
         }
-    }
-
-    /// A line that answers such a question.
-    pub(crate) fn line<T: fmt::Display>(alloc: Global, shown: &T) -> Result<Answer, AllocError> {
-        let mut text = shown.to_string(alloc)?;
-        text.push_str("\n")?;
-        Ok(Answer::of(text))
     }
 }

@@ -1,3 +1,6 @@
+ghost use Rattle.policy_answers.specs.declared.fault.AskFault.TheVariants as faults;
+ghost use Rattle.std.specs.Prelude.{◌≡◌};
+
 use channel_uri::UriError;
 use policy_query::DecideFault;
 use policy_text::PolicyFault;
@@ -29,30 +32,40 @@ pub enum AskFault {
 }
 
 impl From<PolicyFault> for AskFault {
+    ghost from_gives = { λ fault made. made ≡ faults.Policy fault };
+
     fn from(fault: PolicyFault) -> AskFault {
         AskFault::Policy(fault)
     }
 }
 
 impl From<DecideFault> for AskFault {
+    ghost from_gives = { λ fault made. made ≡ faults.Decide fault };
+
     fn from(fault: DecideFault) -> AskFault {
         AskFault::Decide(fault)
     }
 }
 
 impl From<CasesFault> for AskFault {
+    ghost from_gives = { λ fault made. made ≡ faults.Cases fault };
+
     fn from(fault: CasesFault) -> AskFault {
         AskFault::Cases(fault)
     }
 }
 
 impl From<AllocError> for AskFault {
+    ghost from_gives = { λ _ made. made ≡ faults.NoMemory };
+
     fn from(_error: AllocError) -> AskFault {
         AskFault::NoMemory
     }
 }
 
 impl<T: Drop> From<AllocFailed<T>> for AskFault {
+    ghost from_gives = { λ _ made. made ≡ faults.NoMemory };
+
     fn from(_error: AllocFailed<T>) -> AskFault {
         AskFault::NoMemory
     }

@@ -1,5 +1,8 @@
 //! The rules of a policy, and who may do what under it.
 
+ghost use Rattle.policy_answers.specs.Answers.{list_well, table_well};
+ghost use Rattle.policy_answers.specs.Fault.{Gives};
+
 use crate::answer::Answer;
 use crate::fault::AskFault;
 use policy_table::{table, table_of, table_text};
@@ -10,7 +13,9 @@ use std::alloc::Global;
 ///
 /// # Errors
 /// The first fault of the policy.
-pub fn show(alloc: Global, policy: &[u8], directory: &Directory) -> Result<Answer, AskFault> {
+pub fn show(alloc: Global, policy: &[u8], directory: &Directory) -> Result<Answer, AskFault>
+    ensures { Gives (λ answer. answer.is_well) result (list_well directory.now policy.now) }
+{
     let source = Source::read(alloc, policy, directory.names())?;
     Ok(Answer::of(policy_tools::show(alloc, &source, directory)?))
 }
@@ -19,11 +24,9 @@ pub fn show(alloc: Global, policy: &[u8], directory: &Directory) -> Result<Answe
 ///
 /// # Errors
 /// The first fault of the policy.
-pub fn table_of_all(
-    alloc: Global,
-    policy: &[u8],
-    directory: &Directory,
-) -> Result<Answer, AskFault> {
+pub fn table_of_all(alloc: Global, policy: &[u8], directory: &Directory) -> Result<Answer, AskFault>
+    ensures { Gives (λ answer. answer.is_well) result (list_well directory.now policy.now) }
+{
     let source = Source::read(alloc, policy, directory.names())?;
     let blocks = table(alloc, source.policy())?;
     Ok(Answer::of(table_text(alloc, &source, blocks.as_slice(), directory)?))
@@ -38,11 +41,13 @@ pub fn table_of_one(
     policy: &[u8],
     directory: &Directory,
     principal: &str,
-) -> Result<Answer, AskFault> {
+) -> Result<Answer, AskFault>
+    ensures { Gives (λ answer. answer.is_well) result (table_well directory.now policy.now principal.now) }
+{
     let source = Source::read(alloc, policy, directory.names())?;
-    let Some(number) = directory.number_of(principal) else {
-        return Err(AskFault::UnknownPrincipal);
-    };
+    let number = directory
+        .number_of(principal)
+        .ok_or(AskFault::UnknownPrincipal)?;
     let blocks = table_of(alloc, source.policy(), number)?;
     Ok(Answer::of(table_text(alloc, &source, blocks.as_slice(), directory)?))
 }

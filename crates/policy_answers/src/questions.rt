@@ -1,5 +1,10 @@
 //! How many rules a policy has, what it decides of a question, and why.
 
+ghost use Rattle.policy_answers.specs.Answers.{check_answer, decide_answer, explain_well};
+ghost use Rattle.policy_answers.specs.Asked.{channel_of};
+ghost use Rattle.policy_answers.specs.Fault.{Gives};
+ghost use Rattle.std.specs.Prelude.{◌≡◌, IfOk, true};
+
 use crate::answer::Answer;
 use crate::fault::AskFault;
 use channel_uri::Channel;
@@ -12,9 +17,11 @@ use std::alloc::{AllocError, Global};
 ///
 /// # Errors
 /// The first fault of the policy.
-pub fn check(alloc: Global, policy: &[u8], directory: &Directory) -> Result<Answer, AskFault> {
+pub fn check(alloc: Global, policy: &[u8], directory: &Directory) -> Result<Answer, AskFault>
+    ensures { Gives (λ answer. answer) result (check_answer directory.now policy.now) }
+{
     let checked = policy_query::check(alloc, policy, directory.names())?;
-    Ok(Answer::line(alloc, &checked)?)
+    Ok(Answer::of(format!(in alloc; "{checked}\n")?))
 }
 
 /// What the policy, as policy 1, decides of a question, by names of a principal and an act, a channel's text and a stream:
@@ -30,30 +37,19 @@ pub fn decide(
     act: &str,
     channel: &str,
     stream: i32,
-) -> Result<Answer, AskFault> {
+) -> Result<Answer, AskFault>
+    ensures { Gives (λ answer. answer) result (decide_answer directory.now policy.now principal.now act.now channel.now stream) }
+{
     let names = directory.names();
     let verdict = policy_query::decide(alloc, policy, names, principal, act, channel, stream)?;
-    Ok(Answer::line(alloc, &verdict)?)
-}
-
-/// The number of the principal of this name.
-fn principal_of(name: &str, directory: &Directory) -> Result<u32, DecideFault> {
-    match directory.number_of(name) {
-        Some(principal) => Ok(principal),
-        None => Err(DecideFault::UnknownPrincipal),
-    }
-}
-
-/// The act of this name.
-fn act_of(name: &str) -> Result<Act, DecideFault> {
-    match Act::from_name(name) {
-        Some(act) => Ok(act),
-        None => Err(DecideFault::UnknownAct),
-    }
+    Ok(Answer::of(format!(in alloc; "{verdict}\n")?))
 }
 
 /// The channel that a word is.
-fn channel_of(word: &str) -> Result<Channel, AskFault> {
+#[tactic(auto, unfolding(crate::specs::Asked::channel_of))]
+fn channel_of(word: &str) -> Result<Channel, AskFault>
+    ensures { Gives (λ channel. channel) result (channel_of word.now) }
+{
     if word == "aeron:counter" {
         return Ok(Channel::counter());
     }
@@ -68,7 +64,9 @@ fn explain_request(
     alloc: Global,
     source: &Source,
     request: &Request<'_>,
-) -> Result<Answer, AllocError> {
+) -> Result<Answer, AllocError>
+    ensures { IfOk result (λ answer. answer.is_well ≡ true) }
+{
     let found = policy_tools::explain(alloc, source.policy(), request)?;
     Ok(Answer::of(explained(alloc, source, request.channel, &found)?))
 }
@@ -85,10 +83,14 @@ pub fn explain(
     act: &str,
     channel: &str,
     stream: i32,
-) -> Result<Answer, AskFault> {
+) -> Result<Answer, AskFault>
+    ensures { Gives (λ answer. answer.is_well) result (explain_well directory.now policy.now principal.now act.now channel.now) }
+{
     let source = Source::read(alloc, policy, directory.names())?;
-    let principal = principal_of(principal, directory)?;
-    let act = act_of(act)?;
+    let principal = directory
+        .number_of(principal)
+        .ok_or(AskFault::Decide(DecideFault::UnknownPrincipal))?;
+    let act = Act::from_name(act).ok_or(AskFault::Decide(DecideFault::UnknownAct))?;
     let channel = channel_of(channel)?;
     let request = Request {
         principal,

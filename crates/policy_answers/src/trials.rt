@@ -1,11 +1,23 @@
 //! What is wrong with a policy, whether it gives the answers that are wanted, and what another one would change.
 
+ghost use Rattle.policy_answers.specs.Answers.{DecideAlike, IsTried, compare_well};
+ghost use Rattle.policy_answers.specs.Fault.{Fails, Gives};
+ghost use Rattle.policy_answers.specs.declared.answer.Answer.{Answer};
+ghost use Rattle.policy_answers.specs.declared.fault.AskFault.TheVariants as faults;
+ghost use Rattle.policy_core.specs.RuleList.{Rules};
+ghost use Rattle.policy_query.specs.Deciding.{policy_in};
+ghost use Rattle.policy_text.specs.declared.fault.PolicyFault.{PolicyFault};
+ghost use Rattle.policy_tools.specs.Cases.{passes};
+ghost use Rattle.std.specs.List.{list_all};
+ghost use Rattle.std.specs.Prelude.{◌≡◌, Err, IfErr, IfOk, Ok, false, is_ok, true};
+
 use crate::answer::Answer;
 use crate::fault::AskFault;
 use byte_strings::Text;
+use policy_core::Policy;
 use policy_diff::{diff_text, differences};
 use policy_lint::lint;
-use policy_tools::{Directory, Failure, Report, Source, cases_in};
+use policy_tools::{Case, Directory, Failure, Report, Source, cases_in};
 use std::alloc::{AllocError, Global};
 
 /// What is wrong with a file as a policy, and what is likely not meant. It is well where there is no fault and, under
@@ -19,7 +31,11 @@ pub fn find_faults(
     directory: &Directory,
     path: &str,
     strict: bool,
-) -> Result<Answer, AskFault> {
+) -> Result<Answer, AskFault>
+    ensures sound { IfOk result (λ answer. answer.is_well ≡ true → is_ok (policy_in directory.now policy.now) ≡ true) }
+    ensures exact { IfOk result (λ answer. strict ≡ false → answer.is_well ≡ is_ok (policy_in directory.now policy.now)) }
+    ensures err { IfErr result (λ fault. fault ≡ faults.NoMemory) }
+{
     let report = lint(alloc, policy, directory.names())?;
     Ok(Answer {
         text: report.text(alloc, path)?,
@@ -46,6 +62,17 @@ fn report_text(alloc: Global, report: &Report) -> Result<String, AllocError> {
     Ok(text)
 }
 
+/// Asks the policy the questions of cases.
+fn tried(alloc: Global, policy: &Policy, cases: &[Case]) -> Result<Answer, AllocError>
+    ensures { IfOk result (λ answer. answer.is_well ≡ list_all (passes policy.now) cases.now) }
+{
+    let report = Report::of(alloc, policy, cases)?;
+    Ok(Answer {
+        text: Text::from(report_text(alloc, &report)?),
+        is_well: report.failures.is_empty(),
+    })
+}
+
 /// Asks the policy the questions of a file of cases. It is well where each case has the answer that it wants.
 ///
 /// # Errors
@@ -55,14 +82,13 @@ pub fn try_cases(
     policy: &[u8],
     directory: &Directory,
     cases: &[u8],
-) -> Result<Answer, AskFault> {
+) -> Result<Answer, AskFault>
+    ensures well { IfOk result (λ answer. IsTried directory.now policy.now answer) }
+    ensures refused { (fault : PolicyFault) → policy_in directory.now policy.now ≡ Err fault → IfErr result (λ found. Fails {M = Answer} found (Err (faults.Policy fault))) }
+{
     let source = Source::read(alloc, policy, directory.names())?;
     let cases = cases_in(alloc, cases, directory)?;
-    let report = Report::of(alloc, source.policy(), cases.as_slice())?;
-    Ok(Answer {
-        text: Text::from(report_text(alloc, &report)?),
-        is_well: report.failures.is_empty(),
-    })
+    Ok(tried(alloc, source.policy(), cases.as_slice())?)
 }
 
 /// What would be decided otherwise if the new policy took the old one's place. It is well where nothing would.
@@ -74,7 +100,10 @@ pub fn compare(
     old: &[u8],
     new: &[u8],
     directory: &Directory,
-) -> Result<Answer, AskFault> {
+) -> Result<Answer, AskFault>
+    ensures exact { Gives (λ answer. answer.is_well) result (compare_well directory.now old.now new.now) }
+    ensures alike { IfOk result (λ answer. answer.is_well ≡ true → (before : Rules) (after : Rules) → policy_in directory.now old.now ≡ Ok before → policy_in directory.now new.now ≡ Ok after → DecideAlike before after) }
+{
     let old = Source::read(alloc, old, directory.names())?;
     let new = Source::read(alloc, new, directory.names())?;
     let rows = differences(alloc, &old, &new)?;

@@ -1,8 +1,8 @@
 ghost use Rattle.policy_core.specs.RuleList.{Rules};
-ghost use Rattle.policy_lint.specs.Report.{IsOf};
+ghost use Rattle.policy_lint.specs.Report.{IsOf, is_clean};
 ghost use Rattle.policy_query.specs.Deciding.{policy_in};
 ghost use Rattle.policy_text.specs.declared.fault.PolicyFault.{PolicyFault};
-ghost use Rattle.std.specs.Prelude.{◌≡◌, ◌<◌, [], Err, IfOk, Ok, length, true};
+ghost use Rattle.std.specs.Prelude.{◌≡◌, ◌<◌, Err, IfOk, Ok, length};
 
 use crate::fault::Fault;
 use crate::faults::faults_of;
@@ -124,7 +124,7 @@ impl Report {
 
     /// Whether there is no fault and, under `strict`, no warning.
     pub fn is_clean(&self, strict: bool) -> bool
-        ensures { result ≡ true → self.now.faults.items ≡ [] }
+        ensures { result ≡ is_clean strict self.now }
     {
         self.faults.is_empty() && (!strict || self.hidden.is_empty() && self.warnings.is_empty())
     }
