@@ -1,9 +1,13 @@
 ghost use Rattle.media_driver.specs.Parts.{AreNamed};
 
 use crate::asking::Outcome;
+use crate::each_call::each_call;
+use crate::lost_replies::replies_are_lost;
+use crate::network::over_a_network;
 use crate::opening::parts_at;
 use crate::publishers::two_publishers;
 use crate::running::{ended, started};
+use crate::seats::seats;
 use media_driver::{Driver, DriverNaming, MachineClock, Parts};
 use media_wire::Network;
 use std::alloc::Global;
@@ -18,6 +22,10 @@ use std::time;
 #[derive(Clone, Copy)]
 enum Case {
     TwoPublishers,
+    Network,
+    LostReplies,
+    EachCall,
+    Seats,
 }
 
 /// How it goes with a driver of these parts, over a network in memory.
@@ -36,6 +44,10 @@ fn goes<
     )?;
     let (clients, taken) = match case {
         Case::TwoPublishers => (two_publishers(rt, alloc, &mut driver), 2_001),
+        Case::Network => (over_a_network(rt, alloc, &mut driver, turns), 2),
+        Case::LostReplies => (replies_are_lost(rt, alloc, &mut driver), 0),
+        Case::EachCall => (each_call(rt, alloc, &mut driver), 1),
+        Case::Seats => (seats(rt, alloc, &mut driver), 0),
     };
     ended(alloc, driver, clients, taken)
 }
@@ -56,5 +68,29 @@ fn shown<R: Threads + Wait + time::Clock + Copy + Drop + Send + Sync + 'static>(
 #[test]
 fn two_publishers_one_poller(rt: HostRuntime) -> Result<(), Fail> {
     shown(rt, rt.alloc(), Case::TwoPublishers)?;
+    Ok(())
+}
+
+#[test]
+fn over_the_memory_network(rt: HostRuntime) -> Result<(), Fail> {
+    shown(rt, rt.alloc(), Case::Network)?;
+    Ok(())
+}
+
+#[test]
+fn lost_replies(rt: HostRuntime) -> Result<(), Fail> {
+    shown(rt, rt.alloc(), Case::LostReplies)?;
+    Ok(())
+}
+
+#[test]
+fn ample_memory(rt: HostRuntime) -> Result<(), Fail> {
+    shown(rt, rt.alloc(), Case::EachCall)?;
+    Ok(())
+}
+
+#[test]
+fn seats_of_clients(rt: HostRuntime) -> Result<(), Fail> {
+    shown(rt, rt.alloc(), Case::Seats)?;
     Ok(())
 }

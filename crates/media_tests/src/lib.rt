@@ -4,11 +4,19 @@
 #[cfg(test)]
 mod asking;
 #[cfg(test)]
+mod bad_network;
+#[cfg(test)]
 mod cases;
 #[cfg(test)]
 mod clients;
 #[cfg(test)]
+mod each_call;
+#[cfg(test)]
 mod gates;
+#[cfg(test)]
+mod lost_replies;
+#[cfg(test)]
+mod network;
 #[cfg(test)]
 mod opening;
 #[cfg(test)]
@@ -17,3 +25,9 @@ mod order;
 mod publishers;
 #[cfg(test)]
 mod running;
+#[cfg(test)]
+mod seats;
+#[cfg(test)]
+mod threads;
+#[cfg(test)]
+mod two_drivers;
