@@ -19,8 +19,9 @@ use std::alloc::AllocError;
 use std::marker::Brand;
 use std::sync::Arc;
 
-/// How many sockets may be open at once: the send address and an endpoint for each subscription.
-const SOCKETS: usize = 513;
+/// How many sockets may be open at once: the send address, an endpoint for each subscription, and a control address for each
+/// publication.
+const SOCKETS: usize = 769;
 
 /// What is done with the driver and its client.
 #[derive(Drop)]

@@ -18,11 +18,11 @@ abbrev pub unless : Key → Bool → Option UriError
 unless key true = None
 unless key false = Some (BadValue key)
 
--- own: of the modes in which others name destinations none is served
+-- own: that in which destinations answer for themselves is not served
 abbrev pub mode_fault : List ℕ → Option UriError
 mode_fault mode =
     if bytes_eq mode (codes "manual") then None
-    else if bytes_eq mode (codes "dynamic") then Some (NotServed ControlMode)
+    else if bytes_eq mode (codes "dynamic") then None
     else if bytes_eq mode (codes "response") then Some (NotServed ControlMode)
     else Some (BadValue ControlMode)
 

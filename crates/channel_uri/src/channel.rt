@@ -167,6 +167,7 @@ impl Channel {
         match self.media {
             Media::Ipc => Some(Place::Ipc),
             Media::Udp if self.is_manual() => Some(Place::Manual),
+            Media::Udp if self.is_dynamic() => self.keys.get("control").map(Place::Control),
             Media::Udp => self.keys.get("endpoint").map(Place::Endpoint),
             Media::Counter => None,
         }

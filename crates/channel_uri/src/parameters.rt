@@ -20,7 +20,7 @@ impl Channel {
         address_of(self.get("endpoint")?)
     }
 
-    /// Where destinations are named: `control`.
+    /// Where receivers make themselves known: `control`.
     #[tactic(auto, unfolding(crate::specs::Parameters::control_of))]
     pub fn control(&self) -> Option<Address>
         ensures { result ≡ control_of self.now }
@@ -66,6 +66,16 @@ impl Channel {
     {
         match self.get("control-mode") {
             Some(mode) => mode == "manual",
+            None => false,
+        }
+    }
+
+    /// Whether the destinations are learnt from the status messages that come: `control-mode=dynamic`.
+    pub fn is_dynamic(&self) -> bool
+        ensures { result ≡ is_text (codes "dynamic") (value_at (codes "control-mode") self.now.keys) }
+    {
+        match self.get("control-mode") {
+            Some(mode) => mode == "dynamic",
             None => false,
         }
     }

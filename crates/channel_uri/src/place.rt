@@ -5,6 +5,8 @@ pub enum Place<'a> {
     Ipc,
     /// Destinations that the publisher names by hand (`control-mode=manual`).
     Manual,
+    /// The address at which receivers make themselves known (`control-mode=dynamic`).
+    Control(&'a str),
     /// The address at which the datagrams arrive.
     Endpoint(&'a str),
 }

@@ -27,7 +27,7 @@ fn mode_fault(mode: &str) -> Option<UriError>
         return None;
     }
     if mode == "dynamic" {
-        return Some(UriError::NotServed(Key::ControlMode));
+        return None;
     }
     if mode == "response" {
         return Some(UriError::NotServed(Key::ControlMode));

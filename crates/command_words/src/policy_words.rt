@@ -47,7 +47,8 @@ Example: rule 1 of the policy denies everybody streams 10 to 20; rule 2 allows p
   aeron_policyd: unknown principal
 
 The first rule that matches decides, whatever the others say; where none does, the default stands. Acts are publish,
-publish-exclusive, subscribe, spy, destination, counter, terminate, offer, image, receive, send, retransmit and list.
+publish-exclusive, subscribe, spy, destination, counter, terminate, offer, image, receive, send, retransmit, join
+and list.
 
 With --names FILE principals have the names of that file, whose lines are `principal NAME NUMBER` as in a script.
 
@@ -143,10 +144,10 @@ const TABLE: &str = "\
 Example: what may p1 do?
 
   $ aeron_policyd table policy.toml --principal p1
-  p1  publish,publish-exclusive,spy,destination,counter,terminate,offer,send,retransmit,list  *    *          10..20  deny   rule 1
-  p1  subscribe,image,receive                                                                 ipc  aeron:ipc  ..9     allow  rule 2
-  p1  subscribe,image,receive                                                                 *    *          10..20  deny   rule 1
-  p1  subscribe,image,receive                                                                 ipc  aeron:ipc  21..    allow  rule 2
+  p1  publish,publish-exclusive,spy,destination,counter,terminate,offer,send,retransmit,join,list  *    *          10..20  deny   rule 1
+  p1  subscribe,image,receive                                                                      ipc  aeron:ipc  ..9     allow  rule 2
+  p1  subscribe,image,receive                                                                      *    *          10..20  deny   rule 1
+  p1  subscribe,image,receive                                                                      ipc  aeron:ipc  21..    allow  rule 2
   4 rows
 
 A row has the principal, the acts, the medium, the pattern, the streams, the word and the rule. Rows of one principal, act

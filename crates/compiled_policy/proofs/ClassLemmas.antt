@@ -14,7 +14,7 @@ use Rattle.policy_core.specs.Acts.{holds}
 use Rattle.policy_core.specs.Question.{Question}
 use Rattle.policy_core.specs.Rule.{matches, speaks_of}
 use Rattle.policy_core.specs.declared.act.Act.{Act}
-use Rattle.policy_core.specs.declared.act.Act.TheVariants.{Publish, PublishExclusive, Subscribe, Spy, Destination, Counter, Terminate, Offer, Image, Receive, Send, Retransmit, List as ListOf}
+use Rattle.policy_core.specs.declared.act.Act.TheVariants.{Publish, PublishExclusive, Subscribe, Spy, Destination, Counter, Terminate, Offer, Image, Receive, Send, Retransmit, Join, List as ListOf}
 use Rattle.policy_core.specs.declared.rule.Principals.{Principals}
 use Rattle.policy_core.specs.declared.rule.Principals.TheVariants.{Any, One}
 use Rattle.policy_core.specs.declared.rule.Rule.{Rule}
@@ -68,6 +68,7 @@ act_of_number Image = refl
 act_of_number Receive = refl
 act_of_number Send = refl
 act_of_number Retransmit = refl
+act_of_number Join = refl
 act_of_number ListOf = refl
 
 act_of_class : (question : Question) → act_of (class_of question) ≡ question.act

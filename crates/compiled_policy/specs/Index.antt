@@ -17,7 +17,7 @@ pub record Tables : Type 0 where
 -- whose range holds the interval; an interval starts wherever a rule's range starts or ends
 pub record IsIndex (rules : List Rule) (index : Tables) : Type 0 where
   pub starts : AreStarts rules (length rules) index.starts
-  pub class_count : length index.classes ≡ 39
+  pub class_count : length index.classes ≡ 42
   pub group_count : length index.groups ≡ 64
   pub interval_count : length index.intervals ≡ length index.starts
   pub classes : AreSetsOf rules is_in (length rules) index.classes

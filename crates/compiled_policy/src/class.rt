@@ -6,8 +6,8 @@ ghost use Rattle.std.specs.Prelude.{◌≡◌, ◌<◌};
 use channel_uri::{Media, Pattern};
 use policy_core::{Act, Request, Rule};
 
-/// How many classes there are: 13 acts over 3 media.
-pub(crate) const CLASSES: usize = 39;
+/// How many classes there are: 14 acts over 3 media.
+pub(crate) const CLASSES: usize = 42;
 
 fn number_of(media: Media) -> usize
     ensures { result ≡ media_number media }
@@ -31,7 +31,7 @@ fn is_over(pattern: &Pattern, media: usize) -> bool
 
 /// The rule may speak of what is asked in this class.
 pub(crate) fn is_in(class: usize, rule: &Rule) -> bool
-    requires { class < 39 }
+    requires { class < 42 }
     ensures { result ≡ is_in class rule.now }
 {
     rule.acts.hold(Act::EVERY[class / 3]) && is_over(&rule.channel, class % 3)
@@ -40,7 +40,7 @@ pub(crate) fn is_in(class: usize, rule: &Rule) -> bool
 /// The class of what is asked.
 pub(crate) fn class_of(request: &Request<'_>) -> usize
     ensures value { result ≡ class_of (question_of request.now) }
-    ensures small { result < 39 }
+    ensures small { result < 42 }
 {
     3 * (request.act as usize) + number_of(request.channel.media())
 }

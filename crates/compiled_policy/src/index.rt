@@ -45,7 +45,7 @@ impl Model for Index {
     } };
 
     ghost invariant = { λ index.
-        ((length index.classes.items ≤ 39) × (39 ≤ vec_capacity index.classes))
+        ((length index.classes.items ≤ 42) × (42 ≤ vec_capacity index.classes))
         × ((length index.groups.items ≤ 64) × (64 ≤ vec_capacity index.groups))
         × ((length index.intervals.items ≤ 2049) × (2049 ≤ vec_capacity index.intervals))
         × ((length index.starts.items ≤ 2049) × (2049 ≤ vec_capacity index.starts)) };
@@ -54,7 +54,7 @@ impl Model for Index {
 /// Puts the rule at this place into the sets of its classes.
 fn insert_into_classes(classes: &mut [RuleSet], rule: &Rule, place: usize)
     requires place { place < 1024 }
-    requires classes { length classes.old ≡ 39 }
+    requires classes { length classes.old ≡ 42 }
     ensures { AddsWhere classes.old classes.new (λ class. is_in class rule.now) place }
 {
     for class in 0..CLASSES {
@@ -67,9 +67,9 @@ fn insert_into_classes(classes: &mut [RuleSet], rule: &Rule, place: usize)
 /// Each class gets its rules.
 fn fill_classes(classes: &mut [RuleSet], rules: &[Rule])
     requires few { length rules.now ≤ 1024 }
-    requires classes { length classes.old ≡ 39 }
+    requires classes { length classes.old ≡ 42 }
     requires empty { AreEmpty classes.old }
-    ensures classes { length classes.new ≡ 39 }
+    ensures classes { length classes.new ≡ 42 }
     ensures sets { AreSetsOf rules.now is_in (length rules.now) classes.new }
 {
     for place in 0..rules.len() {

@@ -1,7 +1,7 @@
 -- Acts that have the same number are the same.
 use Rattle.std.proofs.Common.{◌≡◌, ℕ, refl, sym, ap, ◌∙◌, get_or}
 use Rattle.policy_core.specs.declared.act.Act.{Act}
-use Rattle.policy_core.specs.declared.act.Act.TheVariants.{Publish, PublishExclusive, Subscribe, Spy, Destination, Counter, Terminate, Offer, Image, Receive, Send, Retransmit, List as ListOf}
+use Rattle.policy_core.specs.declared.act.Act.TheVariants.{Publish, PublishExclusive, Subscribe, Spy, Destination, Counter, Terminate, Offer, Image, Receive, Send, Retransmit, Join, List as ListOf}
 use Rattle.policy_core.specs.Act.{act_number, every_act}
 
 act_at : ℕ → Act
@@ -21,6 +21,7 @@ act_at_number Image = refl
 act_at_number Receive = refl
 act_at_number Send = refl
 act_at_number Retransmit = refl
+act_at_number Join = refl
 act_at_number ListOf = refl
 
 pub act_identical : (a b : Act) → act_number a ≡ act_number b → a ≡ b

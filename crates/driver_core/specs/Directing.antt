@@ -18,7 +18,7 @@ use Rattle.channel_uri.specs.declared.error.UriError.{UriError}
 use Rattle.channel_uri.specs.Address.{address_of}
 use Rattle.channel_uri.specs.Channel.{Shape, denotes}
 use Rattle.channel_uri.specs.Parameters.{endpoint_of}
-use Rattle.channel_uri.specs.Place.{Spot, AtEndpoint, spot_of}
+use Rattle.channel_uri.specs.Place.{Spot, AtControl, AtEndpoint, spot_of}
 use Rattle.client_registry.specs.declared.client.Client.{Client}
 use Rattle.command_codec.specs.declared.destination.Destination.{Destination}
 use Rattle.destinations.specs.declared.fault.DestinationFault.{DestinationFault}
@@ -33,13 +33,15 @@ use Rattle.stream_registry.specs.declared.wanted.Adding.TheVariants.{Join, Make}
 use Rattle.stream_registry.specs.declared.wanted.Wanted.{Wanted}
 use Rattle.stream_registry.specs.Places.{is_manual, is_udp}
 
--- ---- the one destination of a publication with an endpoint
+-- ---- the one destination of a publication with an endpoint, and the one that stands for all that a publication learns
 
 abbrev pub address_at : Option Spot → Option Address
 address_at (Some (AtEndpoint text)) = address_of text
+address_at (Some (AtControl text)) = address_of text
 address_at spot = None
 
--- where the datagrams of such a publication go; over shared memory none go, and those named by hand are none of its channel
+-- where the datagrams of such a publication go, or where it learns where they go; over shared memory none go, and those named
+-- by hand are none of its channel
 unfoldable pub sole_address : Shape → Option Address
 sole_address channel = address_at (spot_of channel)
 

@@ -6,16 +6,17 @@ use Rattle.channel_uri.specs.declared.address.Address.{Address}
 use Rattle.channel_uri.specs.Address.{is_same}
 use Rattle.channel_uri.specs.Channel.{Shape}
 use Rattle.driver_core.specs.declared.log_request.LogRequest.{LogRequest}
+use Rattle.driver_core.specs.declared.publication_request.JoinRequest.{JoinRequest}
 use Rattle.driver_core.specs.declared.peer.Peer.{Peer}
 use Rattle.driver_core.specs.Renewal.{source_at}
 use Rattle.driver_core.specs.State.{State}
 use Rattle.policy_core.specs.declared.act.Act.{Act}
-use Rattle.policy_core.specs.declared.act.Act.TheVariants.{Retransmit}
+use Rattle.policy_core.specs.declared.act.Act.TheVariants.{Join, Retransmit}
 use Rattle.policy_core.specs.declared.decision.Decision.{Decision}
 use Rattle.policy_core.specs.Rules.{verdict_of}
 use Rattle.stream_registry.specs.declared.row.Source.{Source}
 use Rattle.stream_registry.specs.Origins.{address_of, is_published}
-use Rattle.stream_registry.specs.Places.{is_udp}
+use Rattle.stream_registry.specs.Places.{is_dynamic, is_udp}
 
 -- ---- which publication
 
@@ -66,6 +67,24 @@ resent_by s from (Some log) = Some (record { source = log.number; decision = res
 -- of which publication that address asks for frames, and whether the policy in force lets it have them
 unfoldable pub resending_of : State → Address → ℤ → ℤ → Option LogRequest
 resending_of s from session stream = resent_by s from (publication_at s session stream)
+
+-- ---- addresses that become destinations
+
+-- the principal is that of the address that joins, the channel and the stream are the log's
+abbrev pub join_decision : State → Address → Source → Decision
+join_decision s from log = log_decision s (principal_at s.peers from) Join log.number log.channel log.stream
+
+-- only of a publication whose destinations are learnt is anything decided
+abbrev pub joined_as : State → Address → Source → Option Decision
+joined_as s from log = if is_dynamic log.channel then Some (join_decision s from log) else None
+
+abbrev pub joined_by : State → Address → Option Source → Option JoinRequest
+joined_by s from None = None
+joined_by s from (Some log) = Some (record { source = log.number; decision = joined_as s from log })
+
+-- for which publication a status message from that address is, and whether the policy in force lets the address join it
+unfoldable pub joining_of : State → Address → ℤ → ℤ → Option JoinRequest
+joining_of s from session stream = joined_by s from (publication_at s session stream)
 
 -- ---- who publishes an image
 

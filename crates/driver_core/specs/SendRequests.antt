@@ -1,17 +1,18 @@
 -- To whom the datagrams of a publication go, and whether they may. Own rules.
-use Rattle.std.specs.Prelude.{ℕ, Bool, ◌&&◌, List, [], map, Option, Some, None, if◌then◌else◌}
+use Rattle.std.specs.Prelude.{ℕ, Bool, ◌&&◌, List, [], ◌∷◌, map, Option, Some, None, if◌then◌else◌}
 use Rattle.std.specs.Option.{is_some}
 use Rattle.channel_uri.specs.Channel.{Shape}
 use Rattle.destinations.specs.declared.destination.Destination.{Destination}
 use Rattle.destinations.specs.Destinations.{of}
+use Rattle.learnt_addresses.specs.declared.learnt_address.LearntAddress.{LearntAddress}
 use Rattle.driver_core.specs.declared.send_request.Outlet.{Outlet}
-use Rattle.driver_core.specs.PublicationRequests.{log_decision}
+use Rattle.driver_core.specs.PublicationRequests.{log_decision, principal_at}
 use Rattle.driver_core.specs.Renewal.{source_at}
 use Rattle.driver_core.specs.State.{State}
 use Rattle.policy_core.specs.declared.act.Act.TheVariants.{Send}
 use Rattle.stream_registry.specs.declared.row.Source.{Source}
 use Rattle.stream_registry.specs.Origins.{is_published, lingering_since}
-use Rattle.stream_registry.specs.Places.{is_manual, is_udp}
+use Rattle.stream_registry.specs.Places.{is_dynamic, is_manual, is_udp}
 
 -- ---- which logs are sent
 
@@ -49,10 +50,29 @@ outlet_of s log destination = record {
   decision = log_decision s destination.principal Send destination.number (outlet_channel log destination) log.stream;
 }
 
-abbrev pub outlets_by : State → Option Source → List Outlet
-outlets_by s None = []
-outlets_by s (Some log) = map (outlet_of s log) (of s.destinations.rows log.number)
+-- the number of the first of these, which a log that learns has alone
+abbrev pub first_number : List Destination → ℕ
+first_number [] = 0
+first_number (destination ∷ later) = destination.number
 
--- each destination of the log of that number, in the order in which they were named, with what the policy in force says
-unfoldable pub outlets_of : State → ℕ → List Outlet
-outlets_of s source = outlets_by s (source_at s.streams.sources source)
+-- an address that was learnt: the principal is the one that is bound to it, the channel and the stream are the log's, and the
+-- number is that of the one destination that stands for all of them
+abbrev pub learnt_outlet : State → Source → LearntAddress → Outlet
+learnt_outlet s log learnt = record {
+  to = learnt.address;
+  decision =
+      log_decision s (principal_at s.peers learnt.address) Send (first_number (of s.destinations.rows log.number)) log.channel
+      log.stream;
+}
+
+-- to those that were learnt, or else to those that were named
+abbrev pub outlets_by : State → List LearntAddress → Option Source → List Outlet
+outlets_by s learnt None = []
+outlets_by s learnt (Some log) =
+    if is_dynamic log.channel then map (learnt_outlet s log) learnt
+    else map (outlet_of s log) (of s.destinations.rows log.number)
+
+-- each destination of the log of that number, where these were learnt, in the order in which they were named or learnt, with
+-- what the policy in force says
+unfoldable pub outlets_of : State → List LearntAddress → ℕ → List Outlet
+outlets_of s learnt source = outlets_by s learnt (source_at s.streams.sources source)

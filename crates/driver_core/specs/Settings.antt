@@ -8,6 +8,7 @@ default_settings = record {
   image_liveness = 10000000000;
   linger = 5000000000;
   connection_timeout = 5000000000;
+  destination_timeout = 5000000000;
   resend_linger = 60000000;
   nak_delay = 1000000;
   nak_repeat = 60000000;

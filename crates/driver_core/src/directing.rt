@@ -5,7 +5,7 @@ ghost use Rattle.driver_core.specs.Told.{told_of};
 ghost use Rattle.destinations.specs.Destinations.{adding, has};
 ghost use Rattle.driver_core.specs.Received.{channel_lent};
 ghost use Rattle.std.specs.Option.{option_copied};
-ghost use Rattle.stream_registry.specs.Places.{is_manual};
+ghost use Rattle.stream_registry.specs.Places.{is_dynamic, is_manual};
 ghost use Rattle.std.specs.Prelude.{◌≡◌, ℕ, IfOk, Ok, true};
 
 use crate::deciding;
@@ -43,13 +43,14 @@ pub(crate) struct Directed {
     pub(crate) channel: Channel,
 }
 
-/// The one destination of a publication on such a channel: its endpoint, where destinations are not named by hand.
+/// The one destination of a publication on such a channel: its endpoint; or, where destinations are learnt, the address at which
+/// they make themselves known, which stands for them all. None where they are named by hand.
 #[tactic(auto, unfolding(crate::specs::Directing::sole_address))]
 fn sole_address(channel: &Channel) -> Option<Address>
     ensures { result ≡ sole_address channel.now }
 {
     match channel.place() {
-        Some(Place::Endpoint(text)) => address_of(text),
+        Some(Place::Endpoint(text) | Place::Control(text)) => address_of(text),
         _ => None,
     }
 }
@@ -72,6 +73,14 @@ pub(crate) fn is_manual(channel: &Channel) -> bool
     ensures { result ≡ is_manual channel.now }
 {
     channel.media() == Media::Udp && channel.is_manual()
+}
+
+/// Whether the destinations of such a publication are learnt from status messages.
+#[tactic(auto, unfolding(stream_registry::specs::Places::is_dynamic))]
+pub(crate) fn is_dynamic(channel: &Channel) -> bool
+    ensures { result ≡ is_dynamic channel.now }
+{
+    matches!(channel.place(), Some(Place::Control(_)))
 }
 
 /// Why an address is not named.

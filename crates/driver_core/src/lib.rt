@@ -69,6 +69,7 @@ pub use looking::policies_only_get_newer;
 pub use outcome::{Outcome, Response};
 pub use parts::both;
 pub use peer::Peer;
+pub use publication_request::JoinRequest;
 pub use received::Received;
 pub use refusal::Refusal;
 pub use registry::Registry;

@@ -1,13 +1,23 @@
-ghost use Rattle.driver_core.specs.PublicationRequests.{is_sent_as, log_decision, principal_at, publication_at, publication_for, publisher_of, resend_decision, resending_of};
+ghost use Rattle.driver_core.specs.PublicationRequests.{is_sent_as, joined_as, joining_of, log_decision, principal_at, publication_at, publication_for, publisher_of, resend_decision, resending_of};
 ghost use Rattle.std.specs.Option.{option_copied};
 ghost use Rattle.std.specs.Prelude.{◌≡◌, find};
 
+use crate::directing::is_dynamic;
 use crate::log_request::LogRequest;
 use crate::peer::Peer;
 use crate::registry::Registry;
 use channel_uri::{Address, Channel, Media};
 use policy_core::{Act, Decision, Request};
 use stream_registry::Source;
+
+/// A status message came for a log.
+#[derive(Clone, Copy, Debug, PartialEq, Eq)]
+pub struct JoinRequest {
+    /// The source number of the log.
+    pub source: u64,
+    /// What the policy in force decides on the address from which it came, where the log's destinations are learnt.
+    pub decision: Option<Decision>,
+}
 
 /// Whether it is published over datagrams, under that session and stream.
 fn is_sent_as(log: &Source, session: i32, stream: i32) -> bool
@@ -32,7 +42,7 @@ fn publication_in(logs: &[Source], session: i32, stream: i32) -> Option<&Source>
 }
 
 /// The principal that is bound to an address, 0 where none is.
-fn principal_at(peers: &[Peer], address: &Address) -> u32
+pub(crate) fn principal_at(peers: &[Peer], address: &Address) -> u32
     ensures { result ≡ principal_at peers.now address.now }
 {
     for peer in peers {
@@ -106,6 +116,34 @@ impl Registry {
                     &log.channel,
                     log.stream,
                 ),
+            }),
+            None => None,
+        }
+    }
+
+    /// What the policy in force decides on an address from which a status message came for the log, where its destinations are
+    /// learnt: of the principal that is bound to the address, on the log's own channel and stream.
+    fn joined_as(&self, from: &Address, log: &Source) -> Option<Decision>
+        ensures { result ≡ joined_as self.now from.now log.now }
+    {
+        if !is_dynamic(&log.channel) {
+            return None;
+        }
+        let principal = principal_at(self.peers.as_slice(), from);
+        Some(self.log_decision(principal, Act::Join, log.number, &log.channel, log.stream))
+    }
+
+    /// For which publication over datagrams a status message from that address is; and where its destinations are learnt,
+    /// whether the policy in force lets the principal that is bound to the address become one, on the log's own channel and
+    /// stream. `None` where there is no such publication. It takes no memory.
+    #[tactic(auto, unfolding(crate::specs::PublicationRequests::joining_of))]
+    pub fn joining(&self, from: &Address, session: i32, stream: i32) -> Option<JoinRequest>
+        ensures { result ≡ joining_of self.now from.now session stream }
+    {
+        match self.publication_at(session, stream) {
+            Some(log) => Some(JoinRequest {
+                source: log.number,
+                decision: self.joined_as(from, log),
             }),
             None => None,
         }

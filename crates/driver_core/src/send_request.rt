@@ -1,13 +1,17 @@
 ghost use Rattle.driver_core.specs.PublicationRequests.{log_decision};
-ghost use Rattle.driver_core.specs.SendRequests.{outlet_of, outlets_by, sent_at};
+ghost use Rattle.driver_core.specs.SendRequests.{first_number, learnt_outlet, outlet_of, outlets_by, sent_at};
+ghost use Rattle.destinations.specs.Destinations.{of};
+ghost use Rattle.learnt_addresses.specs.LearntAddresses.{standing};
 ghost use Rattle.policy_core.specs.declared.act.Act.TheVariants.{Send};
-ghost use Rattle.std.specs.Prelude.{◌≡◌, ◌++◌, Some, OnOk, option_copied};
+ghost use Rattle.std.specs.Prelude.{◌≡◌, ◌++◌, map, Some, OnOk, option_copied};
 
-use crate::directing::is_manual;
+use crate::directing::{is_dynamic, is_manual};
+use crate::publication_request::principal_at;
 use crate::registry::Registry;
 use byte_strings::Items;
 use channel_uri::{Address, Channel, Media};
 use destinations::Destination;
+use learnt_addresses::LearntAddress;
 use policy_core::{Act, Decision};
 use std::alloc::AllocError;
 use stream_registry::Source;
@@ -64,15 +68,71 @@ impl Registry {
         }
     }
 
-    /// Where the datagrams of this publication go, in the order in which its destinations were named, and whether they may:
-    /// these stand after what was in the list.
+    /// The number of the first destination of the log of that number, 0 where it has none.
+    fn first_number(&self, source: u64) -> u64
+        ensures { result ≡ first_number (of self.now.destinations.rows source) }
+    {
+        for destination in self.destinations.rows() {
+            if destination.source == source {
+                return destination.number;
+            }
+        }
+        0
+    }
+
+    /// Where a datagram of the log goes that goes to an address which was learnt, and whether it may: the policy is asked about
+    /// the principal that is bound to the address, on the log's own channel.
+    fn learnt_outlet(&self, log: &Source, number: u64, learnt: &LearntAddress) -> Outlet
+        requires { number ≡ first_number (of self.now.destinations.rows log.now.number) }
+        ensures { result ≡ learnt_outlet self.now log.now learnt.now }
+    {
+        let principal = principal_at(self.peers.as_slice(), &learnt.address);
+        Outlet {
+            to: learnt.address,
+            decision: self.log_decision(principal, Act::Send, number, &log.channel, log.stream),
+        }
+    }
+
+    /// Where the datagrams of this publication go, which learns where, and whether they may. An address of which nothing was
+    /// heard for longer than the timeout is left out.
+    fn learnt_outlets(
+        &self,
+        log: &Source,
+        learnt: &[LearntAddress],
+        now: u64,
+        outlets: &mut Items<Outlet>,
+    ) -> Result<(), AllocError>
+        ensures { OnOk result (outlets.new ≡ outlets.old ++ map (learnt_outlet self.now log.now) (standing now self.now.settings.destination_timeout learnt.now)) }
+    {
+        let number = self.first_number(log.number);
+        let timeout = self.settings.destination_timeout;
+        for address in learnt {
+            if address.stands(now, timeout) {
+                outlets.push(self.learnt_outlet(log, number, address))?;
+            }
+        }
+        Ok(())
+    }
+
+    /// Where the datagrams of this publication go, in the order in which its destinations were named, or in which they were
+    /// learnt, and whether they may: these stand after what was in the list. `learnt` are the addresses that its log has learnt,
+    /// of which those are left out that are past the timeout at the moment `now`.
     ///
     /// # Errors
     /// Where there is no memory for the list.
     #[inline(always)]
-    pub fn outlets(&self, log: &Source, outlets: &mut Items<Outlet>) -> Result<(), AllocError>
-        ensures { OnOk result (outlets.new ≡ outlets.old ++ outlets_by self.now (Some log.now)) }
+    pub fn outlets(
+        &self,
+        log: &Source,
+        learnt: &[LearntAddress],
+        now: u64,
+        outlets: &mut Items<Outlet>,
+    ) -> Result<(), AllocError>
+        ensures { OnOk result (outlets.new ≡ outlets.old ++ outlets_by self.now (standing now self.now.settings.destination_timeout learnt.now) (Some log.now)) }
     {
+        if is_dynamic(&log.channel) {
+            return self.learnt_outlets(log, learnt, now, outlets);
+        }
         for destination in self.destinations.rows() {
             if destination.source == log.number {
                 outlets.push(self.outlet(log, destination))?;

@@ -11,6 +11,8 @@ pub struct Settings {
     pub linger: u64,
     /// How long a status message keeps a publication connected.
     pub connection_timeout: u64,
+    /// How long a status message keeps the address from which it came a destination, where these are learnt.
+    pub destination_timeout: u64,
     /// How long a range that was resent is not resent again.
     pub resend_linger: u64,
     /// How long a gap stands before it is asked for.
@@ -51,6 +53,7 @@ impl Default for Settings {
             image_liveness: 10_000_000_000,
             linger: 5_000_000_000,
             connection_timeout: 5_000_000_000,
+            destination_timeout: 5_000_000_000,
             resend_linger: 60_000_000,
             nak_delay: 1_000_000,
             nak_repeat: 60_000_000,

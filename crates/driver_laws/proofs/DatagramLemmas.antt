@@ -34,7 +34,7 @@ use Rattle.driver_steps.specs.Hearing.{answer_asked}
 use Rattle.driver_steps.specs.Idents.{ident_of, made_by, made_of}
 use Rattle.driver_steps.specs.Moves.{WholeLog}
 use Rattle.driver_steps.specs.Seen.{moved_seen}
-use Rattle.driver_steps.specs.Sending.{pace_of}
+use Rattle.driver_steps.specs.Sending.{expired, pace_of}
 use Rattle.driver_steps.proofs.DecisionLemmas.{made_at}
 use Rattle.driver_steps.proofs.FollowLemmas.{Follows, ends_follow}
 use Rattle.driver_steps.proofs.FoundLemmas.{found_source}
@@ -121,7 +121,7 @@ cut_leaves : (s : State) (e : RunEnd) (now source : ℕ) (log : WholeLog) (w : W
     StandsAt (cut_by_log_seen s e now log w bytes outlets).after source w cuts.to
 cut_leaves s e now source log w lingers bytes outlets found cuts =
     let next : Whole = cut_of (pace_of s.settings) now w in
-    let new : WholeLog = record log { whole = whole next } in
+    let new : WholeLog = record (expired s.settings now log) { whole = whole next } in
     let here : log.source ≡ source = found_source source log e.logs found in
     record {
       log = new;

@@ -34,7 +34,7 @@ use Rattle.driver_laws.specs.PublishingLaws.{IsAllowed as MayPublish, IsPublishe
 use Rattle.channel_uri.specs.declared.address.Address.{Address}
 use Rattle.channel_uri.specs.Address.{address_of}
 use Rattle.channel_uri.specs.Channel.{Shape}
-use Rattle.channel_uri.specs.Place.{Spot, AtIpc, AtManual, AtEndpoint, spot_of}
+use Rattle.channel_uri.specs.Place.{Spot, AtIpc, AtManual, AtControl, AtEndpoint, spot_of}
 use Rattle.destinations.specs.declared.destination.Destination.{Destination}
 use Rattle.destinations.specs.declared.fault.DestinationFault.{DestinationFault}
 use Rattle.destinations.specs.declared.fault.DestinationFault.TheVariants as fault
@@ -134,7 +134,8 @@ named_comes s now handle bytes request asks allows manual free destination has =
 
 endpoint_by : (request : PublicationRequest) (spot : Option Spot) (address : Address) → spot_of request.channel ≡ spot →
     address_at spot ≡ Some address → IsEndpoint request address
-endpoint_by request (Some (AtEndpoint text)) address is found = record { text = text; spot_is = is; address_is = found }
+endpoint_by request (Some (AtEndpoint text)) address is found = record { text = text; spot_is = inl is; address_is = found }
+endpoint_by request (Some (AtControl text)) address is found = record { text = text; spot_is = inr is; address_is = found }
 endpoint_by request (Some AtIpc) address is found = absurd (cc found)
 endpoint_by request (Some AtManual) address is found = absurd (cc found)
 endpoint_by request None address is found = absurd (cc found)
@@ -280,13 +281,14 @@ taken_names destinations source principal address channel (Ok number) is = Conta
 taken_names destinations source principal address channel (Err why) is = absurd (cc is)
 
 sole_is_named : (s : State) (principal client : ℕ) (wanted : Wanted) (session : ℤ) (text : List ℕ) (address : Address) →
-    spot_of wanted.channel ≡ Some (AtEndpoint text) → address_of text ≡ Some address →
+    (spot_of wanted.channel ≡ Some (AtEndpoint text)) ⊎ (spot_of wanted.channel ≡ Some (AtControl text)) → address_of text ≡ Some address →
     has_room_for_publication s client wanted (Make session) ≡ true →
     Contains (with_sole s principal wanted (Make session)).rows
     (row_next s (s.last_number + 1) address principal wanted.channel)
 unfolding with_sole sole_address has_room_for_sole
 sole_is_named s principal client wanted session text address is found room =
-    let sole : address_at (spot_of wanted.channel) ≡ Some address = ap address_at is ∙ found in
+    let sole : address_at (spot_of wanted.channel) ≡ Some address =
+    ⊎_elim (λ endpoint. ap address_at endpoint ∙ found) (λ control. ap address_at control ∙ found) is in
     let parts = and_parts _ _ room in
     let first = and_parts _ _ parts.0 in
     let taken : is_taken (naming s.destinations (s.last_number + 1) address) ≡ true =

@@ -16,7 +16,7 @@ use Rattle.driver_core.specs.declared.outcome.Response.TheVariants as response
 use Rattle.driver_core.specs.declared.replies.Message.{Message}
 use Rattle.driver_core.specs.declared.settings.Settings.{Settings}
 use Rattle.driver_core.specs.Conduct.{conduct}
-use Rattle.driver_core.specs.PublicationRequests.{is_sent_as, publication_at, publication_for, resend_decision, resending_of, resent_by}
+use Rattle.driver_core.specs.PublicationRequests.{is_sent_as, joining_of, publication_at, resend_decision, resending_of, resent_by}
 use Rattle.driver_core.specs.State.{State}
 use Rattle.driver_core.proofs.VerdictLemmas.{by_policy}
 use Rattle.driver_laws.specs.NumberLaws.{AreRising, ComesAbove}
@@ -32,6 +32,8 @@ use Rattle.driver_steps.specs.declared.cause.Cause.TheVariants.{Denied}
 use Rattle.driver_steps.specs.declared.step.Step.TheVariants.{Packet}
 use Rattle.driver_steps.specs.Answers.{answered_by, answer_of}
 use Rattle.driver_steps.specs.Ends.{RunEnd, conducted, inputs_of, log_at, moved_on, on_asked, on_image, on_log, on_told, opening_end}
+use Rattle.driver_core.specs.declared.publication_request.JoinRequest.{JoinRequest}
+use Rattle.driver_steps.proofs.HearingLemmas.{status_told}
 use Rattle.driver_steps.specs.Hearing.{answer_asked, answer_heard, nak_move, status_move}
 use Rattle.driver_steps.specs.Idents.{made_of}
 use Rattle.driver_steps.specs.Laws.{LogsFollow, stays, taken_from}
@@ -196,9 +198,12 @@ heard_other (Some heard.Elicited) = tt
 heard_other (Some (heard.Limit position)) = tt
 heard_other (Some heard.OutOfWindow) = tt
 
-told_other : (e : RunEnd) (now : ℕ) (fields : StatusMessage) (source : Option ℕ) → IsOther (on_told e now fields source).answer
-told_other e now fields None = tt
-told_other e now fields (Some source) = on_log_other e source (status_move now fields) (λ log. heard_other _)
+told_other : (e : RunEnd) (now : ℕ) (from : Address) (fields : StatusMessage) (request : Option JoinRequest) →
+    IsOther (on_told e now from fields request).answer
+told_other e now from fields None = tt
+told_other e now from fields (Some request) =
+    on_log_other e request.source (status_move now from request.decision fields)
+    (λ log. status_told IsOther now from request.decision fields log (λ cause. tt) (heard_other _))
 
 outcome_other : (response : Response) (replies : List Message) → IsOther (answered_by response replies)
 outcome_other response.Nothing replies = tt
@@ -272,7 +277,7 @@ only_asked s e now local from to datagrams (Ok (nak fields)) is =
     (fields, refl, asked_to s e now from to fields datagrams (publication_at s fields.session_id fields.stream_id) is)
 only_asked s e now local from to datagrams (Ok (status fields)) is =
     none_other from to (Ok (status fields)) datagrams _
-    (told_other e now fields (publication_for s fields.session_id fields.stream_id)) is
+    (told_other e now from fields (joining_of s from fields.session_id fields.stream_id)) is
 
 -- ---- of a run
 

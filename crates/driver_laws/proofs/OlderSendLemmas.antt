@@ -17,7 +17,7 @@ use Rattle.driver_core.specs.SendRequests.{is_sent, lingers_by, outlet_of, outle
 use Rattle.driver_core.specs.State.{State}
 use Rattle.driver_core.proofs.VerdictLemmas.{by_policy}
 use Rattle.driver_laws.specs.NumberLaws.{AreRising, ComesAbove}
-use Rattle.driver_laws.specs.OlderLaws.{SendIsDecidedBy, SendsAreDecidedBy, SendsByAnyRegistryAreGrantedExactly, cut_by_log_seen, registry_in}
+use Rattle.driver_laws.specs.OlderLaws.{SendIsDecidedBy, SendsAreDecidedBy, SendsByAnyRegistryAreGrantedExactly, cut_by_log_seen, idle_by_log_seen, registry_in}
 use Rattle.driver_laws.specs.PublishingLaws.{WasLive}
 use Rattle.driver_laws.proofs.LoggedLemmas.{found_in}
 use Rattle.driver_laws.proofs.NumberLemmas.{are_drawn, numbers_rise}
@@ -31,8 +31,10 @@ use Rattle.driver_steps.specs.Laws.{LogsFollow, stays, taken_from}
 use Rattle.driver_steps.specs.Moves.{Move, WholeLog}
 use Rattle.driver_steps.specs.Runs.{end_of}
 use Rattle.driver_steps.specs.Seen.{moved_seen}
-use Rattle.driver_steps.specs.Sending.{answer_sent, pace_of, send_by, send_move}
-use Rattle.driver_steps.specs.SendLaws.{send_question}
+use Rattle.driver_steps.specs.Sending.{answer_sent, expired, pace_of, send_by, send_move, standing_of}
+use Rattle.driver_steps.proofs.SendLawLemmas.{outlets_learnt, outlets_named}
+use Rattle.learnt_addresses.specs.declared.learnt_address.LearntAddress.{LearntAddress}
+use Rattle.driver_steps.specs.SendLaws.{learnt_question, send_question}
 use Rattle.driver_steps.proofs.DecisionLemmas.{left_by, log_moves, made_at, stays_left}
 use Rattle.driver_steps.proofs.FollowLemmas.{logs_follow}
 use Rattle.driver_steps.proofs.FoundLemmas.{found_source}
@@ -75,21 +77,21 @@ unfolding sending_of
 lets s source publication is sends = ap lingers_by is ∙ ap (λ (b : Bool). cond b (Some (is_some (lingering_since publication))) None) sends
 
 goes : (s : State) (source : ℕ) (publication : Source) → source_at s.streams.sources source ≡ Some publication →
-    outlets_of s source ≡ map (outlet_of s publication) (of s.destinations.rows publication.number)
+    (learnt : List LearntAddress) → outlets_of s learnt source ≡ outlets_by s learnt (Some publication)
 unfolding outlets_of
-goes s source publication is = ap (outlets_by s) is
+goes s source publication is learnt = ap (outlets_by s learnt) is
 
 -- ---- the move
 
 -- what the log does, of which all frames are known
 abbrev turned : State → ℕ → Bool → WholeLog → Whole → List Outlet → Move
 turned s now lingers log frames outlets = record {
-  after = record log { whole = whole (cut_of (pace_of s.settings) now frames) };
+  after = record (expired s.settings now log) { whole = whole (cut_of (pace_of s.settings) now frames) };
   answer = answer_sent outlets (Some (datagram_of (pace_of s.settings) now lingers frames));
 }
 
 turn_is : (s : State) (now : ℕ) (lingers : Bool) (log : WholeLog) (frames : Whole) (outlets : List Outlet) →
-    sending_of s log.source ≡ Some lingers → outlets_of s log.source ≡ outlets → log.whole ≡ whole frames →
+    sending_of s log.source ≡ Some lingers → outlets_of s (standing_of s.settings now log) log.source ≡ outlets → log.whole ≡ whole frames →
     is_udp frames.ident.kind ≡ true → send_move s now log ≡ turned s now lingers log frames outlets
 unfolding send_move
 turn_is s now lingers log frames outlets lets' goes' is udp =
@@ -100,16 +102,16 @@ turn_is s now lingers log frames outlets lets' goes' is udp =
     ap (λ (b : Bool). cond b (whole (cut_of pace now frames)) (whole frames)) udp in
     ap (send_by s now log) lets'
     ∙ ap (λ (w : AnyWhole). let m : Move = record {
-      after = record log { whole = after_turn pace now w };
-      answer = answer_sent (outlets_of s log.source) (turn_of pace now lingers w);
+      after = record (expired s.settings now log) { whole = after_turn pace now w };
+      answer = answer_sent (outlets_of s (standing_of s.settings now log) log.source) (turn_of pace now lingers w);
     } in m) is
     ∙ ap (λ (w : AnyWhole). let m : Move = record {
-      after = record log { whole = w };
-      answer = answer_sent (outlets_of s log.source) (turn_of pace now lingers (whole frames));
+      after = record (expired s.settings now log) { whole = w };
+      answer = answer_sent (outlets_of s (standing_of s.settings now log) log.source) (turn_of pace now lingers (whole frames));
     } in m) after
     ∙ ap (λ (t : Option (Option (List ℕ))). let m : Move = record {
-      after = record log { whole = whole (cut_of pace now frames) };
-      answer = answer_sent (outlets_of s log.source) t;
+      after = record (expired s.settings now log) { whole = whole (cut_of pace now frames) };
+      answer = answer_sent (outlets_of s (standing_of s.settings now log) log.source) t;
     } in m) turn
     ∙ ap (λ (o : List Outlet). turned s now lingers log frames o) goes'
 
@@ -127,24 +129,25 @@ same_log log frames is = ap (λ (w : AnyWhole). let l : WholeLog = record log { 
 
 turn_idle : (s : State) (e : RunEnd) (now source : ℕ) (lingers : Bool) (log : WholeLog) (frames : Whole) (outlets : List Outlet) →
     log_at e.logs source ≡ Some log → log.whole ≡ whole frames → datagram_of (pace_of s.settings) now lingers frames ≡ None →
-    left_by e source (turned s now lingers log frames outlets) ≡ stays e Idle
+    left_by e source (turned s now lingers log frames outlets) ≡ idle_by_log_seen s e now log
 turn_idle s e now source lingers log frames outlets found is none =
     let pace : Pace = pace_of s.settings in
     ap (λ (w : Whole). left_by e source (record {
-      after = record log { whole = whole w };
+      after = record (expired s.settings now log) { whole = whole w };
       answer = answer_sent outlets (Some (datagram_of pace now lingers frames));
     })) (idle_cut pace now lingers frames none)
-    ∙ ap (λ (d : Option (List ℕ)). left_by e source (record { after = record log { whole = whole frames }; answer = answer_sent outlets (Some d) })) none
-    ∙ ap (λ (l : WholeLog). left_by e source (record { after = l; answer = Idle })) (same_log log frames is)
-    ∙ stays_left e source log Idle found
+    ∙ ap (λ (d : Option (List ℕ)). left_by e source (record { after = record (expired s.settings now log) { whole = whole frames }; answer = answer_sent outlets (Some d) })) none
+    ∙ ap (λ (l : WholeLog). left_by e source (record { after = l; answer = Idle })) (same_log (expired s.settings now log) frames is)
+    ∙ ap (λ (n : ℕ). left_by e n (record { after = expired s.settings now log; answer = Idle }))
+    (sym (found_source source log e.logs found))
 
 turn_sent : (s : State) (e : RunEnd) (now source : ℕ) (lingers : Bool) (log : WholeLog) (frames : Whole) (outlets : List Outlet) (bytes : List ℕ) →
     log_at e.logs source ≡ Some log → datagram_of (pace_of s.settings) now lingers frames ≡ Some bytes →
     left_by e source (turned s now lingers log frames outlets) ≡ cut_by_log_seen s e now log frames bytes outlets
 turn_sent s e now source lingers log frames outlets bytes found some =
     let pace : Pace = pace_of s.settings in
-    ap (λ (d : Option (List ℕ)). left_by e source (record { after = record log { whole = whole (cut_of pace now frames) }; answer = answer_sent outlets (Some d) })) some
-    ∙ ap (λ (n : ℕ). left_by e n (record { after = record log { whole = whole (cut_of pace now frames) }; answer = Sent bytes outlets }))
+    ap (λ (d : Option (List ℕ)). left_by e source (record { after = record (expired s.settings now log) { whole = whole (cut_of pace now frames) }; answer = answer_sent outlets (Some d) })) some
+    ∙ ap (λ (n : ℕ). left_by e n (record { after = record (expired s.settings now log) { whole = whole (cut_of pace now frames) }; answer = Sent bytes outlets }))
     (sym (found_source source log e.logs found))
 
 -- ---- the publication that it is now
@@ -183,7 +186,8 @@ send_there : (s : State) (e : RunEnd) → LogsFollow e → AreRising s → Comes
 send_there s e follows rises above now source publication log is sends found =
     let settings : Settings = e.registry.settings in
     let lingers : Bool = is_some (lingering_since publication) in
-    let outlets : List Outlet = map (outlet_of s publication) (of s.destinations.rows publication.number) in
+    let learnt : List LearntAddress = standing_of s.settings now log in
+    let outlets : List Outlet = outlets_by s learnt (Some publication) in
     let parts = and_parts (is_published publication) (is_udp_media publication.channel.media) sends in
     let row = row_of settings e.logs e.registry.streams.sources source log follows.made found in
     let now_is = still s e.registry rises above source publication row.0 is row.1 in
@@ -193,7 +197,7 @@ send_there s e follows rises above now source publication log is sends found =
     sent_made settings row.0 row.0.origin log.whole (now_is.published ∙ parts.0) made (ap is_udp_media now_is.media ∙ parts.1) in
     let here : log.source ≡ source = found_source source log e.logs found in
     let lets' : sending_of s log.source ≡ Some lingers = ap (sending_of s) here ∙ lets s source publication is sends in
-    let goes' : outlets_of s log.source ≡ outlets = ap (outlets_of s) here ∙ goes s source publication is in
+    let goes' : outlets_of s (standing_of s.settings now log) log.source ≡ outlets = ap (outlets_of s learnt) here ∙ goes s source publication is learnt in
     let moves : moved_seen s e (Send now source) ≡ left_by e source (turned s now lingers log of'.0 outlets) =
     log_moves e source (send_move s now) Gone log found
     ∙ ap (left_by e source) (turn_is s now lingers log of'.0 outlets lets' goes' of'.1 of'.2) in (
@@ -201,8 +205,10 @@ send_there s e follows rises above now source publication log is sends found =
       of'.1,
       record {
         outlets = outlets;
-        are = refl;
+        named = λ by_name. outlets_named s publication learnt by_name;
+        learnt = λ dynamic. outlets_learnt s publication learnt dynamic;
         decided = λ destination. record { to_is = refl; by = by_policy s (send_question publication destination) };
+        decided_learnt = λ address. record { to_is = refl; by = by_policy s (learnt_question s publication address) };
         idle = λ none. moves ∙ turn_idle s e now source lingers log of'.0 outlets found of'.1 none;
         sent = λ bytes some. moves ∙ turn_sent s e now source lingers log of'.0 outlets bytes found some;
       },

@@ -18,7 +18,7 @@ use Rattle.driver_laws.specs.NumberLaws.{AreRising}
 use Rattle.driver_laws.specs.PublishingLaws.{IsImageMadeBy, WasLive}
 use Rattle.driver_laws.specs.UniqueImageLaws.{AreOfOnePublisher, HasUniqueImages, ImagesAreUnique}
 use Rattle.channel_uri.specs.Channel.{Shape}
-use Rattle.channel_uri.specs.Place.{Spot, AtIpc, AtManual, AtEndpoint, spot_of}
+use Rattle.channel_uri.specs.Place.{Spot, AtIpc, AtManual, AtControl, AtEndpoint, spot_of}
 use Rattle.policy_core.specs.RuleList.{Rules}
 use Rattle.stream_registry.specs.declared.row.Origin.{Origin}
 use Rattle.stream_registry.specs.declared.row.Origin.TheVariants.{Published, Remote}
@@ -41,12 +41,19 @@ use Rattle.driver_laws.proofs.RisingLemmas.{rises_unique}
 spots_are : (spot other : Spot) → is_same_spot spot other ≡ true → spot ≡ other
 spots_are AtIpc AtIpc same = refl
 spots_are AtIpc AtManual same = absurd (cc same)
+spots_are AtIpc (AtControl address) same = absurd (cc same)
 spots_are AtIpc (AtEndpoint address) same = absurd (cc same)
 spots_are AtManual AtIpc same = absurd (cc same)
 spots_are AtManual AtManual same = refl
+spots_are AtManual (AtControl address) same = absurd (cc same)
 spots_are AtManual (AtEndpoint address) same = absurd (cc same)
+spots_are (AtControl address) AtIpc same = absurd (cc same)
+spots_are (AtControl address) AtManual same = absurd (cc same)
+spots_are (AtControl address) (AtControl other) same = ap AtControl ((bytes_eq-Decides address other).0 same)
+spots_are (AtControl address) (AtEndpoint other) same = absurd (cc same)
 spots_are (AtEndpoint address) AtIpc same = absurd (cc same)
 spots_are (AtEndpoint address) AtManual same = absurd (cc same)
+spots_are (AtEndpoint address) (AtControl other) same = absurd (cc same)
 spots_are (AtEndpoint address) (AtEndpoint other) same = ap AtEndpoint ((bytes_eq-Decides address other).0 same)
 
 places_are : (spot other : Option Spot) → are_same spot other ≡ true → spot ≡ other

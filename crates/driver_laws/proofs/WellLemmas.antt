@@ -14,7 +14,7 @@ use Rattle.driver_core.specs.declared.log_request.LogRequest.{LogRequest}
 use Rattle.driver_core.specs.declared.peer.Peer.{Peer}
 use Rattle.driver_core.specs.declared.settings.Settings.{Settings}
 use Rattle.driver_core.specs.LogRequests.{offering_of, receiving_of}
-use Rattle.driver_core.specs.PublicationRequests.{publication_for, publisher_of, resending_of}
+use Rattle.driver_core.specs.PublicationRequests.{joining_of, publisher_of, resending_of}
 use Rattle.driver_core.specs.Readers.{readers_of}
 use Rattle.driver_core.specs.SendRequests.{sending_of}
 use Rattle.driver_core.specs.State.{State}
@@ -25,6 +25,8 @@ use Rattle.driver_steps.specs.declared.answer.Offered.TheVariants.{Closed}
 use Rattle.driver_steps.specs.declared.step.Step.{Step}
 use Rattle.driver_steps.specs.declared.step.Step.TheVariants.{Conductor, Packet, Offer as Offers, Poll as Polls, Image, List as Lists, Send, Value}
 use Rattle.driver_steps.specs.Ends.{RunEnd, on_asked, on_image, on_offered_by, on_report_by, on_told, opening_end}
+use Rattle.driver_core.specs.declared.publication_request.JoinRequest.{JoinRequest}
+use Rattle.driver_steps.proofs.HearingLemmas.{status_whole}
 use Rattle.driver_steps.specs.Hearing.{nak_move, status_move}
 use Rattle.driver_steps.specs.Idents.{begins_by, ident_of}
 use Rattle.driver_steps.specs.Moves.{WholeLog, Move, offer_move, offer_to, offer_under, poll_move, poll_under}
@@ -150,11 +152,13 @@ asked_well e now from fields None well = well
 asked_well e now from fields (Some request) well =
     log_keeps WellLog e request.source (nak_move now from request.decision fields) unheard (λ log found there. there.holds) well
 
-told_well : (e : RunEnd) (now : ℕ) (fields : StatusMessage) (source : Option ℕ) → All WellLog e.logs →
-    All WellLog (on_told e now fields source).after.logs
-told_well e now fields None well = well
-told_well e now fields (Some source) well =
-    log_keeps WellLog e source (status_move now fields) unheard (λ log found there. status_well now fields log.whole there.holds) well
+told_well : (e : RunEnd) (now : ℕ) (from : Address) (fields : StatusMessage) (request : Option JoinRequest) → All WellLog e.logs →
+    All WellLog (on_told e now from fields request).after.logs
+told_well e now from fields None well = well
+told_well e now from fields (Some request) well =
+    log_keeps WellLog e request.source (status_move now from request.decision fields) unheard
+    (λ log found there.
+    status_whole WellIf now from request.decision fields log there.holds (status_well now fields log.whole there.holds)) well
 
 image_well : (e : RunEnd) (move : WholeLog → Move) (found : Result ℕ Astray) → ((log : WholeLog) → WellLog log → WellLog (move log).after) →
     All WellLog e.logs → All WellLog (on_image e move found).after.logs
@@ -175,7 +179,7 @@ packet_well s e now local from (Ok (setup fields)) well = event_keeps WellLog e 
 packet_well s e now local from (Ok (nak fields)) well =
     asked_well e now from fields (resending_of s from fields.session_id fields.stream_id) well
 packet_well s e now local from (Ok (status fields)) well =
-    told_well e now fields (publication_for s fields.session_id fields.stream_id) well
+    told_well e now from fields (joining_of s from fields.session_id fields.stream_id) well
 
 -- ---- turns
 

@@ -10,11 +10,13 @@ use Rattle.driver_core.specs.Listing as listing
 use Rattle.driver_core.specs.Requests as requests
 use Rattle.driver_core.specs.Requests.{DestinationRequest, PublicationRequest, SubscriptionRequest}
 use Rattle.driver_core.specs.State.{State}
-use Rattle.driver_laws.specs.Acts.{asked, counter, datagram, destination, look, look_at_log, offer, pair, poll, publication, resend, subscription, termination}
+use Rattle.driver_laws.specs.Acts.{asked, counter, datagram, destination, join, learnt_datagram, look, look_at_log, offer, pair, poll, publication, resend, subscription, termination}
+use Rattle.driver_steps.specs.JoinLaws as joins_of
 use Rattle.driver_steps.specs.Laws as steps
 use Rattle.driver_steps.specs.Laws.{OfferRequest, PollRequest}
 use Rattle.driver_steps.specs.ResendLaws as naks
 use Rattle.driver_steps.specs.SendLaws as sends
+use Rattle.learnt_addresses.specs.declared.learnt_address.LearntAddress.{LearntAddress}
 use Rattle.stream_registry.specs.declared.row.Source.{Source}
 use Rattle.stream_registry.specs.declared.row.Subscription.{Subscription}
 use Rattle.stream_registry.specs.Pairs as fitting
@@ -42,6 +44,11 @@ pub record RulesAskAsListed : Type 0 where
   pub polls : (request : PollRequest) → steps.poll_question request ≡ asked (poll request.client request.subscription)
   pub datagrams :
       (log : Source) (to : Destination) → sends.send_question log to ≡ asked (datagram log to)
+  pub learnt_datagrams :
+      (s : State) (log : Source) (to : LearntAddress) →
+      sends.learnt_question s log to ≡ asked (learnt_datagram s.peers to.address log)
+  pub joins :
+      (s : State) (from : Address) (log : Source) → joins_of.join_question s from log ≡ asked (join s.peers from log)
   pub resends :
       (s : State) (from : Address) (log : Source) → naks.resend_question s from log ≡ asked (resend s.peers from log)
   pub looks : (principal : ℕ) (row : Counter) → counter_rows.question_for principal row ≡ asked (look principal row)

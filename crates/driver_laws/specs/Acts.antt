@@ -15,7 +15,7 @@ use Rattle.command_codec.specs.declared.terminate_driver.TerminateDriver.{Termin
 use Rattle.counters.specs.declared.counter.Counter.{Counter}
 use Rattle.destinations.specs.declared.destination.Destination.{Destination}
 use Rattle.policy_core.specs.declared.act.Act.{Act}
-use Rattle.policy_core.specs.declared.act.Act.TheVariants.{Counter as MakeCounter, Destination as Direct, Image, List as SeeCounter, Offer, Publish, PublishExclusive, Receive, Retransmit, Send, Spy, Subscribe, Terminate}
+use Rattle.policy_core.specs.declared.act.Act.TheVariants.{Counter as MakeCounter, Destination as Direct, Image, Join, List as SeeCounter, Offer, Publish, PublishExclusive, Receive, Retransmit, Send, Spy, Subscribe, Terminate}
 use Rattle.policy_core.specs.Question.{Question}
 use Rattle.stream_registry.specs.declared.row.Registration.{Registration}
 use Rattle.stream_registry.specs.declared.row.Source.{Source}
@@ -44,6 +44,11 @@ pub data Asking : Type 0 where
   poll : Client → Subscription → Asking
   -- a datagram: the publication, the destination
   datagram : Source → Destination → Asking
+  -- a datagram to an address that was learnt: the principals of addresses, the address, the publication
+  learnt_datagram : List Peer → Address → Source → Asking
+  -- a status message, where destinations are learnt: the principals of addresses, the address from which it came, the
+  -- publication
+  join : List Peer → Address → Source → Asking
   -- a NAK: the principals of addresses, the address from which it came, the publication
   resend : List Peer → Address → Source → Asking
   -- a look at a counter of a client's, and at one of the driver's own: the principal of who looks, and what is looked at
@@ -76,6 +81,8 @@ asked (offer client registration log) = asks_for client.principal Offer registra
 asked (pair principal reader) = asks_for principal Image reader.channel reader.stream
 asked (poll client reader) = asks_for client.principal Receive reader.channel reader.stream
 asked (datagram log to) = asks_for to.principal Send (channel_sent log to) log.stream
+asked (learnt_datagram peers to log) = asks_for (principal_at peers to) Send log.channel log.stream
+asked (join peers from log) = asks_for (principal_at peers from) Join log.channel log.stream
 asked (resend peers from log) = asks_for (principal_at peers from) Retransmit log.channel log.stream
 asked (look principal row) = asks_for principal SeeCounter counters_channel row.type_id
 asked (look_at_log principal log) = asks_for principal SeeCounter log.channel log.stream

@@ -18,7 +18,7 @@ use Rattle.driver_laws.specs.PublishingLaws.{IsRegisteredBy}
 use Rattle.channel_uri.specs.declared.address.Address.{Address}
 use Rattle.channel_uri.specs.Address.{address_of}
 use Rattle.channel_uri.specs.Channel.{Shape}
-use Rattle.channel_uri.specs.Place.{AtEndpoint, spot_of}
+use Rattle.channel_uri.specs.Place.{AtControl, AtEndpoint, spot_of}
 use Rattle.destinations.specs.declared.destination.Destination.{Destination}
 use Rattle.destinations.specs.Destinations.{DestinationList, added, has, has_room}
 use Rattle.destinations.specs.Laws.{IsOrderly}
@@ -144,10 +144,10 @@ pub record IsNamedBy (s : State) (event : Event) (destination : Destination) : T
       destination
       ≡ row_next s request.target.source request.target.address request.client.principal request.channel
 
--- the channel names that one address
+-- the channel names that one address: an endpoint, or the address at which destinations make themselves known
 pub record IsEndpoint (request : PublicationRequest) (address : Address) : Type 0 where
   pub text : List ℕ
-  pub spot_is : spot_of request.channel ≡ Some (AtEndpoint text)
+  pub spot_is : (spot_of request.channel ≡ Some (AtEndpoint text)) ⊎ (spot_of request.channel ≡ Some (AtControl text))
   pub address_is : address_of text ≡ Some address
 
 -- The event is a request for a publication that is granted, and makes a log for an endpoint: the row is the one destination of

@@ -23,6 +23,7 @@ use Rattle.driver_laws.specs.UniquePublicationLaws.{PublicationsAreUnique}
 use Rattle.driver_laws.specs.WorldLaws.{RunsAreTheDriversOwn, StepsGoByTheirRegistry, WorldsAreGrantedExactly, WorldsAreServedFromTheLiveLog}
 use Rattle.driver_steps.specs.Laws.{LogsFollowTheRegistry, OffersAreGrantedExactly, PollsAreGrantedExactly, BytesComeFromTheLiveLog, RunsTakeEvents}
 use Rattle.driver_steps.specs.CarryingLaws.{PayloadsComeFromTheirPublisher}
+use Rattle.driver_steps.specs.JoinLaws.{AddressesAreLearntExactly}
 use Rattle.driver_steps.specs.ResendLaws.{ResendsComeFromTheLiveLog}
 use Rattle.driver_steps.specs.SendLaws.{SendsAreGrantedExactly}
 use Rattle.driver_world.specs.Laws.{RunsAreOfTheDriver}
@@ -38,7 +39,8 @@ pub record HoldOfWorlds : Type 0 where
   pub own : RunsAreTheDriversOwn
   pub steps : StepsGoByTheirRegistry
 
--- What is asked by a step, not by an event: a look at a counter, an offer, a poll, a datagram to a destination, a NAK. Each law says
+-- What is asked by a step, not by an event: a look at a counter, an offer, a poll, a datagram to a destination, a status message by
+-- which an address becomes one, a NAK. Each law says
 -- when it is granted, and by which verdict it is denied.
 pub record StepsAreDecided : Type 0 where
   pub shown : CountersAreShownExactly
@@ -49,6 +51,7 @@ pub record StepsAreDecided : Type 0 where
   pub polls_by_any : PollsByAnyRegistryAreGrantedExactly
   pub sends : SendsAreGrantedExactly
   pub sends_by_any : SendsByAnyRegistryAreGrantedExactly
+  pub joins : AddressesAreLearntExactly
   pub resends : ResendsComeFromTheLiveLog
   pub resends_by_any : NaksByAnyRegistryAreGrantedExactly
 

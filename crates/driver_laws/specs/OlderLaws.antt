@@ -5,10 +5,12 @@ use Rattle.channel_uri.specs.declared.address.Address.{Address}
 use Rattle.destinations.specs.declared.destination.Destination.{Destination}
 use Rattle.destinations.specs.Destinations.{of}
 use Rattle.driver_core.specs.declared.send_request.Outlet.{Outlet}
-use Rattle.driver_core.specs.SendRequests.{is_sent, outlet_of, sending_of}
+use Rattle.driver_core.specs.SendRequests.{is_sent, learnt_outlet, outlet_of, sending_of}
+use Rattle.learnt_addresses.specs.declared.learnt_address.LearntAddress.{LearntAddress}
+use Rattle.stream_registry.specs.Places.{is_dynamic}
 use Rattle.driver_laws.specs.ListingLaws.{LooksExactly}
-use Rattle.driver_laws.specs.StepActs.{OutletIsDecidedBy, offer_question, offer_verdict, poll_question, poll_verdict, resend_question, resend_verdict}
-use Rattle.driver_steps.specs.Sending.{pace_of}
+use Rattle.driver_laws.specs.StepActs.{LearntIsDecidedBy, OutletIsDecidedBy, offer_question, offer_verdict, poll_question, poll_verdict, resend_question, resend_verdict}
+use Rattle.driver_steps.specs.Sending.{expired, pace_of, standing_of}
 use Rattle.publication_sender.specs.Cutting.{cut_of, datagram_of}
 use Rattle.stream_registry.specs.declared.row.Source.{Source}
 use Rattle.stream_registry.specs.Origins.{lingering_since}
@@ -130,19 +132,33 @@ PollsByAnyRegistryAreGrantedExactly = AtEachRegistry PollsAreDecidedBy
 abbrev pub cut_by_log_seen : State → RunEnd → ℕ → WholeLog → Whole → List ℕ → List Outlet → Moved
 cut_by_log_seen s e now log frames bytes outlets = record {
   after = record e {
-    logs = with_log e.logs log.source (record log { whole = whole (cut_of (pace_of s.settings) now frames) });
+    logs = with_log e.logs log.source (record (expired s.settings now log) { whole = whole (cut_of (pace_of s.settings) now frames) });
   };
   answer = Sent bytes outlets;
 }
 
--- the datagram that is due, for each destination that the publication has by that registry, by its policy
+-- addresses of which nothing was heard for longer than that registry's timeout are forgotten, and no other log is changed
+abbrev pub idle_by_log_seen : State → RunEnd → ℕ → WholeLog → Moved
+idle_by_log_seen s e now log = record {
+  after = record e { logs = with_log e.logs log.source (expired s.settings now log) };
+  answer = Idle;
+}
+
+-- the datagram that is due, for each destination that the publication has by that registry, by its policy, or for each address
+-- that the log has learnt
 pub record SendIsDecidedBy (s : State) (e : RunEnd) (now : ℕ) (publication : Source) (log : WholeLog) (frames : Whole) (what : Moved) : Type 0 where
   pub outlets : List Outlet
-  pub are : outlets ≡ map (outlet_of s publication) (of s.destinations.rows publication.number)
+  pub named :
+      is_dynamic publication.channel ≡ false →
+      outlets ≡ map (outlet_of s publication) (of s.destinations.rows publication.number)
+  pub learnt :
+      is_dynamic publication.channel ≡ true → outlets ≡ map (learnt_outlet s publication) (standing_of s.settings now log)
   pub decided :
       (destination : Destination) → OutletIsDecidedBy s publication destination (outlet_of s publication destination)
+  pub decided_learnt : (address : LearntAddress) → LearntIsDecidedBy s publication address (learnt_outlet s publication address)
   pub idle :
-      datagram_of (pace_of s.settings) now (is_some (lingering_since publication)) frames ≡ None → what ≡ stays e Idle
+      datagram_of (pace_of s.settings) now (is_some (lingering_since publication)) frames ≡ None →
+      what ≡ idle_by_log_seen s e now log
   pub sent :
       (bytes : List ℕ) → datagram_of (pace_of s.settings) now (is_some (lingering_since publication)) frames ≡ Some bytes →
       what ≡ cut_by_log_seen s e now log frames bytes outlets

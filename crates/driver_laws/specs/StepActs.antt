@@ -5,7 +5,8 @@ use Rattle.destinations.specs.declared.destination.Destination.{Destination}
 use Rattle.driver_core.specs.declared.send_request.Outlet.{Outlet}
 use Rattle.driver_core.specs.State.{State}
 use Rattle.driver_core.specs.Verdicts.{IsByPolicy, verdict_on}
-use Rattle.driver_laws.specs.Acts.{asked, datagram, offer, poll, resend}
+use Rattle.driver_laws.specs.Acts.{asked, datagram, learnt_datagram, offer, poll, resend}
+use Rattle.learnt_addresses.specs.declared.learnt_address.LearntAddress.{LearntAddress}
 use Rattle.driver_steps.specs.Laws.{OfferRequest, PollRequest}
 use Rattle.policy_core.specs.declared.verdict.Verdict.{Verdict}
 use Rattle.policy_core.specs.Question.{Question}
@@ -35,3 +36,8 @@ resend_verdict s from publication = verdict_on s (resend_question s from publica
 pub record OutletIsDecidedBy (s : State) (publication : Source) (destination : Destination) (outlet : Outlet) : Type 0 where
   pub to_is : outlet.to ≡ destination.address
   pub by : IsByPolicy s (asked (datagram publication destination)) outlet.decision.verdict
+
+-- so to an address that was learnt, by that registry's principals of addresses
+pub record LearntIsDecidedBy (s : State) (publication : Source) (learnt : LearntAddress) (outlet : Outlet) : Type 0 where
+  pub to_is : outlet.to ≡ learnt.address
+  pub by : IsByPolicy s (asked (learnt_datagram s.peers learnt.address publication)) outlet.decision.verdict

@@ -25,9 +25,9 @@ use crate::{
     terminations_are_granted_exactly,
 };
 use driver_steps::{
-    bytes_come_from_the_live_log, logs_follow_the_registry, offers_are_granted_exactly,
-    payloads_come_from_their_publisher, polls_are_granted_exactly, resends_come_from_the_live_log,
-    runs_take_events, sends_are_granted_exactly,
+    addresses_are_learnt_exactly, bytes_come_from_the_live_log, logs_follow_the_registry,
+    offers_are_granted_exactly, payloads_come_from_their_publisher, polls_are_granted_exactly,
+    resends_come_from_the_live_log, runs_take_events, sends_are_granted_exactly,
 };
 use driver_world::{registries_were_newest, runs_are_of_the_driver};
 
@@ -73,7 +73,7 @@ pub fn worlds_follow()
 }
 
 /// What is asked by a step, not by an event, is granted or denied by the verdict of the registry by which the step goes: a look
-/// at a counter, an offer, a poll, a datagram to a destination, a NAK.
+/// at a counter, an offer, a poll, a datagram to a destination, a status message by which an address becomes one, a NAK.
 pub fn steps_are_decided()
     ensures { StepsAreDecided }
 {
@@ -85,6 +85,7 @@ pub fn steps_are_decided()
     polls_by_any_registry_are_granted_exactly();
     sends_are_granted_exactly();
     sends_by_any_registry_are_granted_exactly();
+    addresses_are_learnt_exactly();
     resends_come_from_the_live_log();
     naks_by_any_registry_are_granted_exactly();
 }
@@ -106,7 +107,8 @@ pub fn polls_by_any_registry_are_granted_exactly()
 
 /// A turn of the sender by any registry that the run went through cuts the one datagram that is due of the publication's log,
 /// where that is still open, and reports it for each destination that the publication has by that registry, with the verdict of
-/// that registry's policy on its maker.
+/// that registry's policy on its maker; or, where the publication learns its destinations, for each address that its log has
+/// learnt and that is not past that registry's timeout, with the verdict on the principal that is bound to it.
 pub fn sends_by_any_registry_are_granted_exactly()
     ensures { SendsByAnyRegistryAreGrantedExactly }
 {}

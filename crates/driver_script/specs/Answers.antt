@@ -118,6 +118,7 @@ drop_text (cause.Unread fault) = unread_text fault
 drop_text (cause.Astray why) = astray_word why
 drop_text (cause.SetUp fault) = cause_text fault
 drop_text (cause.Denied verdict) = verdict_text verdict
+drop_text cause.Full = codes "full"
 drop_text cause.Empty = codes "empty"
 drop_text cause.OutOfWindow = codes "out-of-window"
 drop_text cause.Lingering = codes "lingering"

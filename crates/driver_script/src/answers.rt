@@ -181,6 +181,7 @@ impl fmt::Display for Drop {
             Cause::Astray(why) => AstrayWord(why).fmt(f),
             Cause::SetUp(fault) => SetupCause(fault).fmt(f),
             Cause::Denied(verdict) => verdict.fmt(f),
+            Cause::Full => f.write_str("full"),
             Cause::Empty => f.write_str("empty"),
             Cause::OutOfWindow => f.write_str("out-of-window"),
             Cause::Lingering => f.write_str("lingering"),

@@ -11,7 +11,7 @@ use Rattle.driver_core.specs.declared.log_request.LogRequest.{LogRequest}
 use Rattle.driver_core.specs.declared.peer.Peer.{Peer}
 use Rattle.driver_core.specs.declared.settings.Settings.{Settings}
 use Rattle.driver_core.specs.LogRequests.{offering_of, receiving_of}
-use Rattle.driver_core.specs.PublicationRequests.{publication_for, publisher_of, resending_of}
+use Rattle.driver_core.specs.PublicationRequests.{joining_of, publisher_of, resending_of}
 use Rattle.driver_core.specs.Readers.{readers_of}
 use Rattle.driver_core.specs.State.{State}
 use Rattle.any_log.proofs.StillLemmas.{IsStill}
@@ -264,9 +264,9 @@ packet_holds more s e now local from (Ok (nak fields)) comes holds =
     (λ source move quiet. quiet_holds more e source move unheard quiet holds) (λ cause. holds)
     (resending_of s from fields.session_id fields.stream_id)
 packet_holds more s e now local from (Ok (status fields)) comes holds =
-    told_cases (λ what. All (Holds more) what.after.logs) e now fields
+    told_cases (λ what. All (Holds more) what.after.logs) e now from fields
     (λ source move quiet. quiet_holds more e source move unheard quiet holds) (λ cause. holds)
-    (publication_for s fields.session_id fields.stream_id)
+    (joining_of s from fields.session_id fields.stream_id)
 
 offer_holds : (more : ℕ → List (List ℕ)) (s : State) (e : RunEnd) (now client registration : ℕ) (message : List ℕ)
     (o : Option LogRequest) → All (Holds more) e.logs →

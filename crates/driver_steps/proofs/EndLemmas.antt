@@ -3,13 +3,14 @@ use Rattle.std.proofs.Common.{◌≡◌, ℕ, List, [], ◌∷◌, ◌++◌, Opt
 use Rattle.driver_core.specs.declared.event.Event.{Event}
 use Rattle.driver_core.specs.declared.event.Inputs.{Inputs}
 use Rattle.driver_core.specs.declared.log_request.LogRequest.{LogRequest}
+use Rattle.driver_core.specs.declared.publication_request.JoinRequest.{JoinRequest}
 use Rattle.driver_core.specs.declared.peer.Peer.{Peer}
 use Rattle.driver_core.specs.declared.settings.Settings.{Settings}
 use Rattle.driver_core.specs.Conduct.{outcome_of, state_after, state_of}
 use Rattle.driver_core.specs.declared.image_request.Astray.{Astray}
 use Rattle.driver_core.specs.Listing.{list, value}
 use Rattle.driver_core.specs.LogRequests.{offering_of}
-use Rattle.driver_core.specs.PublicationRequests.{publication_for, publisher_of, resending_of}
+use Rattle.driver_core.specs.PublicationRequests.{joining_of, publisher_of, resending_of}
 use Rattle.driver_core.specs.State.{State, opened}
 use Rattle.driver_steps.specs.Sending.{send_move}
 use Rattle.driver_steps.specs.declared.answer.Answer.{Answer}
@@ -84,10 +85,11 @@ asked_keeps_registry e now from fields None = refl
 asked_keeps_registry e now from fields (Some request) =
     log_keeps_registry e request.source (nak_move now from request.decision fields) unheard
 
-told_keeps_registry : (e : RunEnd) (now : ℕ) (fields : StatusMessage) (source : Option ℕ) →
-    (on_told e now fields source).after.registry ≡ e.registry
-told_keeps_registry e now fields None = refl
-told_keeps_registry e now fields (Some source) = log_keeps_registry e source (status_move now fields) unheard
+told_keeps_registry : (e : RunEnd) (now : ℕ) (from : Address) (fields : StatusMessage) (request : Option JoinRequest) →
+    (on_told e now from fields request).after.registry ≡ e.registry
+told_keeps_registry e now from fields None = refl
+told_keeps_registry e now from fields (Some request) =
+    log_keeps_registry e request.source (status_move now from request.decision fields) unheard
 
 pub report_keeps_registry : (s : State) (e : RunEnd) (now source : ℕ) (to : Option Address) →
     (on_report_by s e now source to).after.registry ≡ e.registry
@@ -109,7 +111,7 @@ packet_takes_event s e now local from (Ok (setup fields)) = refl
 packet_takes_event s e now local from (Ok (nak fields)) =
     asked_keeps_registry e now from fields (resending_of s from fields.session_id fields.stream_id)
 packet_takes_event s e now local from (Ok (status fields)) =
-    told_keeps_registry e now fields (publication_for s fields.session_id fields.stream_id)
+    told_keeps_registry e now from fields (joining_of s from fields.session_id fields.stream_id)
 
 -- any step leaves the registry that its events leave
 moved_takes : (s : State) (e : RunEnd) (step : Step) → (moved_seen s e step).after.registry ≡ state_of e.registry (event_of e step)

@@ -7,10 +7,12 @@ pub mod EndLemmas
 pub mod FollowLemmas
 pub mod FoundLemmas
 pub mod GateLemmas
+pub mod HearingLemmas
 pub mod HeldLemmas
 pub mod HoleLemmas
 pub mod HousedLemmas
 pub mod ImageLemmas
+pub mod JoinLemmas
 pub mod LiveLemmas
 pub mod MatchLemmas
 pub mod MoveLemmas

@@ -2,6 +2,10 @@
 use Rattle.std.proofs.Common.{rules, ◌≡◌, ℕ, ◌==◌, nat_lt, true, false, List, length, Option, Some, None, refl, sym, ap, ap₂, subst, ◌∙◌}
 use Rattle.any_log.specs.declared.any_log.AnyLog.{AnyLog}
 use Rattle.any_log.specs.declared.any_log.AnyLog.TheVariants.{Term, Image}
+use Rattle.learnt_addresses.specs.declared.learning.Learning.{Learning}
+use Rattle.learnt_addresses.specs.declared.learning.Learning.TheVariants.{Full, Learnt, Renewed}
+use Rattle.learnt_addresses.specs.declared.learnt_address.LearntAddress.{LearntAddress}
+use Rattle.learnt_addresses.specs.LearntAddresses.{forgotten, learning as learning_of, learnt}
 use Rattle.log_pairs.specs.Polling.{Fetched}
 use Rattle.any_log.specs.Held.{Lies, position_held}
 use Rattle.any_log.specs.Whole.{AnyWhole, whole, rebuilt, StandsFor, Carries, Fetches, Words, beaten, polled, position_in, received}
@@ -10,8 +14,9 @@ use Rattle.driver_core.specs.declared.log_request.LogRequest.{LogRequest}
 use Rattle.driver_core.specs.LogRequests.{offering_of, receiving_of}
 use Rattle.driver_core.specs.State.{State}
 use Rattle.driver_steps.specs.declared.answer.Answer.{Answer}
-use Rattle.driver_steps.specs.declared.answer.Answer.TheVariants.{Offered as OfferedAs, Heard, Polled, Denied, Received}
+use Rattle.driver_steps.specs.declared.answer.Answer.TheVariants.{Dropped, Offered as OfferedAs, Heard, Polled, Denied, Received}
 use Rattle.driver_steps.specs.declared.answer.Offered.TheVariants.{Closed, TooLong, NotConnected}
+use Rattle.driver_steps.specs.declared.cause.Cause.TheVariants as cause
 use Rattle.driver_steps.specs.Answers.{offered_as}
 use Rattle.driver_steps.specs.Held.{HeldLog, LiesAsBefore, plot_on}
 use Rattle.driver_steps.specs.Memory.{Gives, is_listed}
@@ -20,7 +25,7 @@ use Rattle.any_log.specs.declared.asking.NakReply.TheVariants as replies
 use Rattle.any_log.specs.Asking.{Hears, IsToResend, Keeps, Replies, after_status, gate_behind, is_resent, nak_reply}
 use Rattle.any_log.specs.Reporting.{IsToReport, Receives, Reports, after_report, is_report, receiver_behind, report_of}
 use Rattle.channel_uri.specs.declared.address.Address.{Address}
-use Rattle.driver_steps.specs.Hearing.{answer_asked, answer_heard, nak_move, status_move}
+use Rattle.driver_steps.specs.Hearing.{answer_asked, answer_heard, heard_move, join_move, learn_move, nak_move, with_learnt}
 use Rattle.driver_steps.specs.Reporting.{answer_reported, report_move}
 use Rattle.frame_codec.specs.declared.nak.Nak.{Nak}
 use Rattle.frame_codec.specs.declared.status_message.StatusMessage.{StatusMessage}
@@ -243,10 +248,11 @@ beat_heard now place held after stays kept carries = record {
 
 -- ---- what receivers ask, and what a publisher is told
 
-recovery_from : (r : Recovering) (gate : Resends) (receiver : Receiving) → r.gate ≡ gate → r.receiver ≡ receiver →
-    r ≡ record { gate = gate; receiver = receiver }
-recovery_from r gate receiver same told =
-    ap₂ (λ (g : Resends) (t : Receiving). let x : Recovering = record { gate = g; receiver = t } in x) same told
+recovery_from : (r : Recovering) (gate : Resends) (receiver : Receiving) (learnt : List LearntAddress) → r.gate ≡ gate →
+    r.receiver ≡ receiver → r.learnt ≡ learnt → r ≡ record { gate = gate; receiver = receiver; learnt = learnt }
+recovery_from r gate receiver learnt same told kept =
+    ap₂ (λ (g : Resends) (t : Receiving). let x : Recovering = record { gate = g; receiver = t; learnt = r.learnt } in x) same told
+    ∙ ap (λ (l : List LearntAddress). let x : Recovering = record { gate = gate; receiver = receiver; learnt = l } in x) kept
 
 resent_listed : (from : Address) (reply : Option NakReply) → is_resent reply ≡ true → is_listed (answer_asked from reply) ≡ true
 resent_listed from (Some (replies.Resent datagrams)) is = refl
@@ -263,7 +269,7 @@ reported_listed to (Some datagrams) is = is
 
 pub status_heard : (now : ℕ) (message : StatusMessage) (held after : HeldLog) (answer : Option StatusAnswer) → Hears held.log message answer →
     after.source ≡ held.source → after.recovery ≡ held.recovery → Carries held.log after.log (after_status now message) →
-    Does (status_move now message) held after (answer_heard answer)
+    Does (heard_move now message) held after (answer_heard answer)
 status_heard now message held after answer hears stays kept carries = record {
   on = λ log stands. (
     ap answer_heard (hears.on log.whole stands.whole),
@@ -275,11 +281,78 @@ status_heard now message held after answer hears stays kept carries = record {
   );
 }
 
+-- what is learnt changes, and no more
+pub record LearnsOf (held after : HeldLog) (change : List LearntAddress → List LearntAddress) : Type 0 where
+  pub source_is : after.source ≡ held.source
+  pub log_is : after.log ≡ held.log
+  pub recovery_is : after.recovery ≡ record held.recovery { learnt = change held.recovery.learnt }
+
+pub learns_stand : (held after : HeldLog) (change : List LearntAddress → List LearntAddress) (log : WholeLog) → LearnsOf held after change →
+    StandsForLog held log → StandsForLog after (with_learnt (change log.recovery.learnt) log)
+learns_stand held after change log learns stands = record {
+  source_is = learns.source_is ∙ stands.source_is;
+  whole = subst (λ (l : AnyLog). StandsFor l log.whole) (sym learns.log_is) stands.whole;
+  recovery_is =
+      learns.recovery_is
+      ∙ ap (λ (r : Recovering). let x : Recovering = record r { learnt = change r.learnt } in x) stands.recovery_is;
+}
+
+-- the policy does not let the address join
+pub join_denied : (now : ℕ) (from : Address) (decision : Decision) (message : StatusMessage) (held after : HeldLog) →
+    decision.verdict.allow ≡ false → LearnsOf held after (forgotten from) →
+    Does (join_move now from decision message) held after (Dropped (cause.Denied decision.verdict))
+join_denied now from decision message held after denies learns = record {
+  on = λ log stands. rw denies (refl, learns_stand held after (forgotten from) log learns stands);
+}
+
+nothing_learnt : (now : ℕ) (from : Address) (rows : List LearntAddress) → learning_of rows from ≡ Full → learnt now from rows ≡ rows
+unfolding learnt
+nothing_learnt now from rows full = rw full refl
+
+same_log : (log : WholeLog) (rows : List LearntAddress) → rows ≡ log.recovery.learnt → with_learnt rows log ≡ log
+same_log log rows same = ap (λ (l : List LearntAddress). with_learnt l log) same
+
+-- there is no room for it
+pub join_full : (now : ℕ) (from : Address) (decision : Decision) (message : StatusMessage) (held after : HeldLog) →
+    decision.verdict.allow ≡ true → learning_of held.recovery.learnt from ≡ Full → LearnsOf held after (learnt now from) →
+    Does (join_move now from decision message) held after (Dropped cause.Full)
+join_full now from decision message held after allows full learns = record {
+  on = λ log stands.
+      let there : learning_of log.recovery.learnt from ≡ Full =
+      ap (λ (r : Recovering). learning_of r.learnt from) (sym stands.recovery_is) ∙ full in
+      rw (allows, there) (
+        refl,
+        subst (StandsForLog after) (same_log log (learnt now from log.recovery.learnt) (nothing_learnt now from log.recovery.learnt there))
+            (learns_stand held after (learnt now from) log learns stands),
+      );
+}
+
+hears_after : (now : ℕ) (from : Address) (message : StatusMessage) (log : WholeLog) (answer : Learning) → (answer ≡ Full → ⊥) →
+    learn_move now from message log answer ≡ heard_move now message (with_learnt (learnt now from log.recovery.learnt) log)
+hears_after now from message log Full other = absurd (other refl)
+hears_after now from message log Learnt other = refl
+hears_after now from message log Renewed other = refl
+
+-- it joins, and then the log hears the message
+pub join_heard : (now : ℕ) (from : Address) (decision : Decision) (message : StatusMessage) (held between after : HeldLog) (answer : Answer) →
+    decision.verdict.allow ≡ true → (learning_of held.recovery.learnt from ≡ Full → ⊥) → LearnsOf held between (learnt now from) →
+    Does (heard_move now message) between after answer → Does (join_move now from decision message) held after answer
+join_heard now from decision message held between after answer allows other learns hears = record {
+  on = λ log stands.
+      let there : learning_of held.recovery.learnt from ≡ learning_of log.recovery.learnt from =
+      ap (λ (r : Recovering). learning_of r.learnt from) stands.recovery_is in
+      let moves : learn_move now from message log (learning_of log.recovery.learnt from)
+      ≡ heard_move now message (with_learnt (learnt now from log.recovery.learnt) log) =
+      hears_after now from message log _ (λ full. other (there ∙ full)) in
+      let told = hears.on (with_learnt (learnt now from log.recovery.learnt) log) (learns_stand held between (learnt now from) log learns stands) in
+      rw (allows, moves) told;
+}
+
 pub nak_answered : (now : ℕ) (from : Address) (decision : Decision) (nak : Nak) (held after : HeldLog) (reply : Option NakReply) →
     Replies held.log decision now nak held.recovery.gate reply → Keeps held.log decision now nak held.recovery.gate after.recovery.gate →
     after.source ≡ held.source → after.log ≡ held.log → after.recovery.receiver ≡ held.recovery.receiver →
-    Does (nak_move now from decision nak) held after (answer_asked from reply)
-nak_answered now from decision nak held after reply replies keeps stays same told = record {
+    after.recovery.learnt ≡ held.recovery.learnt → Does (nak_move now from decision nak) held after (answer_asked from reply)
+nak_answered now from decision nak held after reply replies keeps stays same told kept = record {
   on = λ log stands.
       let gate = ap (λ (r : Recovering). r.gate) stands.recovery_is in
       let receiver = ap (λ (r : Recovering). r.receiver) stands.recovery_is in (
@@ -287,8 +360,9 @@ nak_answered now from decision nak held after reply replies keeps stays same tol
         record {
           source_is = rw stays stands.source_is;
           whole = subst (λ (l : AnyLog). StandsFor l log.whole) (sym same) stands.whole;
-          recovery_is = recovery_from after.recovery _ _
-              (keeps.on log.whole stands.whole ∙ ap (λ g. gate_behind decision now nak g log.whole) gate) (told ∙ receiver);
+          recovery_is = recovery_from after.recovery _ _ _
+              (keeps.on log.whole stands.whole ∙ ap (λ g. gate_behind decision now nak g log.whole) gate) (told ∙ receiver)
+              (kept ∙ ap (λ (r : Recovering). r.learnt) stands.recovery_is);
         },
       );
 }
@@ -304,9 +378,9 @@ nak_gives now from decision nak held to = record {
 pub report_told : (now id : ℕ) (to : Address) (held after : HeldLog) (report : Option (List (List ℕ))) →
     Reports held.log now id held.recovery.receiver report → Receives held.log now held.recovery.receiver after.recovery.receiver →
     Carries held.log after.log (after_report now held.recovery.receiver) →
-    after.source ≡ held.source → after.recovery.gate ≡ held.recovery.gate →
+    after.source ≡ held.source → after.recovery.gate ≡ held.recovery.gate → after.recovery.learnt ≡ held.recovery.learnt →
     Does (report_move now id to) held after (answer_reported to report)
-report_told now id to held after report reports receives carries stays same = record {
+report_told now id to held after report reports receives carries stays same kept = record {
   on = λ log stands.
       let gate = ap (λ (r : Recovering). r.gate) stands.recovery_is in
       let receiver = ap (λ (r : Recovering). r.receiver) stands.recovery_is in (
@@ -314,8 +388,9 @@ report_told now id to held after report reports receives carries stays same = re
         record {
           source_is = rw stays stands.source_is;
           whole = subst (λ (r : Receiving). StandsFor after.log (after_report now r log.whole)) receiver (carries.on log.whole stands.whole);
-          recovery_is = recovery_from after.recovery _ _ (same ∙ gate)
-              (receives.on log.whole stands.whole ∙ ap (λ r. receiver_behind now r log.whole) receiver);
+          recovery_is = recovery_from after.recovery _ _ _ (same ∙ gate)
+              (receives.on log.whole stands.whole ∙ ap (λ r. receiver_behind now r log.whole) receiver)
+              (kept ∙ ap (λ (r : Recovering). r.learnt) stands.recovery_is);
         },
       );
 }

@@ -6,7 +6,8 @@ use Rattle.driver_core.specs.declared.event.Event.TheVariants.{Setup as SetUp}
 use Rattle.driver_core.specs.declared.image_request.Astray.{Astray}
 use Rattle.driver_core.specs.declared.image_request.Astray.TheVariants.{NoStream}
 use Rattle.driver_core.specs.declared.log_request.LogRequest.{LogRequest}
-use Rattle.driver_core.specs.PublicationRequests.{publication_for, resending_of}
+use Rattle.driver_core.specs.declared.publication_request.JoinRequest.{JoinRequest}
+use Rattle.driver_core.specs.PublicationRequests.{joining_of, resending_of}
 use Rattle.driver_steps.specs.declared.cause.Cause.{Cause}
 use Rattle.driver_steps.specs.declared.cause.Cause.TheVariants.{Astray as IsAstray, Unread}
 use Rattle.driver_core.specs.State.{State}
@@ -51,11 +52,12 @@ asked_cases P e now from fields asks drops None = drops (IsAstray NoStream)
 asked_cases P e now from fields asks drops (Some request) =
     asks request.source (nak_move now from request.decision fields) (nak_quiet now from request.decision fields)
 
-pub told_cases : (P : Moved → Type 0) (e : RunEnd) (now : ℕ) (fields : StatusMessage) →
+pub told_cases : (P : Moved → Type 0) (e : RunEnd) (now : ℕ) (from : Address) (fields : StatusMessage) →
     ((source : ℕ) (move : WholeLog → Move) → IsQuiet move → P (on_log e source move unheard)) →
-    ((cause : Cause) → P (dropped e cause)) → (source : Option ℕ) → P (on_told e now fields source)
-told_cases P e now fields asks drops None = drops (IsAstray NoStream)
-told_cases P e now fields asks drops (Some source) = asks source (status_move now fields) (status_quiet now fields)
+    ((cause : Cause) → P (dropped e cause)) → (request : Option JoinRequest) → P (on_told e now from fields request)
+told_cases P e now from fields asks drops None = drops (IsAstray NoStream)
+told_cases P e now from fields asks drops (Some request) =
+    asks request.source (status_move now from request.decision fields) (status_quiet now from request.decision fields)
 
 pub packet_cases : (P : Moved → Type 0) (s : State) (e : RunEnd) (now : ℕ) (local from : Address) → PacketCases P e now local from →
     (read : Result Content BadPacket) → P (packet_seen s e now local from read)
@@ -71,7 +73,7 @@ packet_cases P s e now local from cases (Ok (setup fields)) = cases.sets_up fiel
 packet_cases P s e now local from cases (Ok (nak fields)) =
     asked_cases P e now from fields cases.asks cases.drops (resending_of s from fields.session_id fields.stream_id)
 packet_cases P s e now local from cases (Ok (status fields)) =
-    told_cases P e now fields cases.asks cases.drops (publication_for s fields.session_id fields.stream_id)
+    told_cases P e now from fields cases.asks cases.drops (joining_of s from fields.session_id fields.stream_id)
 
 -- ---- a log is made for the same then, and the same read it
 

@@ -11,6 +11,7 @@ use Rattle.driver_steps.specs.Hearing.{nak_move, status_move}
 use Rattle.driver_steps.specs.Moves.{WholeLog, Move}
 use Rattle.driver_steps.specs.Reporting.{report_move}
 use Rattle.driver_steps.specs.Sending.{pace_of, send_by, send_move}
+use Rattle.driver_steps.proofs.HearingLemmas.{status_source, status_whole}
 use Rattle.frame_codec.specs.declared.nak.Nak.{Nak}
 use Rattle.frame_codec.specs.declared.status_message.StatusMessage.{StatusMessage}
 use Rattle.policy_core.specs.declared.decision.Decision.{Decision}
@@ -31,8 +32,13 @@ still_holds P log new still stays holds =
 
 -- ---- such moves
 
-pub status_quiet : (now : ℕ) (message : StatusMessage) → IsQuiet (status_move now message)
-status_quiet now message log = record { source = refl; whole = hearing_still now message log.whole }
+-- a status message may change which addresses are learnt, too
+pub status_quiet : (now : ℕ) (from : Address) (decision : Option Decision) (message : StatusMessage) →
+    IsQuiet (status_move now from decision message)
+status_quiet now from decision message log = record {
+  source = status_source (λ n. n ≡ log.source) now from decision message log refl;
+  whole = status_whole (λ w. IsStill log.whole w) now from decision message log (is_still log.whole) (hearing_still now message log.whole);
+}
 
 -- a NAK changes what the gate keeps
 pub nak_quiet : (now : ℕ) (from : Address) (decision : Decision) (nak : Nak) → IsQuiet (nak_move now from decision nak)

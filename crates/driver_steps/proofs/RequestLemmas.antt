@@ -5,8 +5,9 @@ use Rattle.any_log.specs.Asking.{nak_reply, status_answer}
 use Rattle.channel_uri.specs.declared.address.Address.{Address}
 use Rattle.driver_core.specs.declared.image_request.Astray.{Astray}
 use Rattle.driver_core.specs.declared.log_request.LogRequest.{LogRequest}
+use Rattle.driver_core.specs.declared.publication_request.JoinRequest.{JoinRequest}
 use Rattle.driver_core.specs.ImageRequests.{image_for, image_named}
-use Rattle.driver_core.specs.PublicationRequests.{publication_for, resending_of}
+use Rattle.driver_core.specs.PublicationRequests.{joining_of, resending_of}
 use Rattle.driver_core.specs.State.{State}
 use Rattle.driver_steps.specs.declared.answer.Answer.{Answer}
 use Rattle.driver_steps.specs.declared.packets.PacketRequest.{PacketRequest}
@@ -15,7 +16,7 @@ use Rattle.driver_steps.specs.declared.answer.Answer.TheVariants.{NoMemory}
 use Rattle.driver_steps.specs.declared.told.Came.TheVariants.{SetUp as CameSetUp, Told as CameTold}
 use Rattle.driver_steps.specs.declared.told.Told.{Told}
 use Rattle.driver_steps.specs.Coming.{Comes, ComesAs, content_decided}
-use Rattle.driver_steps.specs.Decided.{DecidesFirst, DecidesUnless, asked_decision, decided_unless, decision_in}
+use Rattle.driver_steps.specs.Decided.{DecidesFirst, DecidesUnless, asked_decision, decided_unless, decision_in, told_decision}
 use Rattle.driver_steps.specs.Ends.{RunEnd, log_at, on_asked, on_image, on_log, on_packet, on_told}
 use Rattle.driver_steps.specs.Held.{HeldLog, HeldLogs, held_at}
 use Rattle.driver_steps.specs.Memory.{is_listed, packet_takes}
@@ -27,6 +28,7 @@ use Rattle.driver_steps.specs.Standing.{Held, Match, Serves, ServesAs}
 use Rattle.driver_steps.proofs.DecidedLemmas.{decided_first}
 use Rattle.driver_steps.proofs.ImageLemmas.{are_for_first}
 use Rattle.driver_steps.proofs.RunLemmas.{IsTold, asked_told, first_told, heard_told, told_unless}
+use Rattle.driver_steps.proofs.HearingLemmas.{status_told}
 use Rattle.driver_steps.proofs.SeenLemmas.{there_now}
 use Rattle.frame_codec.specs.declared.fault.BadPacket.{BadPacket}
 use Rattle.frame_codec.specs.declared.header.TermPlace.{TermPlace}
@@ -53,10 +55,10 @@ asked_goes : (e : RunEnd) (now : ℕ) (from : Address) (fields : Nak) (request :
 asked_goes e now from fields None = refl
 asked_goes e now from fields (Some request) = refl
 
-told_goes : (e : RunEnd) (now : ℕ) (from : Address) (fields : StatusMessage) (source : Option ℕ) →
-    on_request e now from (status fields) (of_told source) ≡ on_told e now fields source
+told_goes : (e : RunEnd) (now : ℕ) (from : Address) (fields : StatusMessage) (request : Option JoinRequest) →
+    on_request e now from (status fields) (of_told request) ≡ on_told e now from fields request
 told_goes e now from fields None = refl
-told_goes e now from fields (Some source) = refl
+told_goes e now from fields (Some request) = refl
 
 -- by the newest registry
 pub packet_goes : (s : State) (e : RunEnd) (now : ℕ) (local from : Address) (content : Content) → IsOpenContent content → s ≡ e.registry →
@@ -74,7 +76,7 @@ packet_goes s e now local from (setup fields) other same = absurd other
 packet_goes s e now local from (nak fields) other same =
     rw same (asked_goes e now from fields (resending_of e.registry from fields.session_id fields.stream_id))
 packet_goes s e now local from (status fields) other same =
-    rw same (told_goes e now from fields (publication_for e.registry fields.session_id fields.stream_id))
+    rw same (told_goes e now from fields (joining_of e.registry from fields.session_id fields.stream_id))
 
 -- by an older one
 pub packet_goes_seen : (older s : State) (e : RunEnd) (now : ℕ) (local from : Address) (content : Content) → IsOpenContent content →
@@ -90,7 +92,7 @@ packet_goes_seen older s e now local from (setup fields) other same = absurd oth
 packet_goes_seen older s e now local from (nak fields) other same =
     asked_goes e now from fields (resending_of older from fields.session_id fields.stream_id)
 packet_goes_seen older s e now local from (status fields) other same =
-    told_goes e now from fields (publication_for older fields.session_id fields.stream_id)
+    told_goes e now from fields (joining_of older from fields.session_id fields.stream_id)
 
 -- ---- what is decided of it, at an end
 
@@ -102,9 +104,9 @@ image_undecided : (e : RunEnd) (found : Result ℕ Astray) → request_decided e
 image_undecided e (Ok source) = none_in (log_at e.logs source)
 image_undecided e (Err why) = refl
 
-told_undecided : (e : RunEnd) (source : Option ℕ) → request_decided e (of_told source) ≡ None
-told_undecided e None = refl
-told_undecided e (Some source) = none_in (log_at e.logs source)
+told_decided : (e : RunEnd) (request : Option JoinRequest) → request_decided e (of_told request) ≡ told_decision e request
+told_decided e None = refl
+told_decided e (Some request) = refl
 
 asked_decided : (e : RunEnd) (request : Option LogRequest) → request_decided e (of_asked request) ≡ asked_decision e request
 asked_decided e None = refl
@@ -119,7 +121,7 @@ request_decides e local from (frames (frame ∷ later)) =
 request_decides e local from (beat header) = image_undecided e (image_for e.registry local from header.place.session_id header.place.stream_id)
 request_decides e local from (setup fields) = refl
 request_decides e local from (nak fields) = asked_decided e (resending_of e.registry from fields.session_id fields.stream_id)
-request_decides e local from (status fields) = told_undecided e (publication_for e.registry fields.session_id fields.stream_id)
+request_decides e local from (status fields) = told_decided e (joining_of e.registry from fields.session_id fields.stream_id)
 
 -- whichever is the newest
 pub seen_decides : (newest : State) (e : RunEnd) (local from : Address) (content : Content) →
@@ -129,7 +131,7 @@ seen_decides newest e local from (frames (frame ∷ later)) = image_undecided e 
 seen_decides newest e local from (beat header) = image_undecided e _
 seen_decides newest e local from (setup fields) = refl
 seen_decides newest e local from (nak fields) = asked_decided e (resending_of e.registry from fields.session_id fields.stream_id)
-seen_decides newest e local from (status fields) = told_undecided e (publication_for e.registry fields.session_id fields.stream_id)
+seen_decides newest e local from (status fields) = told_decided e (joining_of e.registry from fields.session_id fields.stream_id)
 
 -- ---- a driver, by the newest registry and by an older one
 
@@ -158,7 +160,8 @@ content_told now from decision (beat header) log = tt
 content_told now from decision (setup fields) log = tt
 content_told now from None (nak fields) log = tt
 content_told now from (Some decision) (nak fields) log = asked_told from (nak_reply decision now fields log.recovery.gate log.whole)
-content_told now from decision (status fields) log = heard_told (status_answer fields log.whole)
+content_told now from decision (status fields) log =
+    status_told IsTold now from decision fields log (λ cause. tt) (heard_told (status_answer fields log.whole))
 
 -- the decision is told where the log is other
 pub first_decides : (old new : HeldLogs) (now : ℕ) (from : Address) (content : Content) (request : PacketRequest) (answer : Answer)
@@ -197,9 +200,10 @@ asked_any : (logs : List HeldLog) (fields : Nak) (request : Option LogRequest) �
 asked_any logs fields None = tt
 asked_any logs fields (Some request) = any_log (held_at logs request.source)
 
-told_any : (logs : List HeldLog) (fields : StatusMessage) (source : Option ℕ) → IsForRequest logs (of_told source) (status fields)
+told_any : (logs : List HeldLog) (fields : StatusMessage) (request : Option JoinRequest) →
+    IsForRequest logs (of_told request) (status fields)
 told_any logs fields None = tt
-told_any logs fields (Some source) = any_log (held_at logs source)
+told_any logs fields (Some request) = any_log (held_at logs request.source)
 
 pub is_for_request : (s : State) (held : HeldLogs) (local from : Address) (content : Content) → Match s held → IsSoundContent content →
     IsForRequest held.logs (packet_request s local from content) content
@@ -211,7 +215,7 @@ is_for_request s held local from (beat header) match sound =
     image_any held.logs header (image_for s local from header.place.session_id header.place.stream_id)
 is_for_request s held local from (setup fields) match sound = tt
 is_for_request s held local from (nak fields) match sound = asked_any held.logs fields (resending_of s from fields.session_id fields.stream_id)
-is_for_request s held local from (status fields) match sound = told_any held.logs fields (publication_for s fields.session_id fields.stream_id)
+is_for_request s held local from (status fields) match sound = told_any held.logs fields (joining_of s from fields.session_id fields.stream_id)
 
 pub is_for_seen : (older s : State) (held : HeldLogs) (local from : Address) (content : Content) → Match s held → IsSoundContent content →
     IsForRequest held.logs (request_seen older s local from content) content
@@ -225,7 +229,7 @@ is_for_seen older s held local from (frames (frame ∷ later)) match sound =
 is_for_seen older s held local from (beat header) match sound = image_any held.logs header _
 is_for_seen older s held local from (setup fields) match sound = tt
 is_for_seen older s held local from (nak fields) match sound = asked_any held.logs fields (resending_of older from fields.session_id fields.stream_id)
-is_for_seen older s held local from (status fields) match sound = told_any held.logs fields (publication_for older fields.session_id fields.stream_id)
+is_for_seen older s held local from (status fields) match sound = told_any held.logs fields (joining_of older from fields.session_id fields.stream_id)
 
 -- ---- what a datagram comes to that is no SETUP
 

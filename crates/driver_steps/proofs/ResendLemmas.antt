@@ -16,7 +16,7 @@ use Rattle.driver_core.specs.declared.replies.Message.{Message}
 use Rattle.driver_core.specs.declared.settings.Settings.{Settings}
 use Rattle.driver_core.specs.Conduct.{conduct}
 use Rattle.driver_core.specs.ImageRequests.{image_for}
-use Rattle.driver_core.specs.PublicationRequests.{is_sent_as, publication_at, publication_for, resend_decision, resending_of, resent_by}
+use Rattle.driver_core.specs.PublicationRequests.{is_sent_as, publication_at, joining_of, resend_decision, resending_of, resent_by}
 use Rattle.driver_core.specs.Renewal.{source_at}
 use Rattle.driver_core.proofs.VerdictLemmas.{by_policy}
 use Rattle.driver_steps.specs.declared.answer.Answer.{Answer}
@@ -29,6 +29,7 @@ use Rattle.driver_steps.specs.Laws.{made_as, made_for, stays}
 use Rattle.driver_steps.specs.Moves.{WholeLog, Move, answered}
 use Rattle.driver_steps.specs.Receiving.{beat_move, receive_move, unheard}
 use Rattle.driver_steps.specs.ResendLaws.{IsResentFrom, ResendsAreDecided, ResendsComeFromTheLiveLog, resend_question, resend_verdict}
+use Rattle.driver_steps.proofs.HearingLemmas.{status_told}
 use Rattle.driver_steps.proofs.DecisionLemmas.{IsAppended, IsForPublication, appended_for, left_by, log_moves, made_at, published_made, stays_left}
 use Rattle.driver_steps.proofs.FollowLemmas.{Follows, ends_follow}
 use Rattle.driver_steps.proofs.LiveLemmas.{is_allowed}
@@ -38,6 +39,7 @@ use Rattle.frame_codec.specs.declared.fault.BadPacket.{BadPacket}
 use Rattle.frame_codec.specs.declared.nak.Nak.{Nak}
 use Rattle.frame_codec.specs.declared.status_message.StatusMessage.{StatusMessage}
 use Rattle.frame_codec.specs.Datagram.{Content, frames, beat, nak, status, setup, packet_of}
+use Rattle.driver_core.specs.declared.publication_request.JoinRequest.{JoinRequest}
 use Rattle.policy_core.specs.declared.decision.Decision.{Decision}
 use Rattle.publication_sender.specs.declared.hearing.StatusAnswer.{StatusAnswer}
 use Rattle.publication_sender.specs.declared.hearing.StatusAnswer.TheVariants as heard
@@ -77,9 +79,12 @@ heard_other (Some heard.Elicited) = tt
 heard_other (Some (heard.Limit position)) = tt
 heard_other (Some heard.OutOfWindow) = tt
 
-told_other : (e : RunEnd) (now : ℕ) (fields : StatusMessage) (source : Option ℕ) → IsOther (on_told e now fields source).answer
-told_other e now fields None = tt
-told_other e now fields (Some source) = on_log_other e source (status_move now fields) (λ log. heard_other _)
+told_other : (e : RunEnd) (now : ℕ) (from : Address) (fields : StatusMessage) (request : Option JoinRequest) →
+    IsOther (on_told e now from fields request).answer
+told_other e now from fields None = tt
+told_other e now from fields (Some request) =
+    on_log_other e request.source (status_move now from request.decision fields)
+    (λ log. status_told IsOther now from request.decision fields log (λ cause. tt) (heard_other _))
 
 outcome_other : (response : Response) (replies : List Message) → IsOther (answered_by response replies)
 outcome_other response.Nothing replies = tt
@@ -197,7 +202,7 @@ packet_resends e now local from to datagrams (Ok (nak fields)) is = (
 )
 packet_resends e now local from to datagrams (Ok (status fields)) is =
     none_other e from to (Ok (status fields)) datagrams _
-    (told_other e now fields (publication_for e.registry fields.session_id fields.stream_id)) is
+    (told_other e now from fields (joining_of e.registry from fields.session_id fields.stream_id)) is
 
 -- ---- the log of the publication
 

@@ -19,7 +19,7 @@ use Rattle.any_log.specs.declared.asking.NakReply.TheVariants as replies
 use Rattle.driver_steps.specs.Hearing.{answer_asked, answer_heard}
 use Rattle.any_log.specs.Reporting.{report_of}
 use Rattle.driver_steps.specs.Reporting.{answer_reported, report_by}
-use Rattle.driver_steps.specs.Sending.{answer_sent, pace_of, send_by}
+use Rattle.driver_steps.specs.Sending.{answer_sent, pace_of, send_by, standing_of}
 use Rattle.any_log.specs.Sending.{turn_of}
 use Rattle.driver_core.specs.declared.send_request.Outlet.{Outlet}
 use Rattle.driver_core.specs.SendRequests.{outlets_of}
@@ -313,4 +313,4 @@ sent_told outlets (Some (Some bytes)) = tt
 
 pub send_told : (s : State) (now : ℕ) (log : WholeLog) (lingers : Option Bool) → IsTold (send_by s now log lingers).answer
 send_told s now log None = tt
-send_told s now log (Some lingers) = sent_told (outlets_of s log.source) (turn_of (pace_of s.settings) now lingers log.whole)
+send_told s now log (Some lingers) = sent_told (outlets_of s (standing_of s.settings now log) log.source) (turn_of (pace_of s.settings) now lingers log.whole)

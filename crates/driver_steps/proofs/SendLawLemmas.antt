@@ -1,5 +1,5 @@
 -- The sender's turns go to each destination exactly where the policy in force allows it.
-use Rattle.std.proofs.Common.{◌≡◌, ℕ, Bool, true, cond, List, map, Option, Some, None, refl, sym, ap, ◌∙◌}
+use Rattle.std.proofs.Common.{◌≡◌, ℕ, Bool, true, false, cond, List, map, Option, Some, None, refl, sym, ap, ◌∙◌}
 use Rattle.std.proofs.lemmas.Bool.{and_parts}
 use Rattle.std.specs.Option.{is_some, option_map}
 use Rattle.any_log.specs.Held.{for_publication}
@@ -11,7 +11,7 @@ use Rattle.destinations.specs.Destinations.{of}
 use Rattle.driver_core.specs.declared.send_request.Outlet.{Outlet}
 use Rattle.driver_core.specs.declared.settings.Settings.{Settings}
 use Rattle.driver_core.specs.Renewal.{source_at}
-use Rattle.driver_core.specs.SendRequests.{is_sent, lingers_by, outlet_of, outlets_by, outlets_of, sending_of}
+use Rattle.driver_core.specs.SendRequests.{is_sent, learnt_outlet, lingers_by, outlet_of, outlets_by, outlets_of, sending_of}
 use Rattle.driver_core.specs.State.{State}
 use Rattle.driver_core.proofs.VerdictLemmas.{by_policy}
 use Rattle.driver_steps.specs.declared.answer.Answer.TheVariants.{Gone, Idle, Sent}
@@ -20,8 +20,9 @@ use Rattle.driver_steps.specs.Ends.{RunEnd, log_at, moved, moved_on, on_log}
 use Rattle.driver_steps.specs.Idents.{ident_of, kind_over, made_by, made_of}
 use Rattle.driver_steps.specs.Laws.{LogsFollow, stays}
 use Rattle.driver_steps.specs.Moves.{Move, WholeLog}
-use Rattle.driver_steps.specs.Sending.{answer_sent, pace_of, send_by, send_move}
-use Rattle.driver_steps.specs.SendLaws.{SendIsDecided, SendsAreDecided, SendsAreGrantedExactly, cut_by_log, send_question}
+use Rattle.driver_steps.specs.Sending.{answer_sent, expired, pace_of, send_by, send_move, standing_of}
+use Rattle.driver_steps.specs.SendLaws.{SendIsDecided, SendsAreDecided, SendsAreGrantedExactly, cut_by_log, idle_by_log, learnt_question, send_question}
+use Rattle.learnt_addresses.specs.declared.learnt_address.LearntAddress.{LearntAddress}
 use Rattle.driver_steps.proofs.DecisionLemmas.{left_by, log_moves, made_at, stays_left}
 use Rattle.driver_steps.proofs.FollowLemmas.{logs_follow}
 use Rattle.driver_steps.proofs.FoundLemmas.{found_source}
@@ -32,7 +33,7 @@ use Rattle.stream_registry.specs.declared.row.Origin.{Origin}
 use Rattle.stream_registry.specs.declared.row.Origin.TheVariants.{Published, Remote}
 use Rattle.stream_registry.specs.declared.row.Source.{Source}
 use Rattle.stream_registry.specs.Origins.{is_published, is_published_by, lingering_since}
-use Rattle.stream_registry.specs.Places.{is_udp as is_udp_media}
+use Rattle.stream_registry.specs.Places.{is_dynamic, is_udp as is_udp_media}
 use Rattle.term_log.specs.declared.ident.Ident.{Ident}
 use Rattle.term_log.specs.Ident.{is_udp}
 use Rattle.term_log.specs.Whole.{Whole}
@@ -64,21 +65,31 @@ unfolding sending_of
 lets s source publication is sends = ap lingers_by is ∙ ap (λ (b : Bool). cond b (Some (is_some (lingering_since publication))) None) sends
 
 goes : (s : State) (source : ℕ) (publication : Source) → source_at s.streams.sources source ≡ Some publication →
-    outlets_of s source ≡ map (outlet_of s publication) (of s.destinations.rows publication.number)
+    (learnt : List LearntAddress) → outlets_of s learnt source ≡ outlets_by s learnt (Some publication)
 unfolding outlets_of
-goes s source publication is = ap (outlets_by s) is
+goes s source publication is learnt = ap (outlets_by s learnt) is
+
+pub outlets_named : (s : State) (publication : Source) (learnt : List LearntAddress) → is_dynamic publication.channel ≡ false →
+    outlets_by s learnt (Some publication) ≡ map (outlet_of s publication) (of s.destinations.rows publication.number)
+outlets_named s publication learnt by_name =
+    ap (λ (b : Bool). cond b (map (learnt_outlet s publication) learnt) (map (outlet_of s publication) (of s.destinations.rows publication.number))) by_name
+
+pub outlets_learnt : (s : State) (publication : Source) (learnt : List LearntAddress) → is_dynamic publication.channel ≡ true →
+    outlets_by s learnt (Some publication) ≡ map (learnt_outlet s publication) learnt
+outlets_learnt s publication learnt dynamic =
+    ap (λ (b : Bool). cond b (map (learnt_outlet s publication) learnt) (map (outlet_of s publication) (of s.destinations.rows publication.number))) dynamic
 
 -- ---- the move
 
 -- what the log does, of which all frames are known
 abbrev turned : RunEnd → ℕ → Bool → WholeLog → Whole → List Outlet → Move
 turned e now lingers log frames outlets = record {
-  after = record log { whole = whole (cut_of (pace_of e.registry.settings) now frames) };
+  after = record (expired e.registry.settings now log) { whole = whole (cut_of (pace_of e.registry.settings) now frames) };
   answer = answer_sent outlets (Some (datagram_of (pace_of e.registry.settings) now lingers frames));
 }
 
 turn_is : (e : RunEnd) (now : ℕ) (lingers : Bool) (log : WholeLog) (frames : Whole) (outlets : List Outlet) →
-    sending_of e.registry log.source ≡ Some lingers → outlets_of e.registry log.source ≡ outlets → log.whole ≡ whole frames →
+    sending_of e.registry log.source ≡ Some lingers → outlets_of e.registry (standing_of e.registry.settings now log) log.source ≡ outlets → log.whole ≡ whole frames →
     is_udp frames.ident.kind ≡ true → send_move e.registry now log ≡ turned e now lingers log frames outlets
 unfolding send_move
 turn_is e now lingers log frames outlets lets' goes' is udp =
@@ -89,16 +100,16 @@ turn_is e now lingers log frames outlets lets' goes' is udp =
     ap (λ (b : Bool). cond b (whole (cut_of pace now frames)) (whole frames)) udp in
     ap (send_by e.registry now log) lets'
     ∙ ap (λ (w : AnyWhole). let m : Move = record {
-      after = record log { whole = after_turn pace now w };
-      answer = answer_sent (outlets_of e.registry log.source) (turn_of pace now lingers w);
+      after = record (expired e.registry.settings now log) { whole = after_turn pace now w };
+      answer = answer_sent (outlets_of e.registry (standing_of e.registry.settings now log) log.source) (turn_of pace now lingers w);
     } in m) is
     ∙ ap (λ (w : AnyWhole). let m : Move = record {
-      after = record log { whole = w };
-      answer = answer_sent (outlets_of e.registry log.source) (turn_of pace now lingers (whole frames));
+      after = record (expired e.registry.settings now log) { whole = w };
+      answer = answer_sent (outlets_of e.registry (standing_of e.registry.settings now log) log.source) (turn_of pace now lingers (whole frames));
     } in m) after
     ∙ ap (λ (t : Option (Option (List ℕ))). let m : Move = record {
-      after = record log { whole = whole (cut_of pace now frames) };
-      answer = answer_sent (outlets_of e.registry log.source) t;
+      after = record (expired e.registry.settings now log) { whole = whole (cut_of pace now frames) };
+      answer = answer_sent (outlets_of e.registry (standing_of e.registry.settings now log) log.source) t;
     } in m) turn
     ∙ ap (λ (o : List Outlet). turned e now lingers log frames o) goes'
 
@@ -116,24 +127,26 @@ same_log log frames is = ap (λ (w : AnyWhole). let l : WholeLog = record log { 
 
 turn_idle : (e : RunEnd) (now source : ℕ) (lingers : Bool) (log : WholeLog) (frames : Whole) (outlets : List Outlet) →
     log_at e.logs source ≡ Some log → log.whole ≡ whole frames → datagram_of (pace_of e.registry.settings) now lingers frames ≡ None →
-    left_by e source (turned e now lingers log frames outlets) ≡ stays e Idle
+    left_by e source (turned e now lingers log frames outlets) ≡ idle_by_log e now log
 turn_idle e now source lingers log frames outlets found is none =
     let pace : Pace = pace_of e.registry.settings in
     ap (λ (w : Whole). left_by e source (record {
-      after = record log { whole = whole w };
+      after = record (expired e.registry.settings now log) { whole = whole w };
       answer = answer_sent outlets (Some (datagram_of pace now lingers frames));
     })) (idle_cut pace now lingers frames none)
-    ∙ ap (λ (d : Option (List ℕ)). left_by e source (record { after = record log { whole = whole frames }; answer = answer_sent outlets (Some d) })) none
-    ∙ ap (λ (l : WholeLog). left_by e source (record { after = l; answer = Idle })) (same_log log frames is)
-    ∙ stays_left e source log Idle found
+    ∙ ap (λ (d : Option (List ℕ)). left_by e source (record { after = record (expired e.registry.settings now log) { whole = whole frames }; answer = answer_sent outlets (Some d) })) none
+    ∙ ap (λ (l : WholeLog). left_by e source (record { after = l; answer = Idle }))
+    (same_log (expired e.registry.settings now log) frames is)
+    ∙ ap (λ (n : ℕ). left_by e n (record { after = expired e.registry.settings now log; answer = Idle }))
+    (sym (found_source source log e.logs found))
 
 turn_sent : (e : RunEnd) (now source : ℕ) (lingers : Bool) (log : WholeLog) (frames : Whole) (outlets : List Outlet) (bytes : List ℕ) →
     log_at e.logs source ≡ Some log → datagram_of (pace_of e.registry.settings) now lingers frames ≡ Some bytes →
     left_by e source (turned e now lingers log frames outlets) ≡ cut_by_log e now log frames bytes outlets
 turn_sent e now source lingers log frames outlets bytes found some =
     let pace : Pace = pace_of e.registry.settings in
-    ap (λ (d : Option (List ℕ)). left_by e source (record { after = record log { whole = whole (cut_of pace now frames) }; answer = answer_sent outlets (Some d) })) some
-    ∙ ap (λ (n : ℕ). left_by e n (record { after = record log { whole = whole (cut_of pace now frames) }; answer = Sent bytes outlets }))
+    ap (λ (d : Option (List ℕ)). left_by e source (record { after = record (expired e.registry.settings now log) { whole = whole (cut_of pace now frames) }; answer = answer_sent outlets (Some d) })) some
+    ∙ ap (λ (n : ℕ). left_by e n (record { after = record (expired e.registry.settings now log) { whole = whole (cut_of pace now frames) }; answer = Sent bytes outlets }))
     (sym (found_source source log e.logs found))
 
 -- ---- the law
@@ -144,14 +157,15 @@ send_there : (e : RunEnd) → LogsFollow e → (now source : ℕ) (publication :
 send_there e follows now source publication log is sends found =
     let settings : Settings = e.registry.settings in
     let lingers : Bool = is_some (lingering_since publication) in
-    let outlets : List Outlet = map (outlet_of e.registry publication) (of e.registry.destinations.rows publication.number) in
+    let learnt : List LearntAddress = standing_of settings now log in
+    let outlets : List Outlet = outlets_by e.registry learnt (Some publication) in
     let parts = and_parts (is_published publication) (is_udp_media publication.channel.media) sends in
     let made : made_any log.whole ≡ made_of settings publication =
     made_at settings e.logs e.registry.streams.sources source log publication follows.made found is in
     let of' = sent_made settings publication publication.origin log.whole parts.0 made parts.1 in
     let here : log.source ≡ source = found_source source log e.logs found in
     let lets' : sending_of e.registry log.source ≡ Some lingers = ap (sending_of e.registry) here ∙ lets e.registry source publication is sends in
-    let goes' : outlets_of e.registry log.source ≡ outlets = ap (outlets_of e.registry) here ∙ goes e.registry source publication is in
+    let goes' : outlets_of e.registry (standing_of e.registry.settings now log) log.source ≡ outlets = ap (outlets_of e.registry learnt) here ∙ goes e.registry source publication is learnt in
     let moves : moved e (Send now source) ≡ left_by e source (turned e now lingers log of'.0 outlets) =
     log_moves e source (send_move e.registry now) Gone log found
     ∙ ap (left_by e source) (turn_is e now lingers log of'.0 outlets lets' goes' of'.1 of'.2) in (
@@ -159,8 +173,10 @@ send_there e follows now source publication log is sends found =
       of'.1,
       record {
         outlets = outlets;
-        are = refl;
+        named = λ by_name. outlets_named e.registry publication learnt by_name;
+        learnt = λ dynamic. outlets_learnt e.registry publication learnt dynamic;
         decided = λ destination. record { to_is = refl; by = by_policy e.registry (send_question publication destination) };
+        decided_learnt = λ address. record { to_is = refl; by = by_policy e.registry (learnt_question e.registry publication address) };
         idle = λ none. moves ∙ turn_idle e now source lingers log of'.0 outlets found of'.1 none;
         sent = λ bytes some. moves ∙ turn_sent e now source lingers log of'.0 outlets bytes found some;
       },

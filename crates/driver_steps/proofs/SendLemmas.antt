@@ -13,8 +13,12 @@ use Rattle.driver_steps.specs.declared.answer.Answer.TheVariants.{Gone, Idle, Se
 use Rattle.driver_steps.specs.Held.{HeldLog}
 use Rattle.driver_steps.specs.Memory.{Gives, is_listed}
 use Rattle.driver_steps.specs.Moves.{Does, StandsForLog, WholeLog, answered}
-use Rattle.driver_steps.specs.Sending.{answer_sent, pace_of, send_by, send_move}
+use Rattle.driver_steps.specs.Recovery.{Recovering}
+use Rattle.driver_steps.specs.Sending.{answer_sent, pace_of, send_by, send_move, standing_of}
 use Rattle.driver_steps.proofs.RunLemmas.{IsTold, send_told}
+use Rattle.driver_core.specs.declared.settings.Settings.{Settings}
+use Rattle.learnt_addresses.specs.declared.learnt_address.LearntAddress.{LearntAddress}
+use Rattle.learnt_addresses.specs.LearntAddresses.{standing}
 use Rattle.publication_sender.specs.declared.cutting.DatagramKind.{DatagramKind}
 use Rattle.publication_sender.specs.declared.cutting.Next.{Next}
 use Rattle.publication_sender.specs.declared.cutting.Pace.{Pace}
@@ -52,11 +56,11 @@ some_by (Some found) source is = some_if (is_sent found) found source is
 
 -- it says whether it lingers, and where its datagrams go
 pub sending_some : (s : State) (number : ℕ) (source : Source) → sent_at s number ≡ Some source
-    → (sending_of s number ≡ Some (is_some (lingering_since source))) × (outlets_by s (Some source) ≡ outlets_of s number)
+    → (sending_of s number ≡ Some (is_some (lingering_since source))) × ((learnt : List LearntAddress) → outlets_by s learnt (Some source) ≡ outlets_of s learnt number)
 unfolding sent_at sending_of outlets_of
 sending_some s number source is =
     let found = some_by (source_at s.streams.sources number) source is in
-    (found.0, ap (outlets_by s) (sym found.1))
+    (found.0, λ learnt. ap (outlets_by s learnt) (sym found.1))
 
 -- ---- its turn
 
@@ -82,61 +86,70 @@ send_gone s now held is = record {
       rw left (refl, stands);
 }
 
+-- what was learnt and is past the timeout is forgotten
+abbrev pub expired_beside : Settings → ℕ → Recovering → Recovering
+expired_beside settings now r = record r { learnt = standing now settings.destination_timeout r.learnt }
+
 -- the log is not sent
-pub send_unsent : (s : State) (now : ℕ) (held : HeldLog) (source : Source) → sent_at s held.source ≡ Some source →
-    IsNextOf held.log (pace_of s.settings) now (is_some (lingering_since source)) None → Does (send_move s now) held held Gone
-send_unsent s now held source is next = record {
+pub send_unsent : (s : State) (now : ℕ) (held after : HeldLog) (source : Source) → sent_at s held.source ≡ Some source →
+    IsNextOf held.log (pace_of s.settings) now (is_some (lingering_since source)) None → after.source ≡ held.source →
+    after.log ≡ held.log → after.recovery ≡ expired_beside s.settings now held.recovery → Does (send_move s now) held after Gone
+send_unsent s now held after source is next stays same kept = record {
   on = λ log stands.
       let due : due_in (pace_of s.settings) now log.whole ≡ None = sym (next.on log.whole stands.whole).0 in
       let turn = unsent_turn (pace_of s.settings) now (is_some (lingering_since source)) log.whole due in
-      let same = unsent_stays (pace_of s.settings) now log.whole due in
+      let left = unsent_stays (pace_of s.settings) now log.whole due in
       rw (let_by s now held log source is stands, turn) (
         refl,
         record {
-          source_is = stands.source_is;
-          whole = rw same stands.whole;
-          recovery_is = stands.recovery_is;
+          source_is = stays ∙ stands.source_is;
+          whole = rw (left, same) stands.whole;
+          recovery_is = kept ∙ ap (expired_beside s.settings now) stands.recovery_is;
         },
       );
 }
 
 -- nothing is due
-pub send_idle : (s : State) (now : ℕ) (held : HeldLog) (source : Source) → sent_at s held.source ≡ Some source →
-    IsNextOf held.log (pace_of s.settings) now (is_some (lingering_since source)) (Some None) → Does (send_move s now) held held Idle
-send_idle s now held source is next = record {
+pub send_idle : (s : State) (now : ℕ) (held after : HeldLog) (source : Source) → sent_at s held.source ≡ Some source →
+    IsNextOf held.log (pace_of s.settings) now (is_some (lingering_since source)) (Some None) → after.source ≡ held.source →
+    after.log ≡ held.log → after.recovery ≡ expired_beside s.settings now held.recovery → Does (send_move s now) held after Idle
+send_idle s now held after source is next stays same kept = record {
   on = λ log stands.
       let due : due_in (pace_of s.settings) now log.whole ≡ Some None = sym (next.on log.whole stands.whole).0 in
       let turn = idle_turn (pace_of s.settings) now (is_some (lingering_since source)) log.whole due in
-      let same = idle_stays (pace_of s.settings) now log.whole due in
+      let left = idle_stays (pace_of s.settings) now log.whole due in
       rw (let_by s now held log source is stands, turn) (
         refl,
         record {
-          source_is = stands.source_is;
-          whole = rw same stands.whole;
-          recovery_is = stands.recovery_is;
+          source_is = stays ∙ stands.source_is;
+          whole = rw (left, same) stands.whole;
+          recovery_is = kept ∙ ap (expired_beside s.settings now) stands.recovery_is;
         },
       );
 }
 
 -- the log has its turn
 pub send_done : (s : State) (now : ℕ) (held after : HeldLog) (source : Source) (outlets : List Outlet) (next : Next) →
-    sent_at s held.source ≡ Some source → outlets ≡ outlets_by s (Some source) →
+    sent_at s held.source ≡ Some source →
+    outlets ≡ outlets_by s (standing now s.settings.destination_timeout held.recovery.learnt) (Some source) →
     IsNextOf held.log (pace_of s.settings) now (is_some (lingering_since source)) (Some (Some next)) →
-    Carries held.log after.log (passed_in now next.cut.kind) → after.source ≡ held.source → after.recovery ≡ held.recovery →
-    Does (send_move s now) held after (Sent next.bytes.items outlets)
+    Carries held.log after.log (passed_in now next.cut.kind) → after.source ≡ held.source →
+    after.recovery ≡ expired_beside s.settings now held.recovery → Does (send_move s now) held after (Sent next.bytes.items outlets)
 send_done s now held after source outlets next is goes due carries stays kept = record {
   on = λ log stands.
       let pace = pace_of s.settings in
       let cut = due.on log.whole stands.whole in
       let moved : passed_in now next.cut.kind log.whole ≡ after_turn pace now log.whole = passed_due pace now log.whole next.cut.kind (sym cut.0) in
+      let learnt : List LearntAddress = standing now s.settings.destination_timeout held.recovery.learnt in
       rw (let_by s now held log source is stands) (
         ap (λ (o : List Outlet). Sent next.bytes.items o)
-            (goes ∙ (sending_some s held.source source is).1 ∙ ap (outlets_of s) stands.source_is)
-            ∙ ap (answer_sent (outlets_of s log.source)) cut.1,
+            (goes ∙ (sending_some s held.source source is).1 learnt ∙ ap (outlets_of s learnt) stands.source_is
+            ∙ ap (λ (r : Recovering). outlets_of s (standing now s.settings.destination_timeout r.learnt) log.source) stands.recovery_is)
+            ∙ ap (answer_sent (outlets_of s (standing_of s.settings now log) log.source)) cut.1,
         record {
           source_is = stays ∙ stands.source_is;
           whole = subst (λ (w : AnyWhole). StandsFor after.log w) moved (carries.on log.whole stands.whole);
-          recovery_is = kept ∙ stands.recovery_is;
+          recovery_is = kept ∙ ap (expired_beside s.settings now) stands.recovery_is;
         },
       );
 }
@@ -158,7 +171,7 @@ send_gives s now held source is some = record {
       let kind = kind_due (due_in (pace_of s.settings) now log.whole) (some.on log.whole stands.whole) in
       let turn = some_turn (pace_of s.settings) now (is_some (lingering_since source)) log.whole kind.0 kind.1 in
       rw (let_by s now held log source is stands)
-      (sent_listed (outlets_of s log.source) (turn_of (pace_of s.settings) now (is_some (lingering_since source)) log.whole) turn.0 turn.1);
+      (sent_listed (outlets_of s (standing_of s.settings now log) log.source) (turn_of (pace_of s.settings) now (is_some (lingering_since source)) log.whole) turn.0 turn.1);
 }
 
 -- as where it was told

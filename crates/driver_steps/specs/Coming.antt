@@ -4,16 +4,17 @@ use Rattle.channel_uri.specs.declared.address.Address.{Address}
 use Rattle.driver_steps.specs.declared.step.Step.TheVariants.{Packet}
 use Rattle.driver_steps.specs.declared.told.Came.{Came}
 use Rattle.driver_steps.specs.declared.told.Came.TheVariants.{SetUp, Told as CameTold}
-use Rattle.driver_steps.specs.Decided.{DecidesUnless, nak_decided}
+use Rattle.driver_steps.specs.Decided.{DecidesUnless, nak_decided, status_decided}
 use Rattle.driver_steps.specs.Ends.{RunEnd}
 use Rattle.driver_steps.specs.Standing.{Held, Serves}
 use Rattle.frame_codec.specs.declared.fault.BadPacket.{BadPacket}
-use Rattle.frame_codec.specs.Datagram.{Content, nak, setup, packet_of}
+use Rattle.frame_codec.specs.Datagram.{Content, nak, setup, status, packet_of}
 use Rattle.policy_core.specs.declared.decision.Decision.{Decision}
 
--- what is decided of a datagram, at the end of a run: a NAK's
+-- what is decided of a datagram, at the end of a run: a NAK's, and a status message's
 abbrev pub content_decided : RunEnd → Address → Result Content BadPacket → Option Decision
 content_decided e from (Ok (nak fields)) = nak_decided e from fields
+content_decided e from (Ok (status fields)) = status_decided e from fields
 content_decided e from read = None
 
 -- a SETUP is handed back, and nothing is changed

@@ -4,10 +4,11 @@ use Rattle.any_log.specs.Whole.{position_in}
 use Rattle.channel_uri.specs.declared.address.Address.{Address}
 use Rattle.driver_core.specs.declared.log_request.LogRequest.{LogRequest}
 use Rattle.driver_core.specs.declared.listing.Shown.{Shown}
+use Rattle.driver_core.specs.declared.publication_request.JoinRequest.{JoinRequest}
 use Rattle.driver_core.specs.declared.listing.Shown.TheVariants as shown
 use Rattle.driver_core.specs.LeftOut.{left_out}
 use Rattle.driver_core.specs.LogRequests.{offering_of, receiving_of}
-use Rattle.driver_core.specs.PublicationRequests.{resending_of}
+use Rattle.driver_core.specs.PublicationRequests.{joining_of, resending_of}
 use Rattle.driver_core.specs.State.{State}
 use Rattle.driver_steps.specs.declared.answer.Answer.{Answer}
 use Rattle.driver_steps.specs.declared.answer.Answer.TheVariants.{NoMemory}
@@ -16,6 +17,7 @@ use Rattle.driver_steps.specs.Held.{HeldLog, HeldLogs, held_at}
 use Rattle.driver_steps.specs.Moves.{WholeLog, StandsForLog}
 use Rattle.driver_steps.specs.Standing.{Held, StandsForEnd}
 use Rattle.frame_codec.specs.declared.nak.Nak.{Nak}
+use Rattle.frame_codec.specs.declared.status_message.StatusMessage.{StatusMessage}
 use Rattle.policy_core.specs.declared.decision.Decision.{Decision}
 
 -- ---- on one log
@@ -82,6 +84,14 @@ asked_decision e (Some request) = decision_in (log_at e.logs request.source) (λ
 
 abbrev pub nak_decided : RunEnd → Address → Nak → Option Decision
 nak_decided e from fields = asked_decision e (resending_of e.registry from fields.session_id fields.stream_id)
+
+-- a status message, of the log of its session and stream, where it is open and learns its destinations
+abbrev pub told_decision : RunEnd → Option JoinRequest → Option Decision
+told_decision e None = None
+told_decision e (Some request) = decision_in (log_at e.logs request.source) (λ log. request.decision)
+
+abbrev pub status_decided : RunEnd → Address → StatusMessage → Option Decision
+status_decided e from fields = told_decision e (joining_of e.registry from fields.session_id fields.stream_id)
 
 -- a look at one counter, where it is not shown
 abbrev pub shown_decision : Shown → Option Decision

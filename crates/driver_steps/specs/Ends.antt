@@ -10,13 +10,14 @@ use Rattle.driver_core.specs.declared.image_request.Astray.{Astray}
 use Rattle.driver_core.specs.declared.image_request.Astray.TheVariants.{NoStream}
 use Rattle.driver_core.specs.declared.log_request.LogRequest.{LogRequest}
 use Rattle.driver_core.specs.declared.peer.Peer.{Peer}
+use Rattle.driver_core.specs.declared.publication_request.JoinRequest.{JoinRequest}
 use Rattle.driver_core.specs.declared.settings.Settings.{Settings}
 use Rattle.driver_core.specs.Conduct.{conduct}
 use Rattle.driver_core.specs.ImageRequests.{image_for}
 use Rattle.driver_core.specs.Listing.{list, value}
 use Rattle.driver_core.specs.LogRequests.{offering_of}
 use Rattle.driver_core.specs.Pairs.{pairs_of}
-use Rattle.driver_core.specs.PublicationRequests.{publication_for, publisher_of, resending_of}
+use Rattle.driver_core.specs.PublicationRequests.{joining_of, publisher_of, resending_of}
 use Rattle.driver_core.specs.Renewal.{source_at}
 use Rattle.driver_core.specs.State.{State, opened}
 use Rattle.driver_steps.specs.declared.answer.Answer.{Answer}
@@ -175,10 +176,12 @@ on_asked e now from fields None = dropped e (IsAstray NoStream)
 on_asked e now from fields (Some request) =
     on_log e request.source (nak_move now from request.decision fields) unheard
 
--- a status message goes to the log of its session and stream; no policy is asked
-abbrev pub on_told : RunEnd → ℕ → StatusMessage → Option ℕ → Moved
-on_told e now fields None = dropped e (IsAstray NoStream)
-on_told e now fields (Some source) = on_log e source (status_move now fields) unheard
+-- a status message goes to the log of its session and stream; where that learns its destinations, on what the policy in force
+-- says of who sent it
+abbrev pub on_told : RunEnd → ℕ → Address → StatusMessage → Option JoinRequest → Moved
+on_told e now from fields None = dropped e (IsAstray NoStream)
+on_told e now from fields (Some request) =
+    on_log e request.source (status_move now from request.decision fields) unheard
 
 -- by what its bytes hold: a SETUP is an event
 abbrev pub on_packet : RunEnd → ℕ → Address → Address → Result Content BadPacket → Moved
@@ -189,7 +192,7 @@ on_packet e now local from (Ok (setup fields)) = conducted e (SetUp now local fr
 on_packet e now local from (Ok (nak fields)) =
     on_asked e now from fields (resending_of e.registry from fields.session_id fields.stream_id)
 on_packet e now local from (Ok (status fields)) =
-    on_told e now fields (publication_for e.registry fields.session_id fields.stream_id)
+    on_told e now from fields (joining_of e.registry from fields.session_id fields.stream_id)
 
 -- ---- a turn of the receiver with an image
 

@@ -8,6 +8,7 @@ pub mod Ends
 pub mod Hearing
 pub mod Held
 pub mod Idents
+pub mod JoinLaws
 pub mod Laws
 pub mod Memory
 pub mod Moves

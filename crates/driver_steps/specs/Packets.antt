@@ -5,8 +5,9 @@ use Rattle.channel_uri.specs.declared.address.Address.{Address}
 use Rattle.driver_core.specs.declared.image_request.Astray.{Astray}
 use Rattle.driver_core.specs.declared.image_request.Astray.TheVariants.{NoStream}
 use Rattle.driver_core.specs.declared.log_request.LogRequest.{LogRequest}
+use Rattle.driver_core.specs.declared.publication_request.JoinRequest.{JoinRequest}
 use Rattle.driver_core.specs.ImageRequests.{image_for}
-use Rattle.driver_core.specs.PublicationRequests.{publication_for, resending_of}
+use Rattle.driver_core.specs.PublicationRequests.{joining_of, resending_of}
 use Rattle.driver_core.specs.State.{State}
 use Rattle.driver_steps.specs.declared.cause.Cause.TheVariants.{Astray as IsAstray}
 use Rattle.driver_steps.specs.declared.packets.PacketRequest.{PacketRequest}
@@ -33,9 +34,9 @@ abbrev pub of_asked : Option LogRequest → Result PacketRequest Astray
 of_asked None = Err NoStream
 of_asked (Some request) = Ok (record { source = request.source; decision = Some request.decision })
 
-abbrev pub of_told : Option ℕ → Result PacketRequest Astray
+abbrev pub of_told : Option JoinRequest → Result PacketRequest Astray
 of_told None = Err NoStream
-of_told (Some source) = Ok (record { source = source; decision = None })
+of_told (Some request) = Ok (record { source = request.source; decision = request.decision })
 
 -- data and heartbeats are for the image of their address, session and stream
 abbrev pub of_stream : State → Address → Address → TermPlace → Result PacketRequest Astray
@@ -48,7 +49,7 @@ packet_request s local from (frames (frame ∷ later)) = of_stream s local from 
 packet_request s local from (beat header) = of_stream s local from header.place
 packet_request s local from (setup fields) = Err NoStream
 packet_request s local from (nak fields) = of_asked (resending_of s from fields.session_id fields.stream_id)
-packet_request s local from (status fields) = of_told (publication_for s fields.session_id fields.stream_id)
+packet_request s local from (status fields) = of_told (joining_of s from fields.session_id fields.stream_id)
 
 -- by an older registry: an image that the newest has no more has no log
 abbrev pub of_stream_seen : State → State → Address → Address → TermPlace → Result PacketRequest Astray
@@ -73,7 +74,7 @@ content_move now from decision (beat header) log = beat_move now header.place lo
 content_move now from decision (setup fields) log = answered log unheard
 content_move now from None (nak fields) log = answered log unheard
 content_move now from (Some decision) (nak fields) log = nak_move now from decision fields log
-content_move now from decision (status fields) log = status_move now fields log
+content_move now from decision (status fields) log = status_move now from decision fields log
 
 -- the log of another source does not hear it
 abbrev pub packet_move : ℕ → Address → PacketRequest → Content → WholeLog → Move

@@ -7,7 +7,7 @@ use Rattle.driver_core.specs.declared.image_request.Astray.TheVariants.{NoStream
 use Rattle.driver_core.specs.ImageRequests.{image_for, image_named}
 use Rattle.driver_core.specs.Listing.{list, value}
 use Rattle.driver_core.specs.LogRequests.{offering_of}
-use Rattle.driver_core.specs.PublicationRequests.{publication_for, publisher_of, resending_of}
+use Rattle.driver_core.specs.PublicationRequests.{joining_of, publisher_of, resending_of}
 use Rattle.driver_core.specs.State.{State}
 use Rattle.driver_steps.specs.declared.answer.Answer.{Answer}
 use Rattle.driver_steps.specs.declared.answer.Answer.TheVariants.{Gone as IsGone}
@@ -73,7 +73,7 @@ packet_seen older e now local from (Ok (setup fields)) = conducted e (SetUp now 
 packet_seen older e now local from (Ok (nak fields)) =
     on_asked e now from fields (resending_of older from fields.session_id fields.stream_id)
 packet_seen older e now local from (Ok (status fields)) =
-    on_told e now fields (publication_for older fields.session_id fields.stream_id)
+    on_told e now from fields (joining_of older from fields.session_id fields.stream_id)
 
 -- ---- any step
 

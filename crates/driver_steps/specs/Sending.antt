@@ -1,12 +1,15 @@
 -- A turn of the sender with the log of a publication. Own rules.
 use Rattle.std.specs.Prelude.{ℕ, Bool, List, Option, Some, None}
 use Rattle.any_log.specs.Sending.{after_turn, turn_of}
+use Rattle.learnt_addresses.specs.declared.learnt_address.LearntAddress.{LearntAddress}
+use Rattle.learnt_addresses.specs.LearntAddresses.{standing}
 use Rattle.driver_core.specs.declared.send_request.Outlet.{Outlet}
 use Rattle.driver_core.specs.declared.settings.Settings.{Settings}
 use Rattle.driver_core.specs.SendRequests.{outlets_of, sending_of}
 use Rattle.driver_core.specs.State.{State}
 use Rattle.driver_steps.specs.declared.answer.Answer.{Answer}
 use Rattle.driver_steps.specs.declared.answer.Answer.TheVariants.{Gone, Idle, Sent}
+use Rattle.driver_steps.specs.Hearing.{with_learnt}
 use Rattle.driver_steps.specs.Moves.{Move, WholeLog, answered}
 use Rattle.publication_sender.specs.declared.cutting.Pace.{Pace}
 
@@ -24,12 +27,22 @@ answer_sent outlets None = Gone
 answer_sent outlets (Some None) = Idle
 answer_sent outlets (Some (Some bytes)) = Sent bytes outlets
 
--- the log moves on by what was cut, whoever gets it
+-- the addresses that the log has learnt, but for those of which nothing was heard for longer than the timeout
+abbrev pub standing_of : Settings → ℕ → WholeLog → List LearntAddress
+standing_of settings now log = standing now settings.destination_timeout log.recovery.learnt
+
+-- they are forgotten
+abbrev pub expired : Settings → ℕ → WholeLog → WholeLog
+expired settings now log = with_learnt (standing_of settings now log) log
+
+-- the addresses past the timeout are forgotten, also where nothing is due; the log moves on by what was cut, whoever gets it
 abbrev pub send_by : State → ℕ → WholeLog → Option Bool → Move
 send_by s now log None = answered log Gone
 send_by s now log (Some lingers) = record {
-  after = record log { whole = after_turn (pace_of s.settings) now log.whole };
-  answer = answer_sent (outlets_of s log.source) (turn_of (pace_of s.settings) now lingers log.whole);
+  after = record (expired s.settings now log) { whole = after_turn (pace_of s.settings) now log.whole };
+  answer =
+      answer_sent (outlets_of s (standing_of s.settings now log) log.source)
+      (turn_of (pace_of s.settings) now lingers log.whole);
 }
 
 -- as the registry says that the publication of that number lingers, and where it goes

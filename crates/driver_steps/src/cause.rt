@@ -11,8 +11,11 @@ pub enum Cause {
     Astray(Astray),
     /// Its SETUP makes no image.
     SetUp(SetupFault),
-    /// The policy does not let who asks by the NAK have frames again, by this verdict.
+    /// The policy does not let who asks by the NAK have frames again, or who sent the status message become a destination, by
+    /// this verdict.
     Denied(Verdict),
+    /// A status message came from an address for which there is no room among those that were learnt.
+    Full,
     /// A NAK asks for no bytes.
     Empty,
     /// A NAK asks for what may not be sent again, or a status message names a position that was not sent.

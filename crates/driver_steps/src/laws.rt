@@ -2,6 +2,7 @@
 //! nothing, and its clause is the law.
 
 ghost use Rattle.driver_steps.specs.CarryingLaws.{PayloadsComeFromTheirPublisher};
+ghost use Rattle.driver_steps.specs.JoinLaws.{AddressesAreLearntExactly};
 ghost use Rattle.driver_steps.specs.ResendLaws.{ResendsComeFromTheLiveLog};
 ghost use Rattle.driver_steps.specs.Laws.{BytesComeFromTheLiveLog, LogsFollowTheRegistry, OffersAreGrantedExactly, PollsAreGrantedExactly, RunsTakeEvents};
 ghost use Rattle.driver_steps.specs.SendLaws.{SendsAreGrantedExactly};
@@ -37,8 +38,10 @@ pub fn polls_are_granted_exactly()
 /// A turn of the sender with a publication over datagrams cuts the one datagram that is due of all frames ever appended, if
 /// one is, and reports for each destination of the publication, in the order in which they were named: it goes there exactly
 /// where the first rule that matches allows the destination's maker to send there, or where none matches and the default
-/// does; else that verdict is reported. The log moves on by what was cut, whoever gets it. Where there is no such publication,
-/// nothing is changed.
+/// does; else that verdict is reported. Where the publication learns its destinations, these are the addresses that its log has
+/// learnt, in that order, without those that are past the timeout, which are forgotten, also where nothing is due; of each the
+/// principal that is bound to it is asked for. The log moves on by what was cut, whoever gets it. Where there is no such
+/// publication, nothing is changed.
 pub fn sends_are_granted_exactly()
     ensures { SendsAreGrantedExactly }
 {}
@@ -64,4 +67,12 @@ pub fn payloads_come_from_their_publisher()
 /// the policy denies changes nothing and is dropped by that verdict.
 pub fn resends_come_from_the_live_log()
     ensures { ResendsComeFromTheLiveLog }
+{}
+
+/// A status message for a publication that learns its destinations makes the address from which it came one exactly where the
+/// first rule that matches lets the principal that is bound to the address join, or where none matches the default does, and
+/// fewer than 32 others were learnt, or it was learnt before. Where the policy denies it, the address is forgotten. At the end
+/// of every run no log has learnt an address twice, or more than 32.
+pub fn addresses_are_learnt_exactly()
+    ensures { AddressesAreLearntExactly }
 {}

@@ -6,6 +6,7 @@ ghost use Rattle.driver_steps.specs.Idents.{heard_at};
 ghost use Rattle.driver_steps.specs.Recovery.{recovering};
 ghost use Rattle.image_log.specs.Rebuilt.{opened as image_opened};
 ghost use Rattle.image_log.specs.Stored.{held_of};
+ghost use Rattle.learnt_addresses.specs.Laws.{AreOrderly};
 ghost use Rattle.log_arena.specs.Lease.{lease_bytes, lease_home, lease_len, lease_place};
 ghost use Rattle.std.specs.Prelude.{◌≡◌, ◌*◌, ◌%◌, ◌^◌, ◌<◌, ◌≤◌, [], length, replicate};
 ghost use Rattle.term_log.specs.Ident.{IsIdent};
@@ -107,6 +108,13 @@ impl OpenLog {
         ensures { HasWhole self.now.log }
     {
         let _ = &self.source;
+    }
+
+    /// That the log has learnt no address twice, and 32 at most.
+    pub fn learns_orderly(&self)
+        ensures { AreOrderly self.now.recovery.learnt }
+    {
+        let _ = self.recovery.learnt.destinations();
     }
 
     /// The number by which the log is known: that of its publication or image.

@@ -23,12 +23,13 @@ use crate::open_log::OpenLog;
 use crate::receiving::{beat_step, receive_step};
 use crate::resending::nak_step;
 use crate::told::Told;
-use driver_core::{Address, Astray, LogRequest, Registry, View};
+use driver_core::{Address, Astray, JoinRequest, LogRequest, Registry, View};
 use frame_codec::{Frames, Packet, TermPlace};
 use policy_core::Decision;
 use std::alloc::{AllocError, Global};
 
-/// Which open log a datagram is for, by a registry, and what its policy decides of it. Of a NAK alone it is asked.
+/// Which open log a datagram is for, by a registry, and what its policy decides of it. It is asked of a NAK, and of a status
+/// message for a log that learns its destinations.
 #[derive(Clone, Copy, Debug, PartialEq, Eq)]
 pub struct PacketRequest {
     /// The number of the log's source.
@@ -126,14 +127,14 @@ fn of_asked(request: Option<LogRequest>) -> Result<PacketRequest, Astray>
     }
 }
 
-/// Which log a status message is for.
-fn of_told(source: Option<u64>) -> Result<PacketRequest, Astray>
-    ensures { result ≡ of_told source }
+/// Which log a status message is for, and whether the address from which it came may be a destination.
+fn of_told(request: Option<JoinRequest>) -> Result<PacketRequest, Astray>
+    ensures { result ≡ of_told request }
 {
-    match source {
-        Some(source) => Ok(PacketRequest {
-            source,
-            decision: None,
+    match request {
+        Some(request) => Ok(PacketRequest {
+            source: request.source,
+            decision: request.decision,
         }),
         None => Err(Astray::NoStream),
     }
@@ -164,7 +165,7 @@ pub fn packet_request<V: View>(
         Packet::Beat(header) => of_stream(registry, local, from, header.place),
         Packet::Nak(nak) => of_asked(registry.resending(from, nak.session_id, nak.stream_id)),
         Packet::Sm(message) => {
-            of_told(registry.publication_for(message.session_id, message.stream_id))
+            of_told(registry.joining(from, message.session_id, message.stream_id))
         }
         Packet::Setup(_) => Err(Astray::NoStream),
     }
@@ -228,7 +229,7 @@ fn take_packet(
             Some(decision) => nak_step(log, alloc, now, from, &nak, decision),
             None => Ok(unheard()),
         },
-        Packet::Sm(message) => Ok(status_step(log, now, &message)),
+        Packet::Sm(message) => Ok(status_step(log, now, from, &message, decision)),
         Packet::Setup(_) => Ok(unheard()),
     }
 }
@@ -237,9 +238,9 @@ fn take_packet(
 /// [`packet_request`] says of it by the registry that the step goes by.
 ///
 /// The answer is [`Astray::NoStream`] where it is for the log of another source. Else the frames of data are handed to the
-/// log and a word is answered for each; a heartbeat says where the publisher is; a status message says how far may be sent; and a
-/// NAK is denied by the decision, or answered as the log's gate says, and what it asks for goes to `from` alone. The decision
-/// is reported whatever comes of the NAK.
+/// log and a word is answered for each; a heartbeat says where the publisher is; a status message says how far may be sent, and
+/// where there is a decision, whether `from` is a destination of the log; and a NAK is denied by the decision, or answered as
+/// the log's gate says, and what it asks for goes to `from` alone. The decision is reported whatever comes of the datagram.
 ///
 /// # Errors
 /// Nothing is changed where there is no memory for the words or the datagrams. Any other answer takes none.

@@ -44,15 +44,25 @@ pub(crate) fn send_own<V: View>(
     let Some(source) = registry.sending(log.source) else {
         return Ok(Answer::Gone);
     };
-    let pace = pace_of(registry.settings());
+    let settings = registry.settings();
+    let timeout = settings.destination_timeout;
+    let pace = pace_of(settings);
     let lingers = source.lingering_since().is_some();
     match log.log.next_datagram(alloc, now, &pace, lingers) {
-        Ok(None) => Ok(Answer::Gone),
-        Ok(Some(None)) => Ok(Answer::Idle),
+        Ok(None) => {
+            log.recovery.expire(now, timeout);
+            Ok(Answer::Gone)
+        }
+        Ok(Some(None)) => {
+            log.recovery.expire(now, timeout);
+            Ok(Answer::Idle)
+        }
         Ok(Some(Some(next))) => {
             let mut outlets = Items::new(alloc);
-            match registry.outlets(source, &mut outlets) {
+            let learnt = log.recovery.learnt.destinations();
+            match registry.outlets(source, learnt, now, &mut outlets) {
                 Ok(()) => {
+                    log.recovery.expire(now, timeout);
                     log.log.pass(now, &next.cut);
                     Ok(Answer::Sent {
                         bytes: Bytes::from(next.bytes),
@@ -71,7 +81,8 @@ pub(crate) fn send_own<V: View>(
 ///
 /// The answer is [`Answer::Gone`] where it is the log of another source, or the registry has no such publication;
 /// [`Answer::Idle`] where nothing is due; else the datagram, with each destination of the publication and whether the policy of
-/// that registry lets it go there. The log moves on by what was cut, whoever gets it.
+/// that registry lets it go there. The log moves on by what was cut, whoever gets it. Addresses that it has learnt are forgotten
+/// first where nothing was heard of them for longer than the timeout.
 ///
 /// # Errors
 /// Nothing is changed where there is no memory for the datagram and the list of destinations. Any other answer takes none.

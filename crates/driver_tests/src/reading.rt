@@ -261,6 +261,7 @@ static ANSWERS: [(AnswerLine<'static>, &str, bool); 48] = [
         "dropped denied by default in policy 1\n",
         true,
     ),
+    (AnswerLine::Dropped(Cause::Full), "dropped full\n", true),
     (AnswerLine::Dropped(Cause::Empty), "dropped empty\n", true),
     (
         AnswerLine::Dropped(Cause::OutOfWindow),

@@ -9,6 +9,7 @@ const DEFAULT: Settings = Settings {
     image_liveness: 10_000_000_000,
     linger: 5_000_000_000,
     connection_timeout: 5_000_000_000,
+    destination_timeout: 5_000_000_000,
     resend_linger: 60_000_000,
     nak_delay: 1_000_000,
     nak_repeat: 60_000_000,
@@ -71,6 +72,7 @@ static VALUES: [Row; 10] = [
             "image-liveness",
             "linger",
             "connection-timeout",
+            "destination-timeout",
             "resend-linger",
             "nak-delay",
             "nak-repeat",
@@ -228,6 +230,15 @@ static CHOSEN: [(&str, &str, Settings, bool); 20] = [
         "3",
         Settings {
             connection_timeout: 3,
+            ..DEFAULT
+        },
+        true,
+    ),
+    (
+        "destination-timeout",
+        "3",
+        Settings {
+            destination_timeout: 3,
             ..DEFAULT
         },
         true,

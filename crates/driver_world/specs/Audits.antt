@@ -15,12 +15,12 @@ use Rattle.driver_steps.specs.declared.answer.Answer.{Answer}
 use Rattle.driver_steps.specs.declared.answer.Answer.TheVariants.{Sent}
 use Rattle.driver_steps.specs.declared.step.Step.{Step}
 use Rattle.driver_steps.specs.declared.step.Step.TheVariants.{Conductor as Conducts, Packet, Offer, Poll, Send, List as Lists, Value}
-use Rattle.driver_steps.specs.Decided.{nak_decided, offer_decided, poll_decided, shown_decision}
+use Rattle.driver_steps.specs.Decided.{nak_decided, offer_decided, poll_decided, shown_decision, status_decided}
 use Rattle.driver_steps.specs.Ends.{RunEnd, inputs_of, moved}
 use Rattle.driver_world.specs.declared.actor.Actor.{Actor}
 use Rattle.driver_world.specs.declared.actor.Actor.TheVariants.{Conductor, Sender, Receiver, Client}
 use Rattle.frame_codec.specs.declared.fault.BadPacket.{BadPacket}
-use Rattle.frame_codec.specs.Datagram.{Content, nak, setup, packet_of}
+use Rattle.frame_codec.specs.Datagram.{Content, nak, setup, status, packet_of}
 use Rattle.policy_core.specs.declared.decision.Decision.{Decision}
 
 -- ---- all that was decided
@@ -67,10 +67,12 @@ decided_by_outcome outcome all = attached_by outcome.response (told Conductor ou
 abbrev pub decided_by_event : RunEnd → Event → Decided → Decided
 decided_by_event e event all = decided_by_outcome (outcome_of e.registry event (inputs_of e.registry event e.logs)) all
 
--- a NAK reports to the sender whether who asks may have frames again
+-- a NAK reports to the sender whether who asks may have frames again, and a status message whether who sent it may be a
+-- destination
 abbrev pub decided_by_content : RunEnd → ℕ → Address → Address → Result Content BadPacket → Decided → Decided
 decided_by_content e now local from (Ok (setup fields)) all = decided_by_event e (SetUp now local from fields) all
 decided_by_content e now local from (Ok (nak fields)) all = told_one Sender (nak_decided e from fields) all
+decided_by_content e now local from (Ok (status fields)) all = told_one Sender (status_decided e from fields) all
 decided_by_content e now local from read all = all
 
 -- a datagram that is cut reports to the sender of each destination whether it may go there

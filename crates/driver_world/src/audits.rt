@@ -131,7 +131,7 @@ impl Audits {
         self.attach(outcome.response, audit);
     }
 
-    /// Whether who asks may have frames again is reported to the sender.
+    /// Whether who asks may have frames again, or may be a destination, is reported to the sender.
     pub(crate) fn tell_sender(&mut self, decision: Option<Decision>)
         ensures { Tells self.old.audits self.new.audits (told_one Sender decision) }
     {

@@ -16,7 +16,7 @@ use std::marker::Brand;
 use std::process::ExitCode;
 
 /// How many addresses the driver may read at once, with the one from which it sends.
-const SOCKETS: usize = 513;
+const SOCKETS: usize = 769;
 
 /// Starts the driver, lets its clients talk, and stops it. How many messages were taken is answered.
 fn serve<N: DriverNaming + Send + Sync + 'static, R: Machine, W: Wire + Drop + Send + 'static>(

@@ -22,6 +22,7 @@ use Rattle.driver_steps.specs.Packets.{content_move, packet_move}
 use Rattle.driver_steps.specs.declared.packets.PacketRequest.{PacketRequest}
 use Rattle.driver_steps.specs.Receiving.{receive_move, unheard}
 use Rattle.driver_steps.specs.Reporting.{image_move, report_by}
+use Rattle.driver_steps.proofs.HearingLemmas.{status_whole}
 use Rattle.driver_steps.specs.Sending.{pace_of, send_by, send_move}
 use Rattle.frame_codec.specs.Datagram.{Content, frames, beat, nak, status, setup}
 use Rattle.frame_codec.specs.Frame.{Sent}
@@ -72,7 +73,8 @@ content_keeps now from decision (beat header) log = beaten_keeps log.whole now h
 content_keeps now from decision (setup fields) log = refl
 content_keeps now from None (nak fields) log = refl
 content_keeps now from (Some decision) (nak fields) log = refl
-content_keeps now from decision (status fields) log = status_keeps log.whole now fields
+content_keeps now from decision (status fields) log =
+    status_whole (λ w. messages_in w ≡ messages_in log.whole) now from decision fields log refl (status_keeps log.whole now fields)
 
 pub packet_keeps : (now : ℕ) (from : Address) (request : PacketRequest) (content : Content) → Keeps (packet_move now from request content)
 packet_keeps now from request content =

@@ -3,10 +3,9 @@ use Rattle.std.proofs.Common.{◌≡◌, ◌+◌, ◌<◌, ◌≤◌, ◌⊎◌,
 use Rattle.std.proofs.lemmas.List.{append-nil, length-take-le, map-append, take-append-le, take_all, take_more}
 use Rattle.std.proofs.lemmas.Bool.{cases_lt}
 use Rattle.std.proofs.lemmas.List.Elements.{All-append, All-cons, All-head, All-nil, All-tail, Contains-append_left, Contains-append_right, filter-append, filter_map-append}
-use Rattle.std.specs.Prelude.{Contains}
+use Rattle.std.specs.Prelude.{Contains, filter_map}
 use Rattle.channel_uri.specs.declared.address.Address.{Address}
-use Rattle.media_agents.specs.Finding.{Adds, AddsIf, AreNamed, endpoint_in, named_by}
-use Rattle.stream_registry.specs.declared.row.Subscription.{Subscription}
+use Rattle.media_agents.specs.Finding.{Adds, AddsIf, AreNamed}
 
 -- ---- logs
 
@@ -98,28 +97,29 @@ named_more named old new address before (inr joined) =
         (one (Contains (old ++ address ∷ [])) address (last_is_there old address)))
     all_of (inr most) = absurd (omega (arith, joined.1))
 
-named_if : (named old new : List Address) (found : Option Address) (subscription : Subscription) → endpoint_in subscription ≡ found
-    → AreNamed named old → AddsIf found old new → AreNamed (named ++ named_by (subscription ∷ [])) new
-named_if named old new None subscription is before same =
-    let none : named_by (subscription ∷ []) ≡ [] = rw is refl in
-    subst (λ (more : List Address). AreNamed (named ++ more) new) (sym none)
-    (subst (λ (all : List Address). AreNamed all new) (sym (append-nil named)) (subst (AreNamed named) (sym same) before))
-named_if named old new (Some address) subscription is before adds =
-    let some : named_by (subscription ∷ []) ≡ address ∷ [] = rw is refl in
-    subst (λ (more : List Address). AreNamed (named ++ more) new) (sym some) (named_more named old new address before adds)
+module _ {A : Type 0} (at_row : A → Option Address) where
+  named_if : (named old new : List Address) (found : Option Address) (row : A) → at_row row ≡ found
+      → AreNamed named old → AddsIf found old new → AreNamed (named ++ filter_map at_row (row ∷ [])) new
+  named_if named old new None row is before same =
+      let none : filter_map at_row (row ∷ []) ≡ [] = rw is refl in
+      subst (λ (more : List Address). AreNamed (named ++ more) new) (sym none)
+      (subst (λ (all : List Address). AreNamed all new) (sym (append-nil named)) (subst (AreNamed named) (sym same) before))
+  named_if named old new (Some address) row is before adds =
+      let some : filter_map at_row (row ∷ []) ≡ address ∷ [] = rw is refl in
+      subst (λ (more : List Address). AreNamed (named ++ more) new) (sym some) (named_more named old new address before adds)
 
--- one subscription more
-pub endpoints_more : (subscriptions : List Subscription) (at : ℕ) (one : Subscription) (old new : List Address) → at < length subscriptions
-    → one ≡ get_or subscriptions at one
-    → AreNamed (named_by (take at subscriptions)) old → AddsIf (endpoint_in one) old new
-    → AreNamed (named_by (take (at + 1) subscriptions)) new
-endpoints_more subscriptions at one old new within is before adds =
-    let whole : named_by (take (at + 1) subscriptions) ≡ named_by (take at subscriptions) ++ named_by (one ∷ []) =
-    ap named_by (take_more subscriptions at one within)
-    ∙ ap (λ (last : Subscription). named_by (take at subscriptions ++ last ∷ [])) (sym is)
-    ∙ filter_map-append endpoint_in (take at subscriptions) (one ∷ []) in
-    subst (λ (named : List Address). AreNamed named new) (sym whole)
-    (named_if (named_by (take at subscriptions)) old new (endpoint_in one) one refl before adds)
+  -- one row more
+  pub addresses_more : (rows : List A) (at : ℕ) (one : A) (old new : List Address) → at < length rows
+      → one ≡ get_or rows at one
+      → AreNamed (filter_map at_row (take at rows)) old → AddsIf (at_row one) old new
+      → AreNamed (filter_map at_row (take (at + 1) rows)) new
+  addresses_more rows at one old new within is before adds =
+      let whole : filter_map at_row (take (at + 1) rows) ≡ filter_map at_row (take at rows) ++ filter_map at_row (one ∷ []) =
+      ap (filter_map at_row) (take_more rows at one within)
+      ∙ ap (λ (last : A). filter_map at_row (take at rows ++ last ∷ [])) (sym is)
+      ∙ filter_map-append at_row (take at rows) (one ∷ []) in
+      subst (λ (named : List Address). AreNamed named new) (sym whole)
+      (named_if (filter_map at_row (take at rows)) old new (at_row one) one refl before adds)
 
 pub none_named : AreNamed [] []
 none_named = record { each = All-nil (Contains []); all = inl (All-nil (Contains [])) }

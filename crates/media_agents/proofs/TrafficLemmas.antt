@@ -16,7 +16,7 @@ use Rattle.media_wire.specs.Letters.{letter}
 use Rattle.media_wire.specs.declared.letter.Letter.{Letter}
 use Rattle.media_wire.specs.declared.wire.WireFault.{WireFault}
 use Rattle.std.specs.Prelude.{◌≤◌, Contains, None, Result, Ok, Err, Some}
-use Rattle.media_agents.specs.Traffic.{AreSentFrom, AreTried, Ends, GoesOn, IsAt, IsReadAt, IsReading, IsSentFrom, IsSetUp, IsTried, ReadsEach, ReadsOut, Receives, Sends, SentEach, SetsUp, is_allowed, letters_of, letters_out, letters_to, reads}
+use Rattle.media_agents.specs.Traffic.{AreSentFrom, AreTried, Ends, GoesOn, HearsEach, IsHeard, IsReadAt, IsReading, IsSentFrom, IsSetUp, IsTried, ReadsEach, ReadsOut, Receives, Sends, SentEach, SetsUp, is_allowed, letters_of, letters_out, letters_to, reads}
 
 -- what was done first, and what was done then
 pub goes_on : (First Then Whole : List Event → Type 0) (old between new : List Event → Type 0)
@@ -96,17 +96,17 @@ none_read local (read it ∷ events) all = absurd (All-head (IsSentFrom local) (
 none_read local (nothing address ∷ events) all = absurd (All-head (IsSentFrom local) (nothing address) events all)
 none_read local (failed ∷ events) all = none_read local events (All-tail (IsSentFrom local) failed events all)
 
-pub sent_is_at : (local : Address) (event : Event) → IsSentFrom local event → IsAt local event
-sent_is_at local (sent it) is = is
-sent_is_at local (read it) is = absurd is
-sent_is_at local (nothing address) is = absurd is
-sent_is_at local failed is = tt
+pub sent_is_heard : (local at : Address) (event : Event) → IsSentFrom local event → IsHeard local at event
+sent_is_heard local at (sent it) is = is
+sent_is_heard local at (read it) is = absurd is
+sent_is_heard local at (nothing address) is = absurd is
+sent_is_heard local at failed is = tt
 
-pub read_is_at : (local : Address) (event : Event) → IsReadAt local event → IsAt local event
-read_is_at local (sent it) is = absurd is
-read_is_at local (read it) is = is
-read_is_at local (nothing address) is = is
-read_is_at local failed is = tt
+pub read_is_heard : (local at : Address) (event : Event) → IsReadAt at event → IsHeard local at event
+read_is_heard local at (sent it) is = absurd is
+read_is_heard local at (read it) is = is
+read_is_heard local at (nothing address) is = is
+read_is_heard local at failed is = tt
 
 -- calls of that kind, by which so many datagrams were read
 abbrev pub Counts : (Event → Type 0) → ℕ → List Event → Type 0
@@ -186,6 +186,36 @@ each_on endpoints at one old between new within first then =
 
 pub each_none : (old : List Event → Type 0) → GoesOn (ReadsEach []) old old
 each_none old = stays (ReadsEach []) old refl
+
+-- ---- so where the sender reads
+
+pub hears_more : (local : Address) (before : List Address) (at : Address) (a b : List Event) → HearsEach local before a →
+    ReadsOut (IsHeard local at) at b → HearsEach local (before ++ at ∷ []) (a ++ b)
+hears_more local [] at a b none out = (b, [], ap (λ (a : List Event). a ++ b) none ∙ sym (append-nil b), out, refl)
+hears_more local (address ∷ before) at a b each out =
+    (each.0, each.1 ++ b, ap (λ (a : List Event). a ++ b) each.2 ∙ append_assoc each.0 each.1 b, each.3, hears_more local before at each.1 b each.4 out)
+
+pub hears_on : (local : Address) (controls : List Address) (at : ℕ) (one : Address) (old between new : List Event → Type 0) →
+    at < length controls → GoesOn (HearsEach local (take at controls)) old between →
+    GoesOn (ReadsOut (IsHeard local (get_or controls at one)) (get_or controls at one)) between new →
+    GoesOn (HearsEach local (take (at + 1) controls)) old new
+hears_on local controls at one old between new within first then =
+    goes_on (HearsEach local (take at controls)) (ReadsOut (IsHeard local (get_or controls at one)) (get_or controls at one))
+    (HearsEach local (take (at + 1) controls)) old between new
+    (λ a b each out. subst (λ (all : List Address). HearsEach local all (a ++ b)) (sym (take_more controls at one within))
+    (hears_more local (take at controls) (get_or controls at one) a b each out))
+    first then
+
+pub hears_none : (local : Address) (old : List Event → Type 0) → GoesOn (HearsEach local []) old old
+hears_none local old = stays (HearsEach local []) old refl
+
+-- where it sends from first, and then at the others
+pub hears_both : (local : Address) (controls : List Address) (old between new : List Event → Type 0) →
+    GoesOn (ReadsOut (IsHeard local local) local) old between → GoesOn (HearsEach local controls) between new →
+    GoesOn (HearsEach local (local ∷ controls)) old new
+hears_both local controls old between new =
+    goes_on (ReadsOut (IsHeard local local) local) (HearsEach local controls) (HearsEach local (local ∷ controls)) old between new
+    (λ a b one two. (a, b, refl, one, two))
 
 -- ---- one send
 
@@ -309,11 +339,12 @@ turn_ends Whole old between new first end = λ events went.
     let one = first events went in (one.0, one.1, end (events ++ one.0) one.2)
 
 -- a turn of the sender, and of the receiver
-pub turn_sends : (local : Address) (old between new : List Event → Type 0)
-    → GoesOn (ReadsOut (IsAt local) local) old between → GoesOn (AreSentFrom local) between new → GoesOn (Sends local) old new
-turn_sends local old between new =
-    goes_on (ReadsOut (IsAt local) local) (AreSentFrom local) (Sends local) old between new (λ a b one two.
-    record { heard = a; told = b; order = refl; reads_out = one; sends = two })
+pub turn_sends : (local : Address) (controls : List Address) (old between new : List Event → Type 0)
+    → GoesOn (HearsEach local (local ∷ controls)) old between → GoesOn (AreSentFrom local) between new
+    → GoesOn (Sends local controls) old new
+turn_sends local controls old between new =
+    goes_on (HearsEach local (local ∷ controls)) (AreSentFrom local) (Sends local controls) old between new (λ a b one two.
+    record { heard = a; told = b; order = refl; hears_each = one; sends = two })
 
 pub turn_receives : (endpoints : List Address) (images : List ImageAt) (old between new : List Event → Type 0)
     → GoesOn (ReadsEach endpoints) old between → GoesOn (SentEach images) between new → GoesOn (Receives endpoints images) old new

@@ -5,8 +5,8 @@ use Rattle.command_queue.specs.Sent.{Sent}
 use Rattle.driver_core.specs.declared.event.Event.{Event}
 use Rattle.media_agents.specs.declared.gate.Turn.{Turn}
 use Rattle.media_agents.specs.declared.listing.ImageAt.{ImageAt}
-use Rattle.media_agents.specs.Finding.{AreEndpoints, images_of}
-use Rattle.media_agents.specs.Traffic.{GoesOn, Receives}
+use Rattle.media_agents.specs.Finding.{AreControls, AreEndpoints, images_of}
+use Rattle.media_agents.specs.Traffic.{GoesOn, Receives, Sends}
 use Rattle.media_wire.specs.Events.{Event as Call}
 use Rattle.published_registry.specs.Histories.{History, IsContinuedBy, registry_of}
 
@@ -36,3 +36,14 @@ pub record ReceivesBy (before after : History) (old new : List Call → Type 0) 
   pub listed : (images ≡ images_of (registry_of second)) ⊎ (images ≡ [])
   pub earlier : IsContinuedBy second after
   pub wire : GoesOn (Receives endpoints images) old new
+
+-- What a turn of the sender does to the wire: it reads where it sends from, and then where the publications of a look take
+-- datagrams, a look that is none before those that it knew and none after those that it knows then; and then it sends. Where
+-- there is no such look it reads at no further address.
+pub record SendsBy (local : Address) (before after : History) (old new : List Call → Type 0) : Type 0 where
+  pub look : History
+  pub later : IsContinuedBy before look
+  pub controls : List Address
+  pub named : AreControls (registry_of look) controls ⊎ (controls ≡ [])
+  pub earlier : IsContinuedBy look after
+  pub wire : GoesOn (Sends local controls) old new

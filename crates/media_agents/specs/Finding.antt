@@ -1,7 +1,9 @@
--- Where the logs of a registry are, and where its subscriptions take datagrams. Own rules.
+-- Where the logs of a registry are, and where its subscriptions and its publications take datagrams. Own rules.
 use Rattle.std.specs.Prelude.{◌≡◌, ◌<◌, ◌⊎◌, List, Option, Some, None, ◌++◌, ◌∷◌, [], All, Contains, filter, filter_map, if◌then◌else◌, length, map, take}
 use Rattle.channel_uri.specs.declared.address.Address.{Address}
+use Rattle.channel_uri.specs.Address.{address_of}
 use Rattle.channel_uri.specs.Parameters.{endpoint_of}
+use Rattle.channel_uri.specs.Place.{Spot, AtControl, spot_of}
 use Rattle.driver_core.specs.Directing.{target_address}
 use Rattle.driver_core.specs.SendRequests.{is_sent}
 use Rattle.driver_core.specs.State.{State}
@@ -62,3 +64,15 @@ pub record AreNamed (named endpoints : List Address) : Type 0 where
 -- these are where the subscriptions of a registry take datagrams
 abbrev pub AreEndpoints : State → List Address → Type 0
 AreEndpoints s endpoints = AreNamed (named_by s.streams.subscriptions) endpoints
+
+-- where a publication takes datagrams: one that learns there where its own go
+abbrev pub control_at : Option Spot → Option Address
+control_at (Some (AtControl text)) = address_of text
+control_at spot = None
+
+abbrev pub control_in : Source → Option Address
+control_in row = if is_published row then control_at (spot_of row.channel) else None
+
+-- these are where the publications of a registry take datagrams
+abbrev pub AreControls : State → List Address → Type 0
+AreControls s controls = AreNamed (filter_map control_in s.streams.sources) controls

@@ -32,12 +32,12 @@ IsReadAt local (read it) = it.to ≡ local
 IsReadAt local (nothing address) = address ≡ local
 IsReadAt local failed = Unit {0}
 
--- one of both
-abbrev pub IsAt : Address → Event → Type 0
-IsAt local (sent it) = it.from ≡ local
-IsAt local (read it) = it.to ≡ local
-IsAt local (nothing address) = address ≡ local
-IsAt local failed = Unit {0}
+-- one of both, what is sent from the one address, and what is read at the other
+abbrev pub IsHeard : Address → Address → Event → Type 0
+IsHeard local at (sent it) = it.from ≡ local
+IsHeard local at (read it) = it.to ≡ at
+IsHeard local at (nothing address) = address ≡ at
+IsHeard local at failed = Unit {0}
 
 abbrev pub AreSentFrom : Address → List Event → Type 0
 AreSentFrom local events = All (IsSentFrom local) events
@@ -66,12 +66,18 @@ ReadsEach [] events = events ≡ []
 ReadsEach (local ∷ later) events =
     (first : List Event) × (rest : List Event) × (events ≡ first ++ rest) × ReadsOut (IsReadAt local) local first × ReadsEach later rest
 
--- a turn of the sender: it reads, and then it sends
-pub record Sends (local : Address) (events : List Event) : Type 0 where
+-- at each of these addresses, one after another, all that came is read, and what that asks for is sent
+abbrev pub HearsEach : Address → List Address → List Event → Type 0
+HearsEach local [] events = events ≡ []
+HearsEach local (at ∷ later) events =
+    (first : List Event) × (rest : List Event) × (events ≡ first ++ rest) × ReadsOut (IsHeard local at) at first × HearsEach local later rest
+
+-- a turn of the sender: it reads where it sends from and at each of these addresses, and then it sends
+pub record Sends (local : Address) (controls : List Address) (events : List Event) : Type 0 where
   pub heard : List Event
   pub told : List Event
   pub order : events ≡ heard ++ told
-  pub reads_out : ReadsOut (IsAt local) local heard
+  pub hears_each : HearsEach local (local ∷ controls) heard
   pub sends : AreSentFrom local told
 
 -- For these images, one after another, datagrams go out: each image's from the address at which it reads, and nothing else

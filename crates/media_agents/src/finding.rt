@@ -1,10 +1,10 @@
 //! Where the logs are that an agent's steps are for. A look that is taken for this alone decides nothing.
 
-ghost use Rattle.media_agents.specs.Finding.{AreEndpoints, images_of, publications_of};
+ghost use Rattle.media_agents.specs.Finding.{AreControls, AreEndpoints, images_of, publications_of};
 ghost use Rattle.published_registry.specs.Histories.{IsContinuedBy, registry_of};
 ghost use Rattle.std.specs.Prelude.{◌≡◌, ◌⊎◌, []};
 
-use crate::listing::{ImageAt, list_endpoints, list_images, list_publications};
+use crate::listing::{ImageAt, list_controls, list_endpoints, list_images, list_publications};
 use crate::slots::LogAt;
 use channel_uri::Address;
 use driver_core::{Registry, View};
@@ -120,6 +120,23 @@ pub(crate) fn find_endpoints(pass: Pass, endpoints: &mut Rows<Address, 512>) -> 
         }
         Err(pass) => {
             endpoints.clear();
+            pass
+        }
+    }
+}
+
+/// Where the publications of a look take datagrams. There are none where there is no look.
+pub(crate) fn find_controls(pass: Pass, controls: &mut Rows<Address, 512>) -> Pass
+    ensures known { IsContinuedBy pass result }
+    ensures listed { AreControls (registry_of result) controls.new ⊎ (controls.new ≡ []) }
+{
+    match pass.enter() {
+        Ok(look) => {
+            list_controls(look.registry(), controls);
+            look.leave()
+        }
+        Err(pass) => {
+            controls.clear();
             pass
         }
     }

@@ -124,8 +124,8 @@ fn hear_image<N: Naming, R: Wait>(
     }
 }
 
-/// A datagram came to the address that the sender sends from. NAKs and status messages are its steps, and what a NAK asks for
-/// is sent again once the log's lock is let go. Any other datagram is lost.
+/// A datagram came to the address `at`, where the sender reads. NAKs and status messages are its steps, and what a NAK asks for
+/// is sent again, from the address `local`, once the log's lock is let go. Any other datagram is lost.
 pub(crate) fn hear_as_sender<N: Naming, R: Wait, W: Wire>(
     rt: &R,
     slots: &Slots<N>,
@@ -134,6 +134,7 @@ pub(crate) fn hear_as_sender<N: Naming, R: Wait, W: Wire>(
     alloc: Global,
     now: u64,
     local: &Address,
+    at: &Address,
     from: &Address,
     bytes: &[u8],
 ) -> Pass
@@ -145,7 +146,7 @@ pub(crate) fn hear_as_sender<N: Naming, R: Wait, W: Wire>(
         Ok(Packet::Sm(message)) => Packet::Sm(message),
         _ => return pass,
     };
-    let (pass, answer) = hear_publication(rt, slots, pass, alloc, now, local, from, packet);
+    let (pass, answer) = hear_publication(rt, slots, pass, alloc, now, at, from, packet);
     match answer {
         Some(answer) => {
             tell(wire, local, &answer);

@@ -1,11 +1,11 @@
-//! Where the logs of a registry are, and where its subscriptions take datagrams.
+//! Where the logs of a registry are, and where its subscriptions and its publications take datagrams.
 
 ghost use Rattle.driver_core.specs.SendRequests.{is_sent};
-ghost use Rattle.media_agents.specs.Finding.{Adds, AddsIf, AreEndpoints, endpoint_in, image_in, images_of, log_at, publications_of, with_image};
+ghost use Rattle.media_agents.specs.Finding.{Adds, AddsIf, AreControls, AreEndpoints, control_in, endpoint_in, image_in, images_of, log_at, publications_of, with_image};
 ghost use Rattle.std.specs.Prelude.{◌≡◌, ◌++◌, ◌∷◌, [], Contains, IsTrue, if◌then◌else◌, take};
 
 use crate::slots::LogAt;
-use channel_uri::{Address, Media};
+use channel_uri::{Address, Media, Place, address_of};
 use driver_core::Registry;
 use rows::Rows;
 use stream_registry::{Source, Subscription};
@@ -127,5 +127,38 @@ pub(crate) fn list_endpoints(registry: &Registry, endpoints: &mut Rows<Address, 
     endpoints.clear();
     for subscription in registry.subscriptions() {
         add_endpoint_of(subscription, endpoints);
+    }
+}
+
+/// Where a publication takes datagrams, which learns there where its own go.
+fn control_of(row: &Source) -> Option<Address>
+    ensures { result ≡ control_in row.now }
+{
+    if !row.is_published() {
+        return None;
+    }
+    match row.channel.place() {
+        Some(Place::Control(text)) => address_of(text),
+        _ => None,
+    }
+}
+
+/// Where a publication takes datagrams joins the others.
+fn add_control_of(row: &Source, controls: &mut Rows<Address, 512>)
+    ensures { AddsIf (control_in row.now) controls.old controls.new }
+{
+    match control_of(row) {
+        Some(control) => add_endpoint(controls, control),
+        None => {}
+    }
+}
+
+/// Where publications take datagrams, each address once.
+pub(crate) fn list_controls(registry: &Registry, controls: &mut Rows<Address, 512>)
+    ensures { AreControls registry.now controls.new }
+{
+    controls.clear();
+    for row in registry.sources() {
+        add_control_of(row, controls);
     }
 }

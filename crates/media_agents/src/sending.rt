@@ -1,11 +1,12 @@
 //! The sender's turns.
 
+ghost use Rattle.media_agents.specs.Agents.{SendsBy};
 ghost use Rattle.media_agents.specs.Passing.{next_turn};
-ghost use Rattle.media_agents.specs.Traffic.{AreSentFrom, GoesOn, IsAt, ReadsOut, Sends};
+ghost use Rattle.media_agents.specs.Traffic.{AreSentFrom, GoesOn, HearsEach, IsHeard, ReadsOut};
 ghost use Rattle.published_registry.specs.Histories.{IsContinuedBy};
 ghost use Rattle.std.specs.Prelude.{◌≡◌, Bool, IfOk};
 
-use crate::finding::find_publications;
+use crate::finding::{find_controls, find_publications};
 use crate::gate::{Agent, Gate, Turn};
 use crate::hearing::hear_as_sender;
 use crate::reading::{MOST, Room};
@@ -21,8 +22,7 @@ use std::alloc::{AllocError, Global};
 use std::marker::Model;
 use std::sync::{Arc, Mutex, Wait};
 
-/// Reads the datagrams at the address that the sender sends from: until none is there, a read fails, or 1,024 are read.
-/// Whether there was one.
+/// Reads the datagrams at the address `at`: until none is there, a read fails, or 1,024 are read. Whether there was one.
 fn hear_all<N: Naming, R: Wait, W: Wire>(
     rt: &R,
     slots: &Slots<N>,
@@ -32,21 +32,47 @@ fn hear_all<N: Naming, R: Wait, W: Wire>(
     alloc: Global,
     now: u64,
     local: &Address,
+    at: &Address,
 ) -> (Pass, bool)
     ensures known { IsContinuedBy pass result.0 }
-    ensures wire { GoesOn (ReadsOut (IsAt local.now) local.now) (W.went wire.old) (W.went wire.new) }
+    ensures wire { GoesOn (ReadsOut (IsHeard local.now at.now) at.now) (W.went wire.old) (W.went wire.new) }
 {
     let mut pass = pass;
     for count in 0..MOST {
-        match room.next(wire, local) {
+        match room.next(wire, at) {
             Some(read) => {
                 let bytes = room.datagram(read.0);
-                pass = hear_as_sender(rt, slots, pass, wire, alloc, now, local, &read.1, bytes);
+                pass = hear_as_sender(rt, slots, pass, wire, alloc, now, local, at, &read.1, bytes);
             }
             None => return (pass, count > 0),
         }
     }
     (pass, true)
+}
+
+/// The same at each of these addresses.
+fn hear_each<N: Naming, R: Wait, W: Wire>(
+    rt: &R,
+    slots: &Slots<N>,
+    pass: Pass,
+    wire: &mut W,
+    room: &mut Room,
+    alloc: Global,
+    now: u64,
+    local: &Address,
+    controls: &[Address],
+) -> (Pass, bool)
+    ensures known { IsContinuedBy pass result.0 }
+    ensures wire { GoesOn (HearsEach local.now controls.now) (W.went wire.old) (W.went wire.new) }
+{
+    let mut pass = pass;
+    let mut worked = false;
+    for at in controls {
+        let (next, heard) = hear_all(rt, slots, pass, wire, room, alloc, now, local, at);
+        pass = next;
+        worked = worked || heard;
+    }
+    (pass, worked)
 }
 
 /// One hold of a publication's lock, with one look within it: a datagram is cut from its log, if one is due. `None` where
@@ -132,6 +158,8 @@ pub struct SenderAgent<N: Naming, G: Gate> {
     /// The address from which all datagrams are sent.
     local: Address,
     room: Room,
+    /// Where the turn reads beside the address that it sends from.
+    controls: Rows<Address, 512>,
     /// The logs of the turn.
     logs: Rows<LogAt, 256>,
     alloc: Global,
@@ -167,6 +195,7 @@ impl<N: Naming, G: Gate + Drop> SenderAgent<N, G> {
             pass: Some(pass),
             local,
             room: Room::new(alloc)?,
+            controls: Rows::new(alloc)?,
             logs: Rows::new(alloc)?,
             alloc,
             turn: Turn::first(),
@@ -174,14 +203,15 @@ impl<N: Naming, G: Gate + Drop> SenderAgent<N, G> {
     }
 
     /// A turn, at the moment `now` in nanoseconds, once the gate lets it pass. The datagrams that came to the address that it
-    /// sends from are read, 1,024 at most: a NAK or a status message is a step on its publication. Then each publication over
-    /// datagrams of a look has one step, in the order of their numbers. Each step is one hold of the log's lock, with one look
-    /// within it; the datagrams of its answer go out once the lock is let go, and a send that fails is a datagram lost.
+    /// sends from are read, 1,024 at most, and then those at each address where publications of a look learn their destinations:
+    /// a NAK or a status message is a step on its publication. Then each publication over datagrams of a second look has one
+    /// step, in the order of their numbers. Each step is one hold of the log's lock, with one look within it; the datagrams of
+    /// its answer go out once the lock is let go, and a send that fails is a datagram lost.
     pub fn turn<R: Wait, W: Wire>(&mut self, rt: &R, wire: &mut W, now: u64)
         ensures known { IsContinuedBy self.old.known self.new.known }
         ensures local { self.new.local ≡ self.old.local }
         ensures turn { (worked : Bool) × (self.new.turn ≡ next_turn worked self.old.turn) }
-        ensures wire { GoesOn (Sends self.old.local) (W.went wire.old) (W.went wire.new) }
+        ensures wire { SendsBy self.old.local self.old.known self.new.known (W.went wire.old) (W.went wire.new) }
     {
         self.gate.pass(Agent::Sender, self.turn);
         let Some(pass) = self.pass.take() else {
@@ -196,6 +226,20 @@ impl<N: Naming, G: Gate + Drop> SenderAgent<N, G> {
             self.alloc,
             now,
             &self.local,
+            &self.local,
+        );
+        let pass = find_controls(pass, &mut self.controls);
+        let controls = self.controls.as_slice();
+        let (pass, told) = hear_each(
+            rt,
+            &self.slots,
+            pass,
+            wire,
+            &mut self.room,
+            self.alloc,
+            now,
+            &self.local,
+            controls,
         );
         let pass = find_publications(pass, &mut self.logs);
         let logs = self.logs.as_slice();
@@ -211,7 +255,7 @@ impl<N: Naming, G: Gate + Drop> SenderAgent<N, G> {
         );
         wire.turn_ended();
         self.pass = Some(pass);
-        self.turn = self.turn.next(heard || sent);
+        self.turn = self.turn.next(heard || told || sent);
     }
 
     /// The turn that is next.

@@ -49,6 +49,7 @@ fn word_of<'a>(place: Option<Place<'a>>) -> Option<&'a str> {
     match place {
         Some(Place::Ipc) => Some("ipc"),
         Some(Place::Manual) => Some("manual"),
+        Some(Place::Control(address)) => Some(address),
         Some(Place::Endpoint(address)) => Some(address),
         None => None,
     }
@@ -187,6 +188,16 @@ static ROWS: [Row; 22] = [
         true,
     ),
     // A place is the first that fits.
+    (
+        "aeron:udp?control-mode=dynamic|control=10.0.0.2:7|endpoint=10.0.0.3:8",
+        Case::Place(Some("10.0.0.2:7")),
+        true,
+    ),
+    (
+        "aeron:udp?control-mode=dynamic|endpoint=10.0.0.3:8",
+        Case::Place(None),
+        true,
+    ),
     (
         "aeron:ipc?control-mode=manual",
         Case::Place(Some("ipc")),

@@ -185,7 +185,7 @@ const NO_MODES: [&str; 7] = [
     "", "Manual", "manual ", "man", "manuals", "dynamics", "none",
 ];
 
-const MODES_OF_OTHERS: [&str; 2] = ["dynamic", "response"];
+const MODES_OF_OTHERS: [&str; 1] = ["response"];
 
 const ANY: [&str; 3] = ["", "1", "127.0.0.1"];
 
@@ -208,7 +208,7 @@ static VALUES: [Row; 13] = [
     (Key::Linger, &[], &NO_LINGERS, &[], true),
     (
         Key::ControlMode,
-        &["manual"],
+        &["manual", "dynamic"],
         &NO_MODES,
         &MODES_OF_OTHERS,
         true,

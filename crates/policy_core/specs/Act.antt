@@ -2,7 +2,7 @@
 use Rattle.std.specs.Prelude.{ℕ, List, [], ◌∷◌, Option, codes, find}
 use Rattle.std.specs.Str.{bytes_eq}
 use Rattle.policy_core.specs.declared.act.Act.{Act}
-use Rattle.policy_core.specs.declared.act.Act.TheVariants.{Publish, PublishExclusive, Subscribe, Spy, Destination, Counter, Terminate, Offer, Image, Receive, Send, Retransmit, List as ListOf}
+use Rattle.policy_core.specs.declared.act.Act.TheVariants.{Publish, PublishExclusive, Subscribe, Spy, Destination, Counter, Terminate, Offer, Image, Receive, Send, Retransmit, Join, List as ListOf}
 
 -- the word that stands for an act in a policy's text
 abbrev pub name_of : Act → List ℕ
@@ -18,6 +18,7 @@ name_of Image = codes "image"
 name_of Receive = codes "receive"
 name_of Send = codes "send"
 name_of Retransmit = codes "retransmit"
+name_of Join = codes "join"
 name_of ListOf = codes "list"
 
 -- acts differ by number
@@ -34,13 +35,14 @@ act_number Image = 8
 act_number Receive = 9
 act_number Send = 10
 act_number Retransmit = 11
-act_number ListOf = 12
+act_number Join = 12
+act_number ListOf = 13
 
 -- every act, by number
 abbrev pub every_act : List Act
 every_act =
     Publish ∷ PublishExclusive ∷ Subscribe ∷ Spy ∷ Destination ∷ Counter ∷ Terminate ∷ Offer ∷ Image ∷ Receive ∷ Send
-    ∷ Retransmit ∷ ListOf ∷ []
+    ∷ Retransmit ∷ Join ∷ ListOf ∷ []
 
 -- the act of that name
 unfoldable pub act_named : List ℕ → Option Act

@@ -6,11 +6,11 @@ use Rattle.policy_core.specs.Act.{act_number}
 
 -- every act
 abbrev pub every_act_held : Acts
-every_act_held = record { held = replicate 13 true }
+every_act_held = record { held = replicate 14 true }
 
 -- no act
 abbrev pub no_act_held : Acts
-no_act_held = record { held = replicate 13 false }
+no_act_held = record { held = replicate 14 false }
 
 -- these acts and that one
 abbrev pub with_act : Acts → Act → Acts

@@ -28,13 +28,15 @@ pub enum Act {
     Send,
     /// To have lost frames sent again.
     Retransmit,
+    /// To become a destination by a status message.
+    Join,
     /// To see a counter.
     List,
 }
 
 impl Act {
     /// Every act, in the order of their numbers.
-    pub const EVERY: [Act; 13] = [
+    pub const EVERY: [Act; 14] = [
         Act::Publish,
         Act::PublishExclusive,
         Act::Subscribe,
@@ -47,6 +49,7 @@ impl Act {
         Act::Receive,
         Act::Send,
         Act::Retransmit,
+        Act::Join,
         Act::List,
     ];
 
@@ -69,6 +72,7 @@ impl Act {
             Act::Receive => "receive",
             Act::Send => "send",
             Act::Retransmit => "retransmit",
+            Act::Join => "join",
             Act::List => "list",
         }
     }

@@ -8,7 +8,7 @@ use crate::act::Act;
 #[derive(Clone, Copy, Debug)]
 pub struct Acts {
     /// For each act, by its number, whether it is among them.
-    held: [bool; 13],
+    held: [bool; 14],
 }
 
 impl Acts {
@@ -17,7 +17,7 @@ impl Acts {
         ensures exact { result ≡ every_act_held }
         ensures all { (act : Act) → holds result act ≡ true }
     {
-        Acts { held: [true; 13] }
+        Acts { held: [true; 14] }
     }
 
     /// No act.
@@ -25,7 +25,7 @@ impl Acts {
         ensures exact { result ≡ no_act_held }
         ensures all { (act : Act) → holds result act ≡ false }
     {
-        Acts { held: [false; 13] }
+        Acts { held: [false; 14] }
     }
 
     /// These acts and `act`.

@@ -12,7 +12,7 @@ use Rattle.policy_core.specs.Acts.{holds}
 use Rattle.policy_core.specs.Question.{Question}
 use Rattle.policy_core.specs.Rule.{matches, speaks_of}
 use Rattle.policy_core.specs.declared.act.Act.{Act}
-use Rattle.policy_core.specs.declared.act.Act.TheVariants.{Publish, PublishExclusive, Subscribe, Spy, Destination, Counter, Terminate, Offer, Image, Receive, Send, Retransmit, List as ListOf}
+use Rattle.policy_core.specs.declared.act.Act.TheVariants.{Publish, PublishExclusive, Subscribe, Spy, Destination, Counter, Terminate, Offer, Image, Receive, Send, Retransmit, Join, List as ListOf}
 use Rattle.policy_core.specs.declared.acts.Acts.{Acts}
 use Rattle.policy_core.specs.declared.rule.Principals.{Principals}
 use Rattle.policy_core.specs.declared.rule.Principals.TheVariants.{Any, One}
@@ -84,9 +84,10 @@ act_at Image = refl
 act_at Receive = refl
 act_at Send = refl
 act_at Retransmit = refl
+act_at Join = refl
 act_at ListOf = refl
 
-act_below : (act : Act) → act_number act < 13
+act_below : (act : Act) → act_number act < 14
 act_below Publish = omega arith
 act_below PublishExclusive = omega arith
 act_below Subscribe = omega arith
@@ -99,6 +100,7 @@ act_below Image = omega arith
 act_below Receive = omega arith
 act_below Send = omega arith
 act_below Retransmit = omega arith
+act_below Join = omega arith
 act_below ListOf = omega arith
 
 some_act : (test : Act → Bool) (act : Act) → test act ≡ true → list_any test every_act ≡ true

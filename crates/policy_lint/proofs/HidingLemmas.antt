@@ -8,7 +8,7 @@ use Rattle.std.proofs.lemmas.List.Sums.{fails_before_first, passes_at_first}
 use Rattle.std.proofs.lemmas.Option.{get_or_from_slice_get, slice_get_cases}
 use Rattle.channel_uri.specs.Pattern.{covers}
 use Rattle.policy_core.specs.declared.act.Act.{Act}
-use Rattle.policy_core.specs.declared.act.Act.TheVariants.{Publish, PublishExclusive, Subscribe, Spy, Destination, Counter, Terminate, Offer, Image, Receive, Send, Retransmit, List as ListOf}
+use Rattle.policy_core.specs.declared.act.Act.TheVariants.{Publish, PublishExclusive, Subscribe, Spy, Destination, Counter, Terminate, Offer, Image, Receive, Send, Retransmit, Join, List as ListOf}
 use Rattle.policy_core.specs.declared.rule.Rule.{Rule}
 use Rattle.policy_core.specs.Act.{act_number, every_act}
 use Rattle.policy_core.specs.Acts.{holds}
@@ -140,9 +140,10 @@ act_at Image = refl
 act_at Receive = refl
 act_at Send = refl
 act_at Retransmit = refl
+act_at Join = refl
 act_at ListOf = refl
 
-pub act_below : (act : Act) → act_number act < 13
+pub act_below : (act : Act) → act_number act < 14
 act_below Publish = omega arith
 act_below PublishExclusive = omega arith
 act_below Subscribe = omega arith
@@ -155,6 +156,7 @@ act_below Image = omega arith
 act_below Receive = omega arith
 act_below Send = omega arith
 act_below Retransmit = omega arith
+act_below Join = omega arith
 act_below ListOf = omega arith
 
 -- what holds of the acts below a number, and of the act of that number, holds of those up to it

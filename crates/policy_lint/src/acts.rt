@@ -78,7 +78,7 @@ pub(crate) fn why_never(act: Act, shape: Shape, low: i32, high: i32) -> Option<&
         Act::Counter => not_counter(shape),
         Act::List => not_listed(shape),
         Act::Terminate => not_terminated(shape, low, high),
-        Act::Spy | Act::Destination | Act::Send | Act::Retransmit => not_sent(shape),
+        Act::Spy | Act::Destination | Act::Send | Act::Retransmit | Act::Join => not_sent(shape),
         _ => not_streamed(shape),
     }
 }

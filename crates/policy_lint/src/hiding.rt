@@ -128,7 +128,7 @@ fn acts_are_held(rules: &[Rule], places: &[usize], at: usize) -> bool
     requires { at < length rules.now }
     ensures { result ≡ true → (act : Act) → ActIsHeld rules.now places.now at act }
 {
-    for number in 0..13 {
+    for number in 0..14 {
         if !act_is_held(rules, places, at, Act::EVERY[number]) {
             return false;
         }

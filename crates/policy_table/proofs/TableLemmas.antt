@@ -11,7 +11,7 @@ use Rattle.policy_core.specs.Question.{Question}
 use Rattle.policy_core.specs.Rules.{verdict_at, verdict_of}
 use Rattle.policy_core.specs.RuleList.{Rules}
 use Rattle.policy_core.specs.declared.act.Act.{Act}
-use Rattle.policy_core.specs.declared.act.Act.TheVariants.{Publish, PublishExclusive, Subscribe, Spy, Destination, Counter, Terminate, Offer, Image, Receive, Send, Retransmit, List as ListOf}
+use Rattle.policy_core.specs.declared.act.Act.TheVariants.{Publish, PublishExclusive, Subscribe, Spy, Destination, Counter, Terminate, Offer, Image, Receive, Send, Retransmit, Join, List as ListOf}
 use Rattle.policy_core.specs.declared.rule.Rule.{Rule}
 use Rattle.policy_table.specs.Scope.{AddsNamed, is_among, is_asker, is_in, is_named, is_stream, is_within, names}
 use Rattle.policy_table.specs.Stretch.{IsStretch, up_to}
@@ -116,7 +116,7 @@ lane_ends policy scope stretch block first blocks before is same rules end =
 
 -- ---- an asker
 
-pub act_small : (act : Act) → act_number act < 13
+pub act_small : (act : Act) → act_number act < 14
 act_small Publish = omega arith
 act_small PublishExclusive = omega arith
 act_small Subscribe = omega arith
@@ -129,6 +129,7 @@ act_small Image = omega arith
 act_small Receive = omega arith
 act_small Send = omega arith
 act_small Retransmit = omega arith
+act_small Join = omega arith
 act_small ListOf = omega arith
 
 next_same : (number own : ℕ) → own ≡ number → one_if (ltb own number) + one_if (eqb number own) ≡ one_if (ltb own (number + 1))
@@ -168,7 +169,7 @@ and_true : (a b : Bool) → b ≡ true → (a && b) ≡ a
 and_true false b h = refl
 and_true true b h = h
 
-pub asker_ends : (policy : Rules) (asker : Asker) (number : ℕ) (first new : List Block) → 12 < number
+pub asker_ends : (policy : Rules) (asker : Asker) (number : ℕ) (first new : List Block) → 13 < number
     → AddsBlocks policy (of_asker_below policy.rules asker number) first new
     → AddsBlocks policy (λ question. one_if (is_asker policy.rules asker question.principal)) first new
 asker_ends policy asker number first new past adds = record {

@@ -52,7 +52,7 @@ fn push_lane(
 
 /// The act of this number.
 pub(crate) fn act_at(number: usize) -> Act
-    requires { number < 13 }
+    requires { number < 14 }
     ensures { act_number result ≡ number }
 {
     Act::EVERY[number]
@@ -67,7 +67,7 @@ fn push_asker(
 ) -> Result<(), AllocError>
     ensures { OnOk result (AddsBlocks policy.now (λ question. one_if (is_asker policy.now.rules asker question.principal)) blocks.old.items blocks.new.items) }
 {
-    for number in 0..13 {
+    for number in 0..14 {
         push_lane(alloc, policy, asker, act_at(number), blocks)?;
     }
     Ok(())

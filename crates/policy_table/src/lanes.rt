@@ -67,7 +67,7 @@ pub(crate) fn is_repeated<R: Row>(rows: &[R], lanes: &[Lane], at: usize) -> bool
     requires { at < length lanes.now }
 {
     let lane = rows_of(rows, lanes[at]);
-    for before in at.saturating_sub(12)..at {
+    for before in at.saturating_sub(13)..at {
         if are_alike(rows_of(rows, lanes[before]), lane) {
             return true;
         }
@@ -81,7 +81,7 @@ pub(crate) fn acts_from<R: Row>(rows: &[R], lanes: &[Lane], at: usize) -> Acts
 {
     let lane = rows_of(rows, lanes[at]);
     let mut acts = Acts::none();
-    for after in at..lanes.len().min(at.saturating_add(13)) {
+    for after in at..lanes.len().min(at.saturating_add(14)) {
         let other = rows_of(rows, lanes[after]);
         if !other.is_empty() && are_alike(other, lane) {
             acts = acts.with(other[0].scope().act);

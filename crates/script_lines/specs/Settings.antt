@@ -8,7 +8,7 @@ use Rattle.channel_uri.specs.Session.{session_id_of}
 use Rattle.driver_core.specs.declared.settings.Settings.{Settings}
 use Rattle.driver_core.specs.Settings.{default_settings}
 use Rattle.script_lines.specs.declared.settings.Duration.{Duration as DurationKey}
-use Rattle.script_lines.specs.declared.settings.Duration.TheVariants.{ClientLiveness, ImageLiveness, Linger, ConnectionTimeout, ResendLinger, NakDelay, NakRepeat, SetupInterval, HeartbeatInterval, StatusInterval}
+use Rattle.script_lines.specs.declared.settings.Duration.TheVariants.{ClientLiveness, ImageLiveness, Linger, ConnectionTimeout, DestinationTimeout, ResendLinger, NakDelay, NakRepeat, SetupInterval, HeartbeatInterval, StatusInterval}
 use Rattle.script_lines.specs.declared.settings.Key.{Key}
 use Rattle.script_lines.specs.declared.settings.Key.TheVariants.{Duration, TermLength, Mtu, ArenaPages, FirstSession, InitialTerm, ReceiverId, SendAddress}
 use Rattle.script_lines.specs.Hex.{◌>>=◌}
@@ -21,6 +21,7 @@ keys =
     ∷ (codes "image-liveness", Duration ImageLiveness)
     ∷ (codes "linger", Duration Linger)
     ∷ (codes "connection-timeout", Duration ConnectionTimeout)
+    ∷ (codes "destination-timeout", Duration DestinationTimeout)
     ∷ (codes "resend-linger", Duration ResendLinger)
     ∷ (codes "nak-delay", Duration NakDelay)
     ∷ (codes "nak-repeat", Duration NakRepeat)
@@ -65,6 +66,7 @@ with_duration settings ClientLiveness duration = record settings { client_livene
 with_duration settings ImageLiveness duration = record settings { image_liveness = duration }
 with_duration settings Linger duration = record settings { linger = duration }
 with_duration settings ConnectionTimeout duration = record settings { connection_timeout = duration }
+with_duration settings DestinationTimeout duration = record settings { destination_timeout = duration }
 with_duration settings ResendLinger duration = record settings { resend_linger = duration }
 with_duration settings NakDelay duration = record settings { nak_delay = duration }
 with_duration settings NakRepeat duration = record settings { nak_repeat = duration }

@@ -20,6 +20,7 @@ pub enum Duration {
     ImageLiveness,
     Linger,
     ConnectionTimeout,
+    DestinationTimeout,
     ResendLinger,
     NakDelay,
     NakRepeat,
@@ -85,6 +86,10 @@ fn key_of(name: &str) -> Option<Key>
         (
             "connection-timeout",
             Key::Duration(Duration::ConnectionTimeout),
+        ),
+        (
+            "destination-timeout",
+            Key::Duration(Duration::DestinationTimeout),
         ),
         ("resend-linger", Key::Duration(Duration::ResendLinger)),
         ("nak-delay", Key::Duration(Duration::NakDelay)),
@@ -156,6 +161,7 @@ fn with_duration(settings: Settings, key: Duration, nanoseconds: u64) -> Setting
         Duration::ImageLiveness => settings.image_liveness = nanoseconds,
         Duration::Linger => settings.linger = nanoseconds,
         Duration::ConnectionTimeout => settings.connection_timeout = nanoseconds,
+        Duration::DestinationTimeout => settings.destination_timeout = nanoseconds,
         Duration::ResendLinger => settings.resend_linger = nanoseconds,
         Duration::NakDelay => settings.nak_delay = nanoseconds,
         Duration::NakRepeat => settings.nak_repeat = nanoseconds,

@@ -3,7 +3,7 @@ use Rattle.std.proofs.Common.{◌≡◌, Some, None, Option, refl}
 use Rattle.channel_uri.specs.declared.address.Address.{Address}
 use Rattle.channel_uri.specs.Address.{address_text}
 use Rattle.channel_uri.specs.Channel.{Shape, endpoint_shape}
-use Rattle.channel_uri.specs.Place.{Spot, AtIpc, AtManual, AtEndpoint, is_at_text, spot_of}
+use Rattle.channel_uri.specs.Place.{Spot, AtIpc, AtManual, AtControl, AtEndpoint, is_at_text, spot_of}
 use Rattle.stream_registry.specs.Places.{are_same, is_same_place}
 
 spots_same : (spot : Option Spot) (address : Address) →
@@ -11,6 +11,7 @@ spots_same : (spot : Option Spot) (address : Address) →
 spots_same None address = refl
 spots_same (Some AtIpc) address = refl
 spots_same (Some AtManual) address = refl
+spots_same (Some (AtControl control)) address = refl
 spots_same (Some (AtEndpoint endpoint)) address = refl
 
 pub place_same : (channel : Shape) (address : Address) →

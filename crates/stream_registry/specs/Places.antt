@@ -5,11 +5,12 @@ use Rattle.channel_uri.specs.declared.media.Media.{Media}
 use Rattle.channel_uri.specs.declared.media.Media.TheVariants.{Udp, Ipc, Counter}
 use Rattle.channel_uri.specs.Channel.{Shape}
 use Rattle.channel_uri.specs.Media.{media_number}
-use Rattle.channel_uri.specs.Place.{Spot, AtIpc, AtManual, AtEndpoint, spot_of}
+use Rattle.channel_uri.specs.Place.{Spot, AtIpc, AtManual, AtControl, AtEndpoint, spot_of}
 
 abbrev pub is_same_spot : Spot → Spot → Bool
 is_same_spot AtIpc AtIpc = true
 is_same_spot AtManual AtManual = true
+is_same_spot (AtControl address) (AtControl other) = bytes_eq address other
 is_same_spot (AtEndpoint address) (AtEndpoint other) = bytes_eq address other
 is_same_spot spot other = false
 
@@ -28,6 +29,14 @@ is_manual_spot spot = false
 -- the destinations are named by hand, which is so over `udp` alone
 unfoldable pub is_manual : Shape → Bool
 is_manual channel = is_manual_spot (spot_of channel)
+
+abbrev pub is_dynamic_spot : Option Spot → Bool
+is_dynamic_spot (Some (AtControl address)) = true
+is_dynamic_spot spot = false
+
+-- the destinations are learnt from status messages, which is so over `udp` alone
+unfoldable pub is_dynamic : Shape → Bool
+is_dynamic channel = is_dynamic_spot (spot_of channel)
 
 abbrev pub is_same_media : Media → Media → Bool
 is_same_media media other = media_number media == media_number other

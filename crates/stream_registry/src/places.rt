@@ -12,6 +12,7 @@ pub(crate) fn is_same_place(channel: &Channel, other: &Channel) -> bool
     match (channel.place(), other.place()) {
         (Some(Place::Ipc), Some(Place::Ipc)) => true,
         (Some(Place::Manual), Some(Place::Manual)) => true,
+        (Some(Place::Control(address)), Some(Place::Control(other))) => address == other,
         (Some(Place::Endpoint(address)), Some(Place::Endpoint(other))) => address == other,
         _ => false,
     }

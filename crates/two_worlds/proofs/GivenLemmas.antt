@@ -21,7 +21,7 @@ use Rattle.driver_core.specs.declared.peer.Peer.{Peer}
 use Rattle.driver_core.specs.declared.settings.Settings.{Settings}
 use Rattle.driver_core.specs.ImageRequests.{image_for, received_by, sent_to}
 use Rattle.driver_core.specs.LogRequests.{offering_of, receiving_of}
-use Rattle.driver_core.specs.PublicationRequests.{publication_for, publisher_of, resending_of}
+use Rattle.driver_core.specs.PublicationRequests.{joining_of, publisher_of, resending_of}
 use Rattle.driver_core.specs.Readers.{readers_of}
 use Rattle.driver_core.specs.SendRequests.{sending_of}
 use Rattle.driver_core.specs.Soundness.{AreSettings}
@@ -32,6 +32,8 @@ use Rattle.driver_steps.specs.declared.answer.Offered.TheVariants.{Closed}
 use Rattle.driver_steps.specs.declared.step.Step.{Step}
 use Rattle.driver_steps.specs.declared.step.Step.TheVariants.{Conductor, Packet, Offer as Offers, Poll as Polls, Image, List as Lists, Send, Value}
 use Rattle.driver_steps.specs.Ends.{RunEnd, log_at, on_asked, on_image, on_offered_by, on_report_by, on_told, opening_end}
+use Rattle.driver_core.specs.declared.publication_request.JoinRequest.{JoinRequest}
+use Rattle.driver_steps.proofs.HearingLemmas.{status_whole}
 use Rattle.driver_steps.specs.Hearing.{nak_move, status_move}
 use Rattle.driver_steps.specs.Idents.{begins_by, made_by, made_of, stream_ident}
 use Rattle.driver_steps.specs.Laws.{made_as, made_for}
@@ -307,12 +309,13 @@ asked_mirror i line e now from fields (Some request) mirrors =
     log_keeps (MirrorsLog i line) e request.source (nak_move now from request.decision fields) unheard
     (λ log found there. there.holds) mirrors
 
-heard_mirror : (i : Ident) (line : List Kept) (e : RunEnd) (now : ℕ) (fields : StatusMessage) (source : Option ℕ) →
-    All (MirrorsLog i line) e.logs → All (MirrorsLog i line) (on_told e now fields source).after.logs
-heard_mirror i line e now fields None mirrors = mirrors
-heard_mirror i line e now fields (Some source) mirrors =
-    log_keeps (MirrorsLog i line) e source (status_move now fields) unheard
-    (λ log found there. status_mirror i line now fields log.whole there.holds) mirrors
+heard_mirror : (i : Ident) (line : List Kept) (e : RunEnd) (now : ℕ) (from : Address) (fields : StatusMessage) (request : Option JoinRequest) →
+    All (MirrorsLog i line) e.logs → All (MirrorsLog i line) (on_told e now from fields request).after.logs
+heard_mirror i line e now from fields None mirrors = mirrors
+heard_mirror i line e now from fields (Some request) mirrors =
+    log_keeps (MirrorsLog i line) e request.source (status_move now from request.decision fields) unheard
+    (λ log found there.
+    status_whole (MirrorsIf i line) now from request.decision fields log there.holds (status_mirror i line now fields log.whole there.holds)) mirrors
 
 packet_mirror : (i : Ident) (start : ℕ) (line : List Kept) → 0 < i.term_length → IsLine i.term_length start line → (s : State) (e : RunEnd)
     (now : ℕ) (local from : Address) (bytes : List ℕ) (read : Result Content BadPacket) → packet_of bytes ≡ read → Follows e →
@@ -329,7 +332,7 @@ packet_mirror i start line some is s e now local from bytes (Ok (setup fields)) 
 packet_mirror i start line some is s e now local from bytes (Ok (nak fields)) reads follows good mirrors =
     asked_mirror i line e now from fields (resending_of s from fields.session_id fields.stream_id) mirrors
 packet_mirror i start line some is s e now local from bytes (Ok (status fields)) reads follows good mirrors =
-    heard_mirror i line e now fields (publication_for s fields.session_id fields.stream_id) mirrors
+    heard_mirror i line e now from fields (joining_of s from fields.session_id fields.stream_id) mirrors
 
 -- ---- any step
 

@@ -25,7 +25,7 @@ use Rattle.driver_core.specs.declared.send_request.Outlet.{Outlet}
 use Rattle.driver_core.specs.declared.settings.Settings.{Settings}
 use Rattle.driver_core.specs.Listing.{list, value}
 use Rattle.driver_core.specs.LogRequests.{offering_of, receiving_of}
-use Rattle.driver_core.specs.PublicationRequests.{publication_for, publisher_of, resending_of}
+use Rattle.driver_core.specs.PublicationRequests.{joining_of, publisher_of, resending_of}
 use Rattle.driver_core.specs.Readers.{readers_of}
 use Rattle.driver_core.specs.SendRequests.{outlets_of, sending_of}
 use Rattle.driver_core.specs.State.{State}
@@ -36,6 +36,8 @@ use Rattle.driver_steps.specs.declared.step.Step.{Step}
 use Rattle.driver_steps.specs.declared.step.Step.TheVariants.{Conductor, Packet, Offer as Offers, Poll as Polls, Image, List as Lists, Send, Value}
 use Rattle.driver_steps.specs.Answers.{answer_listed, answer_of, answer_shown, answered_by}
 use Rattle.driver_steps.specs.Ends.{RunEnd, Moved, conducted, dropped, log_at, moved_on, on_asked, on_log, on_offered_by, on_report_by, on_told, opening_end}
+use Rattle.driver_core.specs.declared.publication_request.JoinRequest.{JoinRequest}
+use Rattle.driver_steps.proofs.HearingLemmas.{status_told, status_whole}
 use Rattle.driver_steps.specs.Hearing.{answer_asked, answer_heard, nak_move, status_move}
 use Rattle.driver_steps.specs.Idents.{begins_by, ident_of}
 use Rattle.driver_steps.specs.Moves.{WholeLog, Move, offer_move, offer_to, offer_under, poll_move, poll_under}
@@ -43,7 +45,7 @@ use Rattle.driver_steps.specs.Receiving.{beat_move, receive_move, unheard}
 use Rattle.driver_steps.specs.Reporting.{answer_reported, report_move}
 use Rattle.driver_steps.specs.Runs.{Reading, AreAnswers, IsAnswerTo, left_by, moved_to, read_by}
 use Rattle.driver_steps.specs.Seen.{image_seen, moved_seen, packet_seen}
-use Rattle.driver_steps.specs.Sending.{answer_sent, pace_of, send_by, send_move}
+use Rattle.driver_steps.specs.Sending.{answer_sent, pace_of, send_by, send_move, standing_of}
 use Rattle.driver_steps.proofs.EndLemmas.{after_both}
 use Rattle.driver_steps.proofs.LiveLemmas.{IsKept, event_keeps, found_log, log_keeps, step_either}
 use Rattle.driver_steps.proofs.ReadLemmas.{holds_by}
@@ -201,11 +203,13 @@ asked_well e now from fields None well = well
 asked_well e now from fields (Some request) well =
     log_keeps WellLog e request.source (nak_move now from request.decision fields) unheard (λ log found there. there.holds) well
 
-told_well : (e : RunEnd) (now : ℕ) (fields : StatusMessage) (source : Option ℕ) → All WellLog e.logs →
-    All WellLog (on_told e now fields source).after.logs
-told_well e now fields None well = well
-told_well e now fields (Some source) well =
-    log_keeps WellLog e source (status_move now fields) unheard (λ log found there. status_well now fields log.whole there.holds) well
+told_well : (e : RunEnd) (now : ℕ) (from : Address) (fields : StatusMessage) (request : Option JoinRequest) → All WellLog e.logs →
+    All WellLog (on_told e now from fields request).after.logs
+told_well e now from fields None well = well
+told_well e now from fields (Some request) well =
+    log_keeps WellLog e request.source (status_move now from request.decision fields) unheard
+    (λ log found there.
+    status_whole WellIf now from request.decision fields log there.holds (status_well now fields log.whole there.holds)) well
 
 frames_well : (e : RunEnd) (now : ℕ) (sent : List Sent) (found : Result ℕ _) → All WellLog e.logs →
     All WellLog (Rattle.driver_steps.specs.Ends.on_image e (receive_move now sent) found).after.logs
@@ -228,7 +232,7 @@ packet_well s e now local from (Ok (frames (frame ∷ later))) well =
 packet_well s e now local from (Ok (beat header)) well = beats_well e now header.place (image_seen s e local from header.place) well
 packet_well s e now local from (Ok (setup fields)) well = event_keeps WellLog e (SetUp now local from fields) well_kept well
 packet_well s e now local from (Ok (nak fields)) well = asked_well e now from fields (resending_of s from fields.session_id fields.stream_id) well
-packet_well s e now local from (Ok (status fields)) well = told_well e now fields (publication_for s fields.session_id fields.stream_id) well
+packet_well s e now local from (Ok (status fields)) well = told_well e now from fields (joining_of s from fields.session_id fields.stream_id) well
 
 offer_well : (s : State) (e : RunEnd) (now client registration : ℕ) (message : List ℕ) (o : Option LogRequest) → All WellLog e.logs →
     All WellLog (on_offered_by s e now client registration message o).after.logs
@@ -480,12 +484,14 @@ asked_sent i all e now from fields (Some request) well only asked =
     (λ log found fine one.
     nak_sent i all now from request.decision fields log.recovery.gate log.whole (asked request log refl found) one.fit fine)
 
-told_sent : (i : Ident) (all : List Frame) (e : RunEnd) (now : ℕ) (fields : StatusMessage) (source : Option ℕ) → All WellLog e.logs →
-    All (IsOverUdp i all) e.logs → AllGood i all (sent_by (on_told e now fields source).answer)
-told_sent i all e now fields None well only = none_sent i all
-told_sent i all e now fields (Some source) well only =
-    log_sent i all e source (status_move now fields) unheard (none_sent i all) well only
-    (λ log _ fine one. heard_sent i all (status_answer fields log.whole))
+told_sent : (i : Ident) (all : List Frame) (e : RunEnd) (now : ℕ) (from : Address) (fields : StatusMessage) (request : Option JoinRequest) →
+    All WellLog e.logs → All (IsOverUdp i all) e.logs → AllGood i all (sent_by (on_told e now from fields request).answer)
+told_sent i all e now from fields None well only = none_sent i all
+told_sent i all e now from fields (Some request) well only =
+    log_sent i all e request.source (status_move now from request.decision fields) unheard (none_sent i all) well only
+    (λ log _ fine one.
+    status_told (λ answer. AllGood i all (sent_by answer)) now from request.decision fields log (λ cause. none_sent i all)
+    (heard_sent i all (status_answer fields log.whole)))
 
 packet_sent : (i : Ident) (all : List Frame) (s : State) (e : RunEnd) (now : ℕ) (local from : Address) (read : Result Content BadPacket) →
     All WellLog e.logs → All (IsOverUdp i all) e.logs → IsAsked i all s e → AllGood i all (sent_by (packet_seen s e now local from read).answer)
@@ -500,7 +506,7 @@ packet_sent i all s e now local from (Ok (nak fields)) well only asked =
     asked_sent i all e now from fields (resending_of s from fields.session_id fields.stream_id) well only
     (λ one log is found. asked from fields.session_id fields.stream_id one log is found)
 packet_sent i all s e now local from (Ok (status fields)) well only asked =
-    told_sent i all e now fields (publication_for s fields.session_id fields.stream_id) well only
+    told_sent i all e now from fields (joining_of s from fields.session_id fields.stream_id) well only
 
 offer_answer : (i : Ident) (all : List Frame) (now timeout : ℕ) (verdict : Verdict) (message : List ℕ) (log : WholeLog) (w : AnyWhole) →
     AllGood i all (sent_by (offer_to now timeout verdict message log w).answer)
@@ -537,7 +543,7 @@ send_by_sent : (i : Ident) (all : List Frame) (s : State) (now : ℕ) (log : Who
     AllGood i all (sent_by (send_by s now log lingers).answer)
 send_by_sent i all s now log None well one = none_sent i all
 send_by_sent i all s now log (Some lingers) well one =
-    turn_sent i all (pace_of s.settings) now lingers (outlets_of s log.source) log.whole one.only one.fit well
+    turn_sent i all (pace_of s.settings) now lingers (outlets_of s (standing_of s.settings now log) log.source) log.whole one.only one.fit well
 
 report_by_sent : (i : Ident) (all : List Frame) (s : State) (e : RunEnd) (now source : ℕ) (to : Option Address) → All WellLog e.logs →
     All (IsOverUdp i all) e.logs → AllGood i all (sent_by (on_report_by s e now source to).answer)

@@ -5,4 +5,4 @@ use Rattle.compiled_policy.proofs.index.fill_classes.Given as goal
 
 -- the classes have the rules so far
 abbrev pub invariant-loop-place : goal.invariant-loop-place
-invariant-loop-place l = (length l.classes ≡ 39) × AreSetsOf l.rules is_in l.place l.classes
+invariant-loop-place l = (length l.classes ≡ 42) × AreSetsOf l.rules is_in l.place l.classes

@@ -1,8 +1,8 @@
 use Rattle.std.proofs.Common.{List, [], subst, sym, ◌∙◌}
 use Rattle.std.proofs.lemmas.List.{take_all}
 use Rattle.stream_registry.specs.declared.row.Subscription.{Subscription}
-use Rattle.media_agents.specs.Finding.{AreNamed, named_by}
-use Rattle.media_agents.proofs.FindingLemmas.{endpoints_more, none_named}
+use Rattle.media_agents.specs.Finding.{AreNamed, endpoint_in, named_by}
+use Rattle.media_agents.proofs.FindingLemmas.{addresses_more, none_named}
 use Rattle.media_agents.proofs.listing.list_endpoints.Goals as goal
 
 pub loop-subscription-init : goal.loop-subscription-init
@@ -10,7 +10,7 @@ loop-subscription-init c = subst (AreNamed []) (sym c.clear.ensures) none_named
 
 pub loop-subscription-preserved : goal.loop-subscription-preserved
 loop-subscription-preserved c =
-    endpoints_more c.subscriptions-subscription-items.result.now c.loop-subscription.subscription-index c.subscription-item.result c.loop-subscription.endpoints
+    addresses_more endpoint_in c.subscriptions-subscription-items.result.now c.loop-subscription.subscription-index c.subscription-item.result c.loop-subscription.endpoints
     c.add_endpoint_of.new.endpoints c.loop-subscription-test.true c.subscription-item.is c.loop-subscription.invariant c.add_endpoint_of.ensures
 
 pub returns : goal.returns

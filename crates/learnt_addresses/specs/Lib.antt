@@ -1,0 +1,2 @@
+pub mod LearntAddresses
+pub mod Laws
