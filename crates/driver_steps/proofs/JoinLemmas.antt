@@ -35,6 +35,7 @@ use Rattle.driver_steps.specs.Sending.{send_by, send_move}
 use Rattle.driver_steps.proofs.DecisionLemmas.{left_by, log_moves, stays_left}
 use Rattle.driver_steps.proofs.EndLemmas.{run_keeps}
 use Rattle.driver_steps.proofs.FoundLemmas.{found_source}
+use Rattle.driver_steps.proofs.LearntLemmas.{learnt_stays}
 use Rattle.driver_steps.proofs.LiveLemmas.{IsKept, event_keeps, log_keeps}
 use Rattle.frame_codec.specs.declared.fault.BadPacket.{BadPacket}
 use Rattle.frame_codec.specs.declared.nak.Nak.{Nak}
@@ -243,4 +244,5 @@ pub addresses_learnt : AddressesAreLearntExactly
 addresses_learnt settings policy peers readings answers sound are = record {
   joins = joins_decided _;
   orderly = ends_orderly settings policy peers readings answers;
+  stays = learnt_stays _;
 }
