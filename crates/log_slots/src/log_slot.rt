@@ -9,6 +9,7 @@ ghost use Rattle.driver_steps.specs.Receiving.{unheard};
 ghost use Rattle.driver_steps.specs.Reporting.{image_move};
 ghost use Rattle.driver_steps.specs.Sending.{send_move};
 ghost use Rattle.frame_codec.specs.Datagram.{content};
+ghost use Rattle.learnt_addresses.specs.Laws.{AreOrderly};
 ghost use Rattle.log_slots.specs.Counting.{taken_by};
 ghost use Rattle.log_slots.specs.Slots.{DecidesHeard, DecidesIn, GivesHeard, GivesIn, Hears, IsMadeFor, IsSlot, Moves, is_of, is_silent_in, log_of, messages_in, packet_decision, reach_in, with_readers, without_log};
 ghost use Rattle.std.specs.Prelude.{◌≡◌, ◌≢◌, ◌+◌, ◌≤◌, length, None, Some, IfErr, IfOk, IfSome, OnErr, OnOk};
@@ -110,13 +111,15 @@ impl<N: Naming> LogSlot<N> {
     }
 
     /// What holds whenever the lock is free: a log that is open has the slot's number, is made for its session and stream, lies
-    /// in the region that `N` names, and stands for a whole log.
+    /// in the region that `N` names, stands for a whole log, and has learnt no address twice, and 32 at most.
     pub fn holds(&self)
         ensures own { IsSlot N.home self.now.source self.now.session self.now.stream self.now.log }
         ensures whole { IfSome self.now.log (λ held. HasWhole held.log) }
+        ensures learnt { IfSome self.now.log (λ held. AreOrderly held.recovery.learnt) }
     {
         if let Some(log) = &self.log {
             log.has_whole();
+            log.learns_orderly();
         }
     }
 

@@ -7,6 +7,7 @@ ghost use Rattle.driver_steps.specs.Moves.{for_source, offer_move, poll_move};
 ghost use Rattle.driver_steps.specs.Packets.{IsSoundContent, packet_move};
 ghost use Rattle.driver_steps.specs.Sending.{send_move};
 ghost use Rattle.frame_codec.specs.Datagram.{content};
+ghost use Rattle.learnt_addresses.specs.Laws.{AreOrderly};
 ghost use Rattle.log_slots.specs.Counting.{Adds, IsCounted, settled_of, taken_by};
 ghost use Rattle.log_slots.specs.Slots.{DecidesHeard, DecidesIn, GivesHeard, GivesIn, Hears, IsMadeFor, IsSlot, Moves, log_of, messages_in, packet_decision, reach_in, with_readers, without_log};
 ghost use Rattle.std.specs.Prelude.{◌≡◌, ◌≢◌, ◌+◌, ◌<◌, ◌≤◌, ◌⊎◌, length, None, Some, false, true, IfErr, IfNone, IfOk, IfSome, MatchBool, OnErr, OnOk};
@@ -82,6 +83,7 @@ impl<N: Naming> Slot<N> {
     pub fn holds(&self)
         ensures own { IsSlot N.home self.now.kept.source self.now.kept.session self.now.kept.stream self.now.kept.log }
         ensures whole { IfSome self.now.kept.log (λ held. HasWhole held.log) }
+        ensures learnt { IfSome self.now.kept.log (λ held. AreOrderly held.recovery.learnt) }
         ensures counts { IsCounted self.now }
     {
         self.kept.holds();

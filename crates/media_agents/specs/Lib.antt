@@ -2,6 +2,7 @@ pub mod Agents
 pub mod Answering
 pub mod Asking
 pub mod Desks
+pub mod Eliciting
 pub mod Finding
 pub mod Mails
 pub mod Passing

@@ -87,14 +87,6 @@ SentEach [] events = events ≡ []
 SentEach (image ∷ later) events =
     (first : List Event) × (rest : List Event) × (events ≡ first ++ rest) × AreSentFrom image.endpoint first × SentEach later rest
 
--- a turn of the receiver: it reads at each of these addresses, and then it sends for each of these images
-pub record Receives (endpoints : List Address) (images : List ImageAt) (events : List Event) : Type 0 where
-  pub heard : List Event
-  pub told : List Event
-  pub order : events ≡ heard ++ told
-  pub reads_each : ReadsEach endpoints heard
-  pub sent_each : SentEach images told
-
 -- one read at that address: a datagram came, so long and from there; or none was there, or the read failed
 abbrev pub IsReading : Address → Option (ℕ × Address) → List Event → Type 0
 IsReading local None events = (events ≡ nothing local ∷ []) ⊎ (events ≡ failed ∷ [])
@@ -133,6 +125,17 @@ AreTried [] [] = Unit {0}
 AreTried [] (event ∷ events) = ⊥
 AreTried (it ∷ letters) [] = ⊥
 AreTried (it ∷ letters) (event ∷ events) = IsTried it event × AreTried letters events
+
+-- a turn of the receiver: it reads at each of these addresses, then it sends for each of these images, and then it sends these
+-- datagrams
+pub record Receives (endpoints : List Address) (images : List ImageAt) (letters : List Letter) (events : List Event) : Type 0 where
+  pub heard : List Event
+  pub told : List Event
+  pub elicited : List Event
+  pub order : events ≡ heard ++ told ++ elicited
+  pub reads_each : ReadsEach endpoints heard
+  pub sent_each : SentEach images told
+  pub tried : AreTried letters elicited
 
 -- ---- SETUPs
 

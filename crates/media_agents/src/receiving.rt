@@ -6,6 +6,7 @@ ghost use Rattle.media_agents.specs.Traffic.{AreSentFrom, GoesOn, IsReadAt, Read
 ghost use Rattle.published_registry.specs.Histories.{IsContinuedBy};
 ghost use Rattle.std.specs.Prelude.{◌≡◌, Bool, IfOk};
 
+use crate::eliciting::{Elicited, elicit};
 use crate::finding::{find_endpoints, find_images};
 use crate::gate::{Agent, Gate, Turn};
 use crate::hearing::hear_as_receiver;
@@ -174,6 +175,7 @@ pub struct ReceiverAgent<N: Naming, G: Gate> {
     endpoints: Rows<Address, 512>,
     /// The images of the turn.
     images: Rows<ImageAt, 512>,
+    elicited: Elicited,
     alloc: Global,
     turn: Turn,
 }
@@ -185,7 +187,7 @@ impl<N: Naming, G: Gate> Model for ReceiverAgent<N, G> {
 
     ghost Value = { Receiving };
 
-    ghost view = { λ agent. record { known = history_in agent.pass; turn = agent.turn; queue = agent.queue } };
+    ghost view = { λ agent. record { known = history_in agent.pass; turn = agent.turn; queue = agent.queue; eliciting = agent.elicited } };
 
     ghost invariant = { λ agent. IsSome agent.pass };
 }
@@ -198,8 +200,9 @@ impl<N: Naming, G: Gate + Drop> ReceiverAgent<N, G> {
         gate: Arc<G>,
         pass: Pass,
         queue: EventSender,
+        elicited: Elicited,
     ) -> Result<ReceiverAgent<N, G>, AllocError>
-        ensures { IfOk result (λ agent. agent ≡ record { known = pass; turn = record { number = 0; idle = 0 }; queue = queue }) }
+        ensures { IfOk result (λ agent. agent ≡ record { known = pass; turn = record { number = 0; idle = 0 }; queue = queue; eliciting = elicited }) }
     {
         Ok(ReceiverAgent {
             slots,
@@ -209,6 +212,7 @@ impl<N: Naming, G: Gate + Drop> ReceiverAgent<N, G> {
             room: Room::new(alloc)?,
             endpoints: Rows::new(alloc)?,
             images: Rows::new(alloc)?,
+            elicited,
             alloc,
             turn: Turn::first(),
         })
@@ -218,12 +222,14 @@ impl<N: Naming, G: Gate + Drop> ReceiverAgent<N, G> {
     /// take datagrams those that came are read, 1,024 at most: data and heartbeats are steps on their image, and a SETUP is
     /// pushed as an event, or lost where the queue is full. Then each image of a second look has one step, in the order of
     /// their numbers. Each step is one hold of the log's lock, with one look within it; the datagrams of its answer go out from
-    /// the address at which the image reads, once the lock is let go, and a send that fails is a datagram lost.
+    /// the address at which the image reads, once the lock is let go, and a send that fails is a datagram lost. At last one
+    /// that was handed over joins those that are to be elicited, and for each of these that is due by a third look a status
+    /// message goes out.
     pub fn turn<R: Wait, W: Wire>(&mut self, rt: &R, wire: &mut W, now: u64)
         ensures known { IsContinuedBy self.old.known self.new.known }
         ensures turn { (worked : Bool) × (self.new.turn ≡ next_turn worked self.old.turn) }
         ensures queue { SetsUp now self.old.queue self.new.queue }
-        ensures wire { ReceivesBy self.old.known self.new.known (W.went wire.old) (W.went wire.new) }
+        ensures wire { ReceivesBy now self.old self.new (W.went wire.old) (W.went wire.new) }
     {
         self.gate.pass(Agent::Receiver, self.turn);
         let Some(pass) = self.pass.take() else {
@@ -245,6 +251,7 @@ impl<N: Naming, G: Gate + Drop> ReceiverAgent<N, G> {
         let pass = find_images(pass, &mut self.images);
         let images = self.images.as_slice();
         let (pass, due) = report_each(rt, &self.slots, pass, wire, self.alloc, now, images);
+        let pass = elicit(pass, wire, &mut self.elicited, now);
         wire.turn_ended();
         self.pass = Some(pass);
         self.turn = self.turn.next(heard || due);

@@ -5,6 +5,7 @@ use Rattle.driver_core.specs.declared.event.Event.{Event}
 use Rattle.driver_core.specs.State.{State}
 use Rattle.log_arena.specs.Homes.{Home}
 use Rattle.logbook.specs.Pages.{Book}
+use Rattle.media_agents.specs.declared.eliciting.Elicitation.{Elicitation}
 use Rattle.published_registry.specs.Histories.{History}
 
 -- the region of its logs, its ledgers and into how many parts they are cut, its history, and the registry that was opened
@@ -31,12 +32,13 @@ pub record AreFresh (book : Book) (passes : List History) (senders : List (Sent 
   pub ours : All (λ pass. pass.book ≡ book) passes
   pub unsent : All (λ sender. sender.sent ≡ []) senders
 
--- what a driver's owner sees of it: how many clients are out, how many messages those counted that came back, and what the
--- driver asked of its conductor
+-- what a driver's owner sees of it: how many clients are out, how many messages those counted that came back, what the driver
+-- asked of its conductor, and whom its receiver was handed to elicit
 pub record DriverState : Type 0 where
   pub out : ℕ
   pub counted : ℕ
   pub queue : Sent Event
+  pub elicited : List Elicitation
 
 -- it asks the conductor this, once
 abbrev pub Asks : Event → DriverState → DriverState → Type 0

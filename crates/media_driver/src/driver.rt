@@ -38,7 +38,7 @@ impl<N: DriverNaming, R: Threads + Wait, C: Clock> Model for Driver<N, R, C> {
 
     ghost Value = { DriverState };
 
-    ghost view = { λ driver. record { out = driver.out; counted = driver.kept.ledgers.clients.amount; queue = driver.kept.queue } };
+    ghost view = { λ driver. record { out = driver.out; counted = driver.kept.ledgers.clients.amount; queue = driver.kept.queue; elicited = driver.kept.elicitations } };
 
     ghost invariant = { λ driver. (driver.kept.ledgers.clients.parts + driver.out ≡ 65) × (N.client_parts ≡ 65) × (driver.kept.seats + driver.out ≡ 64) };
 }
@@ -104,7 +104,7 @@ impl<
     where
         R: time::Clock,
         requires { AreNamed N.home N.client_ledger N.client_parts N.slot_ledger N.slot_parts N.book parts }
-        ensures { IfOk result (λ driver. (driver.out ≡ 0) × (driver.counted ≡ 0) × (driver.queue.sent ≡ [])) }
+        ensures { IfOk result (λ driver. (driver.out ≡ 0) × (driver.counted ≡ 0) × (driver.queue.sent ≡ []) × (driver.elicited ≡ [])) }
     {
         Driver::start_gated(rt, alloc, parts, wire, clock, Backoff::new(rt))
     }
@@ -122,7 +122,7 @@ impl<
         gate: G,
     ) -> Result<Driver<N, R, C>, StartFault>
         requires { AreNamed N.home N.client_ledger N.client_parts N.slot_ledger N.slot_parts N.book parts }
-        ensures { IfOk result (λ driver. (driver.out ≡ 0) × (driver.counted ≡ 0) × (driver.queue.sent ≡ [])) }
+        ensures { IfOk result (λ driver. (driver.out ≡ 0) × (driver.counted ≡ 0) × (driver.queue.sent ≡ []) × (driver.elicited ≡ [])) }
     {
         let Parts { publisher, pieces } = parts;
         match prepare(rt, alloc, pieces, gate, wire) {
@@ -147,8 +147,9 @@ impl<
         requires home { prepared.desks.arena.home ≡ N.home }
         requires shares { (N.client_parts ≡ 65) × (prepared.kept.ledgers.clients.parts ≡ 65) × (prepared.kept.ledgers.clients.amount ≡ 0) }
         requires queue { prepared.kept.queue.sent ≡ [] }
+        requires elicited { prepared.kept.elicitations ≡ [] }
         requires seats { prepared.kept.seats ≡ 64 }
-        ensures { IfOk result (λ driver. (driver.out ≡ 0) × (driver.counted ≡ 0) × (driver.queue.sent ≡ [])) }
+        ensures { IfOk result (λ driver. (driver.out ≡ 0) × (driver.counted ≡ 0) × (driver.queue.sent ≡ []) × (driver.elicited ≡ [])) }
     {
         let Prepared {
             kept,

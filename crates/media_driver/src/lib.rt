@@ -11,6 +11,7 @@ mod client;
 mod clock;
 mod commands;
 mod driver;
+mod eliciting;
 mod faults;
 mod looking;
 mod mail;
@@ -32,5 +33,5 @@ pub use driver::Driver;
 pub use faults::{
     AttachFault, LookFault, MakeFault, OfferFault, PollFault, PushFault, ReloadFault, StartFault,
 };
-pub use media_agents::{ClientReply, Clock, DriverNaming, Gate, Mail};
+pub use media_agents::{ClientReply, Clock, DriverNaming, ElicitFault, Elicitation, Gate, Mail};
 pub use parts::Parts;

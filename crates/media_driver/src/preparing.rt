@@ -11,7 +11,10 @@ use channel_uri::Address;
 use command_queue::Taker;
 use driver_core::Event;
 use log_arena::Arena;
-use media_agents::{DriverNaming, EventSender, Gate, ReceiverAgent, Rings, SenderAgent};
+use media_agents::{
+    DriverNaming, Elicitations, Elicited, EventSender, Gate, ReceiverAgent, Rings, SenderAgent,
+    elicitations,
+};
 use media_wire::{Shared, Wire};
 use rows::Rows;
 use std::alloc::{AllocError, Global};
@@ -73,6 +76,7 @@ fn make_receiver<N: DriverNaming, G: Gate + Drop, W: Wire + Drop>(
     common: &Common<N>,
     gate: &Arc<G>,
     hands: &mut Hands,
+    elicited: Elicited,
     wire: W,
 ) -> Result<Ready<Receiving<N, G, W>>, AllocError>
     requires fresh { AreFresh N.book hands.old.passes.items hands.old.senders.items }
@@ -84,7 +88,9 @@ fn make_receiver<N: DriverNaming, G: Gate + Drop, W: Wire + Drop>(
 {
     let slots = Arc::try_clone(&common.slots)?;
     let gate = Arc::try_clone(gate)?;
-    let agent = ReceiverAgent::new(alloc, slots, gate, hands.pass::<N>(), hands.sender::<N>())?;
+    let pass = hands.pass::<N>();
+    let queue = hands.sender::<N>();
+    let agent = ReceiverAgent::new(alloc, slots, gate, pass, queue, elicited)?;
     Ok(Ready {
         turns: Receiving { agent, wire },
         stop: Arc::try_clone(&common.stop)?,
@@ -105,6 +111,7 @@ fn make_agents<N: DriverNaming, R: Wait + Copy + Drop, G: Gate + Drop, W: Wire +
     gate: &Arc<G>,
     hands: &mut Hands,
     local: Address,
+    elicited: Elicited,
     wires: Wires<W, R>,
 ) -> Result<Agents<N, G, Shared<W, R>>, AllocError>
     requires fresh { AreFresh N.book hands.old.passes.items hands.old.senders.items }
@@ -116,7 +123,7 @@ fn make_agents<N: DriverNaming, R: Wait + Copy + Drop, G: Gate + Drop, W: Wire +
 {
     let Wires { ours, theirs } = wires;
     let sender = make_sender(alloc, common, gate, hands, local, ours)?;
-    let receiver = make_receiver(alloc, common, gate, hands, theirs)?;
+    let receiver = make_receiver(alloc, common, gate, hands, elicited, theirs)?;
     Ok(Agents { sender, receiver })
 }
 
@@ -126,6 +133,7 @@ pub(crate) struct Kept<N: DriverNaming> {
     pub(crate) common: Common<N>,
     pub(crate) ledgers: Ledgers<N>,
     pub(crate) queue: EventSender,
+    pub(crate) elicitations: Elicitations,
     pub(crate) seats: Seats<N>,
 }
 
@@ -134,12 +142,14 @@ fn keep<N: DriverNaming>(
     alloc: Global,
     base: Base<N>,
     hands: Hands,
+    elicitations: Elicitations,
 ) -> Result<(Kept<N>, Rings<N>), AllocError>
     requires fresh { AreFresh N.book hands.passes.items hands.senders.items }
     requires passes { length hands.passes.items ≡ 64 }
     requires senders { length hands.senders.items ≡ 65 }
     ensures ledgers { IfOk result (λ made. made.0.ledgers ≡ base.ledgers) }
     ensures queue { IfOk result (λ made. made.0.queue.sent ≡ []) }
+    ensures elicited { IfOk result (λ made. made.0.elicitations ≡ elicitations) }
     ensures seats { IfOk result (λ made. made.0.seats ≡ 64) }
 {
     let mut hands = hands;
@@ -150,6 +160,7 @@ fn keep<N: DriverNaming>(
         common,
         ledgers,
         queue,
+        elicitations,
         seats,
     };
     Ok((kept, rings))
@@ -213,6 +224,7 @@ pub(crate) fn prepare<N: DriverNaming, R: Wait + Copy + Drop, G: Gate + Drop, W:
     ensures arena { IfOk result (λ prepared. prepared.desks.arena ≡ pieces.store.arena) }
     ensures shares { IfOk result (λ prepared. (prepared.kept.ledgers.clients.parts ≡ N.client_parts) × (prepared.kept.ledgers.clients.amount ≡ 0)) }
     ensures queue { IfOk result (λ prepared. prepared.kept.queue.sent ≡ []) }
+    ensures elicited { IfOk result (λ prepared. prepared.kept.elicitations ≡ []) }
     ensures seats { IfOk result (λ prepared. prepared.kept.seats ≡ 64) }
 {
     let Pieces {
@@ -224,15 +236,17 @@ pub(crate) fn prepare<N: DriverNaming, R: Wait + Copy + Drop, G: Gate + Drop, W:
     let gate = shared(alloc, gate)?;
     let wires = make_wires(alloc, rt, wire)?;
     let base = make_base(alloc, blanks)?;
+    let (ours, theirs) = elicitations(alloc)?;
     let agents = make_agents(
         alloc,
         &base.common,
         &gate,
         &mut hands,
         settings.send_address,
+        theirs,
         wires,
     )?;
-    let (kept, rings) = keep(alloc, base, hands)?;
+    let (kept, rings) = keep(alloc, base, hands, ours)?;
     let desks = make_desks(alloc, &kept.common, rings, gate, store)?;
     Ok(Prepared {
         kept,

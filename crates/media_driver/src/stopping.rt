@@ -69,6 +69,7 @@ impl<N: DriverNaming, R: Threads + Wait + Drop, C: Clock + Drop> Driver<N, R, C>
             common,
             mut ledgers,
             queue: _,
+            elicitations: _,
             seats: _,
         } = kept;
         running.end(&rt, &common.stop);

@@ -1,0 +1,96 @@
+-- Endpoints that are to be destinations of publications which learn theirs, and what each of them sends (Aeron Transport Protocol
+-- Specification, setup eliciting status message). Own rules.
+use Rattle.std.specs.Prelude.{◌≡◌, ◌≢◌, ℕ, ◌-◌, ◌<◌, ◌⊎◌, ◌&&◌, Bool, true, false, not, nat_le, List, [], ◌∷◌, ◌++◌, All, Contains, Option, Some, None, is_some, filter, length, map, pos, slice_set, take}
+use Rattle.driver_core.specs.ImageRequests.{image_named}
+use Rattle.driver_core.specs.State.{State}
+use Rattle.frame_codec.specs.declared.status_message.StatusMessage.{StatusMessage}
+use Rattle.frame_codec.specs.StatusMessage.{status_bytes}
+use Rattle.media_agents.specs.declared.eliciting.Elicitation.{Elicitation}
+use Rattle.media_agents.specs.declared.eliciting.Wanted.{Wanted}
+use Rattle.media_wire.specs.Letters.{letter}
+use Rattle.media_wire.specs.declared.letter.Letter.{Letter}
+use Rattle.published_registry.specs.Histories.{History, registry_of}
+
+-- ---- whom the receiver is to elicit
+
+-- it is among these already, or it joins them
+abbrev pub IsAsked : Elicitation → List Elicitation → List Elicitation → Type 0
+IsAsked it old new =
+    (Contains old it × (new ≡ old)) ⊎ (All (λ (other : Elicitation). other ≢ it) old × (length old < 32) × (new ≡ old ++ it ∷ []))
+
+-- it is not among them, and there are 32
+abbrev pub IsFull : Elicitation → List Elicitation → Type 0
+IsFull it all = All (λ (other : Elicitation). other ≢ it) all × (length all ≡ 32)
+
+-- ---- what is due
+
+-- none was sent yet, or a second ago, or earlier
+abbrev pub is_past : ℕ → Option ℕ → Bool
+is_past now None = true
+is_past now (Some sent) = nat_le 1000000000 (now - sent)
+
+-- an image of that session and stream is open at the endpoint
+abbrev pub is_open : State → Elicitation → Bool
+is_open s it = is_some (image_named s it.endpoint it.session_id it.stream_id)
+
+abbrev pub is_due : State → ℕ → Wanted → Bool
+is_due s now wanted = is_past now wanted.sent && not (is_open s wanted.elicitation)
+
+abbrev pub marked : Bool → ℕ → Wanted → Wanted
+marked true now wanted = record wanted { sent = Some now; due = true }
+marked false now wanted = record wanted { due = false }
+
+-- by a look at that moment it is due, or not
+abbrev pub looked_at : State → ℕ → Wanted → Wanted
+looked_at s now wanted = marked (is_due s now wanted) now wanted
+
+-- ---- what is sent
+
+-- the status message of a receiver of that id, of no position and no window, that asks for a SETUP
+abbrev pub eliciting : ℕ → Elicitation → StatusMessage
+eliciting receiver it = record {
+  flags = record { bits = 128 };
+  session_id = it.session_id;
+  stream_id = it.stream_id;
+  consumption_term_id = pos 0;
+  consumption_term_offset = 0;
+  receiver_window = 0;
+  receiver_id = receiver;
+}
+
+-- as it is written: the flags are the sixth byte
+abbrev pub eliciting_bytes : ℕ → Elicitation → List ℕ
+eliciting_bytes receiver it = slice_set (status_bytes (eliciting receiver it)) 5 128
+
+abbrev pub eliciting_letter : ℕ → Wanted → Letter
+eliciting_letter receiver wanted =
+    letter wanted.elicitation.endpoint wanted.elicitation.control (eliciting_bytes receiver wanted.elicitation)
+
+-- one for each that is due, in their order
+abbrev pub letters_due : ℕ → List Wanted → List Letter
+letters_due receiver all = map (eliciting_letter receiver) (filter (λ (wanted : Wanted). wanted.due) all)
+
+-- ---- a turn
+
+-- those that were handed over so far, and those that are kept, with when each was sent last
+pub record Eliciting : Type 0 where
+  pub handed : List Elicitation
+  pub wanted : List Wanted
+
+-- one that is handed over joins the others, of which there are 32 at most
+abbrev pub with_handed : Option Elicitation → Eliciting → Eliciting
+with_handed None old = old
+with_handed (Some it) old = record {
+  handed = old.handed ++ it ∷ [];
+  wanted = take 32 (old.wanted ++ record { elicitation = it; sent = None; due = false } ∷ []);
+}
+
+-- one goes out for each that is due by that registry
+abbrev pub ElicitsBy : State → ℕ → Eliciting → Eliciting → List Letter → Type 0
+ElicitsBy s now old new letters =
+    (new ≡ record old { wanted = map (looked_at s now) old.wanted }) × (letters ≡ letters_due s.settings.receiver_id new.wanted)
+
+-- one may be handed over, and then those go out that are due by a look; none where there is no look
+pub record Elicits (now : ℕ) (look : History) (old new : Eliciting) (letters : List Letter) : Type 0 where
+  pub handed : Option Elicitation
+  pub goes : ElicitsBy (registry_of look) now (with_handed handed old) new letters ⊎ ((new ≡ with_handed handed old) × (letters ≡ []))

@@ -1,0 +1,273 @@
+//! Endpoints that are to be destinations of publications which learn theirs: from each the receiver sends a status message to
+//! its publication, until an image is open there.
+
+ghost use Rattle.media_agents.specs.Eliciting.{Elicits, IsAsked, IsFull, eliciting_bytes, is_due, is_past, letters_due, looked_at, with_handed};
+ghost use Rattle.media_agents.specs.Traffic.{AreTried, GoesOn};
+ghost use Rattle.media_wire.specs.declared.letter.Letter.{Letter};
+ghost use Rattle.published_registry.specs.Histories.{IsContinuedBy, registry_of};
+ghost use Rattle.std.specs.Prelude.{◌≡◌, ◌≢◌, ◌∷◌, [], All, Contains, IfNone, IfOk, IfSome, List, MatchBool, MatchResult, Option, map};
+
+use crate::listing::add;
+use channel_uri::Address;
+use driver_core::{Registry, View};
+use frame_codec::{Flags, StatusMessage, write_sm};
+use media_wire::Wire;
+use published_registry::Pass;
+use rows::{Change, Rows};
+use rtrb::{Consumer, Producer, RingBuffer};
+use std::alloc::{AllocError, Global};
+use std::marker::Model;
+
+/// How long after one status message the next goes out, in nanoseconds.
+const INTERVAL: u64 = 1_000_000_000;
+
+/// An endpoint that is to be a destination of a publication which learns its destinations. As long as no image of that session
+/// and stream is open there, the receiver sends a status message that asks for a SETUP, once a second.
+#[derive(Clone, Copy, Debug, PartialEq, Eq)]
+pub struct Elicitation {
+    /// The address from which it is sent, which the publication learns.
+    pub endpoint: Address,
+    /// The address to which it is sent, at which the publication learns its destinations.
+    pub control: Address,
+    /// The session id of the publication.
+    pub session_id: i32,
+    /// The stream id of the publication.
+    pub stream_id: i32,
+}
+
+/// Why the receiver is not to elicit one more.
+#[derive(Clone, Copy, Debug, PartialEq, Eq)]
+pub enum ElicitFault {
+    /// There are 32 already.
+    Full,
+}
+
+/// One that the receiver keeps.
+#[derive(Clone, Copy, Debug, PartialEq, Eq)]
+pub struct Wanted {
+    pub elicitation: Elicitation,
+    /// The moment at which it was sent last, in nanoseconds; `None` where it never was.
+    pub sent: Option<u64>,
+    /// Whether it was due by the last look.
+    pub due: bool,
+}
+
+/// All that the receiver was asked to elicit: the end of a driver's owner.
+#[derive(Drop)]
+pub struct Elicitations {
+    all: Rows<Elicitation, 32>,
+    ring: Producer<Elicitation, Global>,
+}
+
+impl Model for Elicitations {
+    ghost use Rattle.media_agents.specs.declared.eliciting.Elicitation.{Elicitation as It};
+    ghost use Rattle.rtrb.specs.Ring.{known_free, sent};
+    ghost use Rattle.std.specs.Prelude.{◌≡◌, ◌+◌, List, length};
+
+    ghost Value = { List It };
+
+    ghost view = { λ elicitations. elicitations.all };
+
+    ghost invariant = { λ elicitations. (sent elicitations.ring ≡ elicitations.all)
+        × (known_free elicitations.ring + length elicitations.all ≡ 32) };
+}
+
+/// Those that the receiver was handed: its own end.
+#[derive(Drop)]
+pub struct Elicited {
+    ring: Consumer<Elicitation, Global>,
+    wanted: Rows<Wanted, 32>,
+}
+
+impl Model for Elicited {
+    ghost use Rattle.media_agents.specs.Eliciting.{Eliciting};
+    ghost use Rattle.rtrb.specs.Ring.{received};
+
+    ghost Value = { Eliciting };
+
+    ghost view = { λ elicited. record { handed = received elicited.ring; wanted = elicited.wanted } };
+}
+
+/// The two ends, before anything is asked.
+pub fn elicitations(alloc: Global) -> Result<(Elicitations, Elicited), AllocError>
+    ensures { IfOk result (λ ends. (ends.0 ≡ []) × (ends.1 ≡ record { handed = []; wanted = [] })) }
+{
+    let (producer, consumer) = RingBuffer::new(alloc, 32)?;
+    let all = Rows::new(alloc)?;
+    let wanted = Rows::new(alloc)?;
+    let ours = Elicitations {
+        all,
+        ring: producer,
+    };
+    let theirs = Elicited {
+        ring: consumer,
+        wanted,
+    };
+    Ok((ours, theirs))
+}
+
+/// Whether it is among these.
+fn is_among(all: &[Elicitation], elicitation: &Elicitation) -> bool
+    ensures { MatchBool result (Contains all.now elicitation.now) (All (λ (other : Elicitation). other ≢ elicitation.now) all.now) }
+{
+    all.contains(elicitation)
+}
+
+impl Elicitations {
+    /// It is handed to the receiver, unless it was before. It takes no memory.
+    ///
+    /// # Errors
+    /// `Full` where there are 32 others, and nothing is changed.
+    pub fn add(&mut self, elicitation: Elicitation) -> Result<(), ElicitFault>
+        ensures { MatchResult result (λ _. IsAsked elicitation self.old self.new) (λ _. IsFull elicitation self.old × (self.new ≡ self.old)) }
+    {
+        if is_among(self.all.as_slice(), &elicitation) {
+            return Ok(());
+        }
+        if self.all.len() >= 32 {
+            return Err(ElicitFault::Full);
+        }
+        self.all.push(elicitation);
+        self.ring.push_reserved(elicitation);
+        Ok(())
+    }
+}
+
+/// Whether none was sent yet, or the last one a second ago or earlier.
+fn is_past(sent: Option<u64>, now: u64) -> bool
+    ensures { result ≡ is_past now sent }
+{
+    match sent {
+        Some(sent) => now.saturating_sub(sent) >= INTERVAL,
+        None => true,
+    }
+}
+
+/// Whether one goes out, by that registry.
+fn is_due(registry: &Registry, now: u64, wanted: &Wanted) -> bool
+    ensures { result ≡ is_due registry.now now wanted.now }
+{
+    if !is_past(wanted.sent, now) {
+        return false;
+    }
+    let it = &wanted.elicitation;
+    registry
+        .image_named(&it.endpoint, it.session_id, it.stream_id)
+        .is_none()
+}
+
+/// Those that are due are marked, with the moment.
+#[derive(Clone, Copy)]
+struct Look<'a> {
+    registry: &'a Registry,
+    now: u64,
+}
+
+impl Change<Wanted> for Look<'_> {
+    ghost changed = { λ look wanted. looked_at look.registry.now look.now wanted };
+
+    fn change(&self, row: &mut Wanted) {
+        row.due = is_due(self.registry, self.now, row);
+        if row.due {
+            row.sent = Some(self.now);
+        }
+    }
+}
+
+impl Elicited {
+    /// One that was handed over joins the others.
+    fn take(&mut self)
+        ensures { (handed : Option Elicitation) × (self.new ≡ with_handed handed self.old) }
+    {
+        if let Ok(elicitation) = self.ring.pop() {
+            add(
+                &mut self.wanted,
+                Wanted {
+                    elicitation,
+                    sent: None,
+                    due: false,
+                },
+            );
+        }
+    }
+
+    /// Those that are due by that registry are marked.
+    fn look(&mut self, registry: &Registry, now: u64)
+        ensures { self.new ≡ record self.old { wanted = map (looked_at registry.now now) self.old.wanted } }
+    {
+        self.wanted.change(&Look { registry, now });
+    }
+}
+
+/// The status message of the receiver of that id, as it is written.
+fn message_of(receiver_id: u64, elicitation: &Elicitation) -> [u8; StatusMessage::SIZE]
+    ensures { result ≡ eliciting_bytes receiver_id elicitation.now }
+{
+    let message = StatusMessage {
+        flags: Flags::SEND_SETUP,
+        session_id: elicitation.session_id,
+        stream_id: elicitation.stream_id,
+        consumption_term_id: 0,
+        consumption_term_offset: 0,
+        receiver_window: 0,
+        receiver_id,
+    };
+    let mut bytes = [0; StatusMessage::SIZE];
+    write_sm(&mut bytes, &message);
+    bytes[5] = Flags::SEND_SETUP.bits;
+    bytes
+}
+
+/// Sends one, if it is due. It is lost where its send fails.
+fn send_if<W: Wire>(wire: &mut W, receiver_id: u64, wanted: &Wanted)
+    ensures { GoesOn (AreTried (letters_due receiver_id (wanted.now ∷ []))) (W.went wire.old) (W.went wire.new) }
+{
+    if !wanted.due {
+        return;
+    }
+    let it = &wanted.elicitation;
+    let bytes = message_of(receiver_id, it);
+    let _ = wire.send(&it.endpoint, &it.control, &bytes);
+}
+
+/// Sends one for each that is due, in their order.
+fn send_each<W: Wire>(wire: &mut W, receiver_id: u64, all: &[Wanted])
+    ensures { GoesOn (AreTried (letters_due receiver_id all.now)) (W.went wire.old) (W.went wire.new) }
+{
+    for wanted in all {
+        send_if(wire, receiver_id, wanted);
+    }
+}
+
+/// Those that are due by a look are marked: the id of the receiver, by that look. None are where there is no look.
+fn find_due(pass: Pass, elicited: &mut Elicited, now: u64) -> (Pass, Option<u64>)
+    ensures known { IsContinuedBy pass result.0 }
+    ensures due { IfSome result.1 (λ receiver. (receiver ≡ (registry_of result.0).settings.receiver_id)
+        × (elicited.new ≡ record elicited.old { wanted = map (looked_at (registry_of result.0) now) elicited.old.wanted })) }
+    ensures none { IfNone result.1 (elicited.new ≡ elicited.old) }
+{
+    match pass.enter() {
+        Ok(look) => {
+            let registry = look.registry();
+            elicited.look(registry, now);
+            let receiver_id = registry.settings().receiver_id;
+            (look.leave(), Some(receiver_id))
+        }
+        Err(pass) => (pass, None),
+    }
+}
+
+/// What a turn of the receiver does: one that was handed over joins the others, and then a status message goes out for each that
+/// is due by a look.
+pub(crate) fn elicit<W: Wire>(pass: Pass, wire: &mut W, elicited: &mut Elicited, now: u64) -> Pass
+    ensures known { IsContinuedBy pass result }
+    ensures wire { (letters : List Letter) × Elicits now result elicited.old elicited.new letters
+        × GoesOn (AreTried letters) (W.went wire.old) (W.went wire.new) }
+{
+    elicited.take();
+    let (pass, receiver_id) = find_due(pass, elicited, now);
+    if let Some(receiver_id) = receiver_id {
+        send_each(wire, receiver_id, elicited.wanted.as_slice());
+    }
+    pass
+}
