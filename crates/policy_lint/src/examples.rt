@@ -1,5 +1,8 @@
+ghost use Rattle.std.specs.Prelude.{◌<◌, length};
+
 use crate::pairs::pairs_in;
-use channel_uri::{Channel, Keys, Media, Pattern};
+use channel_uri::{Channel, Media, Pattern};
+use policy_tools::{Source, value_wider};
 use std::alloc::{AllocError, Global};
 
 /// What may stand after a beginning of an address so that it is one: where some address begins so, one of these does.
@@ -30,7 +33,11 @@ pub(crate) fn end_of(
     front: &str,
 ) -> Result<Option<&'static str>, AllocError> {
     if key == "control-mode" {
-        return Ok("manual".strip_prefix(front));
+        return Ok(
+            "manual"
+                .strip_prefix(front)
+                .or("dynamic".strip_prefix(front)),
+        );
     }
     for end in ENDS {
         let value = format!(in alloc; "{front}{end}")?;
@@ -55,46 +62,149 @@ fn push_pair(alloc: Global, text: &mut String, key: &str, wanted: &str) -> Resul
     text.push_str(format!(in alloc; "{mark}{key}={front}{end}")?.as_str())
 }
 
-/// Appends a pair for each key of the pattern of that text.
-fn push_pairs(
+/// A pattern with its text.
+#[derive(Clone, Copy)]
+pub(crate) struct Spoken<'a> {
+    pub text: &'a str,
+    pub pattern: &'a Pattern,
+}
+
+impl Spoken<'_> {
+    /// What a channel has to have at a key.
+    fn wanted(&self, key: &str) -> Option<&str> {
+        match self.pattern {
+            Pattern::Any => None,
+            Pattern::Of(_, keys) => keys.get(key),
+        }
+    }
+
+    /// Whether there is a channel of the medium among those of the pattern.
+    fn is_over(&self, media: Media) -> bool {
+        match self.pattern {
+            Pattern::Any => true,
+            Pattern::Of(of, _) => *of == media,
+        }
+    }
+}
+
+/// The rule's pattern at a place, counted from 0.
+pub(crate) fn spoken_at(source: &Source, at: usize) -> Spoken<'_>
+    requires { at < length source.now.policy.rules }
+{
+    Spoken {
+        text: source.text(at),
+        pattern: &source.rules()[at].channel,
+    }
+}
+
+/// The narrowest of the values that the patterns want of a key; of values that some channel has, it lies within the others.
+fn narrowest<'a>(patterns: &'a [Spoken<'a>], key: &str) -> Option<&'a str> {
+    let mut found: Option<&'a str> = None;
+    for spoken in patterns {
+        if let Some(value) = spoken.wanted(key) {
+            found = match found {
+                Some(wanted) if !value_wider(wanted, value) => Some(wanted),
+                _ => Some(value),
+            };
+        }
+    }
+    found
+}
+
+/// Appends a pair for each key of the last one of the patterns that the others do not have.
+fn push_own(
     alloc: Global,
     text: &mut String,
-    pattern: &str,
-    keys: &Keys,
+    all: &[Spoken<'_>],
+    others: &[Spoken<'_>],
+    own: &str,
 ) -> Result<(), AllocError> {
-    for piece in pairs_in(pattern).split('|') {
-        if let Some((key, _)) = piece.split_once('=') {
-            let wanted = keys.get(key).unwrap_or("");
-            push_pair(alloc, text, key, wanted)?;
+    for piece in pairs_in(own).split('|') {
+        if let Some((key, _)) = piece.split_once('=')
+            && narrowest(others, key).is_none()
+        {
+            push_pair(alloc, text, key, narrowest(all, key).unwrap_or(""))?;
         }
     }
     Ok(())
 }
 
-/// A channel that the pattern covers, where one is found: over `media` where the pattern is of every one. Over udp it has
-/// an endpoint, or destinations that are named by hand.
+/// What a publication's channel lacks, so that it says where its datagrams go.
+fn missing(channel: &Channel) -> Option<(&'static str, &'static str)> {
+    if channel.media() != Media::Udp || channel.is_manual() {
+        return None;
+    }
+    let (endpoint, control) = (channel.endpoint().is_some(), channel.control().is_some());
+    if channel.is_dynamic() {
+        return if control {
+            None
+        } else {
+            Some(("control", "127.0.0.1:40300"))
+        };
+    }
+    if endpoint {
+        return None;
+    }
+    if control {
+        return Some(("control-mode", "dynamic"));
+    }
+    Some(("endpoint", "127.0.0.1:40123"))
+}
+
+/// A channel over `media` that all of the patterns cover, where one is found. Over udp it has an endpoint, destinations that
+/// are named by hand, or an address at which receivers make themselves known.
 pub(crate) fn example(
     alloc: Global,
-    text: &str,
-    pattern: &Pattern,
+    patterns: &[Spoken<'_>],
     media: Media,
 ) -> Result<Option<Channel>, AllocError> {
     let word = media.name();
     let mut made = format!(in alloc; "aeron:{word}")?;
-    if let Pattern::Of(of, keys) = pattern {
-        if *of != media {
+    for at in 0..patterns.len() {
+        let spoken = patterns[at];
+        if !spoken.is_over(media) {
             return Ok(None);
         }
-        push_pairs(alloc, &mut made, text, keys)?;
+        push_own(alloc, &mut made, patterns, &patterns[..at], spoken.text)?;
     }
-    if media == Media::Udp
-        && !made.as_str().contains("endpoint=")
-        && !made.as_str().contains("control-mode=")
-    {
-        push_pair(alloc, &mut made, "endpoint", "127.0.0.1:40123")?;
+    let Ok(first) = Channel::parse(made.as_str()) else {
+        return Ok(None);
+    };
+    if let Some((key, value)) = missing(&first) {
+        push_pair(alloc, &mut made, key, value)?;
     }
     match Channel::parse(made.as_str()) {
-        Ok(channel) if pattern.covers(&channel) => Ok(Some(channel)),
+        Ok(channel) if are_covering(patterns, &channel) => Ok(Some(channel)),
         _ => Ok(None),
+    }
+}
+
+/// Whether each of the patterns covers the channel.
+fn are_covering(patterns: &[Spoken<'_>], channel: &Channel) -> bool {
+    for spoken in patterns {
+        if !spoken.pattern.covers(channel) {
+            return false;
+        }
+    }
+    true
+}
+
+/// A channel on which a publication learns its destinations, and that one or two patterns cover, where one is found.
+pub(crate) fn learning_example(
+    alloc: Global,
+    own: Spoken<'_>,
+    other: Option<Spoken<'_>>,
+) -> Result<Option<Channel>, AllocError> {
+    let text = "aeron:udp?control-mode=dynamic";
+    let Ok(pattern) = Pattern::parse(text) else {
+        return Ok(None);
+    };
+    let learning = Spoken {
+        text,
+        pattern: &pattern,
+    };
+    match other {
+        Some(other) => example(alloc, &[learning, own, other], Media::Udp),
+        None => example(alloc, &[learning, own], Media::Udp),
     }
 }

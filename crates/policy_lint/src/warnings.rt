@@ -1,6 +1,8 @@
+ghost use Rattle.std.specs.Prelude.{◌<◌, length};
+
 use crate::acts::{Shape, has_every_act, has_no_request, shape_of, system_type, why_never};
 use crate::gaps::gap_of;
-use crate::keys::Wanted;
+use crate::keys::{Wanted, is_by_control};
 use crate::pairs::pairs_in;
 use crate::places::Places;
 use crate::warning::{Doubt, Warning};
@@ -83,10 +85,16 @@ impl Warned {
         media: Media,
         keys: &Keys,
     ) -> Result<(), AllocError> {
+        let by_control = is_by_control(keys);
         for piece in pairs_in(looked.text).split('|') {
             if let Some((key, _)) = piece.split_once('=') {
-                let value = keys.get(key).unwrap_or("");
-                self.key(alloc, looked, Wanted { media, key, value })?;
+                let wanted = Wanted {
+                    media,
+                    key,
+                    value: keys.get(key).unwrap_or(""),
+                    by_control,
+                };
+                self.key(alloc, looked, wanted)?;
             }
         }
         Ok(())
@@ -117,7 +125,9 @@ impl Warned {
         source: &Source,
         looked: Looked<'_>,
         principal: &str,
-    ) -> Result<(), AllocError> {
+    ) -> Result<(), AllocError>
+        requires { looked.at < length source.now.policy.rules }
+    {
         self.acts(looked)?;
         if let Pattern::Of(media, keys) = &looked.rule.channel {
             self.keys(alloc, looked, *media, keys)?;
@@ -131,7 +141,7 @@ impl Warned {
 }
 
 /// What the text calls the principal of a rule.
-fn principal_at(table: &Table, at: usize) -> Option<&str> {
+pub(crate) fn principal_at(table: &Table, at: usize) -> Option<&str> {
     let rules = table.get("rule")?.as_array()?;
     rules.get(at)?.as_table()?.get("principal")?.as_str()
 }
