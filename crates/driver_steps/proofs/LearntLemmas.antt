@@ -32,7 +32,7 @@ use Rattle.driver_steps.specs.Receiving.{beat_move, receive_move, unheard}
 use Rattle.driver_steps.specs.Reporting.{report_move}
 use Rattle.driver_steps.specs.Runs.{Reading, left_by, moved_to, read_by}
 use Rattle.driver_steps.specs.Seen.{image_seen, moved_seen, packet_seen}
-use Rattle.driver_steps.specs.Sending.{send_by, send_move, standing_of}
+use Rattle.driver_steps.specs.Sending.{send_by, send_move}
 use Rattle.driver_steps.proofs.EndLemmas.{after_both}
 use Rattle.driver_steps.proofs.FoundLemmas.{found_holds, found_source}
 use Rattle.driver_steps.proofs.QuietLemmas.{send_quiet, status_quiet}
@@ -45,7 +45,6 @@ use Rattle.learnt_addresses.specs.declared.learning.Learning.{Learning}
 use Rattle.learnt_addresses.specs.declared.learning.Learning.TheVariants.{Full, Learnt, Renewed}
 use Rattle.learnt_addresses.specs.declared.learnt_address.LearntAddress.{LearntAddress}
 use Rattle.learnt_addresses.specs.LearntAddresses.{forgotten, learning, learnt, none}
-use Rattle.policy_core.specs.declared.decision.Decision.{Decision}
 use Rattle.policy_core.specs.declared.verdict.Verdict.{Verdict}
 use Rattle.stream_registry.specs.declared.lingering.LogPlace.{LogPlace}
 use Rattle.stream_registry.specs.declared.pairs.Pair.{Pair}

@@ -1,6 +1,6 @@
 -- Status messages for a publication that learns its destinations, at the end of every run: by whose leave an address becomes
 -- one, which addresses are learnt, and which steps change them. Own rules.
-use Rattle.std.specs.Prelude.{◌≡◌, ◌⊎◌, ℕ, ℤ, true, false, All, List, Option, Some, None, Result, Ok}
+use Rattle.std.specs.Prelude.{◌≡◌, ◌⊎◌, ℕ, true, false, All, Some, None, Result, Ok}
 use Rattle.channel_uri.specs.declared.address.Address.{Address}
 use Rattle.driver_core.specs.PublicationRequests.{principal_at, publication_at}
 use Rattle.driver_core.specs.State.{State}
