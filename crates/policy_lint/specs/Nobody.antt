@@ -1,11 +1,13 @@
 -- What a policy denies to whoever asks.
-use Rattle.std.specs.Prelude.{◌≡◌, ◌≢◌, ℕ, ℤ, Bool, true, false, List, Some, codes, slice_get}
+use Rattle.std.specs.Prelude.{◌≡◌, ◌==◌, ℕ, ℤ, Bool, true, false, List, codes}
+use Rattle.std.specs.List.{list_any}
 use Rattle.channel_uri.specs.Channel.{Shape}
 use Rattle.channel_uri.specs.Keys.{value_at}
 use Rattle.channel_uri.specs.Place.{is_text}
 use Rattle.policy_core.specs.declared.act.Act.{Act}
 use Rattle.policy_core.specs.declared.act.Act.TheVariants.{Publish, PublishExclusive, Subscribe, Spy, Destination, Counter, Terminate, Offer, Image, Receive, Send, Retransmit, Join, List as ListOf}
-use Rattle.policy_core.specs.declared.rule.Principals.TheVariants.{One}
+use Rattle.policy_core.specs.declared.rule.Principals.{Principals}
+use Rattle.policy_core.specs.declared.rule.Principals.TheVariants.{Any, One}
 use Rattle.policy_core.specs.declared.rule.Rule.{Rule}
 use Rattle.policy_core.specs.RuleList.{Rules}
 use Rattle.policy_core.specs.Rules.{verdict_of}
@@ -20,9 +22,14 @@ may policy act channel stream principal =
 abbrev pub NobodyMay : Rules → Act → Shape → ℤ → Type 0
 NobodyMay policy act channel stream = (principal : ℕ) → may policy act channel stream principal ≡ false
 
--- no rule names the principal
-abbrev pub IsStranger : List Rule → ℕ → Type 0
-IsStranger rules principal = (index : ℕ) (rule : Rule) → slice_get rules index ≡ Some rule → rule.principals ≢ One principal
+-- the principal is named, and not spoken of with everybody
+abbrev pub names : ℕ → Principals → Bool
+names principal Any = false
+names principal (One one) = one == principal
+
+-- some rule names the principal
+abbrev pub is_named : List Rule → ℕ → Bool
+is_named rules principal = list_any (λ rule. names principal rule.principals) rules
 
 -- ---- both ends of a publication that learns its destinations
 

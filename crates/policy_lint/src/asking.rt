@@ -1,9 +1,5 @@
-ghost use Rattle.policy_core.specs.declared.act.Act.{Act};
-ghost use Rattle.policy_core.specs.declared.rule.Principals.TheVariants.{One as OneOf};
-ghost use Rattle.policy_core.specs.declared.rule.Rule.{Rule};
-ghost use Rattle.policy_core.specs.Rules.{verdict_of};
-ghost use Rattle.policy_lint.specs.Nobody.{IsStranger, NobodyMay, may};
-ghost use Rattle.std.specs.Prelude.{◌≡◌, IfSome, true};
+ghost use Rattle.policy_lint.specs.Nobody.{NobodyMay, is_named, may};
+ghost use Rattle.std.specs.Prelude.{◌≡◌, IfSome, true, false};
 
 use channel_uri::Channel;
 use policy_core::{Act, Policy, Principals, Request, Rule, Verdict};
@@ -52,7 +48,7 @@ impl Asked<'_> {
 
 /// The number of somebody of whom no rule speaks by name; `None` where there is none above those of whom one does.
 pub(crate) fn stranger(rules: &[Rule]) -> Option<u32>
-    ensures { IfSome result (λ number. IsStranger rules.now number) }
+    ensures { IfSome result (λ number. is_named rules.now number ≡ false) }
 {
     let mut most: u32 = 0;
     for rule in rules {

@@ -69,16 +69,16 @@ pub(crate) struct Spoken<'a> {
     pub pattern: &'a Pattern,
 }
 
-impl Spoken<'_> {
+impl<'a> Spoken<'a> {
     /// What a channel has to have at a key.
-    fn wanted(&self, key: &str) -> Option<&str> {
+    fn wanted(&self, key: &str) -> Option<&'a str> {
         match self.pattern {
             Pattern::Any => None,
             Pattern::Of(_, keys) => keys.get(key),
         }
     }
 
-    /// Whether there is a channel of the medium among those of the pattern.
+    /// Whether the pattern may cover channels over the medium.
     fn is_over(&self, media: Media) -> bool {
         match self.pattern {
             Pattern::Any => true,
@@ -97,8 +97,8 @@ pub(crate) fn spoken_at(source: &Source, at: usize) -> Spoken<'_>
     }
 }
 
-/// The narrowest of the values that the patterns want of a key; of values that some channel has, it lies within the others.
-fn narrowest<'a>(patterns: &'a [Spoken<'a>], key: &str) -> Option<&'a str> {
+/// The narrowest of the values that the patterns want of a key. Where some channel has them all, it lies within the others.
+fn narrowest<'a>(patterns: &[Spoken<'a>], key: &str) -> Option<&'a str> {
     let mut found: Option<&'a str> = None;
     for spoken in patterns {
         if let Some(value) = spoken.wanted(key) {
@@ -111,17 +111,19 @@ fn narrowest<'a>(patterns: &'a [Spoken<'a>], key: &str) -> Option<&'a str> {
     found
 }
 
-/// Appends a pair for each key of the last one of the patterns that the others do not have.
+/// Appends a pair for each key of the pattern of that text that the patterns before it do not have, and that is not given.
 fn push_own(
     alloc: Global,
     text: &mut String,
-    all: &[Spoken<'_>],
-    others: &[Spoken<'_>],
     own: &str,
+    patterns: (&[Spoken<'_>], &[Spoken<'_>]),
+    given: &str,
 ) -> Result<(), AllocError> {
+    let (all, before) = patterns;
     for piece in pairs_in(own).split('|') {
         if let Some((key, _)) = piece.split_once('=')
-            && narrowest(others, key).is_none()
+            && key != given
+            && narrowest(before, key).is_none()
         {
             push_pair(alloc, text, key, narrowest(all, key).unwrap_or(""))?;
         }
@@ -151,21 +153,27 @@ fn missing(channel: &Channel) -> Option<(&'static str, &'static str)> {
     Some(("endpoint", "127.0.0.1:40123"))
 }
 
-/// A channel over `media` that all of the patterns cover, where one is found. Over udp it has an endpoint, destinations that
-/// are named by hand, or an address at which receivers make themselves known.
-pub(crate) fn example(
-    alloc: Global,
-    patterns: &[Spoken<'_>],
-    media: Media,
-) -> Result<Option<Channel>, AllocError> {
-    let word = media.name();
-    let mut made = format!(in alloc; "aeron:{word}")?;
-    for at in 0..patterns.len() {
-        let spoken = patterns[at];
-        if !spoken.is_over(media) {
-            return Ok(None);
+/// Whether each of the patterns covers the channel.
+fn are_covering(patterns: &[Spoken<'_>], channel: &Channel) -> bool {
+    for spoken in patterns {
+        if !spoken.pattern.covers(channel) {
+            return false;
         }
-        push_own(alloc, &mut made, patterns, &patterns[..at], spoken.text)?;
+    }
+    true
+}
+
+/// A channel that goes on from a beginning of its text, and that all of the patterns cover, where one is found. Over udp it has
+/// an endpoint, destinations that are named by hand, or an address at which receivers make themselves known.
+fn example_from(
+    alloc: Global,
+    mut made: String,
+    patterns: &[Spoken<'_>],
+    given: &str,
+) -> Result<Option<Channel>, AllocError> {
+    for at in 0..patterns.len() {
+        let own = patterns[at].text;
+        push_own(alloc, &mut made, own, (patterns, &patterns[..at]), given)?;
     }
     let Ok(first) = Channel::parse(made.as_str()) else {
         return Ok(None);
@@ -179,32 +187,24 @@ pub(crate) fn example(
     }
 }
 
-/// Whether each of the patterns covers the channel.
-fn are_covering(patterns: &[Spoken<'_>], channel: &Channel) -> bool {
-    for spoken in patterns {
-        if !spoken.pattern.covers(channel) {
-            return false;
-        }
-    }
-    true
-}
-
-/// A channel on which a publication learns its destinations, and that one or two patterns cover, where one is found.
-pub(crate) fn learning_example(
+/// A channel over `media` that the pattern covers, where one is found.
+pub(crate) fn example(
     alloc: Global,
     own: Spoken<'_>,
-    other: Option<Spoken<'_>>,
+    media: Media,
 ) -> Result<Option<Channel>, AllocError> {
-    let text = "aeron:udp?control-mode=dynamic";
-    let Ok(pattern) = Pattern::parse(text) else {
+    if !own.is_over(media) {
         return Ok(None);
-    };
-    let learning = Spoken {
-        text,
-        pattern: &pattern,
-    };
-    match other {
-        Some(other) => example(alloc, &[learning, own, other], Media::Udp),
-        None => example(alloc, &[learning, own], Media::Udp),
     }
+    let word = media.name();
+    example_from(alloc, format!(in alloc; "aeron:{word}")?, &[own], "")
+}
+
+/// A channel on which a publication learns its destinations, and which all of the patterns cover, where one is found.
+pub(crate) fn learning_example(
+    alloc: Global,
+    patterns: &[Spoken<'_>],
+) -> Result<Option<Channel>, AllocError> {
+    let made = format!(in alloc; "aeron:udp?control-mode=dynamic")?;
+    example_from(alloc, made, patterns, "control-mode")
 }

@@ -93,9 +93,9 @@ enum Among {
 /// A channel of these that the pattern covers, where one is found.
 fn tried(alloc: Global, own: Spoken<'_>, among: Among) -> Result<Option<Channel>, AllocError> {
     match among {
-        Among::Udp => example(alloc, &[own], Media::Udp),
-        Among::Ipc => example(alloc, &[own], Media::Ipc),
-        Among::Learning => learning_example(alloc, own, None),
+        Among::Udp => example(alloc, own, Media::Udp),
+        Among::Ipc => example(alloc, own, Media::Ipc),
+        Among::Learning => learning_example(alloc, &[own]),
     }
 }
 

@@ -3,7 +3,7 @@ ghost use Rattle.channel_uri.specs.Place.{is_text};
 ghost use Rattle.policy_core.specs.RuleList.{Rules};
 ghost use Rattle.policy_lint.specs.Nobody.{IsAlone, IsUnmet, IsUnmetAt};
 ghost use Rattle.std.specs.List.{All};
-ghost use Rattle.std.specs.Prelude.{◌≡◌, ◌<◌, IfOk, IfSome, OnOk, length, true};
+ghost use Rattle.std.specs.Prelude.{◌≡◌, ◌<◌, IfOk, IfSome, OnOk, codes, length, true};
 
 use crate::asking::{Asked, asker, nobody_may, stream_in};
 use crate::examples::{example, learning_example, spoken_at};
@@ -40,7 +40,8 @@ fn is_alone(policy: &Policy, act: Act, channel: &Channel, stream: i32) -> bool
     ensures { result ≡ true → IsAlone policy.now act channel.now stream }
 {
     match act {
-        Act::Publish | Act::PublishExclusive => nobody_may(policy, Act::Join, channel, stream),
+        Act::Publish => nobody_may(policy, Act::Join, channel, stream),
+        Act::PublishExclusive => nobody_may(policy, Act::Join, channel, stream),
         Act::Join => {
             nobody_may(policy, Act::Publish, channel, stream)
                 && nobody_may(policy, Act::PublishExclusive, channel, stream)
@@ -95,8 +96,8 @@ impl End<'_> {
     {
         let own = spoken_at(self.source, self.at);
         let found = match self.act {
-            Act::Join => learning_example(alloc, own, None)?,
-            _ => example(alloc, &[own], Media::Udp)?,
+            Act::Join => learning_example(alloc, &[own])?,
+            _ => example(alloc, own, Media::Udp)?,
         };
         match found {
             Some(channel) if channel.is_dynamic() => Ok(Some(channel)),
@@ -122,7 +123,7 @@ impl End<'_> {
             spoken_at(self.source, self.at),
             spoken_at(self.source, beside),
         );
-        let Some(channel) = learning_example(alloc, here, Some(there))? else {
+        let Some(channel) = learning_example(alloc, &[here, there])? else {
             return Ok(false);
         };
         let policy = self.source.policy();
