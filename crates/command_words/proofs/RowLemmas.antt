@@ -1,5 +1,5 @@
 -- What is read of an argument depends on the rows that clap found alone.
-use Rattle.std.proofs.Common.{◌≡◌, ◌∙◌, ℕ, Bool, true, false, List, [], ◌∷◌, Option, Some, None, ap, refl, sym, is_some, map, option_map, slice_get, find, IfSome}
+use Rattle.std.proofs.Common.{◌≡◌, ◌∙◌, ℕ, Bool, true, false, List, [], ◌∷◌, Option, Some, None, ap, refl, sym, is_some, map, option_map, slice_get, find, IfSome, inl, inr, ⊎_elim}
 use Rattle.std.specs.Prelude.{option_and_then, Box}
 use Rattle.std.specs.Borrow.{Bor}
 use Rattle.std.specs.Box.{box_value}
@@ -7,16 +7,16 @@ use Rattle.std.specs.List.{AllByRecursion}
 use Rattle.std.specs.Str.{bytes_eq}
 use Rattle.clap.specs.Facts.{Entry}
 use Rattle.clap.specs.Values.{read_as}
-use Rattle.clap.specs.Walk.{Row, row_of, row_text, texts}
+use Rattle.clap.specs.Walk.{Row, row_of, texts}
 use Rattle.clap.specs.Words.{first_of, first_value, one_of, one_text, rows_of, subcommand_name_of, subcommand_rows, subcommand_rows_of}
 use Rattle.clap.specs.declared.builder.value_parser.Reading.{Reading}
 use Rattle.clap.specs.declared.parser.matches.ArgMatches.{ArgMatches}
 use Rattle.clap.specs.declared.parser.matches.ArgMatches.TheViews.{out-ArgMatches, out-SubCommand}
 use Rattle.clap.specs.declared.parser.matches.Found.{Found}
 use Rattle.clap.specs.declared.parser.matches.SubCommand.{SubCommand}
-use Rattle.command_words.specs.Tasks.{AreFound, IsTask, task_name, task_stream, task_texts}
+use Rattle.command_words.specs.Tasks.{AreFound, IsTask, task_name, task_numbers, task_texts}
 use Rattle.command_words.specs.declared.command_line.Task.{Task}
-use Rattle.command_words.specs.Needs.{Answers, HasAll, HasNumber, HasStream, HasText, Needs}
+use Rattle.command_words.specs.Needs.{Answers, HasAll, HasNumber, HasSigned, HasText, Needs, StandTogether}
 
 -- ---- one argument
 
@@ -59,15 +59,28 @@ same_first one other id same = first_at id one.entries.items ∙ (ap (first_of i
 same_one : (one other : Found) (id : List ℕ) → rows_of one ≡ rows_of other → one_text one id ≡ one_text other id
 same_one one other id same = one_at id one.entries.items ∙ (ap (one_of id) same ∙ sym (one_at id other.entries.items))
 
-each : (P Q : List ℕ → Type 0) → ((id : List ℕ) → P id → Q id) → (ids : List (List ℕ)) → AllByRecursion P ids → AllByRecursion Q ids
+each : {T : Type 0} (P Q : T → Type 0) → ((x : T) → P x → Q x) → (xs : List T) → AllByRecursion P xs → AllByRecursion Q xs
 each P Q turn [] all = tt
-each P Q turn (id ∷ ids) all = (turn id all.0, each P Q turn ids all.1)
+each P Q turn (x ∷ xs) all = (turn x all.0, each P Q turn xs all.1)
+
+has_text : (one other : Found) (id : List ℕ) → rows_of one ≡ rows_of other → HasText one id → HasText other id
+has_text one other id same has = ap is_some (sym (same_first one other id same)) ∙ has
+
+has_signed : (one other : Found) (id : List ℕ) → rows_of one ≡ rows_of other → HasSigned one id → HasSigned other id
+has_signed one other id same has = (has.0, sym (same_one one other id same) ∙ has.1, has.2, has.3)
+
+stand_together : (one other : Found) (pair : List ℕ × List ℕ) → rows_of one ≡ rows_of other → StandTogether one pair → StandTogether other pair
+stand_together one other pair same =
+    ⊎_elim
+    (λ neither. inl (sym (same_first one other pair.0 same) ∙ neither.0, sym (same_first one other pair.1 same) ∙ neither.1))
+    (λ both. inr (has_text one other pair.0 same both.0, has_text one other pair.1 same both.1, has_signed one other pair.1 same both.2))
 
 has_all : (one other : Found) (needs : Needs) → rows_of one ≡ rows_of other → HasAll one needs → HasAll other needs
 has_all one other needs same all = record {
-  texts = each (HasText one) (HasText other) (λ id has. ap is_some (sym (same_first one other id same)) ∙ has) needs.texts all.texts;
-  streams = each (HasStream one) (HasStream other) (λ id has. (has.0, sym (same_one one other id same) ∙ has.1, has.2, has.3)) needs.streams all.streams;
+  texts = each (HasText one) (HasText other) (λ id. has_text one other id same) needs.texts all.texts;
+  signed = each (HasSigned one) (HasSigned other) (λ id. has_signed one other id same) needs.signed all.signed;
   numbers = each (HasNumber one) (HasNumber other) (λ id has. (has.0, sym (same_one one other id same) ∙ has.1, has.2, has.3)) needs.numbers all.numbers;
+  together = each (StandTogether one) (StandTogether other) (λ pair. stand_together one other pair same) needs.together all.together;
 }
 
 pub answers_by_rows : {T : Type 0} (one other : Found) (first second : List ℕ) (needs : List (List ℕ × Needs)) (result : Option T) → rows_of other ≡ rows_of one → second ≡ first →
@@ -97,7 +110,7 @@ entered_is matches name rows first second =
     entered_from (subcommand_rows_of matches) name rows (first ∙ names_alike (out-ArgMatches matches).subcommand) second
 
 pub task_is : (matches : ArgMatches) (found : Found) (name : List ℕ) (result : Option Task) → subcommand_rows_of matches ≡ Some (name, rows_of found) →
-    IfSome result (λ task. name ≡ task_name task) → IfSome result (λ task. AreFound found (task_texts task) (task_stream task)) → IfSome result (λ task. IsTask matches task)
+    IfSome result (λ task. name ≡ task_name task) → IfSome result (λ task. AreFound found (task_texts task) (task_numbers task)) → IfSome result (λ task. IsTask matches task)
 task_is matches found name None entered named given = tt
 task_is matches found name (Some task) entered named given =
     record { found = found; entered = entered ∙ ap (λ n. Some (n, rows_of found)) named; given = given }

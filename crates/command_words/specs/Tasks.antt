@@ -1,5 +1,5 @@
 -- The task that the words of the command line ask for: its subcommand, and the values of its arguments, as clap found them.
-use Rattle.std.specs.Prelude.{◌≡◌, ◌++◌, ℕ, ℤ, List, [], ◌∷◌, Option, Some, None, codes, option_copied}
+use Rattle.std.specs.Prelude.{◌≡◌, ◌++◌, ℕ, ℤ, List, [], ◌∷◌, Option, Some, None, codes, option_copied, option_map}
 use Rattle.std.specs.List.{AllByRecursion}
 use Rattle.std.specs.Str.Parse.{signed_digits_value}
 use Rattle.clap.specs.Words.{first_value, one_text, rows_of, subcommand_rows_of}
@@ -15,6 +15,7 @@ use Rattle.command_words.specs.declared.policy_words.Asking.{Asking}
 use Rattle.command_words.specs.declared.policy_words.Question.{Question}
 use Rattle.command_words.specs.declared.policy_words.Word.{Word}
 use Rattle.command_words.specs.declared.policy_words.Word.TheVariants as words
+use Rattle.command_words.specs.declared.running_line.Join.{Join}
 use Rattle.command_words.specs.declared.running_line.Start.{Start}
 use Rattle.command_words.specs.declared.running_line.Start.TheVariants as starts
 use Rattle.command_words.specs.declared.running_line.Talk.{Talk}
@@ -23,7 +24,11 @@ use Rattle.command_words.specs.declared.running_line.Talk.{Talk}
 abbrev pub Texts : Type 0
 Texts = List (List ℕ × Option (List ℕ))
 
--- ---- the texts and the stream of a task
+-- an argument's id, and the number that its first value writes, where it has one
+abbrev pub Numbers : Type 0
+Numbers = List (List ℕ × Option ℤ)
+
+-- ---- the texts and the numbers of a task
 
 abbrev pub question_texts : Question → Texts
 question_texts question =
@@ -52,10 +57,13 @@ abbrev pub talk_texts : Talk → Texts
 talk_texts talk =
     (codes "policy", Some talk.policy.now) ∷ (codes "as", Some talk.principal.now) ∷ (codes "CHANNEL", Some talk.channel.now) ∷ []
 
+abbrev pub joined_texts : Option Join → Texts
+joined_texts join = (codes "control", option_map (λ j. j.control.now) join) ∷ []
+
 abbrev pub start_texts : Start → Texts
 start_texts (starts.Run policy tries) = (codes "policy", Some policy.now) ∷ []
 start_texts (starts.Publish talk by wait linger) = talk_texts talk
-start_texts (starts.Subscribe talk count raw until_gone) = talk_texts talk
+start_texts (starts.Subscribe talk join count raw until_gone) = joined_texts join ++ talk_texts talk
 
 abbrev pub task_texts : Task → Texts
 task_texts (tasks.Ask asking) = asking_texts asking
@@ -63,20 +71,26 @@ task_texts (tasks.Script file) = (codes "FILE", Some file.now) ∷ []
 task_texts (tasks.Messages messages) = messages_texts messages
 task_texts (tasks.Start start) = start_texts start
 
-abbrev pub asked_stream : Asked → Option ℤ
-asked_stream (asks.Decide question) = Some question.stream
-asked_stream (asks.Explain question) = Some question.stream
-asked_stream _ = None
+abbrev pub stream_alone : ℤ → Numbers
+stream_alone stream = (codes "STREAM", Some stream) ∷ []
 
-abbrev pub start_stream : Start → Option ℤ
-start_stream (starts.Run policy tries) = None
-start_stream (starts.Publish talk by wait linger) = Some talk.stream
-start_stream (starts.Subscribe talk count raw until_gone) = Some talk.stream
+abbrev pub asked_numbers : Asked → Numbers
+asked_numbers (asks.Decide question) = stream_alone question.stream
+asked_numbers (asks.Explain question) = stream_alone question.stream
+asked_numbers _ = []
 
-abbrev pub task_stream : Task → Option ℤ
-task_stream (tasks.Ask asking) = asked_stream asking.asked
-task_stream (tasks.Start start) = start_stream start
-task_stream _ = None
+abbrev pub joined_numbers : Option Join → Numbers
+joined_numbers join = (codes "session", option_map (λ j. j.session) join) ∷ []
+
+abbrev pub start_numbers : Start → Numbers
+start_numbers (starts.Run policy tries) = []
+start_numbers (starts.Publish talk by wait linger) = stream_alone talk.stream
+start_numbers (starts.Subscribe talk join count raw until_gone) = joined_numbers join ++ stream_alone talk.stream
+
+abbrev pub task_numbers : Task → Numbers
+task_numbers (tasks.Ask asking) = asked_numbers asking.asked
+task_numbers (tasks.Start start) = start_numbers start
+task_numbers _ = []
 
 -- ---- the name of its subcommand
 
@@ -111,7 +125,7 @@ messages_name (messages.Decode kind hex) = codes "decode"
 abbrev pub start_name : Start → List ℕ
 start_name (starts.Run policy tries) = codes "run"
 start_name (starts.Publish talk by wait linger) = codes "publish"
-start_name (starts.Subscribe talk count raw until_gone) = codes "subscribe"
+start_name (starts.Subscribe talk join count raw until_gone) = codes "subscribe"
 
 abbrev pub task_name : Task → List ℕ
 task_name (tasks.Ask asking) = word_name (asked_word asking.asked)
@@ -125,18 +139,18 @@ task_name (tasks.Start start) = start_name start
 abbrev pub AreFirst : Found → Texts → Type 0
 AreFirst found texts = AllByRecursion (λ text. first_value found text.0 ≡ text.1) texts
 
--- the stream is the number that the first value of `STREAM` writes
-abbrev pub IsStream : Found → Option ℤ → Type 0
-IsStream found None = Unit {0}
-IsStream found (Some stream) = (text : List ℕ) → one_text found (codes "STREAM") ≡ Some text → stream ≡ signed_digits_value 10 text
+-- the number is that which the first value of the argument writes, and there is none where it has no value
+abbrev pub IsNumber : Found → List ℕ → Option ℤ → Type 0
+IsNumber found id None = first_value found id ≡ None
+IsNumber found id (Some number) = (text : List ℕ) × (one_text found id ≡ Some text) × (number ≡ signed_digits_value 10 text)
 
--- texts and stream are those that were found
-pub record AreFound (found : Found) (texts : Texts) (stream : Option ℤ) : Type 0 where
+-- texts and numbers are those that were found
+pub record AreFound (found : Found) (texts : Texts) (numbers : Numbers) : Type 0 where
   pub first : AreFirst found texts
-  pub number : IsStream found stream
+  pub written : AllByRecursion (λ number. IsNumber found number.0 number.1) numbers
 
--- the subcommand that was entered is the task's, and its texts and its stream are those that were found
+-- the subcommand that was entered is the task's, and its texts and its numbers are those that were found
 pub record IsTask (matches : ArgMatches) (task : Task) : Type 0 where
   pub found : Found
   pub entered : subcommand_rows_of matches ≡ Some (task_name task, rows_of found)
-  pub given : AreFound found (task_texts task) (task_stream task)
+  pub given : AreFound found (task_texts task) (task_numbers task)

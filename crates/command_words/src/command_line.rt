@@ -3,7 +3,7 @@
 ghost use Rattle.clap.specs.Words.{found_of, rows_of, subcommand_rows_of};
 ghost use Rattle.clap.specs.declared.parser.matches.Found.{Found};
 ghost use Rattle.command_words.specs.Needs.{Answers, HasText, all_needs};
-ghost use Rattle.command_words.specs.Tasks.{AreFound, IsTask, task_name, task_stream, task_texts};
+ghost use Rattle.command_words.specs.Tasks.{AreFound, IsTask, task_name, task_numbers, task_texts};
 ghost use Rattle.std.specs.Prelude.{◌≡◌, ℕ, IfSome, List, Some, codes, is_some, true};
 
 use crate::message_words::{Messages, messages_in, with_messages};
@@ -186,7 +186,7 @@ pub fn command<'a>(alloc: Global) -> Result<Command<'a>, AllocError> {
 
 fn script_task<'m, 'a>(of: &'m ArgMatches<'a>) -> Option<Task<'m>>
     ensures name { IfSome result (λ task. task_name task ≡ codes "script") }
-    ensures given { IfSome result (λ task. AreFound (found_of of.now) (task_texts task) (task_stream task)) }
+    ensures given { IfSome result (λ task. AreFound (found_of of.now) (task_texts task) (task_numbers task)) }
     ensures answers { HasText (found_of of.now) (codes "FILE") → is_some result ≡ true }
 {
     let file = of.get_str("FILE")?;
@@ -196,7 +196,7 @@ fn script_task<'m, 'a>(of: &'m ArgMatches<'a>) -> Option<Task<'m>>
 /// What the words of the subcommand ask for.
 fn subcommand_task<'m, 'a>(name: &str, of: &'m ArgMatches<'a>) -> Option<Task<'m>>
     ensures name { IfSome result (λ task. name.now ≡ task_name task) }
-    ensures given { IfSome result (λ task. AreFound (found_of of.now) (task_texts task) (task_stream task)) }
+    ensures given { IfSome result (λ task. AreFound (found_of of.now) (task_texts task) (task_numbers task)) }
     ensures answers { Answers (found_of of.now) name.now all_needs result }
 {
     if name == "script" {

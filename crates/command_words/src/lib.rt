@@ -10,4 +10,4 @@ mod running_line;
 pub use command_line::{Task, command, task_in};
 pub use message_words::Messages;
 pub use policy_words::{Asked, Asking, Question};
-pub use running_line::{Start, Talk};
+pub use running_line::{Join, Start, Talk};

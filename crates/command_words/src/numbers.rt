@@ -1,18 +1,18 @@
 //! Arguments that are numbers.
 
 ghost use Rattle.clap.specs.Words.{found_of};
-ghost use Rattle.command_words.specs.Needs.{HasNumber, HasStream};
-ghost use Rattle.command_words.specs.Tasks.{IsStream};
-ghost use Rattle.std.specs.Prelude.{◌≡◌, IfSome, Some, codes, is_some, true};
+ghost use Rattle.command_words.specs.Needs.{HasNumber, HasSigned};
+ghost use Rattle.command_words.specs.Tasks.{IsNumber};
+ghost use Rattle.std.specs.Prelude.{◌≡◌, IfSome, Some, is_some, true};
 
 use clap::ArgMatches;
 
-/// The stream that is named, where its text is a number of 32 bits.
-pub(crate) fn stream_in(of: &ArgMatches<'_>) -> Option<i32>
-    ensures given { IfSome result (λ stream. IsStream (found_of of.now) (Some stream)) }
-    ensures answers { HasStream (found_of of.now) (codes "STREAM") → is_some result ≡ true }
+/// The number that is given, where its text is one of 32 bits, which may have a sign.
+pub(crate) fn signed_in(of: &ArgMatches<'_>, id: &str) -> Option<i32>
+    ensures given { IfSome result (λ number. IsNumber (found_of of.now) id.now (Some number)) }
+    ensures answers { HasSigned (found_of of.now) id.now → is_some result ≡ true }
 {
-    of.get_one::<i32>("STREAM")
+    of.get_one::<i32>(id)
 }
 
 /// The number that is given, where its text is one of 64 bits.

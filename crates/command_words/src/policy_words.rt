@@ -1,13 +1,13 @@
 //! The words that ask what a policy says: `check`, `decide`, `show`, `explain`, `lint`, `test`, `table` and `diff`.
 
 ghost use Rattle.clap.specs.Words.{found_of};
-ghost use Rattle.command_words.specs.Needs.{Answers, HasAll, HasStream, HasText, ask_needs, word_needs};
-ghost use Rattle.command_words.specs.Tasks.{AreFound, asked_stream, asked_texts, asked_word, asking_texts, every_word, question_texts, word_name};
+ghost use Rattle.command_words.specs.Needs.{Answers, HasAll, HasSigned, HasText, ask_needs, word_needs};
+ghost use Rattle.command_words.specs.Tasks.{AreFound, asked_numbers, asked_texts, asked_word, asking_texts, every_word, question_texts, stream_alone, word_name};
 ghost use Rattle.std.specs.List.{AllByRecursion};
 ghost use Rattle.std.specs.Prelude.{◌≡◌, ◌∷◌, [], IfSome, Some, codes, is_some, true};
 
 use crate::command_line::with;
-use crate::numbers::stream_in;
+use crate::numbers::signed_in;
 use clap::{Arg, ArgAction, ArgMatches, Command, value_parser};
 use std::alloc::{AllocError, Global};
 
@@ -363,14 +363,14 @@ pub(crate) fn with_policies<'a>(
 }
 
 fn question_in<'m, 'a>(of: &'m ArgMatches<'a>) -> Option<Question<'m>>
-    ensures given { IfSome result (λ question. AreFound (found_of of.now) (question_texts question) (Some question.stream)) }
-    ensures answers { AllByRecursion (HasText (found_of of.now)) (codes "PRINCIPAL" ∷ codes "ACT" ∷ codes "CHANNEL" ∷ []) → HasStream (found_of of.now) (codes "STREAM") → is_some result ≡ true }
+    ensures given { IfSome result (λ question. AreFound (found_of of.now) (question_texts question) (stream_alone question.stream)) }
+    ensures answers { AllByRecursion (HasText (found_of of.now)) (codes "PRINCIPAL" ∷ codes "ACT" ∷ codes "CHANNEL" ∷ []) → HasSigned (found_of of.now) (codes "STREAM") → is_some result ≡ true }
 {
     Some(Question {
         principal: of.get_str("PRINCIPAL")?,
         act: of.get_str("ACT")?,
         channel: of.get_str("CHANNEL")?,
-        stream: stream_in(of)?,
+        stream: signed_in(of, "STREAM")?,
     })
 }
 
@@ -410,7 +410,7 @@ impl Word {
 /// What the words of such a subcommand ask.
 fn asked_in<'m, 'a>(word: Word, of: &'m ArgMatches<'a>) -> Option<Asked<'m>>
     ensures word { IfSome result (λ asked. asked_word asked ≡ word) }
-    ensures given { IfSome result (λ asked. AreFound (found_of of.now) (asked_texts asked) (asked_stream asked)) }
+    ensures given { IfSome result (λ asked. AreFound (found_of of.now) (asked_texts asked) (asked_numbers asked)) }
     ensures answers { HasAll (found_of of.now) (word_needs word) → is_some result ≡ true }
 {
     Some(match word {
@@ -432,7 +432,7 @@ fn asked_in<'m, 'a>(word: Word, of: &'m ArgMatches<'a>) -> Option<Asked<'m>>
 /// What the words of such a subcommand ask, if it is one.
 pub(crate) fn asking_in<'m, 'a>(name: &str, of: &'m ArgMatches<'a>) -> Option<Asking<'m>>
     ensures name { IfSome result (λ asking. name.now ≡ word_name (asked_word asking.asked)) }
-    ensures given { IfSome result (λ asking. AreFound (found_of of.now) (asking_texts asking) (asked_stream asking.asked)) }
+    ensures given { IfSome result (λ asking. AreFound (found_of of.now) (asking_texts asking) (asked_numbers asking.asked)) }
     ensures answers { Answers (found_of of.now) name.now ask_needs result }
 {
     let asked = asked_in(Word::named(name)?, of)?;

@@ -1,11 +1,11 @@
-//! The words of the subcommands that start a driver: `run`.
+//! The words of the subcommands that start a driver: `run`, `publish` and `subscribe`.
 
 ghost use Rattle.clap.specs.Words.{found_of};
-ghost use Rattle.command_words.specs.Needs.{Answers, HasAll, HasNumber, HasText, start_needs, talk_needs};
-ghost use Rattle.command_words.specs.Tasks.{AreFound, start_name, start_stream, start_texts, talk_texts};
-ghost use Rattle.std.specs.Prelude.{◌≡◌, ◌∷◌, [], IfSome, Some, codes, is_some, true};
+ghost use Rattle.command_words.specs.Needs.{Answers, HasAll, HasNumber, HasText, StandTogether, publish_needs, start_needs, subscribe_needs, talk_needs};
+ghost use Rattle.command_words.specs.Tasks.{AreFound, joined_numbers, joined_texts, start_name, start_numbers, start_texts, stream_alone, talk_texts};
+ghost use Rattle.std.specs.Prelude.{◌≡◌, [], IfSome, codes, is_some, true};
 
-use crate::numbers::{number_in, stream_in};
+use crate::numbers::{number_in, signed_in};
 use clap::{Arg, ArgAction, ArgMatches, Command, value_parser};
 use message_lines::Cut;
 use std::alloc::{AllocError, Global};
@@ -43,10 +43,20 @@ On another one, two lines are sent:
 
   printf 'hello\\nworld\\n' | aeron_policyd publish --policy open.toml 'aeron:udp?endpoint=127.0.0.1:40123' 10
 
-A driver starts, on threads of its own and with UDP sockets, and one client attaches to it and adds the publication. Each
-line of standard input is offered as a message, without its line feed. While nobody subscribes, or a subscriber is behind,
-a message waits. At the end the driver goes on until a subscriber has taken all, or for --linger seconds. Then the last
-line on standard error says what went:
+Up to 32 subscribers hear one publisher whose channel has `control-mode=dynamic`. Each has an endpoint of its own, and asks
+for the publisher's session at its control address:
+
+  aeron_policyd publish --policy open.toml --setting first-session=7 \\
+      'aeron:udp?control-mode=dynamic|control=127.0.0.1:40100' 10
+
+  aeron_policyd subscribe --policy open.toml --control 127.0.0.1:40100 --session 7 'aeron:udp?endpoint=127.0.0.1:40123' 10
+
+  aeron_policyd subscribe --policy open.toml --control 127.0.0.1:40100 --session 7 'aeron:udp?endpoint=127.0.0.1:40124' 10
+
+A driver starts, on threads of its own and with UDP sockets, and one client attaches to it and adds the publication. Its
+session is then a line on standard error, as `session 7`. Each line of standard input is offered as a message, without its
+line feed. While nobody subscribes, or a subscriber is behind, a message waits. At the end the driver goes on until a
+subscriber has taken all, or for --linger seconds. Then the last line on standard error says what went:
 
   sent 2 messages 10 bytes position 128 consumed 128 naks 0 resent 0 bad 0 failed 0
 
@@ -55,10 +65,11 @@ came, and how many datagrams of data were sent again; how many datagrams came th
 sends and reads failed. --stats prints that line every second.
 
 The driver sends from `send-address`. Where no --setting names another one, that is 127.0.0.1:40000, or 0.0.0.0:40000 where
-the endpoint is on another host. Each publisher of a host needs an address of its own. The policy is asked about the acts
-publish, offer and send of the client's principal, and about retransmit of the principal that --peer binds to the
-subscriber's endpoint; an address that nobody is bound to is nobody's. Sessions begin at a number that is drawn at each
-start, if no setting `first-session` is given.
+the endpoint, or the control address, is not 127.x. Each publisher of a host needs an address of its own. The policy is
+asked about the acts publish, offer and send of the client's principal, and about retransmit of the principal that --peer
+binds to the subscriber's endpoint; an address that nobody is bound to is nobody's. With `control-mode=dynamic` it is asked
+about join and send of that principal, too. Sessions begin at a number that is drawn at each start, if no setting
+`first-session` is given.
 
 Status: 0; 1 after `aeron_policyd: FAULT` on standard error; 2 for a command line that is at fault. Faults are those of
 `run`, and: unknown principal; setting N: bad key or value; peer N: bad address or principal; aeron:ipc reaches no other
@@ -73,7 +84,10 @@ Example: a spy reads what the driver of its own process publishes, and nothing e
   $ aeron_policyd subscribe --policy open.toml 'aeron-spy:aeron:udp?endpoint=127.0.0.1:40123' 10
   aeron_policyd: a spy reads its own driver alone
 
-The help of `publish` has two terminals that talk.
+The help of `publish` has terminals that talk.
+
+With --control and --session the channel's endpoint joins that publisher, which learns its subscribers at that address: a
+status message asks for the session once a second, as long as nothing of it is read. So either may start first.
 
 A driver starts, on threads of its own and with UDP sockets, and one client attaches to it and adds the subscription. Each
 message that comes is printed on a line, at once; its fragments are joined. It ends after --count messages, with
@@ -91,7 +105,7 @@ of a host needs an endpoint of its own. The policy is asked about the acts subsc
 principal. With subscribe and without image nothing comes, and no fault says so.
 
 Status: 0; 1 after `aeron_policyd: FAULT` on standard error; 2 for a command line that is at fault. Faults are those of
-`publish`, and: a spy reads its own driver alone; the denial of a poll.";
+`publish`, and: a spy reads its own driver alone; control: bad address; no endpoint to join from; the denial of a poll.";
 
 /// What `publish` and `subscribe` have in common.
 #[derive(Clone, Copy)]
@@ -110,6 +124,14 @@ pub struct Talk<'a> {
     pub reload_every: Option<u64>,
     /// Whether figures are printed every second.
     pub stats: bool,
+}
+
+/// A publication that is asked to send to the subscription's endpoint.
+#[derive(Clone, Copy)]
+pub struct Join<'a> {
+    /// The address at which it learns its subscribers.
+    pub control: &'a str,
+    pub session: i32,
 }
 
 /// What a subcommand that starts a driver is asked to do.
@@ -132,6 +154,7 @@ pub enum Start<'a> {
     /// To print messages that come.
     Subscribe {
         talk: Talk<'a>,
+        join: Option<Join<'a>>,
         count: Option<u64>,
         raw: bool,
         until_gone: bool,
@@ -273,6 +296,24 @@ pub(crate) fn publish<'a>(alloc: Global) -> Result<Command<'a>, AllocError> {
         .arg(linger(alloc))
 }
 
+fn control<'a>(alloc: Global) -> Result<Arg<'a>, AllocError> {
+    Arg::new(alloc, "control")
+        .long("control")
+        .value_name("ADDR")
+        .help("Joins a publisher with control-mode=dynamic, whose control address this is")
+        .requires_arg("session")
+}
+
+fn session<'a>(alloc: Global) -> Result<Arg<'a>, AllocError> {
+    Arg::new(alloc, "session")
+        .long("session")
+        .value_name("N")
+        .value_parser(value_parser!(i32))
+        .allow_negative_numbers(true)
+        .help("The session of that publisher, which it prints")
+        .requires_arg("control")
+}
+
 fn count<'a>(alloc: Global) -> Arg<'a> {
     Arg::new(alloc, "count")
         .long("count")
@@ -301,6 +342,8 @@ pub(crate) fn subscribe<'a>(alloc: Global) -> Result<Command<'a>, AllocError> {
         .about("Prints the messages of publishers, each on a line")
         .after_help(SUBSCRIBE);
     with_talk(alloc, command)?
+        .arg(control(alloc)?)?
+        .arg(session(alloc)?)?
         .arg(count(alloc))?
         .arg(raw(alloc))?
         .arg(until_gone(alloc))
@@ -308,8 +351,8 @@ pub(crate) fn subscribe<'a>(alloc: Global) -> Result<Command<'a>, AllocError> {
 
 /// What `publish` and `subscribe` have in common.
 fn talk_in<'m, 'a>(of: &'m ArgMatches<'a>) -> Option<Talk<'m>>
-    ensures given { IfSome result (λ talk. AreFound (found_of of.now) (talk_texts talk) (Some talk.stream)) }
-    ensures answers { HasAll (found_of of.now) (talk_needs []) → is_some result ≡ true }
+    ensures given { IfSome result (λ talk. AreFound (found_of of.now) (talk_texts talk) (stream_alone talk.stream)) }
+    ensures answers { HasAll (found_of of.now) (talk_needs [] []) → is_some result ≡ true }
 {
     Some(Talk {
         policy: of.get_str("policy")?,
@@ -317,7 +360,7 @@ fn talk_in<'m, 'a>(of: &'m ArgMatches<'a>) -> Option<Talk<'m>>
         settings: of.get_strs("setting").unwrap_or(&[]),
         peers: of.get_strs("peer").unwrap_or(&[]),
         channel: of.get_str("CHANNEL")?,
-        stream: stream_in(of)?,
+        stream: signed_in(of, "STREAM")?,
         reload_every: number_in(of, "reload-every"),
         stats: of.get_flag("stats"),
     })
@@ -333,8 +376,8 @@ fn cut_in(of: &ArgMatches<'_>) -> Cut {
 
 fn publish_in<'m, 'a>(of: &'m ArgMatches<'a>) -> Option<Start<'m>>
     ensures name { IfSome result (λ start. start_name start ≡ codes "publish") }
-    ensures given { IfSome result (λ start. AreFound (found_of of.now) (start_texts start) (start_stream start)) }
-    ensures answers { HasAll (found_of of.now) (talk_needs (codes "wait" ∷ codes "linger" ∷ [])) → is_some result ≡ true }
+    ensures given { IfSome result (λ start. AreFound (found_of of.now) (start_texts start) (start_numbers start)) }
+    ensures answers { HasAll (found_of of.now) publish_needs → is_some result ≡ true }
 {
     Some(Start::Publish {
         talk: talk_in(of)?,
@@ -344,13 +387,30 @@ fn publish_in<'m, 'a>(of: &'m ArgMatches<'a>) -> Option<Start<'m>>
     })
 }
 
+/// The publication that is asked to send here, if one is named. `None` where it has a control address and no session, or a
+/// session alone.
+fn join_in<'m, 'a>(of: &'m ArgMatches<'a>) -> Option<Option<Join<'m>>>
+    ensures given { IfSome result (λ join. AreFound (found_of of.now) (joined_texts join) (joined_numbers join)) }
+    ensures answers { StandTogether (found_of of.now) (codes "control", codes "session") → is_some result ≡ true }
+{
+    match (of.get_str("control"), of.get_str("session")) {
+        (Some(control), Some(_)) => Some(Some(Join {
+            control,
+            session: signed_in(of, "session")?,
+        })),
+        (None, None) => Some(None),
+        _ => None,
+    }
+}
+
 fn subscribe_in<'m, 'a>(of: &'m ArgMatches<'a>) -> Option<Start<'m>>
     ensures name { IfSome result (λ start. start_name start ≡ codes "subscribe") }
-    ensures given { IfSome result (λ start. AreFound (found_of of.now) (start_texts start) (start_stream start)) }
-    ensures answers { HasAll (found_of of.now) (talk_needs []) → is_some result ≡ true }
+    ensures given { IfSome result (λ start. AreFound (found_of of.now) (start_texts start) (start_numbers start)) }
+    ensures answers { HasAll (found_of of.now) subscribe_needs → is_some result ≡ true }
 {
     Some(Start::Subscribe {
         talk: talk_in(of)?,
+        join: join_in(of)?,
         count: number_in(of, "count"),
         raw: of.get_flag("raw"),
         until_gone: of.get_flag("until-gone"),
@@ -359,7 +419,7 @@ fn subscribe_in<'m, 'a>(of: &'m ArgMatches<'a>) -> Option<Start<'m>>
 
 fn run_in<'m, 'a>(of: &'m ArgMatches<'a>) -> Option<Start<'m>>
     ensures name { IfSome result (λ start. start_name start ≡ codes "run") }
-    ensures given { IfSome result (λ start. AreFound (found_of of.now) (start_texts start) (start_stream start)) }
+    ensures given { IfSome result (λ start. AreFound (found_of of.now) (start_texts start) (start_numbers start)) }
     ensures answers { HasText (found_of of.now) (codes "policy") → HasNumber (found_of of.now) (codes "turns") → is_some result ≡ true }
 {
     Some(Start::Run {
@@ -371,7 +431,7 @@ fn run_in<'m, 'a>(of: &'m ArgMatches<'a>) -> Option<Start<'m>>
 /// What the words of a subcommand that starts a driver ask for, once they were found to be of the form.
 pub(crate) fn start_in<'m, 'a>(name: &str, of: &'m ArgMatches<'a>) -> Option<Start<'m>>
     ensures name { IfSome result (λ start. name.now ≡ start_name start) }
-    ensures given { IfSome result (λ start. AreFound (found_of of.now) (start_texts start) (start_stream start)) }
+    ensures given { IfSome result (λ start. AreFound (found_of of.now) (start_texts start) (start_numbers start)) }
     ensures answers { Answers (found_of of.now) name.now start_needs result }
 {
     if name == "run" {

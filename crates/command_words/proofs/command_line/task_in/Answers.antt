@@ -1,5 +1,5 @@
 use Rattle.std.proofs.Common.{◌≡◌, ◌∙◌, [], Some, ap, option_map, sym, unwrap_or}
-use Rattle.clap.specs.Words.{found_of, rows_of, subcommand_rows_of}
+use Rattle.clap.specs.Words.{found_of, rows_of}
 use Rattle.command_words.specs.Needs.{all_needs}
 use Rattle.command_words.proofs.RowLemmas.{answers_by_rows, entered_is, task_is}
 use Rattle.command_words.proofs.command_line.task_in.Goals as goal
