@@ -22,6 +22,7 @@ pub mod GrantOnlyLemmas
 pub mod ImageLemmas
 pub mod ImageTellingLemmas
 pub mod KeepingLemmas
+pub mod LearningLemmas
 pub mod LeavingLemmas
 pub mod LeftLemmas
 pub mod LimitLemmas
@@ -31,10 +32,12 @@ pub mod NamedLemmas
 pub mod NewLogLemmas
 pub mod NewNumberLemmas
 pub mod NumberLemmas
+pub mod OlderJoinLemmas
 pub mod OlderLemmas
 pub mod OlderLookLemmas
 pub mod OlderNakLemmas
 pub mod OlderSendLemmas
+pub mod OpenedLemmas
 pub mod OwnerLemmas
 pub mod PairCountLemmas
 pub mod PublicationLemmas
