@@ -1,5 +1,5 @@
 -- Which addresses a log has learnt after a step.
-use Rattle.std.proofs.Common.{◌≡◌, ℕ, ◌==◌, not, nat_lt, Bool, true, false, cond, List, [], ◌∷◌, ◌++◌, length, map, filter, Option, Some, None, Result, Ok, Err, inl, inr, refl, sym, ap, subst, ◌∙◌}
+use Rattle.std.proofs.Common.{◌≡◌, ℕ, ◌==◌, not, nat_lt, Bool, true, false, cond, List, [], ◌∷◌, ◌++◌, length, map, filter, Option, Some, None, Result, Ok, Err, Contains, ◌⊎◌, inl, inr, refl, sym, ap, subst, ◌∙◌}
 use Rattle.std.proofs.lemmas.Bool.{cond_both, eqb-true}
 use Rattle.any_log.specs.Whole.{AnyWhole, whole, rebuilt, position_in}
 use Rattle.channel_uri.specs.declared.address.Address.{Address}
@@ -14,8 +14,9 @@ use Rattle.driver_core.specs.Pairs.{pairs_of}
 use Rattle.driver_core.specs.PublicationRequests.{join_decision, joined_as, joined_by, joining_of, publication_at, publisher_of, resending_of}
 use Rattle.driver_core.specs.SendRequests.{sending_of}
 use Rattle.driver_core.specs.State.{State}
-use Rattle.driver_laws.specs.LearningLaws.{AddressesComeAndGoBy, AddressesComeAndGoOnlySo, IsStatusFrom, MayLeave}
+use Rattle.driver_laws.specs.LearningLaws.{AddressesComeAndGoBy, AddressesComeAndGoOnlySo, IsLetIn, IsPast, IsStatusFrom, IsTurnedAway, MayLeave}
 use Rattle.driver_laws.specs.StepActs.{join_verdict}
+use Rattle.driver_laws.proofs.LearntRowLemmas.{comes_by, goes_by}
 use Rattle.driver_laws.proofs.OpenedLemmas.{offer_under_source, opened_so, poll_under_source}
 use Rattle.driver_steps.specs.declared.answer.Answer.{Answer}
 use Rattle.driver_steps.specs.declared.answer.Answer.TheVariants.{Offered as OfferedAs, Gone as IsGone}
@@ -40,7 +41,8 @@ use Rattle.frame_codec.specs.declared.status_message.StatusMessage.{StatusMessag
 use Rattle.frame_codec.specs.Datagram.{Content, frames, beat, nak, status, setup, packet_of}
 use Rattle.learnt_addresses.specs.declared.learning.Learning.{Learning}
 use Rattle.learnt_addresses.specs.declared.learning.Learning.TheVariants.{Full, Learnt, Renewed}
-use Rattle.learnt_addresses.specs.LearntAddresses.{learning, none}
+use Rattle.learnt_addresses.specs.declared.learnt_address.LearntAddress.{LearntAddress}
+use Rattle.learnt_addresses.specs.LearntAddresses.{has, learning, none}
 use Rattle.policy_core.specs.declared.verdict.Verdict.{Verdict}
 use Rattle.stream_registry.specs.declared.lingering.LogPlace.{LogPlace}
 use Rattle.stream_registry.specs.declared.pairs.Pair.{Pair}
@@ -384,9 +386,25 @@ step_leaves s e (Value now client number) = as_it_was (Rows s (Value now client 
 none_kept : IsKept (λ log. log.recovery.learnt ≡ none)
 none_kept = record { begins = λ settings now log. refl; rejoins = λ pairs log same. same }
 
+comes : (s : State) (e : RunEnd) (step : Step) (source : ℕ) (log new : WholeLog) (row : LearntAddress) → log_at e.logs source ≡ Some log →
+    log_at (moved_seen s e step).after.logs source ≡ Some new → has log.recovery.learnt row.address ≡ false →
+    Contains new.recovery.learnt row → IsLetIn s step source row
+comes s e step source log new row found after' lacks there =
+    subst (λ (n : ℕ). IsLetIn s step n row) (found_source source log e.logs found)
+    (comes_by s step log new.recovery.learnt row (step_leaves s e step source log new found after') lacks there)
+
+goes : (s : State) (e : RunEnd) (step : Step) (source : ℕ) (log new : WholeLog) (row : LearntAddress) → log_at e.logs source ≡ Some log →
+    log_at (moved_seen s e step).after.logs source ≡ Some new → Contains log.recovery.learnt row →
+    has new.recovery.learnt row.address ≡ false → IsTurnedAway s step source row.address ⊎ IsPast s step source row
+goes s e step source log new row found after' there lacks =
+    subst (λ (n : ℕ). IsTurnedAway s step n row.address ⊎ IsPast s step n row) (found_source source log e.logs found)
+    (goes_by s step log new.recovery.learnt row (step_leaves s e step source log new found after') there lacks)
+
 come_and_go : (s : State) (e : RunEnd) → AddressesComeAndGoBy s e
 come_and_go s e = record {
   stays = λ step source log new found there. step_leaves s e step source log new found there;
+  comes = comes s e;
+  goes = goes s e;
   opens = opened_so (λ log. log.recovery.learnt ≡ none) s e none_kept;
 }
 

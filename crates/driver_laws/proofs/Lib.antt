@@ -23,6 +23,7 @@ pub mod ImageLemmas
 pub mod ImageTellingLemmas
 pub mod KeepingLemmas
 pub mod LearningLemmas
+pub mod LearntRowLemmas
 pub mod LeavingLemmas
 pub mod LeftLemmas
 pub mod LimitLemmas

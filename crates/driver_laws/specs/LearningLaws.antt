@@ -1,6 +1,6 @@
 -- What any step does to the addresses that a log has learnt, by whichever registry of a run it goes: they come by status messages that
 -- are allowed, and go by denied ones, by the timeout, and with their log. Own rules.
-use Rattle.std.specs.Prelude.{◌≡◌, ℕ, true, false, List, Some, None, Ok, ◌⊎◌}
+use Rattle.std.specs.Prelude.{◌≡◌, ℕ, true, false, List, Contains, Some, None, Ok, ◌⊎◌}
 use Rattle.channel_uri.specs.declared.address.Address.{Address}
 use Rattle.driver_core.specs.PublicationRequests.{publication_at}
 use Rattle.driver_core.specs.State.{State}
@@ -15,7 +15,7 @@ use Rattle.driver_steps.specs.Sending.{standing_of}
 use Rattle.frame_codec.specs.declared.status_message.StatusMessage.{StatusMessage}
 use Rattle.frame_codec.specs.Datagram.{status, packet_of}
 use Rattle.learnt_addresses.specs.declared.learnt_address.LearntAddress.{LearntAddress}
-use Rattle.learnt_addresses.specs.LearntAddresses.{forgotten, learnt, none}
+use Rattle.learnt_addresses.specs.LearntAddresses.{forgotten, has, learnt, none, stands}
 use Rattle.stream_registry.specs.declared.row.Source.{Source}
 use Rattle.stream_registry.specs.Places.{is_dynamic}
 
@@ -59,11 +59,43 @@ abbrev pub MayLeave : State → Step → WholeLog → List LearntAddress → Typ
 MayLeave s step log rows =
     (rows ≡ log.recovery.learnt) ⊎ (IsJoined s step log rows ⊎ (IsDenied s step log rows ⊎ IsExpired s step log rows))
 
--- of each log that was there and is there after the step; one that the step opens has learnt none
+-- ---- address by address
+
+-- a status message came from that address, at the moment that is kept with it, and that registry's policy allows it to join
+pub record IsLetIn (s : State) (step : Step) (source : ℕ) (row : LearntAddress) : Type 0 where
+  pub publication : Source
+  pub message : IsStatusFrom s step source row.heard row.address publication
+  pub allowed : (join_verdict s row.address publication).allow ≡ true
+
+-- one came from there that it denies
+pub record IsTurnedAway (s : State) (step : Step) (source : ℕ) (address : Address) : Type 0 where
+  pub now : ℕ
+  pub publication : Source
+  pub message : IsStatusFrom s step source now address publication
+  pub denied : (join_verdict s address publication).allow ≡ false
+
+-- nothing was heard of it for longer than that registry's timeout, at a turn of the sender with that log
+pub record IsPast (s : State) (step : Step) (source : ℕ) (row : LearntAddress) : Type 0 where
+  pub now : ℕ
+  pub step_is : step ≡ Send now source
+  pub past : stands now s.settings.destination_timeout row ≡ false
+
+-- ---- the law
+
+-- Of each log that was there and is there after the step: what it has learnt then, and so by whose leave each address came that
+-- it had not learnt, and why each went that it has learnt no more. One that the step opens has learnt none.
 pub record AddressesComeAndGoBy (s : State) (e : RunEnd) : Type 0 where
   pub stays :
       (step : Step) (source : ℕ) (log new : WholeLog) → log_at e.logs source ≡ Some log →
       log_at (moved_seen s e step).after.logs source ≡ Some new → MayLeave s step log new.recovery.learnt
+  pub comes :
+      (step : Step) (source : ℕ) (log new : WholeLog) (row : LearntAddress) → log_at e.logs source ≡ Some log →
+      log_at (moved_seen s e step).after.logs source ≡ Some new → has log.recovery.learnt row.address ≡ false →
+      Contains new.recovery.learnt row → IsLetIn s step source row
+  pub goes :
+      (step : Step) (source : ℕ) (log new : WholeLog) (row : LearntAddress) → log_at e.logs source ≡ Some log →
+      log_at (moved_seen s e step).after.logs source ≡ Some new → Contains log.recovery.learnt row →
+      has new.recovery.learnt row.address ≡ false → IsTurnedAway s step source row.address ⊎ IsPast s step source row
   pub opens :
       (step : Step) (source : ℕ) (new : WholeLog) → log_at e.logs source ≡ None →
       log_at (moved_seen s e step).after.logs source ≡ Some new → new.recovery.learnt ≡ none
