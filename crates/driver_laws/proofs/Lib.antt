@@ -38,7 +38,6 @@ pub mod OlderLemmas
 pub mod OlderLookLemmas
 pub mod OlderNakLemmas
 pub mod OlderSendLemmas
-pub mod OpenedLemmas
 pub mod OwnerLemmas
 pub mod PairCountLemmas
 pub mod PublicationLemmas

@@ -1,6 +1,6 @@
 -- What any step does to the addresses that a log has learnt, by whichever registry of a run it goes: they come by status messages that
 -- are allowed, and go by denied ones, by the timeout, and with their log. Own rules.
-use Rattle.std.specs.Prelude.{◌≡◌, ℕ, true, false, List, Contains, Some, None, Ok, ◌⊎◌}
+use Rattle.std.specs.Prelude.{◌≡◌, ℕ, Bool, true, false, List, Contains, Option, Some, None, Ok, ◌⊎◌}
 use Rattle.channel_uri.specs.declared.address.Address.{Address}
 use Rattle.driver_core.specs.PublicationRequests.{publication_at}
 use Rattle.driver_core.specs.State.{State}
@@ -11,11 +11,10 @@ use Rattle.driver_steps.specs.declared.step.Step.TheVariants.{Packet, Send}
 use Rattle.driver_steps.specs.Ends.{RunEnd, log_at}
 use Rattle.driver_steps.specs.Moves.{WholeLog}
 use Rattle.driver_steps.specs.Seen.{moved_seen}
-use Rattle.driver_steps.specs.Sending.{standing_of}
 use Rattle.frame_codec.specs.declared.status_message.StatusMessage.{StatusMessage}
 use Rattle.frame_codec.specs.Datagram.{status, packet_of}
 use Rattle.learnt_addresses.specs.declared.learnt_address.LearntAddress.{LearntAddress}
-use Rattle.learnt_addresses.specs.LearntAddresses.{forgotten, has, learnt, none, stands}
+use Rattle.learnt_addresses.specs.LearntAddresses.{has, stands}
 use Rattle.stream_registry.specs.declared.row.Source.{Source}
 use Rattle.stream_registry.specs.Places.{is_dynamic}
 
@@ -29,37 +28,6 @@ pub record IsStatusFrom (s : State) (step : Step) (source now : ℕ) (from : Add
   pub publication_is : publication_at s fields.session_id fields.stream_id ≡ Some publication
   pub log_is : publication.number ≡ source
   pub learns : is_dynamic publication.channel ≡ true
-
--- which that registry's policy allows: the address is learnt, after the others, or heard of again
-pub record IsJoined (s : State) (step : Step) (log : WholeLog) (rows : List LearntAddress) : Type 0 where
-  pub now : ℕ
-  pub from : Address
-  pub publication : Source
-  pub message : IsStatusFrom s step log.source now from publication
-  pub allowed : (join_verdict s from publication).allow ≡ true
-  pub rows_are : rows ≡ learnt now from log.recovery.learnt
-
--- which it denies: the address is forgotten
-pub record IsDenied (s : State) (step : Step) (log : WholeLog) (rows : List LearntAddress) : Type 0 where
-  pub now : ℕ
-  pub from : Address
-  pub publication : Source
-  pub message : IsStatusFrom s step log.source now from publication
-  pub denied : (join_verdict s from publication).allow ≡ false
-  pub rows_are : rows ≡ forgotten from log.recovery.learnt
-
--- the step is a turn of the sender with that log: those are forgotten that are past that registry's timeout
-pub record IsExpired (s : State) (step : Step) (log : WholeLog) (rows : List LearntAddress) : Type 0 where
-  pub now : ℕ
-  pub step_is : step ≡ Send now log.source
-  pub rows_are : rows ≡ standing_of s.settings now log
-
--- what a step may leave of them: the same, but for these
-abbrev pub MayLeave : State → Step → WholeLog → List LearntAddress → Type 0
-MayLeave s step log rows =
-    (rows ≡ log.recovery.learnt) ⊎ (IsJoined s step log rows ⊎ (IsDenied s step log rows ⊎ IsExpired s step log rows))
-
--- ---- address by address
 
 -- a status message came from that address, at the moment that is kept with it, and that registry's policy allows it to join
 pub record IsLetIn (s : State) (step : Step) (source : ℕ) (row : LearntAddress) : Type 0 where
@@ -82,23 +50,24 @@ pub record IsPast (s : State) (step : Step) (source : ℕ) (row : LearntAddress)
 
 -- ---- the law
 
--- Of each log that was there and is there after the step: what it has learnt then, and so by whose leave each address came that
--- it had not learnt, and why each went that it has learnt no more. One that the step opens has learnt none.
+-- whether the log of a source, where it is open, has learnt the address
+abbrev pub has_learnt : Option WholeLog → Address → Bool
+has_learnt None address = false
+has_learnt (Some log) address = has log.recovery.learnt address
+
+-- By whose leave each address came that a log has learnt by the step, and why each went that it has learnt no more: the log itself
+-- may have gone.
 pub record AddressesComeAndGoBy (s : State) (e : RunEnd) : Type 0 where
-  pub stays :
-      (step : Step) (source : ℕ) (log new : WholeLog) → log_at e.logs source ≡ Some log →
-      log_at (moved_seen s e step).after.logs source ≡ Some new → MayLeave s step log new.recovery.learnt
   pub comes :
-      (step : Step) (source : ℕ) (log new : WholeLog) (row : LearntAddress) → log_at e.logs source ≡ Some log →
-      log_at (moved_seen s e step).after.logs source ≡ Some new → has log.recovery.learnt row.address ≡ false →
-      Contains new.recovery.learnt row → IsLetIn s step source row
+      (step : Step) (source : ℕ) (new : WholeLog) (row : LearntAddress) →
+      log_at (moved_seen s e step).after.logs source ≡ Some new → Contains new.recovery.learnt row →
+      has_learnt (log_at e.logs source) row.address ≡ false → IsLetIn s step source row
   pub goes :
-      (step : Step) (source : ℕ) (log new : WholeLog) (row : LearntAddress) → log_at e.logs source ≡ Some log →
-      log_at (moved_seen s e step).after.logs source ≡ Some new → Contains log.recovery.learnt row →
-      has new.recovery.learnt row.address ≡ false → IsTurnedAway s step source row.address ⊎ IsPast s step source row
-  pub opens :
-      (step : Step) (source : ℕ) (new : WholeLog) → log_at e.logs source ≡ None →
-      log_at (moved_seen s e step).after.logs source ≡ Some new → new.recovery.learnt ≡ none
+      (step : Step) (source : ℕ) (log : WholeLog) (row : LearntAddress) → log_at e.logs source ≡ Some log →
+      Contains log.recovery.learnt row →
+      has_learnt (log_at (moved_seen s e step).after.logs source) row.address ≡ false →
+      IsTurnedAway s step source row.address
+      ⊎ (IsPast s step source row ⊎ (log_at (moved_seen s e step).after.logs source ≡ None))
 
 abbrev pub AddressesComeAndGoOnlySo : Type 0
 AddressesComeAndGoOnlySo = AtEachRegistry AddressesComeAndGoBy

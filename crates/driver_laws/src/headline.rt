@@ -125,9 +125,9 @@ pub fn joins_by_any_registry_are_granted_exactly()
     ensures { JoinsByAnyRegistryAreGrantedExactly }
 {}
 
-/// Whichever step it is, by any registry that the run went through: a log learns an address only by such a status message of its
-/// publication that is allowed, after the others, and forgets one only by one that is denied, or, in a turn of the sender with that
-/// log, past that registry's timeout. A log that the step opens has learnt none.
+/// Whichever step it is, by any registry that the run went through: an address that a log has learnt after it, and had not before,
+/// came by such a status message of its publication that is allowed, at that moment. One that it has learnt no more went by one that
+/// is denied, past that registry's timeout in a turn of the sender with that log, or with the log.
 pub fn addresses_come_and_go_only_so()
     ensures { AddressesComeAndGoOnlySo }
 {}
