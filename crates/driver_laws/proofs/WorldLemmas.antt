@@ -10,8 +10,11 @@ use Rattle.driver_core.specs.declared.peer.Peer.{Peer}
 use Rattle.driver_core.specs.declared.settings.Settings.{Settings}
 use Rattle.driver_core.specs.Conduct.{state_of}
 use Rattle.driver_core.specs.State.{State, opened}
-use Rattle.driver_laws.specs.OlderLaws.{AtEachRegistry, LooksAreDecidedBy, NaksAreDecidedBy, OffersAreDecidedBy, PollsAreDecidedBy, SendsAreDecidedBy}
+use Rattle.driver_laws.specs.LearningLaws.{AddressesComeAndGoBy}
+use Rattle.driver_laws.specs.OlderLaws.{AtEachRegistry, JoinsAreDecidedBy, LooksAreDecidedBy, NaksAreDecidedBy, OffersAreDecidedBy, PollsAreDecidedBy, SendsAreDecidedBy}
 use Rattle.driver_laws.specs.WorldLaws.{AtEachRegistryOfAWorld, Conducts, GoesBy, IsBad, IsTheDrivers, RunsAreTheDriversOwn, StepsGoBy, StepsGoByTheirRegistry, WorldsAreGrantedExactly, WorldsAreServedFromTheLiveLog, answers_of, given_for, looks_by, named_in, newest_in, read_as, read_of, readings_of, registry_after, step_meant}
+use Rattle.driver_laws.proofs.LearningLemmas.{addresses_come_and_go}
+use Rattle.driver_laws.proofs.OlderJoinLemmas.{joins_by_any}
 use Rattle.driver_laws.proofs.OlderLookLemmas.{looks_by_any}
 use Rattle.driver_laws.proofs.OlderLemmas.{offers_by_any, polls_by_any}
 use Rattle.driver_laws.proofs.OlderNakLemmas.{naks_by_any}
@@ -345,6 +348,8 @@ worlds_granted = record {
   offers = of_worlds OffersAreDecidedBy offers_by_any;
   polls = of_worlds PollsAreDecidedBy polls_by_any;
   sends = of_worlds SendsAreDecidedBy sends_by_any;
+  joins = of_worlds JoinsAreDecidedBy joins_by_any;
+  joins_only = of_worlds AddressesComeAndGoBy addresses_come_and_go;
   naks = of_worlds NaksAreDecidedBy naks_by_any;
   looks = of_worlds LooksAreDecidedBy looks_by_any;
 }

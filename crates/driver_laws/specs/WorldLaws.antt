@@ -8,7 +8,8 @@ use Rattle.driver_core.specs.declared.settings.Settings.{Settings}
 use Rattle.driver_core.specs.Conduct.{state_of}
 use Rattle.driver_core.specs.Soundness.{AreSettings}
 use Rattle.driver_core.specs.State.{State, opened}
-use Rattle.driver_laws.specs.OlderLaws.{LooksAreDecidedBy, NaksAreDecidedBy, OffersAreDecidedBy, PollsAreDecidedBy, SendsAreDecidedBy}
+use Rattle.driver_laws.specs.LearningLaws.{AddressesComeAndGoBy}
+use Rattle.driver_laws.specs.OlderLaws.{JoinsAreDecidedBy, LooksAreDecidedBy, NaksAreDecidedBy, OffersAreDecidedBy, PollsAreDecidedBy, SendsAreDecidedBy}
 use Rattle.driver_steps.specs.declared.answer.Answer.{Answer}
 use Rattle.driver_steps.specs.declared.answer.Answer.TheVariants.{BadStep, Polled}
 use Rattle.driver_steps.specs.declared.step.Step.{Step}
@@ -163,12 +164,14 @@ AtEachRegistryOfAWorld P =
     P (registry_after (end_of (opening_end settings policy peers) readings answers).past k)
     (end_of (opening_end settings policy peers) readings answers).driver
 
--- Offers, polls, turns of the sender, NAKs and looks at counters, by any registry of a world's run: as its policy says, and on
--- the logs as they stand at the end of that run.
+-- Offers, polls, turns of the sender, status messages, NAKs and looks at counters, by any registry of a world's run: as its policy
+-- says, and on the logs as they stand at the end of that run. Learnt addresses come and go only so.
 pub record WorldsAreGrantedExactly : Type 0 where
   pub offers : AtEachRegistryOfAWorld OffersAreDecidedBy
   pub polls : AtEachRegistryOfAWorld PollsAreDecidedBy
   pub sends : AtEachRegistryOfAWorld SendsAreDecidedBy
+  pub joins : AtEachRegistryOfAWorld JoinsAreDecidedBy
+  pub joins_only : AtEachRegistryOfAWorld AddressesComeAndGoBy
   pub naks : AtEachRegistryOfAWorld NaksAreDecidedBy
   pub looks : AtEachRegistryOfAWorld LooksAreDecidedBy
 
