@@ -5,7 +5,7 @@ ghost use Rattle.std.specs.Prelude.{◌≡◌};
 
 use crate::commands::{attaches, subscribes};
 use crate::driver::Driver;
-use crate::endpoints::{Came, asking, at, next, set_up};
+use crate::endpoints::{Came, HOST, asking, next, set_up};
 use crate::parts::Parts;
 use driver_core::{Address, Settings};
 use frame_codec::{Flags, Setup};
@@ -16,12 +16,21 @@ use std::marker::Brand;
 use std::sync::Wait;
 
 // Where the driver's subscription takes datagrams, and where the publisher learns its destinations.
-const ENDPOINT: Address = at(40_123);
+const ENDPOINT: Address = Address {
+    octets: HOST,
+    port: 40_123,
+};
 
-const CONTROL: Address = at(40_300);
+const CONTROL: Address = Address {
+    octets: HOST,
+    port: 40_300,
+};
 
 // From where the publisher sends.
-const PUBLISHER: Address = at(40_301);
+const PUBLISHER: Address = Address {
+    octets: HOST,
+    port: 40_301,
+};
 
 // What is elicited.
 const ELICITATION: Elicitation = Elicitation {

@@ -4,13 +4,8 @@ use frame_codec::{Datagram, Flags, Packet, Setup, StatusMessage, write_setup, wr
 use media_wire::{LONGEST, Network, Wire};
 use std::alloc::Global;
 
-// An address of this machine.
-pub const fn at(port: u16) -> Address {
-    Address {
-        octets: [127, 0, 0, 1],
-        port,
-    }
-}
+// This machine.
+pub const HOST: [u8; 4] = [127, 0, 0, 1];
 
 // A status message that asks for a SETUP, of no position: by its session and stream it names a publication.
 pub fn asking(session_id: i32, stream_id: i32) -> StatusMessage {

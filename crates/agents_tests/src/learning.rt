@@ -6,8 +6,8 @@ ghost use Rattle.std.specs.Prelude.{◌≡◌};
 
 use crate::commands::{attaches, publishes_at};
 use crate::driver::Driver;
-use crate::endpoints::{Came, ask, asking, at, next};
-use crate::parts::{PEER, Parts};
+use crate::endpoints::{Came, HOST, ask, asking, next};
+use crate::parts::{MEMBER, Parts};
 use driver_core::{Address, Event, Settings};
 use media_agents::DriverNaming;
 use media_wire::Network;
@@ -20,12 +20,24 @@ use std::sync::Wait;
 // The channel of the publication, of session 1, and its control address.
 const CHANNEL: &str = "aeron:udp?control-mode=dynamic|control=127.0.0.1:40300";
 
-const CONTROL: Address = at(40_300);
+const CONTROL: Address = Address {
+    octets: HOST,
+    port: 40_300,
+};
+
+// From where the driver sends.
+const SENDER: Address = Address {
+    octets: HOST,
+    port: 40_000,
+};
 
 // The subscribers: the first is at the address of principal 1, the second at nobody's.
-const FIRST: Address = PEER.address;
+const FIRST: Address = MEMBER;
 
-const SECOND: Address = at(50_002);
+const SECOND: Address = Address {
+    octets: HOST,
+    port: 50_002,
+};
 
 // Under which nobody may join.
 const POLICY: &str = "\
@@ -71,7 +83,7 @@ impl<N: DriverNaming> Row<N> {
         let second = next(&mut self.wire, self.alloc, subscriber);
         match (first, second) {
             (None, None) => Gets::Nothing,
-            (Some((Came::Setup, from)), None) if from.is(&at(40_000)) => Gets::Setup,
+            (Some((Came::Setup, from)), None) if from.is(&SENDER) => Gets::Setup,
             _ => Gets::Another,
         }
     }

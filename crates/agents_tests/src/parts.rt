@@ -28,12 +28,14 @@ pub struct Parts {
     pub pieces: Pieces,
 }
 
-// The one address to which a principal is bound.
-pub const PEER: Peer = Peer {
-    address: Address {
-        octets: [127, 0, 0, 1],
-        port: 50_001,
-    },
+// The one address to which a principal is bound: the first.
+pub const MEMBER: Address = Address {
+    octets: [127, 0, 0, 1],
+    port: 50_001,
+};
+
+const PEER: Peer = Peer {
+    address: MEMBER,
     principal: 1,
 };
 

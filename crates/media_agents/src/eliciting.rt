@@ -1,11 +1,11 @@
 //! Endpoints that are to be destinations of publications which learn theirs: from each the receiver sends a status message to
 //! its publication, until an image is open there.
 
-ghost use Rattle.media_agents.specs.Eliciting.{Elicits, IsAsked, IsFull, eliciting_bytes, is_due, is_past, letters_due, looked_at, with_handed};
+ghost use Rattle.media_agents.specs.Eliciting.{Elicits, IsAsked, IsFull, eliciting_bytes, is_among, is_due, is_it, is_past, letters_due, looked_at, with_handed};
 ghost use Rattle.media_agents.specs.Traffic.{AreTried, GoesOn};
 ghost use Rattle.media_wire.specs.declared.letter.Letter.{Letter};
 ghost use Rattle.published_registry.specs.Histories.{IsContinuedBy};
-ghost use Rattle.std.specs.Prelude.{◌≡◌, ◌≢◌, ◌∷◌, [], All, Contains, IfOk, List, MatchBool, MatchResult, Option, map};
+ghost use Rattle.std.specs.Prelude.{◌≡◌, ◌∷◌, [], IfOk, List, MatchResult, Option, map};
 
 use crate::listing::add;
 use channel_uri::Address;
@@ -106,11 +106,23 @@ pub fn make_elicitations(alloc: Global) -> Result<(Elicitations, Elicited), Allo
     Ok((ours, theirs))
 }
 
+impl Elicitation {
+    /// Whether the other is the same.
+    fn is(&self, other: &Elicitation) -> bool
+        ensures { result ≡ is_it other.now self.now }
+    {
+        self.endpoint.is(&other.endpoint)
+            && self.control.is(&other.control)
+            && self.session_id == other.session_id
+            && self.stream_id == other.stream_id
+    }
+}
+
 /// Whether it is among these.
 fn is_among(all: &[Elicitation], elicitation: &Elicitation) -> bool
-    ensures { MatchBool result (Contains all.now elicitation.now) (All (λ (other : Elicitation). other ≢ elicitation.now) all.now) }
+    ensures { result ≡ is_among all.now elicitation.now }
 {
-    all.contains(elicitation)
+    all.iter().any(|other| other.is(elicitation))
 }
 
 impl Elicitations {
