@@ -2,13 +2,13 @@
 
 use crate::fault::Fault;
 use crate::machine::{Disk, Machine};
-use crate::replies::{Answered, RefusalText, answer_in};
+use crate::replies::{Answered, Ready, RefusalText, answer_in};
 use crate::station::{Station, pause};
 use media_driver::DriverNaming;
 
 impl<N: DriverNaming + Send + Sync + 'static, R: Machine, F: Disk> Station<N, R, F> {
-    /// The registration that the command of this correlation id is answered by. A driver answers each command.
-    fn registration(&mut self, command: u64) -> Result<u64, Fault> {
+    /// What stands by the command of this correlation id. A driver answers each command.
+    fn ready(&mut self, command: u64) -> Result<Ready, Fault> {
         let rt = self.rt;
         for _ in rt.forever() {
             let Some(reply) = self.next_reply() else {
@@ -16,7 +16,7 @@ impl<N: DriverNaming + Send + Sync + 'static, R: Machine, F: Disk> Station<N, R,
                 continue;
             };
             match answer_in(&reply, command)? {
-                Some(Answered::Ready(registration)) => return Ok(registration),
+                Some(Answered::Ready(ready)) => return Ok(ready),
                 Some(Answered::Refused(refusal)) => return Err(Fault::Refused(RefusalText(
                     refusal,
                 ))),
@@ -26,15 +26,19 @@ impl<N: DriverNaming + Send + Sync + 'static, R: Machine, F: Disk> Station<N, R,
         unreachable!()
     }
 
-    /// Subscribes to a stream of a channel.
+    /// Subscribes to a stream of a channel. The registration id.
     pub(crate) fn subscription(&mut self, channel: &str, stream: i32) -> Result<u64, Fault> {
         let command = self.client.add_subscription(&self.rt, channel, stream)?;
-        self.registration(command)
+        Ok(self.ready(command)?.registration)
     }
 
-    /// Publishes a stream of a channel.
+    /// Publishes a stream of a channel, and prints its session. The registration id.
     pub(crate) fn publication(&mut self, channel: &str, stream: i32) -> Result<u64, Fault> {
         let command = self.client.add_publication(&self.rt, channel, stream)?;
-        self.registration(command)
+        let ready = self.ready(command)?;
+        if let Some(session) = ready.session {
+            let _ = eprintln!(self.rt; "session {session}");
+        }
+        Ok(ready.registration)
     }
 }

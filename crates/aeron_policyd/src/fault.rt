@@ -1,7 +1,7 @@
 use crate::replies::RefusalText;
 use channel_uri::Address;
 use driver_script::RunFault;
-use media_driver::{MakeFault, PushFault, StartFault};
+use media_driver::{ElicitFault, MakeFault, PushFault, StartFault};
 use message_words::{DecodeFault, WordFault};
 use policy_answers::AskFault;
 use policy_core::Verdict;
@@ -49,6 +49,12 @@ pub enum Fault {
     Ipc,
     #[error("a spy reads its own driver alone")]
     Spy,
+    #[error("control: bad address")]
+    BadControl,
+    #[error("no endpoint to join from")]
+    NoEndpoint,
+    #[error("too many to join")]
+    ManyJoins,
     #[error("cannot open {0}")]
     CannotOpen(Address),
     #[error("{0}")]
@@ -122,6 +128,14 @@ impl From<DecodeFault> for Fault {
 impl From<MakeFault> for Fault {
     fn from(fault: MakeFault) -> Fault {
         Fault::Make(fault)
+    }
+}
+
+impl From<ElicitFault> for Fault {
+    fn from(fault: ElicitFault) -> Fault {
+        match fault {
+            ElicitFault::Full => Fault::ManyJoins,
+        }
     }
 }
 

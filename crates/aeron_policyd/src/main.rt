@@ -6,6 +6,7 @@
 #![tactic(auto)]
 
 mod asking;
+mod consuming;
 mod fault;
 mod files;
 mod input;

@@ -3,6 +3,7 @@
 ghost use Rattle.driver_core.specs.Soundness.{AreSettings};
 ghost use Rattle.media_driver.specs.Parts.{AreNamed};
 
+use crate::consuming::Reports;
 use crate::fault::Fault;
 use crate::machine::{Disk, Machine};
 use crate::publishing::Publishing;
@@ -39,6 +40,8 @@ pub(crate) struct Work {
     pub(crate) chores: Chores,
     /// The address from which the driver would send, if it only receives.
     pub(crate) unused: Option<Address>,
+    /// After how long without a report a subscriber is gone, in nanoseconds.
+    pub(crate) silence: u64,
     pub(crate) task: Task,
 }
 
@@ -75,6 +78,7 @@ fn attached<N: DriverNaming + Send + Sync + 'static, R: Machine, F: Disk>(
         principal,
         chores,
         unused: _,
+        silence: _,
         task,
     } = work;
     match driver.client(principal) {
@@ -98,14 +102,18 @@ fn attached<N: DriverNaming + Send + Sync + 'static, R: Machine, F: Disk>(
 fn watched<R: Machine>(
     rt: R,
     unused: Option<Address>,
-) -> Result<(Watched<Udp<R>>, Arc<Notes>), AllocError> {
+    silence: u64,
+) -> Result<(Watched<Udp<R>, MachineClock<R>>, Arc<Notes>), AllocError> {
     let wire = Udp::new(rt.alloc(), rt, SOCKETS)?;
     let notes = match Arc::new(rt.alloc(), Notes::new()) {
         Ok(notes) => notes,
         Err(_) => return Err(AllocError),
     };
     let theirs = Arc::try_clone(&notes)?;
-    Ok((Watched::new(wire, theirs, unused), notes))
+    let reports = Reports::new(rt.alloc(), silence)?;
+    let clock = MachineClock::new(rt);
+    let watched = Watched::new(wire, theirs, clock, reports, unused);
+    Ok((watched, notes))
 }
 
 /// A driver starts from these parts.
@@ -117,7 +125,7 @@ fn started<N: DriverNaming + Send + Sync + 'static, R: Machine, F: Disk>(
 ) -> Result<(), Fault>
     requires { AreNamed N.home N.client_ledger N.client_parts N.slot_ledger N.slot_parts N.book parts }
 {
-    let (wire, notes) = match watched(rt, work.unused) {
+    let (wire, notes) = match watched(rt, work.unused, work.silence) {
         Ok(made) => made,
         Err(_) => {
             parts.end(&rt);

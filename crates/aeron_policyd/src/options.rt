@@ -6,7 +6,9 @@ ghost use Rattle.std.specs.Prelude.{IfOk};
 use crate::fault::Fault;
 use byte_strings::Text;
 use channel_uri::{Address, Channel, Media, address_of};
+use command_words::Join;
 use driver_core::{Peer, Settings};
+use media_driver::Elicitation;
 use policy_text::Names;
 use script_lines::settings::Choices;
 use std::alloc::{AllocError, Global};
@@ -54,9 +56,8 @@ pub(crate) fn peers_of(alloc: Global, names: &Names, words: &[&str]) -> Result<V
     Ok(peers)
 }
 
-/// The address at which the datagrams of a channel arrive, if it has one. A channel that reaches no other process is a
-/// fault; one that is none is left to the driver, which says so.
-pub(crate) fn endpoint_of(channel: &str) -> Result<Option<Address>, Fault> {
+/// A channel that reaches other processes; any other one is a fault. A text that is none is left to the driver, which says so.
+fn reaching(channel: &str) -> Result<Option<Channel>, Fault> {
     let Ok(channel) = Channel::parse(channel) else {
         return Ok(None);
     };
@@ -66,13 +67,53 @@ pub(crate) fn endpoint_of(channel: &str) -> Result<Option<Address>, Fault> {
     if channel.is_spy() {
         return Err(Fault::Spy);
     }
-    Ok(channel.endpoint())
+    Ok(Some(channel))
 }
 
-/// The address from which a publisher's driver sends: this host's own where the endpoint is on it, else any.
-pub(crate) fn publisher_address(endpoint: Option<Address>) -> Address {
-    let octets = match endpoint {
-        Some(endpoint) if endpoint.octets[0] != 127 => [0, 0, 0, 0],
+/// The address at which the datagrams of a channel arrive, if it has one.
+pub(crate) fn endpoint_of(channel: &str) -> Result<Option<Address>, Fault> {
+    match reaching(channel)? {
+        Some(channel) => Ok(channel.endpoint()),
+        None => Ok(None),
+    }
+}
+
+/// The address at which a channel's publication learns its subscribers, if it does.
+pub(crate) fn control_of(channel: &str) -> Result<Option<Address>, Fault> {
+    match reaching(channel)? {
+        Some(channel) if channel.is_dynamic() => Ok(channel.control()),
+        _ => Ok(None),
+    }
+}
+
+/// Which publication is asked to send to the endpoint, if one is.
+pub(crate) fn elicitation_of(
+    join: Option<Join<'_>>,
+    endpoint: Option<Address>,
+    stream: i32,
+) -> Result<Option<Elicitation>, Fault> {
+    let Some(Join { control, session }) = join else {
+        return Ok(None);
+    };
+    let Some(control) = address_of(control) else {
+        return Err(Fault::BadControl);
+    };
+    let Some(endpoint) = endpoint else {
+        return Err(Fault::NoEndpoint);
+    };
+    Ok(Some(Elicitation {
+        endpoint,
+        control,
+        session_id: session,
+        stream_id: stream,
+    }))
+}
+
+/// The address from which a publisher's driver sends: this host's own where subscribers are on it, by an address of theirs or
+/// by the one at which it learns them; else any.
+pub(crate) fn publisher_address(of: Option<Address>) -> Address {
+    let octets = match of {
+        Some(address) if address.octets[0] != 127 => [0, 0, 0, 0],
         _ => [127, 0, 0, 1],
     };
     Address {

@@ -5,11 +5,18 @@ use driver_core::{Refusal, Reply};
 use media_driver::ClientReply;
 use std::fmt;
 
+/// A subscription or a publication that stands.
+#[derive(Clone, Copy)]
+pub(crate) struct Ready {
+    pub(crate) registration: u64,
+    /// The session of a publication.
+    pub(crate) session: Option<i32>,
+}
+
 /// What a command that adds a subscription or a publication is answered.
 #[derive(Clone, Copy)]
 pub(crate) enum Answered {
-    /// It stands, under this registration id.
-    Ready(u64),
+    Ready(Ready),
     Refused(Refusal),
 }
 
@@ -33,13 +40,28 @@ pub(crate) fn answer_in(reply: &ClientReply, command: u64) -> Result<Option<Answ
             Reply::SubscriptionReady {
                 correlation,
                 registration,
-            }
-            | Reply::PublicationReady {
+            },
+        ) => (
+            *correlation,
+            Answered::Ready(Ready {
+                registration: *registration,
+                session: None,
+            }),
+        ),
+        ClientReply::Of(
+            Reply::PublicationReady {
                 correlation,
                 registration,
+                session,
                 ..
             },
-        ) => (*correlation, Answered::Ready(*registration)),
+        ) => (
+            *correlation,
+            Answered::Ready(Ready {
+                registration: *registration,
+                session: Some(*session),
+            }),
+        ),
         ClientReply::Of(
             Reply::Error {
                 correlation,

@@ -41,9 +41,9 @@ fn registration_in<R: Machine>(
     ready: &str,
 ) -> Result<Option<u64>, Fault> {
     match answered {
-        Some(Answered::Ready(registration)) => {
+        Some(Answered::Ready(stands)) => {
             say(rt, ready)?;
-            Ok(Some(registration))
+            Ok(Some(stands.registration))
         }
         Some(Answered::Refused(refusal)) => {
             let text = refusal.text(rt.alloc())?;

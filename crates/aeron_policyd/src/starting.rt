@@ -7,13 +7,15 @@ use crate::fault::Fault;
 use crate::files::file_bytes;
 use crate::machine::{Disk, Machine};
 use crate::one_client::{Task, Work, with_client};
-use crate::options::{endpoint_of, owned, peers_of, publisher_address, settings_of};
+use crate::options::{
+    control_of, elicitation_of, endpoint_of, owned, peers_of, publisher_address, settings_of,
+};
 use crate::publishing::Publishing;
 use crate::replies::say;
 use crate::station::{Chores, SECOND};
 use crate::subscribing::Subscribing;
 use channel_uri::Address;
-use command_words::{Start, Talk};
+use command_words::{Join, Start, Talk};
 use driver_core::Settings;
 use message_lines::Cut;
 use policy_query::{policy_in, principals};
@@ -107,6 +109,7 @@ fn begin<R: Machine, F: Disk>(
         principal,
         chores,
         unused,
+        silence: settings.destination_timeout,
         task,
     };
     with_client(*rt, *files, settings, policy, peers.as_slice(), work)
@@ -121,9 +124,13 @@ fn publish<R: Machine, F: Disk>(
     wait: u64,
     linger: u64,
 ) -> Result<(), Fault> {
-    let endpoint = endpoint_of(talk.channel)?;
-    let settings = settings_for(rt, talk.settings, publisher_address(endpoint))?;
+    let control = control_of(talk.channel)?;
+    let address = publisher_address(control.or(endpoint_of(talk.channel)?));
+    let settings = settings_for(rt, talk.settings, address)?;
     can_open(rt, settings.send_address)?;
+    if let Some(control) = control {
+        can_open(rt, control)?;
+    }
     let task = Task::Publish(Publishing {
         channel: owned(rt.alloc(), talk.channel)?,
         stream: talk.stream,
@@ -139,11 +146,13 @@ fn subscribe<R: Machine, F: Disk>(
     rt: &R,
     files: &F,
     talk: &Talk<'_>,
+    join: Option<Join<'_>>,
     count: Option<u64>,
     raw: bool,
     until_gone: bool,
 ) -> Result<(), Fault> {
     let endpoint = endpoint_of(talk.channel)?;
+    let join = elicitation_of(join, endpoint, talk.stream)?;
     let settings = settings_for(rt, talk.settings, publisher_address(endpoint))?;
     if let Some(endpoint) = endpoint {
         can_open(rt, endpoint)?;
@@ -152,6 +161,7 @@ fn subscribe<R: Machine, F: Disk>(
     let task = Task::Subscribe(Subscribing {
         channel: owned(rt.alloc(), talk.channel)?,
         stream: talk.stream,
+        join,
         count,
         raw,
         until_gone,
@@ -195,9 +205,10 @@ pub(crate) fn start<R: Machine, F: Disk>(rt: &R, files: &F, asked: Start<'_>) ->
         } => publish(rt, files, &talk, by, wait, linger),
         Start::Subscribe {
             talk,
+            join,
             count,
             raw,
             until_gone,
-        } => subscribe(rt, files, &talk, count, raw, until_gone),
+        } => subscribe(rt, files, &talk, join, count, raw, until_gone),
     }
 }

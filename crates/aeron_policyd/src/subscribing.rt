@@ -5,7 +5,7 @@ use crate::machine::{Disk, Machine};
 use crate::station::{SECOND, Station, pause};
 use driver_core::Reply;
 use driver_steps::FragmentCopies;
-use media_driver::{ClientReply, DriverNaming, PollFault};
+use media_driver::{ClientReply, DriverNaming, Elicitation, PollFault};
 use message_lines::{Joiner, Received};
 use std::alloc::{AllocError, Global};
 use std::io::Write;
@@ -20,6 +20,8 @@ const FRAGMENTS: u32 = 256;
 pub(crate) struct Subscribing {
     pub(crate) channel: String,
     pub(crate) stream: i32,
+    /// Which publication is asked to send here, if one is.
+    pub(crate) join: Option<Elicitation>,
     /// It ends after so many messages, if a number is given.
     pub(crate) count: Option<u64>,
     /// Whether messages are printed as they are, without a line feed.
@@ -259,6 +261,9 @@ impl<N: DriverNaming + Send + Sync + 'static, R: Machine, F: Disk> Station<N, R,
     /// Prints what comes. At the end the driver runs for as long as it may take until the publisher has learned of it.
     pub(crate) fn subscribe(&mut self, asked: &Subscribing) -> Result<(), Fault> {
         let subscription = self.subscription(asked.channel.as_str(), asked.stream)?;
+        if let Some(join) = asked.join {
+            self.driver.elicit(join)?;
+        }
         let mut images = Images {
             rows: Vec::new(self.rt.alloc()),
             had_any: false,

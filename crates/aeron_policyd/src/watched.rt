@@ -1,10 +1,12 @@
-//! A wire that notes what goes over it: how far a subscriber has come, and what was lost and sent again.
+//! A wire that notes what goes over it: how far the subscribers have come, and what was lost and sent again.
 
 ghost use Rattle.media_wire.specs.Events.{Event, counted};
 ghost use Rattle.std.specs.Prelude.{◌≡◌, ◌+◌, ◌-◌, ◌^◌, List, min};
 
+use crate::consuming::Reports;
 use channel_uri::Address;
 use frame_codec::{Datagram, Flags, Frames, Packet, Setup, StatusMessage, position};
+use media_driver::Clock;
 use media_wire::{Wire, WireFault};
 use std::sync::Arc;
 use std::sync::atomic::{AtomicU64, Ordering};
@@ -22,7 +24,7 @@ pub(crate) struct Notes {
     bad: AtomicU64,
     /// How many sends and reads failed.
     failed: AtomicU64,
-    /// Up to which position a subscriber has taken the last stream that was announced.
+    /// Up to which position each subscriber has taken the last stream that was announced.
     consumed: AtomicU64,
 }
 
@@ -70,15 +72,17 @@ impl Notes {
 
 /// What is known of the streams that are sent.
 #[derive(Drop)]
-struct Watch {
+struct Watch<C> {
     notes: Arc<Notes>,
+    clock: C,
+    reports: Reports,
     /// The last SETUP that was sent: it announces the stream whose consumption is noted.
     setup: Option<Setup>,
     /// The greatest position at which data was sent.
     reached: u64,
 }
 
-impl Watch {
+impl<C: Clock> Watch<C> {
     /// The position of a byte of the stream that was announced.
     fn position_of(&self, session: i32, stream: i32, term: i32, offset: u32) -> Option<u64> {
         let setup = self.setup?;
@@ -123,7 +127,7 @@ impl Watch {
     }
 
     /// A subscriber says how far it has come.
-    fn note_status(&self, status: &StatusMessage) {
+    fn note_status(&mut self, status: &StatusMessage, from: Address) {
         if status.flags.asks_for_setup() {
             return;
         }
@@ -135,15 +139,16 @@ impl Watch {
         ) else {
             return;
         };
-        if at > self.notes.consumed() {
-            self.notes.consumed.store(at, Ordering::SeqCst);
+        self.reports.note(from, at, self.clock.now());
+        if let Some(least) = self.reports.least() {
+            self.notes.consumed.store(least, Ordering::SeqCst);
         }
     }
 
     /// A datagram came.
-    fn note_read(&self, bytes: &[u8]) {
+    fn note_read(&mut self, bytes: &[u8], from: Address) {
         match Datagram::read(bytes) {
-            Ok(Packet::Sm(status)) => self.note_status(&status),
+            Ok(Packet::Sm(status)) => self.note_status(&status, from),
             Ok(Packet::Nak(_)) => count(&self.notes.naks),
             Ok(_) => {}
             Err(_) => count(&self.notes.bad),
@@ -153,20 +158,28 @@ impl Watch {
 
 /// A wire that notes what goes over it.
 #[derive(Drop)]
-pub(crate) struct Watched<W> {
+pub(crate) struct Watched<W, C> {
     wire: W,
-    watch: Watch,
+    watch: Watch<C>,
     /// The address from which a driver would send that only receives: no socket is opened there.
     unused: Option<Address>,
     failures: u64,
 }
 
-impl<W> Watched<W> {
-    pub(crate) fn new(wire: W, notes: Arc<Notes>, unused: Option<Address>) -> Watched<W> {
+impl<W, C> Watched<W, C> {
+    pub(crate) fn new(
+        wire: W,
+        notes: Arc<Notes>,
+        clock: C,
+        reports: Reports,
+        unused: Option<Address>,
+    ) -> Watched<W, C> {
         Watched {
             wire,
             watch: Watch {
                 notes,
+                clock,
+                reports,
                 setup: None,
                 reached: 0,
             },
@@ -192,7 +205,7 @@ impl<W> Watched<W> {
     }
 }
 
-impl<W: Wire> Wire for Watched<W> {
+impl<W: Wire, C: Clock> Wire for Watched<W, C> {
     ghost went = { λ watched events. watched.failures ≡ counted events };
 
     fn send(&mut self, local: &Address, to: &Address, bytes: &[u8]) -> Result<(), WireFault> {
@@ -214,8 +227,8 @@ impl<W: Wire> Wire for Watched<W> {
             return Ok(None);
         }
         let read = self.wire.recv(local, buffer);
-        if let Ok(Some((length, _))) = read {
-            self.watch.note_read(&buffer[..length]);
+        if let Ok(Some((length, from))) = read {
+            self.watch.note_read(&buffer[..length], from);
         }
         match read {
             Ok(read) => Ok(read),

@@ -55,12 +55,13 @@ for the publisher's session at its control address:
 
 A driver starts, on threads of its own and with UDP sockets, and one client attaches to it and adds the publication. Its
 session is then a line on standard error, as `session 7`. Each line of standard input is offered as a message, without its
-line feed. While nobody subscribes, or a subscriber is behind, a message waits. At the end the driver goes on until a
-subscriber has taken all, or for --linger seconds. Then the last line on standard error says what went:
+line feed. While nobody subscribes, or the fastest subscriber is behind, a message waits; no other one holds it up. At the
+end the driver goes on until each subscriber has taken all, or for --linger seconds. One of which nothing was heard for
+longer than `destination-timeout` is not waited for. Then the last line on standard error says what went:
 
   sent 2 messages 10 bytes position 128 consumed 128 naks 0 resent 0 bad 0 failed 0
 
-It gives the position after the last message, and the one up to which a subscriber said that it took them; how many NAKs
+It gives the position after the last message, and the one up to which each subscriber said that it took them; how many NAKs
 came, and how many datagrams of data were sent again; how many datagrams came that are none of the protocol, and how many
 sends and reads failed. --stats prints that line every second.
 
@@ -68,8 +69,8 @@ The driver sends from `send-address`. Where no --setting names another one, that
 the endpoint, or the control address, is not 127.x. Each publisher of a host needs an address of its own. The policy is
 asked about the acts publish, offer and send of the client's principal, and about retransmit of the principal that --peer
 binds to the subscriber's endpoint; an address that nobody is bound to is nobody's. With `control-mode=dynamic` it is asked
-about join and send of that principal, too. Sessions begin at a number that is drawn at each start, if no setting
-`first-session` is given.
+about join and send of that principal, and about send of no other. Sessions begin at a number that is drawn at each start, if
+no setting `first-session` is given.
 
 Status: 0; 1 after `aeron_policyd: FAULT` on standard error; 2 for a command line that is at fault. Faults are those of
 `run`, and: unknown principal; setting N: bad key or value; peer N: bad address or principal; aeron:ipc reaches no other
@@ -84,10 +85,16 @@ Example: a spy reads what the driver of its own process publishes, and nothing e
   $ aeron_policyd subscribe --policy open.toml 'aeron-spy:aeron:udp?endpoint=127.0.0.1:40123' 10
   aeron_policyd: a spy reads its own driver alone
 
+Example: who joins a publisher is sent to at an endpoint of its own.
+
+  $ aeron_policyd subscribe --policy open.toml --control 127.0.0.1:40100 --session 7 'aeron:udp?control-mode=dynamic' 10
+  aeron_policyd: no endpoint to join from
+
 The help of `publish` has terminals that talk.
 
-With --control and --session the channel's endpoint joins that publisher, which learns its subscribers at that address: a
-status message asks for the session once a second, as long as nothing of it is read. So either may start first.
+With --control and --session the channel's endpoint joins a publisher of that session, which learns its subscribers at that
+address: a status message asks for it once a second, as long as nothing of it is read. So either may start first. Where the
+publisher's policy denies it nothing comes, and no fault says so.
 
 A driver starts, on threads of its own and with UDP sockets, and one client attaches to it and adds the subscription. Each
 message that comes is printed on a line, at once; its fragments are joined. It ends after --count messages, with
@@ -273,7 +280,7 @@ fn wait<'a>(alloc: Global) -> Arg<'a> {
         .value_name("SECONDS")
         .default_value("10")
         .value_parser(value_parser!(u64).range(0..=1_000_000_000))
-        .help("How long a message may wait for a subscriber, or for one that is behind")
+        .help("How long a message may wait for the first subscriber, or for the fastest to go on")
 }
 
 fn linger<'a>(alloc: Global) -> Arg<'a> {
@@ -282,7 +289,7 @@ fn linger<'a>(alloc: Global) -> Arg<'a> {
         .value_name("SECONDS")
         .default_value("5")
         .value_parser(value_parser!(u64).range(0..=1_000_000_000))
-        .help("How long the last messages may wait until a subscriber has taken them")
+        .help("How long the last messages may wait until each subscriber has taken them")
 }
 
 /// The words of `publish`.
