@@ -6,8 +6,6 @@ use Rattle.std.proofs.lemmas.Bool.Decides.{nat_tests}
 use Rattle.channel_uri.specs.declared.address.Address.{Address}
 use Rattle.driver_core.specs.declared.event.Event.{Event}
 use Rattle.driver_core.specs.declared.event.Inputs.{Inputs}
-use Rattle.driver_core.specs.declared.peer.Peer.{Peer}
-use Rattle.driver_core.specs.declared.settings.Settings.{Settings}
 use Rattle.driver_core.specs.Conduct.{state_of}
 use Rattle.driver_core.specs.State.{State, opened}
 use Rattle.driver_laws.specs.LearningLaws.{AddressesComeAndGoBy}
@@ -41,7 +39,6 @@ use Rattle.driver_world.proofs.RunLemmas.{Goes, IsNewest, goes_as, is_drivers_ru
 use Rattle.frame_codec.specs.declared.fault.BadPacket.{BadPacket}
 use Rattle.frame_codec.specs.Datagram.{Content, frames, beat, nak, status, setup, packet_of}
 use Rattle.log_pairs.specs.Polling.{Fetched}
-use Rattle.policy_core.specs.RuleList.{Rules}
 
 -- ---- the registry that is named
 
