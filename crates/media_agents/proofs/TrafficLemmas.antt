@@ -16,7 +16,7 @@ use Rattle.media_wire.specs.Letters.{letter}
 use Rattle.media_wire.specs.declared.letter.Letter.{Letter}
 use Rattle.media_wire.specs.declared.wire.WireFault.{WireFault}
 use Rattle.std.specs.Prelude.{◌≤◌, Contains, None, Result, Ok, Err, Some}
-use Rattle.media_agents.specs.Traffic.{AreSentFrom, AreTried, Ends, GoesOn, HearsEach, IsHeard, IsReadAt, IsReading, IsSentFrom, IsSetUp, IsTried, ReadsEach, ReadsOut, Receives, Sends, SentEach, SetsUp, is_allowed, letters_of, letters_out, letters_to, reads}
+use Rattle.media_agents.specs.Traffic.{AreSentFrom, AreTried, GoesOn, HearsEach, IsHeard, IsReadAt, IsReading, IsSentFrom, IsSetUp, IsTried, ReadsEach, ReadsOut, Receives, Sends, SentEach, SetsUp, is_allowed, letters_of, letters_to, reads}
 
 -- what was done first, and what was done then
 pub goes_on : (First Then Whole : List Event → Type 0) (old between new : List Event → Type 0)
