@@ -133,7 +133,11 @@ impl<N: DriverNaming> Row<N> {
 
     // The driver ends.
     fn end<R: Wait>(self, rt: &R) {
-        let Row { driver, .. } = self;
+        let Row {
+            driver,
+            wire: _,
+            alloc: _,
+        } = self;
         driver.end(rt);
     }
 }
