@@ -35,50 +35,43 @@ fn is_needed(act: Act, channel: &Channel) -> bool {
     }
 }
 
-/// The first act that the rule at this place grants while one that it needs is not granted.
-fn gap_at(asked: Asked<'_>, at: usize) -> Option<(Act, Act, Verdict)> {
-    for (act, needed) in NEEDED {
-        if is_needed(act, asked.channel) && asked.is_granted_by(at, act) {
-            let verdict = asked.verdict(needed);
-            if !verdict.allow {
-                return Some((act, needed, verdict));
-            }
+/// An act that a rule grants, one that has to be granted with it, and why that is not.
+type Missing = (Act, Act, Verdict);
+
+/// The act that the rule at this place grants, and for which `act` is granted, or would be needed: that act itself, or the one
+/// for which it is missing.
+fn root_of(asked: Asked<'_>, at: usize, missing: &[Missing], act: Act) -> Option<Act> {
+    if asked.is_granted_by(at, act) {
+        return Some(act);
+    }
+    for (root, needed, _verdict) in missing {
+        if *needed == act {
+            return Some(*root);
         }
     }
     None
 }
 
-/// What a rule that grants something leaves out on a channel. `name` is what the text calls its principal.
-fn gap_on(
-    alloc: Global,
-    source: &Source,
-    at: usize,
-    name: &str,
-    channel: &Channel,
-) -> Result<Option<Gap>, AllocError> {
-    let Some(rule) = source.rules().get(at) else {
-        return Ok(None);
-    };
-    let Some(principal) = asker(source.rules(), rule) else {
-        return Ok(None);
-    };
-    let asked = Asked {
-        policy: source.policy(),
-        principal,
-        channel,
-        stream: stream_in(rule.low, rule.high),
-    };
-    let Some((act, needed, verdict)) = gap_at(asked, at) else {
-        return Ok(None);
-    };
-    Ok(Some(Gap {
-        principal: Text::new(alloc, name)?,
-        act,
-        needed,
-        channel: channel.canonical(alloc)?,
-        stream: asked.stream,
-        verdict,
-    }))
+/// Whether the act is known to be missing.
+fn is_missing(missing: &[Missing], act: Act) -> bool {
+    missing.iter().any(|gap| gap.1 == act)
+}
+
+/// All that is missing for what the rule at this place grants, each act once.
+fn missing_at(alloc: Global, asked: Asked<'_>, at: usize) -> Result<Vec<Missing>, AllocError> {
+    let mut missing = Vec::new(alloc);
+    for (act, needed) in NEEDED {
+        if is_needed(act, asked.channel)
+            && !is_missing(missing.as_slice(), needed)
+            && let Some(root) = root_of(asked, at, missing.as_slice(), act)
+        {
+            let verdict = asked.verdict(needed);
+            if !verdict.allow {
+                missing.push((root, needed, verdict))?;
+            }
+        }
+    }
+    Ok(missing)
 }
 
 /// Channels on which a rule is tried.
@@ -99,22 +92,58 @@ fn tried(alloc: Global, own: Spoken<'_>, among: Among) -> Result<Option<Channel>
     }
 }
 
-/// What a rule that grants something leaves out. `name` is what the text calls its principal.
-pub(crate) fn gap_of(
+/// What a rule that grants something leaves out on a channel. `name` is what the text calls its principal.
+fn gaps_on(
     alloc: Global,
     source: &Source,
     at: usize,
     name: &str,
-) -> Result<Option<Gap>, AllocError>
+    channel: &Channel,
+) -> Result<Vec<Gap>, AllocError>
+    requires { at < length source.now.policy.rules }
+{
+    let rule = &source.rules()[at];
+    let mut gaps = Vec::new(alloc);
+    let Some(principal) = asker(source.rules(), rule) else {
+        return Ok(gaps);
+    };
+    let asked = Asked {
+        policy: source.policy(),
+        principal,
+        channel,
+        stream: stream_in(rule.low, rule.high),
+    };
+    for (act, needed, verdict) in missing_at(alloc, asked, at)? {
+        gaps.push(Gap {
+            principal: Text::new(alloc, name)?,
+            act,
+            needed,
+            channel: channel.canonical(alloc)?,
+            stream: asked.stream,
+            verdict,
+        })?;
+    }
+    Ok(gaps)
+}
+
+/// What a rule that grants something leaves out, on the first of the channels tried on which it leaves out anything. `name` is
+/// what the text calls its principal.
+pub(crate) fn gaps_of(
+    alloc: Global,
+    source: &Source,
+    at: usize,
+    name: &str,
+) -> Result<Vec<Gap>, AllocError>
     requires { at < length source.now.policy.rules }
 {
     let own = spoken_at(source, at);
     for among in [Among::Udp, Among::Ipc, Among::Learning] {
-        if let Some(channel) = tried(alloc, own, among)?
-            && let Some(gap) = gap_on(alloc, source, at, name, &channel)?
-        {
-            return Ok(Some(gap));
+        if let Some(channel) = tried(alloc, own, among)? {
+            let gaps = gaps_on(alloc, source, at, name, &channel)?;
+            if !gaps.is_empty() {
+                return Ok(gaps);
+            }
         }
     }
-    Ok(None)
+    Ok(Vec::new(alloc))
 }

@@ -164,6 +164,9 @@ impl Report {
     ) -> Result<(), AllocError> {
         let (at, place) = of;
         text.push_str(format!(in alloc; "{file}:{place}: warning: ")?.as_str())?;
+        if at >= self.rules.len() {
+            return Ok(());
+        }
         self.push_rule(alloc, text, at)?;
         text.push_str(": ")
     }
@@ -271,6 +274,7 @@ impl Report {
             self.push_unmet(alloc, &mut text, file, at)?;
             self.push_warnings(alloc, &mut text, file, at)?;
         }
+        self.push_warnings(alloc, &mut text, file, self.rules.len())?;
         let faults = counted(alloc, self.faults_len(), "fault")?;
         let warnings = counted(alloc, self.warnings_len(), "warning")?;
         text.push_str(format!(in alloc; "{faults}, {warnings}\n")?.as_str())?;

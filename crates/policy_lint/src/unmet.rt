@@ -1,7 +1,7 @@
 ghost use Rattle.channel_uri.specs.Keys.{value_at};
 ghost use Rattle.channel_uri.specs.Place.{is_text};
 ghost use Rattle.policy_core.specs.RuleList.{Rules};
-ghost use Rattle.policy_lint.specs.Nobody.{IsAlone, IsUnmet, IsUnmetAt};
+ghost use Rattle.policy_lint.specs.Nobody.{IsAlone, IsUnmet, may};
 ghost use Rattle.std.specs.List.{All};
 ghost use Rattle.std.specs.Prelude.{◌≡◌, ◌<◌, IfOk, IfSome, OnOk, codes, length, true};
 
@@ -105,6 +105,19 @@ impl End<'_> {
         }
     }
 
+    /// Whether the rule itself grants the act there.
+    fn is_granted(&self, channel: &Channel, stream: i32) -> bool
+        ensures { result ≡ true → may self.now.source.now.policy self.now.act channel.now stream self.now.principal ≡ true }
+    {
+        let asked = Asked {
+            policy: self.source.policy(),
+            principal: self.principal,
+            channel,
+            stream,
+        };
+        asked.is_granted_by(self.at, self.act)
+    }
+
     /// Whether both ends come together by the rule and the one at `beside`, on a channel and a stream of both.
     fn meets(&self, alloc: Global, beside: usize) -> Result<bool, AllocError>
         requires own { self.now.at < length self.now.source.now.policy.rules }
@@ -154,38 +167,43 @@ impl End<'_> {
         Ok(false)
     }
 
-    /// A channel and a stream of the rule on which it grants the act, and on which whoever does it is alone.
-    fn unmet(&self, alloc: Global) -> Result<Option<(Channel, i32)>, AllocError>
+    /// What is found of the end, on a channel and a stream of the rule: it is granted there, and whoever does it is alone.
+    /// `name` is what the text calls who asks, and `place` is where its acts stand.
+    fn unmet(&self, alloc: Global, name: &str, place: Place) -> Result<Option<Unmet>, AllocError>
         requires { self.now.at < length self.now.source.now.policy.rules }
-        ensures { IfOk result (λ found. IfSome found (λ one. IsUnmetAt self.now.source.now.policy self.now.act self.now.principal one.0 one.1)) }
+        ensures { IfOk result (λ found. IfSome found (IsUnmet self.now.source.now.policy)) }
     {
         let rule = &self.source.rules()[self.at];
+        let stream = stream_in(rule.low, rule.high);
         let Some(channel) = self.channel(alloc)? else {
             return Ok(None);
         };
-        let asked = Asked {
-            policy: self.source.policy(),
-            principal: self.principal,
-            channel: &channel,
-            stream: stream_in(rule.low, rule.high),
-        };
-        if !asked.is_granted_by(self.at, self.act)
-            || !is_alone(asked.policy, self.act, &channel, asked.stream)
-            || self.is_met(alloc)?
-        {
+        if !self.is_granted(&channel, stream) {
             return Ok(None);
         }
-        let stream = asked.stream;
-        Ok(Some((channel, stream)))
+        if !is_alone(self.source.policy(), self.act, &channel, stream) {
+            return Ok(None);
+        }
+        if self.is_met(alloc)? {
+            return Ok(None);
+        }
+        Ok(Some(Unmet {
+            at: self.at,
+            place,
+            name: Text::new(alloc, name)?,
+            principal: self.principal,
+            act: self.act,
+            channel,
+            stream,
+        }))
     }
 }
 
-/// What is found of an act of a rule. `name` is what the text calls its principal.
-fn unmet_by(
+/// What is found of a rule: of its first act that is granted so. `name` is what the text calls its principal.
+fn unmet_at(
     alloc: Global,
     source: &Source,
     at: usize,
-    act: Act,
     name: &str,
     place: Place,
 ) -> Result<Option<Unmet>, AllocError>
@@ -196,27 +214,24 @@ fn unmet_by(
     let Some(principal) = asker(source.rules(), rule) else {
         return Ok(None);
     };
-    let end = End {
-        source,
-        at,
-        act,
-        principal,
-    };
-    let Some((channel, stream)) = end.unmet(alloc)? else {
-        return Ok(None);
-    };
-    Ok(Some(Unmet {
-        at,
-        place,
-        name: Text::new(alloc, name)?,
-        principal,
-        act,
-        channel,
-        stream,
-    }))
+    for act in [Act::Publish, Act::PublishExclusive, Act::Join] {
+        if rule.allow && rule.acts.hold(act) {
+            let end = End {
+                source,
+                at,
+                act,
+                principal,
+            };
+            let found = end.unmet(alloc, name, place)?;
+            if found.is_some() {
+                return Ok(found);
+            }
+        }
+    }
+    Ok(None)
 }
 
-/// Takes what is found of a rule: of its first act that is granted so.
+/// Takes what is found of a rule.
 fn put_unmet(
     alloc: Global,
     source: &Source,
@@ -228,16 +243,10 @@ fn put_unmet(
     requires { at < length source.now.policy.rules }
     ensures { All (IsUnmet source.now.policy) found.old.items → OnOk result (All (IsUnmet source.now.policy) found.new.items) }
 {
-    let rule = &source.rules()[at];
-    for act in [Act::Publish, Act::PublishExclusive, Act::Join] {
-        if rule.allow
-            && rule.acts.hold(act)
-            && let Some(unmet) = unmet_by(alloc, source, at, act, name, place)?
-        {
-            found.push(unmet)?;
-            return Ok(());
-        }
-    }
+    let Some(unmet) = unmet_at(alloc, source, at, name, place)? else {
+        return Ok(());
+    };
+    found.push(unmet)?;
     Ok(())
 }
 
