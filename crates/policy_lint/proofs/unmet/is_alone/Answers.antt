@@ -20,6 +20,7 @@ returns-in-PublishExclusive c = λ h.
 pub returns-then-nobody_may : goal.returns-then-nobody_may
 returns-then-nobody_may c = λ h.
     let whole : to_z w32 (of_z w32 c.args.stream) ≡ c.args.stream = to_z-of_z w32 c.args.stream c.ranges.stream in
-    subst (λ (act : Act). IsAlone c.args.policy.now act c.args.channel.now c.args.stream) (sym c.in-Join.is)
-    (subst (λ (z : ℤ). NobodyMay c.args.policy.now Publish c.args.channel.now z) whole (c.nobody_may-in-Join.ensures c.if-nobody_may.true),
-    subst (λ (z : ℤ). NobodyMay c.args.policy.now PublishExclusive c.args.channel.now z) whole (c.nobody_may-then-nobody_may.ensures h))
+    subst (λ (act : Act). IsAlone c.args.policy.now act c.args.channel.now c.args.stream) (sym c.in-Join.is) (
+      subst (λ (z : ℤ). NobodyMay c.args.policy.now Publish c.args.channel.now z) whole (c.nobody_may-in-Join.ensures c.if-nobody_may.true),
+      subst (λ (z : ℤ). NobodyMay c.args.policy.now PublishExclusive c.args.channel.now z) whole (c.nobody_may-then-nobody_may.ensures h),
+    )
