@@ -49,7 +49,12 @@ pub fn subscribes(alloc: Global, stream: u8) -> Result<Event, AllocError> {
 
 // It publishes the stream.
 pub fn publishes(alloc: Global, stream: u8) -> Result<Event, AllocError> {
-    let channel = Text::new(alloc, CHANNEL)?;
+    publishes_at(alloc, CHANNEL, stream)
+}
+
+// It publishes the stream at that channel.
+pub fn publishes_at(alloc: Global, channel: &str, stream: u8) -> Result<Event, AllocError> {
+    let channel = Text::new(alloc, channel)?;
     let body = Body::AddPublication(AddPublication {
         stream: stream as i32,
         channel,

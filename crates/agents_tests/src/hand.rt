@@ -4,7 +4,10 @@ use crate::common::{Common, Open};
 use crate::onlooker::{Onlooker, Sight};
 use command_queue::Sender;
 use driver_core::{Address, Event};
-use media_agents::{DriverNaming, EventSender, ReceiverAgent, SenderAgent};
+use media_agents::{
+    DriverNaming, ElicitFault, Elicitation, Elicitations, Elicited, EventSender, ReceiverAgent,
+    SenderAgent, make_elicitations,
+};
 use media_wire::Wire;
 use published_registry::Pass;
 use std::alloc::{AllocError, Global};
@@ -47,12 +50,13 @@ fn receiver<N: DriverNaming>(
     alloc: Global,
     common: &Common<N>,
     ends: &mut Ends,
+    elicited: Elicited,
 ) -> Result<ReceiverAgent<N, Open>, AllocError> {
     let pass = ends.pass()?;
     let queue = ends.sender()?;
     let slots = common.slots()?;
     let gate = common.gate()?;
-    ReceiverAgent::new(alloc, slots, gate, pass, queue)
+    ReceiverAgent::new(alloc, slots, gate, pass, queue, elicited)
 }
 
 #[derive(Drop)]
@@ -60,6 +64,7 @@ pub struct Hand<N: DriverNaming> {
     sender: SenderAgent<N, Open>,
     receiver: ReceiverAgent<N, Open>,
     queue: EventSender,
+    elicitations: Elicitations,
     onlooker: Onlooker<N>,
 }
 
@@ -72,18 +77,20 @@ impl<N: DriverNaming> Hand<N> {
         ends: &mut Ends,
     ) -> Result<Hand<N>, AllocError> {
         let sender = sender(alloc, common, local, ends.pass()?)?;
-        let receiver = receiver(alloc, common, ends)?;
+        let (elicitations, elicited) = make_elicitations(alloc)?;
+        let receiver = receiver(alloc, common, ends, elicited)?;
         let onlooker = Onlooker::new(common, ends.pass()?)?;
         Ok(Hand {
             sender,
             receiver,
             queue: ends.sender()?,
+            elicitations,
             onlooker,
         })
     }
 
     // An event goes into the queue, where that is not full.
-    fn push<R: Wait>(&mut self, rt: &R, event: Event) {
+    pub fn push<R: Wait>(&mut self, rt: &R, event: Event) {
         let _ = self.queue.push(rt, event);
     }
 
@@ -110,6 +117,11 @@ impl<N: DriverNaming> Hand<N> {
         self.push(rt, attaches());
         self.push_subscriptions(rt, alloc)?;
         self.push_publications(rt, alloc)
+    }
+
+    // The receiver is to elicit one more.
+    pub fn elicit(&mut self, elicitation: Elicitation) -> Result<(), ElicitFault> {
+        self.elicitations.add(elicitation)
     }
 
     // What is seen by a look at the newest registry; `None` where there is no look.

@@ -8,9 +8,15 @@ mod common;
 #[cfg(test)]
 mod driver;
 #[cfg(test)]
+mod eliciting;
+#[cfg(test)]
+mod endpoints;
+#[cfg(test)]
 mod failing_wires;
 #[cfg(test)]
 mod hand;
+#[cfg(test)]
+mod learning;
 #[cfg(test)]
 mod onlooker;
 #[cfg(test)]

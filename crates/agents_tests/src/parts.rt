@@ -3,7 +3,7 @@ ghost use Rattle.driver_core.specs.Soundness.{AreSettings, IsSound};
 ghost use Rattle.published_registry.specs.Histories.{registry_of};
 ghost use Rattle.std.specs.Prelude.{◌≡◌, IfOk, IfSome};
 
-use driver_core::{Address, Registry, Settings};
+use driver_core::{Address, Peer, Registry, Settings};
 use log_arena::Arena;
 use policy_core::Policy;
 use published_registry::{Pass, Publisher, make};
@@ -28,13 +28,24 @@ pub struct Parts {
     pub pieces: Pieces,
 }
 
+// The one address to which a principal is bound: the first.
+pub const MEMBER: Address = Address {
+    octets: [127, 0, 0, 1],
+    port: 50_001,
+};
+
+const PEER: Peer = Peer {
+    address: MEMBER,
+    principal: 1,
+};
+
 // A registry before its first event, under a policy that allows all.
 fn opened(alloc: Global, settings: Settings) -> Result<Registry, AllocError>
     requires { AreSettings settings }
     ensures { IfOk result (λ registry. IsSound registry) }
 {
     let policy = Policy::new(Vec::new(alloc), true)?;
-    let registry = Registry::new(alloc, settings, policy, &[])?;
+    let registry = Registry::new(alloc, settings, policy, &[PEER])?;
     Ok(registry)
 }
 

@@ -1,5 +1,5 @@
 -- By whose leave an address becomes a destination, and which addresses are learnt at the end of every run.
-use Rattle.std.proofs.Common.{◌≡◌, ℕ, Bool, true, false, cond, not, nat_lt, List, [], ◌∷◌, length, Option, Some, None, Result, Ok, Err, refl, sym, ap, subst, ◌∙◌, ◌==◌}
+use Rattle.std.proofs.Common.{◌≡◌, ℕ, Bool, true, cond, not, nat_lt, List, [], ◌∷◌, length, Option, Some, None, Result, Ok, Err, refl, sym, ap, ◌∙◌, ◌==◌}
 use Rattle.std.specs.List.{All}
 use Rattle.std.proofs.lemmas.Bool.{cond_both}
 use Rattle.std.proofs.lemmas.List.Elements.{All-nil}
@@ -12,7 +12,7 @@ use Rattle.driver_core.specs.declared.peer.Peer.{Peer}
 use Rattle.driver_core.specs.declared.publication_request.JoinRequest.{JoinRequest}
 use Rattle.driver_core.specs.declared.settings.Settings.{Settings}
 use Rattle.driver_core.specs.LogRequests.{offering_of, receiving_of}
-use Rattle.driver_core.specs.PublicationRequests.{join_decision, joined_as, joined_by, joining_of, publication_at, publisher_of, resending_of}
+use Rattle.driver_core.specs.PublicationRequests.{join_decision, joined_by, joining_of, publication_at, publisher_of, resending_of}
 use Rattle.driver_core.specs.SendRequests.{sending_of}
 use Rattle.driver_core.specs.State.{State}
 use Rattle.driver_core.proofs.VerdictLemmas.{by_policy}
@@ -22,11 +22,10 @@ use Rattle.driver_steps.specs.declared.answer.Offered.TheVariants.{Closed}
 use Rattle.driver_steps.specs.declared.cause.Cause.TheVariants.{Denied, Full as IsFull}
 use Rattle.driver_steps.specs.declared.step.Step.{Step}
 use Rattle.driver_steps.specs.declared.step.Step.TheVariants.{Conductor, Packet, Offer as Offers, Poll as Polls, Image, List as Lists, Send, Value}
-use Rattle.driver_steps.specs.Ends.{RunEnd, Moved, log_at, on_asked, on_image, on_log, on_offered_by, on_packet, on_report_by, on_told, opening_end}
+use Rattle.driver_steps.specs.Ends.{RunEnd, log_at, on_asked, on_image, on_offered_by, on_packet, on_report_by, on_told, opening_end}
 use Rattle.driver_steps.specs.Hearing.{heard_move, join_move, learn_move, nak_move, status_move, with_learnt}
-use Rattle.driver_steps.specs.JoinLaws.{AddressesAreLearntExactly, JoinIsDecided, JoinsAreDecided, LearnOrderly, join_question, join_verdict, moved_by_log}
-use Rattle.driver_steps.specs.Laws.{stays}
-use Rattle.driver_steps.specs.Moves.{Move, WholeLog, answered, offer_let, offer_move, offer_to, offer_under, poll_move, poll_under}
+use Rattle.driver_steps.specs.JoinLaws.{AddressesAreLearntExactly, JoinIsDecided, JoinsAreDecided, LearnOrderly, join_question, moved_by_log}
+use Rattle.driver_steps.specs.Moves.{Move, WholeLog, answered, offer_move, offer_to, offer_under, poll_move, poll_under}
 use Rattle.driver_steps.specs.Receiving.{beat_move, receive_move, unheard}
 use Rattle.driver_steps.specs.Reporting.{report_move}
 use Rattle.driver_steps.specs.Runs.{Reading, end_of}
@@ -35,6 +34,7 @@ use Rattle.driver_steps.specs.Sending.{send_by, send_move}
 use Rattle.driver_steps.proofs.DecisionLemmas.{left_by, log_moves, stays_left}
 use Rattle.driver_steps.proofs.EndLemmas.{run_keeps}
 use Rattle.driver_steps.proofs.FoundLemmas.{found_source}
+use Rattle.driver_steps.proofs.LearntLemmas.{learnt_stays}
 use Rattle.driver_steps.proofs.LiveLemmas.{IsKept, event_keeps, log_keeps}
 use Rattle.frame_codec.specs.declared.fault.BadPacket.{BadPacket}
 use Rattle.frame_codec.specs.declared.nak.Nak.{Nak}
@@ -52,7 +52,7 @@ use Rattle.policy_core.specs.RuleList.{Rules}
 use Rattle.stream_registry.specs.declared.row.Source.{Source}
 use Rattle.stream_registry.specs.Places.{is_dynamic}
 use Rattle.term_log.specs.Log.{greatest_message}
-use Rattle.term_log.specs.Whole.{Whole, is_connected}
+use Rattle.term_log.specs.Whole.{is_connected}
 
 -- ---- by whose leave
 
@@ -243,4 +243,5 @@ pub addresses_learnt : AddressesAreLearntExactly
 addresses_learnt settings policy peers readings answers sound are = record {
   joins = joins_decided _;
   orderly = ends_orderly settings policy peers readings answers;
+  stays = learnt_stays _;
 }

@@ -13,6 +13,7 @@ pub mod HoleLemmas
 pub mod HousedLemmas
 pub mod ImageLemmas
 pub mod JoinLemmas
+pub mod LearntLemmas
 pub mod LiveLemmas
 pub mod MatchLemmas
 pub mod MoveLemmas

@@ -1,21 +1,27 @@
 -- Status messages for a publication that learns its destinations, at the end of every run: by whose leave an address becomes
--- one, and which addresses are learnt. Own rules.
-use Rattle.std.specs.Prelude.{◌≡◌, ℕ, ℤ, true, false, All, List, Option, Some, None, Ok}
+-- one, which addresses are learnt, and which steps change them. Own rules.
+use Rattle.std.specs.Prelude.{◌≡◌, ◌⊎◌, ℕ, true, false, All, Some, None, Result, Ok}
 use Rattle.channel_uri.specs.declared.address.Address.{Address}
 use Rattle.driver_core.specs.PublicationRequests.{principal_at, publication_at}
 use Rattle.driver_core.specs.State.{State}
 use Rattle.driver_core.specs.Verdicts.{IsByPolicy}
+use Rattle.driver_steps.specs.declared.answer.Answer.{Answer}
 use Rattle.driver_steps.specs.declared.answer.Answer.TheVariants.{Dropped}
 use Rattle.driver_steps.specs.declared.cause.Cause.TheVariants.{Denied, Full as IsFull}
+use Rattle.driver_steps.specs.declared.step.Step.{Step}
+use Rattle.driver_steps.specs.declared.step.Step.TheVariants.{Packet, Send}
 use Rattle.driver_steps.specs.Ends.{RunEnd, Moved, log_at, on_packet, with_log}
 use Rattle.driver_steps.specs.Hearing.{heard_move, with_learnt}
 use Rattle.driver_steps.specs.Laws.{AtEachEnd, stays}
 use Rattle.driver_steps.specs.Moves.{Move, WholeLog}
+use Rattle.driver_steps.specs.Runs.{Reading, left_by, read_by}
+use Rattle.driver_steps.specs.Sending.{standing_of}
+use Rattle.frame_codec.specs.declared.fault.BadPacket.{BadPacket}
 use Rattle.frame_codec.specs.declared.status_message.StatusMessage.{StatusMessage}
-use Rattle.frame_codec.specs.Datagram.{status}
+use Rattle.frame_codec.specs.Datagram.{Content, packet_of, status}
 use Rattle.learnt_addresses.specs.declared.learning.Learning.TheVariants.{Full}
 use Rattle.learnt_addresses.specs.Laws.{AreOrderly}
-use Rattle.learnt_addresses.specs.LearntAddresses.{forgotten, learning, learnt}
+use Rattle.learnt_addresses.specs.LearntAddresses.{forgotten, learning, learnt, none}
 use Rattle.policy_core.specs.declared.act.Act.TheVariants.{Join}
 use Rattle.policy_core.specs.declared.verdict.Verdict.{Verdict}
 use Rattle.policy_core.specs.Question.{Question}
@@ -71,9 +77,47 @@ pub record JoinsAreDecided (e : RunEnd) : Type 0 where
 abbrev pub LearnOrderly : RunEnd → Type 0
 LearnOrderly e = All (λ log. AreOrderly log.recovery.learnt) e.logs
 
+-- ---- which steps change them
+
+-- a status message for the publication of that log: let join, the address is learnt if there is room; denied, it is forgotten
+pub record ChangesByStatus (s : State) (now : ℕ) (from : Address) (fields : StatusMessage) (log after : WholeLog) : Type 0 where
+  pub publication : Source
+  pub publication_is : publication_at s fields.session_id fields.stream_id ≡ Some publication
+  pub dynamic : is_dynamic publication.channel ≡ true
+  pub number_is : publication.number ≡ log.source
+  pub joins :
+      (join_verdict s from publication).allow ≡ true → after.recovery.learnt ≡ learnt now from log.recovery.learnt
+  pub denied :
+      (join_verdict s from publication).allow ≡ false → after.recovery.learnt ≡ forgotten from log.recovery.learnt
+
+abbrev pub ChangesByPacket : State → ℕ → Address → Result Content BadPacket → WholeLog → WholeLog → Type 0
+ChangesByPacket s now from (Ok (status fields)) log after = ChangesByStatus s now from fields log after
+ChangesByPacket s now from read log after = ⊥
+
+-- a status message, or a turn of the sender with that log, at which the addresses past the timeout are forgotten
+abbrev pub ChangesBy : State → Step → WholeLog → WholeLog → Type 0
+ChangesBy s (Packet now local from bytes) log after = ChangesByPacket s now from (packet_of bytes) log after
+ChangesBy s (Send now source) log after =
+    (source ≡ log.source) × (after.recovery.learnt ≡ standing_of s.settings now log)
+ChangesBy s step log after = ⊥
+
+-- Whichever registry a step goes by, and whatever it is answered: of a log that is open before and after it the same addresses
+-- are learnt, heard of at the same moments and in the same order, but for those two changes; and a log begins without any. So
+-- an address goes by a denied status message from it, by its timeout, or with its log, and in no other way.
+pub record LearntStays (e : RunEnd) : Type 0 where
+  pub stays :
+      (reading : Reading) (answer : Answer) (number : ℕ) (log after : WholeLog) →
+      log_at e.logs number ≡ Some log → log_at (left_by e reading answer).logs number ≡ Some after →
+      (after.recovery.learnt ≡ log.recovery.learnt) ⊎ ChangesBy (read_by e reading.older) reading.step log after
+  pub begins :
+      (reading : Reading) (answer : Answer) (number : ℕ) (after : WholeLog) →
+      log_at e.logs number ≡ None → log_at (left_by e reading answer).logs number ≡ Some after →
+      after.recovery.learnt ≡ none
+
 pub record AddressesAreLearnt (e : RunEnd) : Type 0 where
   pub joins : JoinsAreDecided e
   pub orderly : LearnOrderly e
+  pub stays : LearntStays e
 
 abbrev pub AddressesAreLearntExactly : Type 0
 AddressesAreLearntExactly = AtEachEnd AddressesAreLearnt

@@ -72,7 +72,10 @@ pub fn resends_come_from_the_live_log()
 /// A status message for a publication that learns its destinations makes the address from which it came one exactly where the
 /// first rule that matches lets the principal that is bound to the address join, or where none matches the default does, and
 /// fewer than 32 others were learnt, or it was learnt before. Where the policy denies it, the address is forgotten. At the end
-/// of every run no log has learnt an address twice, or more than 32.
+/// of every run no log has learnt an address twice, or more than 32. An address goes by a denied status message from it, at a
+/// turn of the sender past its timeout, or with its log, and in no other way: no other step changes which addresses a log has
+/// learnt, in which order, or when each was heard of. A log begins without any. It makes no difference by which registry a
+/// step goes.
 pub fn addresses_are_learnt_exactly()
     ensures { AddressesAreLearntExactly }
 {}

@@ -1,5 +1,5 @@
 -- What a question is answered is the response of the entry that was made of it.
-use Rattle.std.proofs.Common.{◌≡◌, List, [], ◌∷◌, ◌++◌, Result, Ok, Err, IfOk, ap, sym, ◌∙◌}
+use Rattle.std.proofs.Common.{◌≡◌, [], ◌∷◌, ◌++◌, Result, Ok, Err, IfOk, ap, sym, ◌∙◌}
 use Rattle.driver_core.specs.declared.entry.Entry.{Entry}
 use Rattle.driver_core.specs.declared.event.Event.{Event}
 use Rattle.driver_core.specs.declared.outcome.Response.{Response}

@@ -1,5 +1,6 @@
 pub mod AnswerLemmas
 pub mod AskingLemmas
+pub mod ElicitingLemmas
 pub mod FindingLemmas
 pub mod ImageLemmas
 pub mod LookLemmas

@@ -16,7 +16,7 @@ use Rattle.media_wire.specs.Letters.{letter}
 use Rattle.media_wire.specs.declared.letter.Letter.{Letter}
 use Rattle.media_wire.specs.declared.wire.WireFault.{WireFault}
 use Rattle.std.specs.Prelude.{◌≤◌, Contains, None, Result, Ok, Err, Some}
-use Rattle.media_agents.specs.Traffic.{AreSentFrom, AreTried, Ends, GoesOn, HearsEach, IsHeard, IsReadAt, IsReading, IsSentFrom, IsSetUp, IsTried, ReadsEach, ReadsOut, Receives, Sends, SentEach, SetsUp, is_allowed, letters_of, letters_out, letters_to, reads}
+use Rattle.media_agents.specs.Traffic.{AreSentFrom, AreTried, GoesOn, HearsEach, IsHeard, IsReadAt, IsReading, IsSentFrom, IsSetUp, IsTried, ReadsEach, ReadsOut, Receives, Sends, SentEach, SetsUp, is_allowed, letters_of, letters_to, reads}
 
 -- what was done first, and what was done then
 pub goes_on : (First Then Whole : List Event → Type 0) (old between new : List Event → Type 0)
@@ -228,45 +228,44 @@ pub all_hold : {X : Type 0} (P : X → Type 0) (xs : List X) → ((x : X) → P 
 all_hold P [] is = All-nil P
 all_hold P (x ∷ xs) is = All-cons P x xs (is x) (all_hold P xs is)
 
--- so many go out, and then more
-letters_out-append : (local : Address) (bytes : List ℕ) (a b : List Outlet) → letters_out local bytes (a ++ b) ≡ letters_out local bytes a ++ letters_out local bytes b
-letters_out-append local bytes a b =
-    ap (map (λ (outlet : Outlet). letter local outlet.to bytes)) (filter-append is_allowed a b)
-    ∙ map-append (λ (outlet : Outlet). letter local outlet.to bytes) (filter is_allowed a) (filter is_allowed b)
-
-pub out_more : (local : Address) (bytes : List ℕ) (outlets : List Outlet) (at : ℕ) (one : Outlet) (old between new : List Event → Type 0) → at < length outlets
-    → GoesOn (AreTried (letters_out local bytes (take at outlets))) old between
-    → GoesOn (AreTried (letters_out local bytes (get_or outlets at one ∷ []))) between new
-    → GoesOn (AreTried (letters_out local bytes (take (at + 1) outlets))) old new
-out_more local bytes outlets at one old between new within =
-    let before = letters_out local bytes (take at outlets) in
-    let last = letters_out local bytes (get_or outlets at one ∷ []) in
-    let whole : letters_out local bytes (take (at + 1) outlets) ≡ before ++ last =
-    ap (letters_out local bytes) (take_more outlets at one within) ∙ letters_out-append local bytes (take at outlets) (get_or outlets at one ∷ []) in
-    goes_on (AreTried before) (AreTried last) (AreTried (letters_out local bytes (take (at + 1) outlets))) old between new
-    (λ a b one two. subst (λ (all : List Letter). AreTried all (a ++ b)) (sym whole) (tried_append before last a b one two))
-
 pub tried_none : (old : List Event → Type 0) → GoesOn (AreTried []) old old
 tried_none old = stays (AreTried []) old tt
 
--- it goes there, if it may
-out_is : (local : Address) (bytes : List ℕ) (outlet : Outlet) (b : Bool) → is_allowed outlet ≡ b
-    → letters_out local bytes (outlet ∷ []) ≡ map (λ (outlet : Outlet). letter local outlet.to bytes) (cond b (outlet ∷ []) [])
-out_is local bytes outlet b is = ap (λ (b : Bool). map (λ (outlet : Outlet). letter local outlet.to bytes) (cond b (outlet ∷ []) [])) is
+-- of some things those go out that may, each as its datagram
+module _ {X : Type 0} (of : X → Letter) (goes : X → Bool) where
+  abbrev pub letters_gone : List X → List Letter
+  letters_gone xs = map of (filter goes xs)
 
-pub goes_if : (local : Address) (bytes : List ℕ) (outlet : Outlet) (result : Result Unit WireFault) (old new : List Event → Type 0)
-    → outlet.decision.verdict.allow ≡ true
-    → ((events : List Event) → old events → new (events ++ sent_event (letter local outlet.to bytes) result ∷ []))
-    → GoesOn (AreTried (letters_out local bytes (outlet ∷ []))) old new
-goes_if local bytes outlet result old new allowed step =
-    subst (λ (all : List Letter). GoesOn (AreTried all) old new) (sym (out_is local bytes outlet true allowed))
-    (calls (AreTried (letter local outlet.to bytes ∷ [])) old new (sent_event (letter local outlet.to bytes) result)
-    (is_tried (letter local outlet.to bytes) result, tt) step)
+  gone-append : (a b : List X) → letters_gone (a ++ b) ≡ letters_gone a ++ letters_gone b
+  gone-append a b = ap (map of) (filter-append goes a b) ∙ map-append of (filter goes a) (filter goes b)
 
-pub withheld_if : (local : Address) (bytes : List ℕ) (outlet : Outlet) (old : List Event → Type 0)
-    → outlet.decision.verdict.allow ≡ false → GoesOn (AreTried (letters_out local bytes (outlet ∷ []))) old old
-withheld_if local bytes outlet old withheld =
-    subst (λ (all : List Letter). GoesOn (AreTried all) old old) (sym (out_is local bytes outlet false withheld)) (tried_none old)
+  -- one more of them
+  pub out_more : (xs : List X) (at : ℕ) (one : X) (old between new : List Event → Type 0) → at < length xs
+      → GoesOn (AreTried (letters_gone (take at xs))) old between
+      → GoesOn (AreTried (letters_gone (get_or xs at one ∷ []))) between new
+      → GoesOn (AreTried (letters_gone (take (at + 1) xs))) old new
+  out_more xs at one old between new within =
+      let before = letters_gone (take at xs) in
+      let last = letters_gone (get_or xs at one ∷ []) in
+      let whole : letters_gone (take (at + 1) xs) ≡ before ++ last =
+      ap letters_gone (take_more xs at one within) ∙ gone-append (take at xs) (get_or xs at one ∷ []) in
+      goes_on (AreTried before) (AreTried last) (AreTried (letters_gone (take (at + 1) xs))) old between new
+      (λ a b one two. subst (λ (all : List Letter). AreTried all (a ++ b)) (sym whole) (tried_append before last a b one two))
+
+  -- it goes out, if it may
+  gone_is : (x : X) (b : Bool) → goes x ≡ b → letters_gone (x ∷ []) ≡ map of (cond b (x ∷ []) [])
+  gone_is x b is = ap (λ (b : Bool). map of (cond b (x ∷ []) [])) is
+
+  pub goes_if : (x : X) (result : Result Unit WireFault) (old new : List Event → Type 0) → goes x ≡ true
+      → ((events : List Event) → old events → new (events ++ sent_event (of x) result ∷ []))
+      → GoesOn (AreTried (letters_gone (x ∷ []))) old new
+  goes_if x result old new allowed step =
+      subst (λ (all : List Letter). GoesOn (AreTried all) old new) (sym (gone_is x true allowed))
+      (calls (AreTried (of x ∷ [])) old new (sent_event (of x) result) (is_tried (of x) result, tt) step)
+
+  pub withheld_if : (x : X) (old : List Event → Type 0) → goes x ≡ false → GoesOn (AreTried (letters_gone (x ∷ []))) old old
+  withheld_if x old withheld =
+      subst (λ (all : List Letter). GoesOn (AreTried all) old old) (sym (gone_is x false withheld)) (tried_none old)
 
 -- what is sent is sent from there
 abbrev AreBy : Address → List Letter → Type 0
@@ -338,7 +337,7 @@ pub turn_ends : (Whole : List Event → Type 0) (old between new : List Event �
 turn_ends Whole old between new first end = λ events went.
     let one = first events went in (one.0, one.1, end (events ++ one.0) one.2)
 
--- a turn of the sender, and of the receiver
+-- a turn of the sender
 pub turn_sends : (local : Address) (controls : List Address) (old between new : List Event → Type 0)
     → GoesOn (HearsEach local (local ∷ controls)) old between → GoesOn (AreSentFrom local) between new
     → GoesOn (Sends local controls) old new
@@ -346,11 +345,27 @@ turn_sends local controls old between new =
     goes_on (HearsEach local (local ∷ controls)) (AreSentFrom local) (Sends local controls) old between new (λ a b one two.
     record { heard = a; told = b; order = refl; hears_each = one; sends = two })
 
-pub turn_receives : (endpoints : List Address) (images : List ImageAt) (old between new : List Event → Type 0)
-    → GoesOn (ReadsEach endpoints) old between → GoesOn (SentEach images) between new → GoesOn (Receives endpoints images) old new
-turn_receives endpoints images old between new =
-    goes_on (ReadsEach endpoints) (SentEach images) (Receives endpoints images) old between new (λ a b one two.
-    record { heard = a; told = b; order = refl; reads_each = one; sent_each = two })
+-- a turn of the receiver: for each of some images, and then these
+abbrev SendsAll : List ImageAt → List Letter → List Event → Type 0
+SendsAll images letters events =
+    (told : List Event) × (elicited : List Event) × (events ≡ told ++ elicited) × SentEach images told × AreTried letters elicited
+
+pub turn_receives : (endpoints : List Address) (images : List ImageAt) (letters : List Letter) (old heard told new : List Event → Type 0)
+    → GoesOn (ReadsEach endpoints) old heard → GoesOn (SentEach images) heard told → GoesOn (AreTried letters) told new
+    → GoesOn (Receives endpoints images letters) old new
+turn_receives endpoints images letters old heard told new one two three =
+    goes_on (ReadsEach endpoints) (SendsAll images letters) (Receives endpoints images letters) old heard new
+    (λ a b read all. record {
+      heard = a;
+      told = all.0;
+      elicited = all.1;
+      order = ap (λ (rest : List Event). a ++ rest) all.2 ∙ sym (append_assoc a all.0 all.1);
+      reads_each = read;
+      sent_each = all.3;
+      tried = all.4;
+    })
+    one
+    (goes_on (SentEach images) (AreTried letters) (SendsAll images letters) heard told new (λ a b sent tried. (a, b, refl, sent, tried)) two three)
 
 -- ---- SETUPs
 

@@ -1,6 +1,9 @@
 -- Endpoints that are to be destinations of publications which learn theirs, and what each of them sends (Aeron Transport Protocol
 -- Specification, setup eliciting status message). Own rules.
-use Rattle.std.specs.Prelude.{◌≡◌, ◌≢◌, ℕ, ◌-◌, ◌<◌, ◌⊎◌, ◌&&◌, Bool, true, false, not, nat_le, List, [], ◌∷◌, ◌++◌, All, Contains, Option, Some, None, is_some, filter, length, map, pos, slice_set, take}
+use Rattle.std.specs.Prelude.{◌≡◌, ℕ, ◌-◌, ◌<◌, ◌⊎◌, ◌&&◌, Bool, true, false, not, nat_le, List, [], ◌∷◌, ◌++◌, Option, Some, None, is_some, filter, length, map, pos, slice_set, take}
+use Rattle.std.specs.List.{list_any}
+use Rattle.std.specs.Ordering.{int_eq}
+use Rattle.channel_uri.specs.Address.{is_same}
 use Rattle.driver_core.specs.ImageRequests.{image_named}
 use Rattle.driver_core.specs.State.{State}
 use Rattle.frame_codec.specs.declared.status_message.StatusMessage.{StatusMessage}
@@ -13,14 +16,23 @@ use Rattle.published_registry.specs.Histories.{History, registry_of}
 
 -- ---- whom the receiver is to elicit
 
--- it is among these already, or it joins them
+abbrev pub is_it : Elicitation → Elicitation → Bool
+is_it it other =
+    is_same other.endpoint it.endpoint
+    && (is_same other.control it.control && (int_eq other.session_id it.session_id && int_eq other.stream_id it.stream_id))
+
+-- it is among these
+abbrev pub is_among : List Elicitation → Elicitation → Bool
+is_among all it = list_any (is_it it) all
+
+-- it joins the others, unless it was among them
 abbrev pub IsAsked : Elicitation → List Elicitation → List Elicitation → Type 0
 IsAsked it old new =
-    (Contains old it × (new ≡ old)) ⊎ (All (λ (other : Elicitation). other ≢ it) old × (length old < 32) × (new ≡ old ++ it ∷ []))
+    ((is_among old it ≡ true) × (new ≡ old)) ⊎ ((is_among old it ≡ false) × (length old < 32) × (new ≡ old ++ it ∷ []))
 
--- it is not among them, and there are 32
+-- there are 32, and it is not among them
 abbrev pub IsFull : Elicitation → List Elicitation → Type 0
-IsFull it all = All (λ (other : Elicitation). other ≢ it) all × (length all ≡ 32)
+IsFull it all = (is_among all it ≡ false) × (length all ≡ 32)
 
 -- ---- what is due
 

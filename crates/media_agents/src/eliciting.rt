@@ -1,11 +1,11 @@
 //! Endpoints that are to be destinations of publications which learn theirs: from each the receiver sends a status message to
 //! its publication, until an image is open there.
 
-ghost use Rattle.media_agents.specs.Eliciting.{Elicits, IsAsked, IsFull, eliciting_bytes, is_due, is_past, letters_due, looked_at, with_handed};
+ghost use Rattle.media_agents.specs.Eliciting.{Elicits, IsAsked, IsFull, eliciting_bytes, is_among, is_due, is_it, is_past, letters_due, looked_at, with_handed};
 ghost use Rattle.media_agents.specs.Traffic.{AreTried, GoesOn};
 ghost use Rattle.media_wire.specs.declared.letter.Letter.{Letter};
-ghost use Rattle.published_registry.specs.Histories.{IsContinuedBy, registry_of};
-ghost use Rattle.std.specs.Prelude.{◌≡◌, ◌≢◌, ◌∷◌, [], All, Contains, IfNone, IfOk, IfSome, List, MatchBool, MatchResult, Option, map};
+ghost use Rattle.published_registry.specs.Histories.{IsContinuedBy};
+ghost use Rattle.std.specs.Prelude.{◌≡◌, ◌∷◌, [], IfOk, List, MatchResult, Option, map};
 
 use crate::listing::add;
 use channel_uri::Address;
@@ -89,7 +89,7 @@ impl Model for Elicited {
 }
 
 /// The two ends, before anything is asked.
-pub fn elicitations(alloc: Global) -> Result<(Elicitations, Elicited), AllocError>
+pub fn make_elicitations(alloc: Global) -> Result<(Elicitations, Elicited), AllocError>
     ensures { IfOk result (λ ends. (ends.0 ≡ []) × (ends.1 ≡ record { handed = []; wanted = [] })) }
 {
     let (producer, consumer) = RingBuffer::new(alloc, 32)?;
@@ -106,11 +106,23 @@ pub fn elicitations(alloc: Global) -> Result<(Elicitations, Elicited), AllocErro
     Ok((ours, theirs))
 }
 
+impl Elicitation {
+    /// Whether the other is the same.
+    fn is(&self, other: &Elicitation) -> bool
+        ensures { result ≡ is_it other.now self.now }
+    {
+        self.endpoint.is(&other.endpoint)
+            && self.control.is(&other.control)
+            && self.session_id == other.session_id
+            && self.stream_id == other.stream_id
+    }
+}
+
 /// Whether it is among these.
 fn is_among(all: &[Elicitation], elicitation: &Elicitation) -> bool
-    ensures { MatchBool result (Contains all.now elicitation.now) (All (λ (other : Elicitation). other ≢ elicitation.now) all.now) }
+    ensures { result ≡ is_among all.now elicitation.now }
 {
-    all.contains(elicitation)
+    all.iter().any(|other| other.is(elicitation))
 }
 
 impl Elicitations {
@@ -151,9 +163,8 @@ fn is_due(registry: &Registry, now: u64, wanted: &Wanted) -> bool
         return false;
     }
     let it = &wanted.elicitation;
-    registry
-        .image_named(&it.endpoint, it.session_id, it.stream_id)
-        .is_none()
+    let image = registry.image_named(&it.endpoint, it.session_id, it.stream_id);
+    image.is_none()
 }
 
 /// Those that are due are marked, with the moment.
@@ -239,35 +250,23 @@ fn send_each<W: Wire>(wire: &mut W, receiver_id: u64, all: &[Wanted])
     }
 }
 
-/// Those that are due by a look are marked: the id of the receiver, by that look. None are where there is no look.
-fn find_due(pass: Pass, elicited: &mut Elicited, now: u64) -> (Pass, Option<u64>)
-    ensures known { IsContinuedBy pass result.0 }
-    ensures due { IfSome result.1 (λ receiver. (receiver ≡ (registry_of result.0).settings.receiver_id)
-        × (elicited.new ≡ record elicited.old { wanted = map (looked_at (registry_of result.0) now) elicited.old.wanted })) }
-    ensures none { IfNone result.1 (elicited.new ≡ elicited.old) }
-{
-    match pass.enter() {
-        Ok(look) => {
-            let registry = look.registry();
-            elicited.look(registry, now);
-            let receiver_id = registry.settings().receiver_id;
-            (look.leave(), Some(receiver_id))
-        }
-        Err(pass) => (pass, None),
-    }
-}
-
 /// What a turn of the receiver does: one that was handed over joins the others, and then a status message goes out for each that
-/// is due by a look.
+/// is due by a look. None is where there is no look.
 pub(crate) fn elicit<W: Wire>(pass: Pass, wire: &mut W, elicited: &mut Elicited, now: u64) -> Pass
     ensures known { IsContinuedBy pass result }
     ensures wire { (letters : List Letter) × Elicits now result elicited.old elicited.new letters
         × GoesOn (AreTried letters) (W.went wire.old) (W.went wire.new) }
 {
     elicited.take();
-    let (pass, receiver_id) = find_due(pass, elicited, now);
-    if let Some(receiver_id) = receiver_id {
-        send_each(wire, receiver_id, elicited.wanted.as_slice());
+    match pass.enter() {
+        Ok(look) => {
+            let registry = look.registry();
+            elicited.look(registry, now);
+            let receiver_id = registry.settings().receiver_id;
+            let pass = look.leave();
+            send_each(wire, receiver_id, elicited.wanted.as_slice());
+            pass
+        }
+        Err(pass) => pass,
     }
-    pass
 }

@@ -31,7 +31,7 @@ pub use answering::{Answered, Question};
 pub use clock::Clock;
 pub use conductor::Conductor;
 pub use desk::Desk;
-pub use eliciting::{ElicitFault, Elicitation, Elicitations, Elicited, elicitations};
+pub use eliciting::{ElicitFault, Elicitation, Elicitations, Elicited, make_elicitations};
 pub use gate::{Agent, Backoff, Gate, Turn};
 pub use listing::ImageAt;
 pub use mail::{ClientReply, Mail};

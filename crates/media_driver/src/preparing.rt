@@ -13,7 +13,7 @@ use driver_core::Event;
 use log_arena::Arena;
 use media_agents::{
     DriverNaming, Elicitations, Elicited, EventSender, Gate, ReceiverAgent, Rings, SenderAgent,
-    elicitations,
+    make_elicitations,
 };
 use media_wire::{Shared, Wire};
 use rows::Rows;
@@ -236,7 +236,7 @@ pub(crate) fn prepare<N: DriverNaming, R: Wait + Copy + Drop, G: Gate + Drop, W:
     let gate = shared(alloc, gate)?;
     let wires = make_wires(alloc, rt, wire)?;
     let base = make_base(alloc, blanks)?;
-    let (ours, theirs) = elicitations(alloc)?;
+    let (ours, theirs) = make_elicitations(alloc)?;
     let agents = make_agents(
         alloc,
         &base.common,

@@ -1,8 +1,9 @@
 // Each call once, where all is allowed and there is memory.
 use crate::asking::{Outcome, counted, next_reply, published, source_of, subscribed};
 use crate::clients::{alone, attached};
+use crate::opening::at;
 use driver_core::{Listed, Reply, Shown};
-use media_driver::{AttachFault, Client, Clock, Driver, DriverNaming, PushFault};
+use media_driver::{AttachFault, Client, Clock, Driver, DriverNaming, Elicitation, PushFault};
 use std::alloc::Global;
 use std::sync::Wait;
 use std::thread::Threads;
@@ -123,6 +124,22 @@ fn reloaded<
     Ok(())
 }
 
+/// The receiver is handed an elicitation, and is not asked for it again.
+fn elicited<N: DriverNaming, R: Threads + Wait, C: Clock>(driver: &mut Driver<N, R, C>) -> Outcome {
+    let elicitation = Elicitation {
+        endpoint: at(40_123),
+        control: at(40_300),
+        session_id: 7,
+        stream_id: 10,
+    };
+    for _ in 0..2 {
+        if driver.elicit(elicitation).is_err() {
+            return Err("the elicitation is refused");
+        }
+    }
+    Ok(())
+}
+
 /// A client goes, and another one ends the driver, which takes none any more.
 fn at_the_end<
     N: DriverNaming + Send + Sync + 'static,
@@ -152,6 +169,7 @@ fn calls_of<
     destinations(&rt, client)?;
     counter(&rt, client)?;
     reloaded(rt, driver, client)?;
+    elicited(driver)?;
     at_the_end(rt, driver, client)
 }
 

@@ -1,8 +1,7 @@
-use Rattle.std.proofs.Common.{◌≡◌, rules, ap, refl, sym, subst, ◌∙◌}
+use Rattle.std.proofs.Common.{rules, refl, sym, ◌∙◌}
 use Rattle.driver_steps.specs.Held.{HeldLog}
-use Rattle.driver_steps.proofs.MoveLemmas.{join_denied, join_full, join_heard}
+use Rattle.driver_steps.proofs.MoveLemmas.{join_full, join_heard}
 use Rattle.driver_steps.proofs.hearing.join.Goals as goal
-use Rattle.learnt_addresses.specs.LearntAddresses.{forgotten, learnt}
 
 pub returns-in-Full-clause-does : goal.returns-in-Full-clause-does
 returns-in-Full-clause-does c =

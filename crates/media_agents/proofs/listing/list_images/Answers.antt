@@ -1,4 +1,4 @@
-use Rattle.std.proofs.Common.{◌≡◌, List, ap, take, ◌∙◌}
+use Rattle.std.proofs.Common.{List, ap, take, ◌∙◌}
 use Rattle.std.proofs.lemmas.List.{take_all}
 use Rattle.std.specs.Prelude.{filter_map}
 use Rattle.stream_registry.specs.declared.row.Source.{Source}

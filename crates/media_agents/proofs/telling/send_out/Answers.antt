@@ -1,4 +1,7 @@
+use Rattle.driver_core.specs.declared.send_request.Outlet.{Outlet}
 use Rattle.media_agents.proofs.TrafficLemmas.{out_more, tried_none}
+use Rattle.media_agents.specs.Traffic.{is_allowed}
+use Rattle.media_wire.specs.Letters.{letter}
 use Rattle.media_agents.proofs.telling.send_out.Goals as goal
 
 pub loop-outlet-init : goal.loop-outlet-init
@@ -6,6 +9,6 @@ loop-outlet-init g c = tried_none (g.W.Wire.went c.args.wire.now)
 
 pub loop-outlet-preserved : goal.loop-outlet-preserved
 loop-outlet-preserved g c =
-    out_more c.args.local.now c.args.bytes.now c.args.outlets.now c.loop-outlet.outlet-index _
+    out_more (λ (outlet : Outlet). letter c.args.local.now outlet.to c.args.bytes.now) is_allowed c.args.outlets.now c.loop-outlet.outlet-index _
     (g.W.Wire.went c.args.wire.now) (g.W.Wire.went c.loop-outlet.wire) (g.W.Wire.went c.send_if.new.wire)
     c.loop-outlet-test.true c.loop-outlet.invariant c.send_if.ensures

@@ -1,12 +1,14 @@
 use Rattle.std.proofs.Common.{◌≡◌, ◌⊎◌, List, [], ap, subst, sym, ◌∙◌}
 use Rattle.channel_uri.specs.declared.address.Address.{Address}
-use Rattle.media_agents.proofs.LookLemmas.{continues}
+use Rattle.media_agents.proofs.LookLemmas.{continues, stays_known}
 use Rattle.media_agents.proofs.TrafficLemmas.{turn_ends, turn_receives}
 use Rattle.media_agents.specs.Agents.{Receiving}
 use Rattle.media_agents.specs.declared.listing.ImageAt.{ImageAt}
+use Rattle.media_agents.specs.Eliciting.{Eliciting, Elicits}
 use Rattle.media_agents.specs.Finding.{AreEndpoints, images_of}
 use Rattle.media_agents.specs.Traffic.{Receives}
 use Rattle.media_agents.proofs.receiving.ReceiverAgent.turn.Goals as goal
+use Rattle.media_wire.specs.declared.letter.Letter.{Letter}
 use Rattle.published_registry.specs.Histories.{History, IsContinuedBy, history_in, registry_of}
 
 pub returns-clause-wire : goal.returns-clause-wire
@@ -16,8 +18,11 @@ returns-clause-wire g c =
     let same : c.in-Some.pass ≡ c.args.self.now.known = sym (ap history_in there) ∙ ap (λ (agent : Receiving). agent.known) c.self.view_is in
     let look : History = c.find_endpoints-pass.result in
     let second : History = c.find_images-pass.result in
+    let third : History = c.elicit-pass.result in
     let endpoints : List Address = c.as_slice-endpoints.result.now in
     let images : List ImageAt = c.as_slice-images.result.now in
+    let asked = c.elicit-pass.ensures.wire in
+    let letters : List Letter = asked.0 in
     record {
       look = look;
       later = subst (λ (known : History). IsContinuedBy known look) same c.find_endpoints-pass.ensures.known;
@@ -27,8 +32,14 @@ returns-clause-wire g c =
       next = continues c.hear_each-pass.ensures.known c.find_images-pass.ensures.known;
       images = images;
       listed = subst (λ (all : List ImageAt). (all ≡ images_of (registry_of second)) ⊎ (all ≡ [])) (sym c.as_slice-images.ensures.value) c.find_images-pass.ensures.listed;
-      earlier = c.report_each-pass.ensures.known;
-      wire = turn_ends (Receives endpoints images) (went c.args.wire.now) (went c.report_each-pass.new.wire) (went c.turn_ended.new.self)
-          (turn_receives endpoints images (went c.args.wire.now) (went c.hear_each-pass.new.wire) (went c.report_each-pass.new.wire) c.hear_each-pass.ensures.wire c.report_each-pass.ensures.wire)
+      third = third;
+      last = continues c.report_each-pass.ensures.known c.elicit-pass.ensures.known;
+      letters = letters;
+      elicits = subst (λ (old : Eliciting). Elicits c.args.now third old c.elicit-pass.new.elicited letters)
+          (ap (λ (agent : Receiving). agent.eliciting) c.self.view_is) asked.1;
+      earlier = stays_known third;
+      wire = turn_ends (Receives endpoints images letters) (went c.args.wire.now) (went c.elicit-pass.new.wire) (went c.turn_ended.new.self)
+          (turn_receives endpoints images letters (went c.args.wire.now) (went c.hear_each-pass.new.wire) (went c.report_each-pass.new.wire) (went c.elicit-pass.new.wire)
+          c.hear_each-pass.ensures.wire c.report_each-pass.ensures.wire asked.2)
           c.turn_ended.ensures;
     }
