@@ -226,7 +226,7 @@ const HERE: Address = Address {
     port: 40_123,
 };
 
-static ANSWERS: [(AnswerLine<'static>, &str, bool); 48] = [
+static ANSWERS: [(AnswerLine<'static>, &str, bool); 49] = [
     (AnswerLine::Attached(1), "attached 1\n", true),
     (AnswerLine::Full, "full\n", true),
     (AnswerLine::Stopped, "stopped\n", true),

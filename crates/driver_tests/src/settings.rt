@@ -197,7 +197,7 @@ fn keys_take_their_values(rt: HostRuntime) {
 }
 
 /// A key, its value, the settings where nothing else is chosen, and whether they are so.
-static CHOSEN: [(&str, &str, Settings, bool); 20] = [
+static CHOSEN: [(&str, &str, Settings, bool); 21] = [
     (
         "client-liveness",
         "3",
