@@ -1,19 +1,24 @@
-# The goals, which `make help` lists. The work is done by the shell scripts in tools/.
+# The goals, which `make help` lists. The work is done by the shell scripts in tools/. README has a table of what each takes.
 .POSIX:
-.PHONY: help first build install test
+.PHONY: help first quick build install test prove
 
 # Where `make install` puts the program.
 PREFIX = /usr/local
 
 help:
-	@echo 'make first     runs the program on its first script, before any proof: in one to two minutes'
+	@echo 'make first     builds the program with no proof, and shows it at work on its first script'
+	@echo 'make quick     builds the program with no proof, and leaves it as build/quick/aeron_policyd'
+	@echo 'make test      runs all cases and examples on that program, and the crates of tests, with no proof'
 	@echo 'make build     proves the program and what it stands on, and leaves it as build/aeron_policyd'
 	@echo 'make install   puts that program to PREFIX/bin, where PREFIX is /usr/local if not given'
-	@echo 'make test      the merge gate, which proves everything from nothing, and then all cases and examples'
+	@echo 'make prove     the merge gate: proves everything, tries all wrong bodies, and runs all tests on the proved program'
 	@echo 'make help      says this'
 
 first:
 	@sh tools/first
+
+quick:
+	@sh tools/quick
 
 build:
 	@sh tools/build
@@ -28,3 +33,6 @@ install: build/aeron_policyd
 
 test:
 	@sh tools/test
+
+prove:
+	@sh tools/prove

@@ -44,7 +44,7 @@ pub enum Came {
 }
 
 // What these bytes are.
-fn came(bytes: &[u8]) -> Came {
+fn read_as(bytes: &[u8]) -> Came {
     match Datagram::read(bytes) {
         Ok(Packet::Setup(_)) => Came::Setup,
         Ok(Packet::Sm(message)) => Came::StatusMessage(message),
@@ -56,7 +56,7 @@ fn came(bytes: &[u8]) -> Came {
 pub fn next(wire: &mut Network, alloc: Global, local: &Address) -> Option<(Came, Address)> {
     let mut bytes = vec![in alloc; 0u8; LONGEST].ok()?;
     match wire.recv(local, &mut bytes) {
-        Ok(Some((length, from))) => Some((came(&bytes[..length]), from)),
+        Ok(Some((length, from))) => Some((read_as(&bytes[..length]), from)),
         _ => None,
     }
 }

@@ -44,6 +44,7 @@ const POLICY: &str = "\
 version = 1
 default = \"allow\"
 [[rule]]
+name = \"nobody joins\"
 principal = \"nobody\"
 act = \"join\"
 channel = \"*\"

@@ -1,5 +1,5 @@
 -- What the rules ask of a policy is what the table says.
-use Rattle.std.proofs.Common.{ℕ, List, ◌⊎◌, inl, inr, ⊎_elim}
+use Rattle.std.proofs.Common.{ℕ, List, inl, inr, ⊎_elim}
 use Rattle.driver_core.specs.Requests.{IsAsked, IsCounterQuestion, IsDestinationQuestion, IsPublicationQuestion, IsSubscriptionQuestion, IsTerminationQuestion}
 use Rattle.driver_core.specs.State.{State}
 use Rattle.driver_laws.specs.Acts.{IsListed}

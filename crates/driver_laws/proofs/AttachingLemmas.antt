@@ -1,17 +1,16 @@
 -- A client that attaches comes exactly where the driver was not stopped and there is room.
-use Rattle.std.proofs.Common.{◌≡◌, ℕ, ◌+◌, ◌||◌, ◌==◌, Bool, true, false, cond, List, [], ◌∷◌, Option, Some, refl, ap}
+use Rattle.std.proofs.Common.{◌≡◌, ℕ, ◌+◌, ◌||◌, ◌==◌, Bool, true, false, cond, List, [], ◌∷◌, Option, Some, refl}
 use Rattle.std.specs.List.{Contains, list_any}
 use Rattle.std.specs.Option.{option_map}
 use Rattle.std.specs.Prelude.{All, find, is_some}
 use Rattle.std.proofs.lemmas.List.Elements.{All-contains_itself, All-weaker}
-use Rattle.driver_core.specs.Change.{Change}
 use Rattle.driver_core.specs.declared.event.Event.TheVariants.{Attach}
 use Rattle.driver_core.specs.declared.event.Inputs.{Inputs}
 use Rattle.driver_core.specs.declared.outcome.Response.{Response}
 use Rattle.driver_core.specs.declared.outcome.Response.TheVariants.{Attached, Full, Stopped}
 use Rattle.driver_core.specs.Attaching.{attach, attached}
 use Rattle.driver_core.specs.Conduct.{conduct, drafted}
-use Rattle.driver_core.specs.Draft.{Draft, answered}
+use Rattle.driver_core.specs.Draft.{answered}
 use Rattle.driver_core.specs.Pairs.{pairs_of}
 use Rattle.driver_core.specs.Renewal.{renewed}
 use Rattle.driver_core.specs.State.{State, at_moment}
@@ -22,7 +21,6 @@ use Rattle.client_registry.specs.declared.client.Client.{Client}
 use Rattle.client_registry.specs.Clients.{admitted, has_room}
 use Rattle.log_readers.specs.Numbering.{IsOwned}
 use Rattle.log_readers.proofs.SameLemmas.{admitted_alike}
-use Rattle.stream_registry.specs.declared.row.Subscription.{Subscription}
 use Rattle.driver_laws.proofs.RenewalLemmas.{ToldAsItIs, unchanged}
 use Rattle.driver_laws.proofs.StayingLemmas.{DropsNothing, as_before, drops_none}
 

@@ -1,11 +1,10 @@
 -- The frames of a live log are what was put into it, step by step.
-use Rattle.std.proofs.Common.{◌≡◌, ℕ, ◌+◌, ◌<◌, ◌≤◌, ◌==◌, ◌&&◌, not, nat_lt, Bool, true, false, cond, List, [], ◌∷◌, ◌++◌, length, map, filter, Option, Some, None, ⊎_elim, refl, sym, ap, subst, ◌∙◌, append-nil, append_assoc, arith}
+use Rattle.std.proofs.Common.{◌≡◌, ℕ, ◌+◌, ◌<◌, ◌≤◌, ◌==◌, not, nat_lt, true, false, List, [], ◌∷◌, ◌++◌, length, filter, Option, Some, None, refl, sym, ap, subst, ◌∙◌, append-nil, append_assoc, arith}
 use Rattle.std.specs.List.{All}
 use Rattle.std.proofs.lemmas.Bool.{cond_both, eq-eqb, eqb-true, ne_eqb}
 use Rattle.std.proofs.lemmas.List.Elements.{All-append, All-cons, All-filter, All-head, All-map, All-nil, All-tail, All-weaker}
 use Rattle.any_log.specs.Whole.{AnyWhole, whole, rebuilt, beaten, polled as any_polled, position_in, received, rejoined}
 use Rattle.any_log.proofs.StillLemmas.{IsStill}
-use Rattle.channel_uri.specs.declared.address.Address.{Address}
 use Rattle.driver_core.specs.Change.{Change}
 use Rattle.driver_core.specs.declared.event.Event.{Event}
 use Rattle.driver_core.specs.declared.event.Event.TheVariants.{Attach, Command, Reload, Setup as SetUp, Tick}
@@ -16,7 +15,7 @@ use Rattle.driver_core.specs.declared.settings.Settings.{Settings}
 use Rattle.driver_core.specs.Attaching.{attached}
 use Rattle.driver_core.specs.Closing.{close, keep_alive}
 use Rattle.driver_core.specs.Commands.{at_request, heard}
-use Rattle.driver_core.specs.Conduct.{conduct, drafted, state_after}
+use Rattle.driver_core.specs.Conduct.{conduct, drafted}
 use Rattle.driver_core.specs.Counting.{counted, uncounted, valued}
 use Rattle.driver_core.specs.Directing.{directed, recalled}
 use Rattle.driver_core.specs.Draft.{Draft, answered as draft_answered, refused, replied, replied_opening, told}
@@ -32,13 +31,12 @@ use Rattle.driver_core.specs.SettingUp.{image_made}
 use Rattle.driver_core.specs.State.{State, at_moment, opened}
 use Rattle.driver_core.specs.Subscribing.{subscribed}
 use Rattle.driver_core.specs.Terminating.{terminated}
-use Rattle.driver_core.specs.Ticking.{late, tick, ticked}
-use Rattle.driver_core.specs.Leaving.{all_left}
+use Rattle.driver_core.specs.Ticking.{tick, ticked}
 use Rattle.driver_core.specs.Unpublishing.{unpublished}
 use Rattle.driver_core.specs.Unread.{dropping}
 use Rattle.driver_core.specs.Unsubscribing.{unsubscribed}
 use Rattle.driver_core.proofs.EventCases.{Cases, attach_cases, command_cases, reload_cases, set_up_cases}
-use Rattle.driver_laws.specs.FrameLaws.{FramesAreWhatWasPut, pad_for, padded_by, put_by, put_in}
+use Rattle.driver_laws.specs.FrameLaws.{FramesAreWhatWasPut, padded_by, put_by, put_in}
 use Rattle.driver_laws.specs.NumberLaws.{AreRising, Rises}
 use Rattle.driver_laws.proofs.LoggedLemmas.{found_in}
 use Rattle.driver_laws.proofs.NumberLemmas.{are_drawn, event_rises, opened_rises}
@@ -52,17 +50,17 @@ use Rattle.driver_steps.specs.Answers.{offered_as}
 use Rattle.driver_steps.specs.Ends.{RunEnd, Moved, begun, conducted, inputs_of, log_at, logs_after, moved_on, on_log, on_offered_by, opened_for, opening_end, rejoined_log, stays_open, with_log}
 use Rattle.driver_steps.specs.Idents.{begins_by, begins_of}
 use Rattle.driver_steps.specs.Laws.{put_into}
-use Rattle.driver_steps.specs.Moves.{Move, WholeLog, answered, given, offer_let, offer_move, offer_to, offer_under, poll_move, poll_under, taken}
+use Rattle.driver_steps.specs.Moves.{Move, WholeLog, answered, offer_move, offer_to, offer_under, poll_move, poll_under, taken}
 use Rattle.driver_steps.specs.Receiving.{beat_move, receive_move, unheard}
 use Rattle.driver_steps.specs.Recovery.{recovering}
 use Rattle.driver_steps.specs.Runs.{Reading, AreAnswers, IsAnswerTo, end_of, left_by, moved_to, read_by}
 use Rattle.driver_steps.specs.Seen.{moved_seen}
 use Rattle.driver_steps.specs.Sending.{send_move}
 use Rattle.driver_steps.proofs.EndLemmas.{log_keeps_registry}
-use Rattle.driver_steps.proofs.DecisionLemmas.{left_by as moved_left, stays_left}
+use Rattle.driver_steps.proofs.DecisionLemmas.{stays_left}
 use Rattle.driver_steps.proofs.LiveLemmas.{IsFound, found_log, is_allowed, log_keeps, step_either}
 use Rattle.driver_steps.proofs.PacketLemmas.{packet_cases}
-use Rattle.driver_steps.proofs.QuietLemmas.{IsQuiet, report_cases, send_quiet, still_holds}
+use Rattle.driver_steps.proofs.QuietLemmas.{IsQuiet, report_cases, send_quiet}
 use Rattle.driver_steps.proofs.ReadLemmas.{holds_by}
 use Rattle.frame_codec.specs.declared.header.TermPlace.{TermPlace}
 use Rattle.frame_codec.specs.Datagram.{packet_of}

@@ -22,6 +22,8 @@ pub mod GrantOnlyLemmas
 pub mod ImageLemmas
 pub mod ImageTellingLemmas
 pub mod KeepingLemmas
+pub mod LearningLemmas
+pub mod LearntRowLemmas
 pub mod LeavingLemmas
 pub mod LeftLemmas
 pub mod LimitLemmas
@@ -31,6 +33,7 @@ pub mod NamedLemmas
 pub mod NewLogLemmas
 pub mod NewNumberLemmas
 pub mod NumberLemmas
+pub mod OlderJoinLemmas
 pub mod OlderLemmas
 pub mod OlderLookLemmas
 pub mod OlderNakLemmas

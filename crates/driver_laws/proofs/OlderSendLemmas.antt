@@ -1,5 +1,5 @@
 -- Turns of the sender by any registry of a run.
-use Rattle.std.proofs.Common.{◌≡◌, ℕ, ◌<◌, ◌==◌, Bool, true, cond, List, map, take, Option, Some, None, ⊎_elim, refl, sym, ap, ◌∙◌, arith}
+use Rattle.std.proofs.Common.{◌≡◌, ℕ, ◌<◌, ◌==◌, Bool, true, cond, List, take, Option, Some, None, ⊎_elim, refl, sym, ap, ◌∙◌, arith}
 use Rattle.std.proofs.lemmas.Bool.{and_parts, eqb-true}
 use Rattle.std.specs.Option.{is_some, option_map}
 use Rattle.any_log.specs.Held.{for_publication}
@@ -7,13 +7,12 @@ use Rattle.any_log.specs.Sending.{after_turn, turn_of}
 use Rattle.any_log.specs.Whole.{AnyWhole, whole, rebuilt, made_for as made_any}
 use Rattle.channel_uri.specs.declared.media.Media.{Media}
 use Rattle.channel_uri.specs.declared.media.Media.TheVariants.{Udp, Ipc, Counter}
-use Rattle.destinations.specs.Destinations.{of}
 use Rattle.driver_core.specs.declared.event.Event.{Event}
 use Rattle.driver_core.specs.declared.event.Inputs.{Inputs}
 use Rattle.driver_core.specs.declared.send_request.Outlet.{Outlet}
 use Rattle.driver_core.specs.declared.settings.Settings.{Settings}
 use Rattle.driver_core.specs.Renewal.{source_at}
-use Rattle.driver_core.specs.SendRequests.{is_sent, lingers_by, outlet_of, outlets_by, outlets_of, sending_of}
+use Rattle.driver_core.specs.SendRequests.{is_sent, lingers_by, outlets_by, outlets_of, sending_of}
 use Rattle.driver_core.specs.State.{State}
 use Rattle.driver_core.proofs.VerdictLemmas.{by_policy}
 use Rattle.driver_laws.specs.NumberLaws.{AreRising, ComesAbove}

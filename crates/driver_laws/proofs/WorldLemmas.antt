@@ -6,12 +6,13 @@ use Rattle.std.proofs.lemmas.Bool.Decides.{nat_tests}
 use Rattle.channel_uri.specs.declared.address.Address.{Address}
 use Rattle.driver_core.specs.declared.event.Event.{Event}
 use Rattle.driver_core.specs.declared.event.Inputs.{Inputs}
-use Rattle.driver_core.specs.declared.peer.Peer.{Peer}
-use Rattle.driver_core.specs.declared.settings.Settings.{Settings}
 use Rattle.driver_core.specs.Conduct.{state_of}
 use Rattle.driver_core.specs.State.{State, opened}
-use Rattle.driver_laws.specs.OlderLaws.{AtEachRegistry, LooksAreDecidedBy, NaksAreDecidedBy, OffersAreDecidedBy, PollsAreDecidedBy, SendsAreDecidedBy}
+use Rattle.driver_laws.specs.LearningLaws.{AddressesComeAndGoBy}
+use Rattle.driver_laws.specs.OlderLaws.{AtEachRegistry, JoinsAreDecidedBy, LooksAreDecidedBy, NaksAreDecidedBy, OffersAreDecidedBy, PollsAreDecidedBy, SendsAreDecidedBy}
 use Rattle.driver_laws.specs.WorldLaws.{AtEachRegistryOfAWorld, Conducts, GoesBy, IsBad, IsTheDrivers, RunsAreTheDriversOwn, StepsGoBy, StepsGoByTheirRegistry, WorldsAreGrantedExactly, WorldsAreServedFromTheLiveLog, answers_of, given_for, looks_by, named_in, newest_in, read_as, read_of, readings_of, registry_after, step_meant}
+use Rattle.driver_laws.proofs.LearningLemmas.{addresses_come_and_go}
+use Rattle.driver_laws.proofs.OlderJoinLemmas.{joins_by_any}
 use Rattle.driver_laws.proofs.OlderLookLemmas.{looks_by_any}
 use Rattle.driver_laws.proofs.OlderLemmas.{offers_by_any, polls_by_any}
 use Rattle.driver_laws.proofs.OlderNakLemmas.{naks_by_any}
@@ -38,7 +39,6 @@ use Rattle.driver_world.proofs.RunLemmas.{Goes, IsNewest, goes_as, is_drivers_ru
 use Rattle.frame_codec.specs.declared.fault.BadPacket.{BadPacket}
 use Rattle.frame_codec.specs.Datagram.{Content, frames, beat, nak, status, setup, packet_of}
 use Rattle.log_pairs.specs.Polling.{Fetched}
-use Rattle.policy_core.specs.RuleList.{Rules}
 
 -- ---- the registry that is named
 
@@ -345,6 +345,8 @@ worlds_granted = record {
   offers = of_worlds OffersAreDecidedBy offers_by_any;
   polls = of_worlds PollsAreDecidedBy polls_by_any;
   sends = of_worlds SendsAreDecidedBy sends_by_any;
+  joins = of_worlds JoinsAreDecidedBy joins_by_any;
+  joins_only = of_worlds AddressesComeAndGoBy addresses_come_and_go;
   naks = of_worlds NaksAreDecidedBy naks_by_any;
   looks = of_worlds LooksAreDecidedBy looks_by_any;
 }

@@ -10,10 +10,11 @@ use Rattle.driver_laws.specs.DestinationLaws.{DestinationsAreGrantedExactly, Des
 use Rattle.driver_laws.specs.FrameLaws.{FramesAreWhatWasPut}
 use Rattle.driver_laws.specs.GrantLaws.{CountersAndTerminationsAreGrantedOnly, CountersAreGrantedExactly, TerminationsAreGrantedExactly}
 use Rattle.driver_laws.specs.ImageLaws.{ImagesAreGrantedExactly}
+use Rattle.driver_laws.specs.LearningLaws.{AddressesComeAndGoOnlySo}
 use Rattle.driver_laws.specs.ListingLaws.{CountersAreShownExactly}
 use Rattle.driver_laws.specs.NewLogLaws.{NewLogsAreEmpty}
 use Rattle.driver_laws.specs.NumberLaws.{NumbersAreNeverDrawnAgain}
-use Rattle.driver_laws.specs.OlderLaws.{LooksByAnyRegistryAreShownExactly, NaksByAnyRegistryAreGrantedExactly, OffersByAnyRegistryAreGrantedExactly, PollsByAnyRegistryAreGrantedExactly, SendsByAnyRegistryAreGrantedExactly}
+use Rattle.driver_laws.specs.OlderLaws.{JoinsByAnyRegistryAreGrantedExactly, LooksByAnyRegistryAreShownExactly, NaksByAnyRegistryAreGrantedExactly, OffersByAnyRegistryAreGrantedExactly, PollsByAnyRegistryAreGrantedExactly, SendsByAnyRegistryAreGrantedExactly}
 use Rattle.driver_laws.specs.PublishingLaws.{ImagesComeBySetups, PublicationsAreGrantedExactly, PublicationsAreGrantedOnly}
 use Rattle.driver_laws.specs.ReloadLaws.{NewestPolicyIsInForce, ReloadsCloseExactly as ReloadedExactly}
 use Rattle.driver_laws.specs.SettingLaws.{SetupsAreGrantedExactly}
@@ -40,8 +41,7 @@ pub record HoldOfWorlds : Type 0 where
   pub steps : StepsGoByTheirRegistry
 
 -- What is asked by a step, not by an event: a look at a counter, an offer, a poll, a datagram to a destination, a status message by
--- which an address becomes one, a NAK. Each law says
--- when it is granted, and by which verdict it is denied.
+-- which an address becomes one, a NAK. Each law says when it is granted, and by which verdict it is denied.
 pub record StepsAreDecided : Type 0 where
   pub shown : CountersAreShownExactly
   pub shown_by_any : LooksByAnyRegistryAreShownExactly
@@ -52,6 +52,8 @@ pub record StepsAreDecided : Type 0 where
   pub sends : SendsAreGrantedExactly
   pub sends_by_any : SendsByAnyRegistryAreGrantedExactly
   pub joins : AddressesAreLearntExactly
+  pub joins_by_any : JoinsByAnyRegistryAreGrantedExactly
+  pub joins_only : AddressesComeAndGoOnlySo
   pub resends : ResendsComeFromTheLiveLog
   pub resends_by_any : NaksByAnyRegistryAreGrantedExactly
 

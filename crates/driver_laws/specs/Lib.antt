@@ -13,6 +13,7 @@ pub mod GrantLaws
 pub mod Headline
 pub mod ImageLaws
 pub mod ImageTellingLaws
+pub mod LearningLaws
 pub mod LeavingLaws
 pub mod LimitLaws
 pub mod ListingLaws

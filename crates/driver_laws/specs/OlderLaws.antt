@@ -1,5 +1,5 @@
--- Offers, polls, turns of the sender, NAKs and looks at counters by any registry that a run went through, on the logs that are
--- open at its end. Own rules.
+-- Offers, polls, turns of the sender, status messages, NAKs and looks at counters by any registry that a run went through, on the
+-- logs that are open at its end. Own rules.
 use Rattle.any_log.specs.Asking.{reply_by}
 use Rattle.channel_uri.specs.declared.address.Address.{Address}
 use Rattle.destinations.specs.declared.destination.Destination.{Destination}
@@ -9,7 +9,7 @@ use Rattle.driver_core.specs.SendRequests.{is_sent, learnt_outlet, outlet_of, se
 use Rattle.learnt_addresses.specs.declared.learnt_address.LearntAddress.{LearntAddress}
 use Rattle.stream_registry.specs.Places.{is_dynamic}
 use Rattle.driver_laws.specs.ListingLaws.{LooksExactly}
-use Rattle.driver_laws.specs.StepActs.{LearntIsDecidedBy, OutletIsDecidedBy, offer_question, offer_verdict, poll_question, poll_verdict, resend_question, resend_verdict}
+use Rattle.driver_laws.specs.StepActs.{LearntIsDecidedBy, OutletIsDecidedBy, join_question, join_verdict, offer_question, offer_verdict, poll_question, poll_verdict, resend_question, resend_verdict}
 use Rattle.driver_steps.specs.Sending.{expired, pace_of, standing_of}
 use Rattle.publication_sender.specs.Cutting.{cut_of, datagram_of}
 use Rattle.stream_registry.specs.declared.row.Source.{Source}
@@ -33,16 +33,20 @@ use Rattle.driver_steps.specs.declared.step.Step.TheVariants.{List as Lists, Off
 use Rattle.driver_steps.specs.Answers.{answer_listed, answer_shown}
 use Rattle.driver_steps.specs.Ends.{RunEnd, Moved, log_at, opening_end, with_log}
 use Rattle.driver_steps.specs.Laws.{AsksToOffer, AsksToPoll, OfferRequest, PollRequest, given_by_log, stays, taken_by_log, taken_from}
-use Rattle.driver_steps.specs.Moves.{WholeLog}
+use Rattle.driver_steps.specs.JoinLaws.{moved_by_log}
+use Rattle.driver_steps.specs.Moves.{WholeLog, answered}
 use Rattle.driver_steps.specs.Runs.{Reading, AreAnswers, end_of}
 use Rattle.driver_steps.specs.Seen.{moved_seen}
 use Rattle.driver_core.specs.declared.image_request.Astray.TheVariants.{NoStream}
 use Rattle.driver_core.specs.PublicationRequests.{publication_at}
-use Rattle.driver_steps.specs.declared.cause.Cause.TheVariants.{Astray, Denied as DeniedFor}
-use Rattle.driver_steps.specs.Hearing.{answer_asked}
+use Rattle.driver_steps.specs.declared.cause.Cause.TheVariants.{Astray, Denied as DeniedFor, Full as IsFull}
+use Rattle.driver_steps.specs.Hearing.{answer_asked, heard_move, with_learnt}
 use Rattle.driver_steps.specs.Receiving.{unheard}
 use Rattle.frame_codec.specs.declared.nak.Nak.{Nak}
-use Rattle.frame_codec.specs.Datagram.{nak, packet_of}
+use Rattle.frame_codec.specs.declared.status_message.StatusMessage.{StatusMessage}
+use Rattle.frame_codec.specs.Datagram.{nak, status, packet_of}
+use Rattle.learnt_addresses.specs.declared.learning.Learning.TheVariants.{Full}
+use Rattle.learnt_addresses.specs.LearntAddresses.{forgotten, learning, learnt}
 use Rattle.policy_core.specs.RuleList.{Rules}
 use Rattle.publication_sender.specs.Resending.{asking_in, gate_after}
 use Rattle.retransmit_gate.specs.ResendLaws.{answer_to}
@@ -144,8 +148,9 @@ idle_by_log_seen s e now log = record {
   answer = Idle;
 }
 
--- the datagram that is due, for each destination that the publication has by that registry, by its policy, or for each address
--- that the log has learnt
+-- The datagram that is due, for each destination that the publication has by that registry, in the order in which they were named,
+-- or for each address that the log has learnt and that is not past that registry's timeout, in the order in which they were
+-- learnt; and for each of these what that registry's policy says.
 pub record SendIsDecidedBy (s : State) (e : RunEnd) (now : ℕ) (publication : Source) (log : WholeLog) (frames : Whole) (what : Moved) : Type 0 where
   pub outlets : List Outlet
   pub named :
@@ -175,6 +180,50 @@ pub record SendsAreDecidedBy (s : State) (e : RunEnd) : Type 0 where
 
 abbrev pub SendsByAnyRegistryAreGrantedExactly : Type 0
 SendsByAnyRegistryAreGrantedExactly = AtEachRegistry SendsAreDecidedBy
+
+-- ---- a status message
+
+-- The verdict of that registry's policy on the address from which it came decides: denied, the address is forgotten; allowed, where
+-- there is no room for it nothing is changed, and else it is learnt, or heard of again, and then the log hears the message.
+pub record JoinIsDecidedBy (s : State) (e : RunEnd) (now : ℕ) (from : Address) (fields : StatusMessage) (publication : Source)
+    (log : WholeLog) (what : Moved) : Type 0 where
+  pub by : IsByPolicy s (join_question s from publication) (join_verdict s from publication)
+  pub denied :
+      (join_verdict s from publication).allow ≡ false →
+      what
+      ≡ moved_by_log e log
+      (answered (with_learnt (forgotten from log.recovery.learnt) log) (Dropped (DeniedFor (join_verdict s from publication))))
+  pub full :
+      (join_verdict s from publication).allow ≡ true → learning log.recovery.learnt from ≡ Full →
+      what ≡ stays e (Dropped IsFull)
+  pub joined :
+      (join_verdict s from publication).allow ≡ true → ¬ (learning log.recovery.learnt from ≡ Full) →
+      what ≡ moved_by_log e log (heard_move now fields (with_learnt (learnt now from log.recovery.learnt) log))
+
+-- of the publication that has the message's session and stream in that registry; where its destinations are named, the log
+-- hears the message, and no policy is asked
+pub record JoinsAreDecidedBy (s : State) (e : RunEnd) : Type 0 where
+  pub there :
+      (now : ℕ) (local from : Address) (bytes : List ℕ) (fields : StatusMessage) (publication : Source) (log : WholeLog) →
+      packet_of bytes ≡ Ok (status fields) → publication_at s fields.session_id fields.stream_id ≡ Some publication →
+      is_dynamic publication.channel ≡ true → log_at e.logs publication.number ≡ Some log →
+      JoinIsDecidedBy s e now from fields publication log (moved_seen s e (Packet now local from bytes))
+  pub named :
+      (now : ℕ) (local from : Address) (bytes : List ℕ) (fields : StatusMessage) (publication : Source) (log : WholeLog) →
+      packet_of bytes ≡ Ok (status fields) → publication_at s fields.session_id fields.stream_id ≡ Some publication →
+      is_dynamic publication.channel ≡ false → log_at e.logs publication.number ≡ Some log →
+      moved_seen s e (Packet now local from bytes) ≡ moved_by_log e log (heard_move now fields log)
+  pub closed :
+      (now : ℕ) (local from : Address) (bytes : List ℕ) (fields : StatusMessage) (publication : Source) →
+      packet_of bytes ≡ Ok (status fields) → publication_at s fields.session_id fields.stream_id ≡ Some publication →
+      log_at e.logs publication.number ≡ None → moved_seen s e (Packet now local from bytes) ≡ stays e unheard
+  pub nobody :
+      (now : ℕ) (local from : Address) (bytes : List ℕ) (fields : StatusMessage) →
+      packet_of bytes ≡ Ok (status fields) → publication_at s fields.session_id fields.stream_id ≡ None →
+      moved_seen s e (Packet now local from bytes) ≡ stays e (Dropped (Astray NoStream))
+
+abbrev pub JoinsByAnyRegistryAreGrantedExactly : Type 0
+JoinsByAnyRegistryAreGrantedExactly = AtEachRegistry JoinsAreDecidedBy
 
 -- ---- a NAK
 

@@ -1,11 +1,11 @@
--- What the table of acts says of steps on one log: an offer, a poll, a datagram to a destination, a NAK. Own rules.
+-- What the table of acts says of steps on one log: an offer, a poll, a datagram to a destination, a status message, a NAK. Own rules.
 use Rattle.std.specs.Prelude.{◌≡◌}
 use Rattle.channel_uri.specs.declared.address.Address.{Address}
 use Rattle.destinations.specs.declared.destination.Destination.{Destination}
 use Rattle.driver_core.specs.declared.send_request.Outlet.{Outlet}
 use Rattle.driver_core.specs.State.{State}
 use Rattle.driver_core.specs.Verdicts.{IsByPolicy, verdict_on}
-use Rattle.driver_laws.specs.Acts.{asked, datagram, learnt_datagram, offer, poll, resend}
+use Rattle.driver_laws.specs.Acts.{asked, datagram, join, learnt_datagram, offer, poll, resend}
 use Rattle.learnt_addresses.specs.declared.learnt_address.LearntAddress.{LearntAddress}
 use Rattle.driver_steps.specs.Laws.{OfferRequest, PollRequest}
 use Rattle.policy_core.specs.declared.verdict.Verdict.{Verdict}
@@ -25,6 +25,12 @@ abbrev pub poll_verdict : State → PollRequest → Verdict
 poll_verdict s request = verdict_on s (poll_question request)
 
 -- by that registry's principals of addresses
+abbrev pub join_question : State → Address → Source → Question
+join_question s from publication = asked (join s.peers from publication)
+
+abbrev pub join_verdict : State → Address → Source → Verdict
+join_verdict s from publication = verdict_on s (join_question s from publication)
+
 abbrev pub resend_question : State → Address → Source → Question
 resend_question s from publication = asked (resend s.peers from publication)
 

@@ -1,14 +1,13 @@
 -- What a world does, by what its driver does: each step goes by the registry of the number that it names, and whatever is said
 -- of the registries and the logs of all runs of a driver holds of worlds. Own rules.
-use Rattle.std.specs.Prelude.{◌≡◌, ℕ, ◌+◌, ◌<◌, ◌≤◌, max, List, [], ◌∷◌, ◌++◌, length, take, Option, Some, None, ◌⊎◌, if◌then◌else◌}
-use Rattle.driver_core.specs.declared.event.Event.{Event}
-use Rattle.driver_core.specs.declared.event.Inputs.{Inputs}
+use Rattle.std.specs.Prelude.{◌≡◌, ℕ, ◌<◌, ◌≤◌, List, [], ◌∷◌, ◌++◌, length, take, Option, Some, None, if◌then◌else◌}
 use Rattle.driver_core.specs.declared.peer.Peer.{Peer}
 use Rattle.driver_core.specs.declared.settings.Settings.{Settings}
 use Rattle.driver_core.specs.Conduct.{state_of}
 use Rattle.driver_core.specs.Soundness.{AreSettings}
 use Rattle.driver_core.specs.State.{State, opened}
-use Rattle.driver_laws.specs.OlderLaws.{LooksAreDecidedBy, NaksAreDecidedBy, OffersAreDecidedBy, PollsAreDecidedBy, SendsAreDecidedBy}
+use Rattle.driver_laws.specs.LearningLaws.{AddressesComeAndGoBy}
+use Rattle.driver_laws.specs.OlderLaws.{JoinsAreDecidedBy, LooksAreDecidedBy, NaksAreDecidedBy, OffersAreDecidedBy, PollsAreDecidedBy, SendsAreDecidedBy}
 use Rattle.driver_steps.specs.declared.answer.Answer.{Answer}
 use Rattle.driver_steps.specs.declared.answer.Answer.TheVariants.{BadStep, Polled}
 use Rattle.driver_steps.specs.declared.step.Step.{Step}
@@ -163,12 +162,14 @@ AtEachRegistryOfAWorld P =
     P (registry_after (end_of (opening_end settings policy peers) readings answers).past k)
     (end_of (opening_end settings policy peers) readings answers).driver
 
--- Offers, polls, turns of the sender, NAKs and looks at counters, by any registry of a world's run: as its policy says, and on
--- the logs as they stand at the end of that run.
+-- Offers, polls, turns of the sender, status messages, NAKs and looks at counters, by any registry of a world's run: as its policy
+-- says, and on the logs as they stand at the end of that run. Learnt addresses come and go only so.
 pub record WorldsAreGrantedExactly : Type 0 where
   pub offers : AtEachRegistryOfAWorld OffersAreDecidedBy
   pub polls : AtEachRegistryOfAWorld PollsAreDecidedBy
   pub sends : AtEachRegistryOfAWorld SendsAreDecidedBy
+  pub joins : AtEachRegistryOfAWorld JoinsAreDecidedBy
+  pub joins_only : AtEachRegistryOfAWorld AddressesComeAndGoBy
   pub naks : AtEachRegistryOfAWorld NaksAreDecidedBy
   pub looks : AtEachRegistryOfAWorld LooksAreDecidedBy
 

@@ -4,8 +4,9 @@
 
 ghost use Rattle.driver_laws.specs.DatagramLaws.{DatagramsCarryTheLogsFrames};
 ghost use Rattle.driver_laws.specs.FrameLaws.{FramesAreWhatWasPut};
+ghost use Rattle.driver_laws.specs.LearningLaws.{AddressesComeAndGoOnlySo};
 ghost use Rattle.driver_laws.specs.NewLogLaws.{NewLogsAreEmpty};
-ghost use Rattle.driver_laws.specs.OlderLaws.{LooksByAnyRegistryAreShownExactly, NaksByAnyRegistryAreGrantedExactly, OffersByAnyRegistryAreGrantedExactly, PollsByAnyRegistryAreGrantedExactly, SendsByAnyRegistryAreGrantedExactly};
+ghost use Rattle.driver_laws.specs.OlderLaws.{JoinsByAnyRegistryAreGrantedExactly, LooksByAnyRegistryAreShownExactly, NaksByAnyRegistryAreGrantedExactly, OffersByAnyRegistryAreGrantedExactly, PollsByAnyRegistryAreGrantedExactly, SendsByAnyRegistryAreGrantedExactly};
 ghost use Rattle.driver_laws.specs.Headline.{BytesComeOnlyFromTheLiveLog, DenialsNameTheirRule, GrantedExactly, HoldOfWorlds, ReloadsCloseExactly, StepsAreDecided};
 
 use crate::acts::rules_ask_as_listed;
@@ -33,9 +34,9 @@ use driver_world::{registries_were_newest, runs_are_of_the_driver};
 
 /// A well-formed request is granted only and exactly where the first matching rule of the policy in force at its step, or
 /// else the default, allows its principal: a subscription, a publication, a destination, a counter, the end of the driver, an
-/// image, an offer, a poll, a datagram to a destination, frames that are sent again, a look at a counter. The laws on offers,
-/// polls, datagrams, frames that are sent again and looks are on steps by any registry that the run went through. Destinations
-/// and clients come only so.
+/// image, an offer, a poll, a datagram to a destination, an address that a status message makes one, frames that are sent again, a
+/// look at a counter. The laws on offers, polls, datagrams, such addresses, frames that are sent again and looks are on steps by
+/// any registry that the run went through. Destinations, such addresses and clients come only so.
 pub fn granted_exactly()
     ensures { GrantedExactly }
 {
@@ -86,6 +87,8 @@ pub fn steps_are_decided()
     sends_are_granted_exactly();
     sends_by_any_registry_are_granted_exactly();
     addresses_are_learnt_exactly();
+    joins_by_any_registry_are_granted_exactly();
+    addresses_come_and_go_only_so();
     resends_come_from_the_live_log();
     naks_by_any_registry_are_granted_exactly();
 }
@@ -108,9 +111,25 @@ pub fn polls_by_any_registry_are_granted_exactly()
 /// A turn of the sender by any registry that the run went through cuts the one datagram that is due of the publication's log,
 /// where that is still open, and reports it for each destination that the publication has by that registry, with the verdict of
 /// that registry's policy on its maker; or, where the publication learns its destinations, for each address that its log has
-/// learnt and that is not past that registry's timeout, with the verdict on the principal that is bound to it.
+/// learnt and that is not past that registry's timeout, in the order in which they were learnt, with the verdict on the principal
+/// that is bound to it.
 pub fn sends_by_any_registry_are_granted_exactly()
     ensures { SendsByAnyRegistryAreGrantedExactly }
+{}
+
+/// A status message by any registry that the run went through, for the publication that has its session and stream there and learns
+/// its destinations, where its log is still open, makes the address from which it came one of them exactly where the first rule of
+/// that registry's policy that matches, or the default, allows the principal there to join; else that address is forgotten, and the
+/// verdict is answered. At a 33rd address nothing changes. Where destinations are named, no policy is asked.
+pub fn joins_by_any_registry_are_granted_exactly()
+    ensures { JoinsByAnyRegistryAreGrantedExactly }
+{}
+
+/// Whichever step it is, by any registry that the run went through: an address that a log has learnt after it, and had not before,
+/// came by such a status message of its publication that is allowed, at that moment. One that it has learnt no more went by one that
+/// is denied, past that registry's timeout in a turn of the sender with that log, or with the log.
+pub fn addresses_come_and_go_only_so()
+    ensures { AddressesComeAndGoOnlySo }
 {}
 
 /// A NAK by any registry that the run went through goes on to the gate of the log of the publication that has its session and

@@ -18,8 +18,9 @@ pub fn runs_are_the_drivers_own()
     ensures { RunsAreTheDriversOwn }
 {}
 
-/// Offers, polls, turns of the sender, NAKs and looks at counters by any registry of a world's run are granted exactly where that
-/// registry's policy allows them, on the logs as they stand at the end of that run.
+/// Offers, polls, turns of the sender, status messages by which an address becomes a destination, NAKs and looks at counters by any
+/// registry of a world's run are granted exactly where that registry's policy allows them, on the logs as they stand at the end of
+/// that run. Such addresses come and go only so.
 pub fn worlds_are_granted_exactly()
     ensures { WorldsAreGrantedExactly }
 {}

@@ -128,7 +128,7 @@ fn others_are_so(alloc: Global) -> bool {
     written & Channel::counter().place().is_none()
 }
 
-static ROWS: [Row; 22] = [
+static ROWS: [Row; 24] = [
     (TWICE, Case::Text("aeron-spy:aeron:udp?a=2|b=x=y|c="), true),
     (TWICE, Case::Text("aeron-spy:aeron:udp?a=1|b=x=y|c="), false),
     (

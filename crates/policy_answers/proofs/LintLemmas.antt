@@ -12,7 +12,7 @@ clean_is_policy (Ok policy) report strict refused clean = refl
 clean_is_policy (Err fault) report strict refused clean =
     let some : 0 < length report.faults.items = refused fault refl in
     let none : length report.faults.items ≡ 0 =
-    eqb-true _ 0 (and_parts (length report.faults.items == 0) (not strict || (length report.hidden.items == 0) && (length report.warnings.items == 0)) clean).0 in
+    eqb-true _ 0 (and_parts (length report.faults.items == 0) (not strict || (length report.hidden.items == 0) && (length report.unmet.items == 0) && (length report.warnings.items == 0)) clean).0 in
     absurd (omega arith)
 
 pub policy_is_clean : (read : Result Rules PolicyFault) (report : Report) (strict : Bool) → ((policy : Rules) → read ≡ Ok policy → IsOf policy report) →

@@ -1,5 +1,5 @@
 -- Rules that hide another one take each request from it.
-use Rattle.std.proofs.Common.{◌≡◌, ℕ, ◌+◌, ◌<◌, Bool, true, false, ◌&&◌, List, Some, None, ℤ, ◌≤ℤ◌, ◌<ℤ◌, ap, ◌∙◌, sym, subst, length, get_or, slice_get, position, arith, ⊎_elim, true≢false, refl}
+use Rattle.std.proofs.Common.{◌≡◌, ℕ, ◌+◌, ◌<◌, true, ◌&&◌, List, Some, None, ℤ, ◌≤ℤ◌, ap, ◌∙◌, sym, subst, get_or, slice_get, position, arith, ⊎_elim, true≢false, refl}
 use Rattle.std.specs.Prelude.{int_le}
 use Rattle.std.specs.List.{position_or_len}
 use Rattle.std.proofs.lemmas.Bool.{and_from, and_parts, cases_lt, cond-true, cond-false, lt-ltb, le-ltb}

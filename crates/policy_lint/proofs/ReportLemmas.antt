@@ -1,5 +1,5 @@
 -- What is reported of the policy that was read.
-use Rattle.std.proofs.Common.{◌≡◌, ◌+◌, ◌∙◌, sym, subst, List, [], Result, Ok}
+use Rattle.std.proofs.Common.{◌≡◌, ◌+◌, subst, List, Result, Ok}
 use Rattle.std.specs.List.{All}
 use Rattle.std.specs.Result.{IfOk}
 use Rattle.std.specs.declared.alloc.AllocError.{AllocError}

@@ -1,5 +1,5 @@
 -- When a rule of a policy never decides, since rules before it take each request from it.
-use Rattle.std.specs.Prelude.{◌≡◌, ◌≢◌, ℕ, ◌+◌, ◌<◌, true, ℤ, ◌≤ℤ◌, ◌<ℤ◌, List, Option, Some, slice_get}
+use Rattle.std.specs.Prelude.{◌≡◌, ◌≢◌, ℕ, ◌<◌, true, ℤ, ◌≤ℤ◌, List, Some, slice_get}
 use Rattle.policy_core.specs.declared.act.Act.{Act}
 use Rattle.policy_core.specs.declared.rule.Rule.{Rule}
 use Rattle.policy_core.specs.Acts.{holds}

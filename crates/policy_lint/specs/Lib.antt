@@ -1,3 +1,4 @@
 pub mod Held
 pub mod Hiding
+pub mod Nobody
 pub mod Report

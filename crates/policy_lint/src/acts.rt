@@ -1,5 +1,6 @@
 use channel_uri::{Media, Pattern};
 use policy_core::{Act, Rule};
+use policy_tools::value_wider;
 
 /// What a rule's pattern says of the channels that it covers.
 #[derive(Clone, Copy)]
@@ -8,6 +9,8 @@ pub(crate) struct Shape {
     pub media: Option<Media>,
     /// Whether they have to have a key.
     pub has_keys: bool,
+    /// Whether one of them may have `control-mode=dynamic`.
+    pub may_learn: bool,
 }
 
 /// What the pattern of that text says.
@@ -19,6 +22,18 @@ pub(crate) fn shape_of(text: &str, pattern: &Pattern) -> Shape {
     Shape {
         media,
         has_keys: text.contains('?'),
+        may_learn: may_learn(pattern),
+    }
+}
+
+/// Whether the pattern admits `control-mode=dynamic`.
+fn may_learn(pattern: &Pattern) -> bool {
+    match pattern {
+        Pattern::Any => true,
+        Pattern::Of(_, keys) => match keys.get("control-mode") {
+            Some(wanted) => value_wider(wanted, "dynamic"),
+            None => true,
+        },
     }
 }
 
@@ -64,6 +79,15 @@ fn not_sent(shape: Shape) -> Option<&'static str> {
     }
 }
 
+/// Why nobody becomes a destination there.
+fn not_joined(shape: Shape) -> Option<&'static str> {
+    match not_sent(shape) {
+        Some(why) => Some(why),
+        None if shape.may_learn => None,
+        None => Some("it is asked on channels with control-mode=dynamic"),
+    }
+}
+
 /// Why there are no messages there.
 fn not_streamed(shape: Shape) -> Option<&'static str> {
     match shape.media {
@@ -78,7 +102,8 @@ pub(crate) fn why_never(act: Act, shape: Shape, low: i32, high: i32) -> Option<&
         Act::Counter => not_counter(shape),
         Act::List => not_listed(shape),
         Act::Terminate => not_terminated(shape, low, high),
-        Act::Spy | Act::Destination | Act::Send | Act::Retransmit | Act::Join => not_sent(shape),
+        Act::Spy | Act::Destination | Act::Send | Act::Retransmit => not_sent(shape),
+        Act::Join => not_joined(shape),
         _ => not_streamed(shape),
     }
 }

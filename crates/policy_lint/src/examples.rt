@@ -1,5 +1,8 @@
+ghost use Rattle.std.specs.Prelude.{◌<◌, length};
+
 use crate::pairs::pairs_in;
-use channel_uri::{Channel, Keys, Media, Pattern};
+use channel_uri::{Channel, Media, Pattern};
+use policy_tools::{Source, value_wider};
 use std::alloc::{AllocError, Global};
 
 /// What may stand after a beginning of an address so that it is one: where some address begins so, one of these does.
@@ -30,7 +33,11 @@ pub(crate) fn end_of(
     front: &str,
 ) -> Result<Option<&'static str>, AllocError> {
     if key == "control-mode" {
-        return Ok("manual".strip_prefix(front));
+        return Ok(
+            "manual"
+                .strip_prefix(front)
+                .or("dynamic".strip_prefix(front)),
+        );
     }
     for end in ENDS {
         let value = format!(in alloc; "{front}{end}")?;
@@ -55,46 +62,149 @@ fn push_pair(alloc: Global, text: &mut String, key: &str, wanted: &str) -> Resul
     text.push_str(format!(in alloc; "{mark}{key}={front}{end}")?.as_str())
 }
 
-/// Appends a pair for each key of the pattern of that text.
-fn push_pairs(
+/// A pattern with its text.
+#[derive(Clone, Copy)]
+pub(crate) struct Spoken<'a> {
+    pub text: &'a str,
+    pub pattern: &'a Pattern,
+}
+
+impl<'a> Spoken<'a> {
+    /// What a channel has to have at a key.
+    fn wanted(&self, key: &str) -> Option<&'a str> {
+        match self.pattern {
+            Pattern::Any => None,
+            Pattern::Of(_, keys) => keys.get(key),
+        }
+    }
+
+    /// Whether the pattern may cover channels over the medium.
+    fn is_over(&self, media: Media) -> bool {
+        match self.pattern {
+            Pattern::Any => true,
+            Pattern::Of(of, _) => *of == media,
+        }
+    }
+}
+
+/// The rule's pattern at a place, counted from 0.
+pub(crate) fn spoken_at(source: &Source, at: usize) -> Spoken<'_>
+    requires { at < length source.now.policy.rules }
+{
+    Spoken {
+        text: source.text(at),
+        pattern: &source.rules()[at].channel,
+    }
+}
+
+/// The narrowest of the values that the patterns want of a key. Where some channel has them all, it lies within the others.
+fn narrowest<'a>(patterns: &[Spoken<'a>], key: &str) -> Option<&'a str> {
+    let mut found: Option<&'a str> = None;
+    for spoken in patterns {
+        if let Some(value) = spoken.wanted(key) {
+            found = match found {
+                Some(wanted) if !value_wider(wanted, value) => Some(wanted),
+                _ => Some(value),
+            };
+        }
+    }
+    found
+}
+
+/// Appends a pair for each key of the pattern of that text that the patterns before it do not have, and that is not given.
+fn push_own(
     alloc: Global,
     text: &mut String,
-    pattern: &str,
-    keys: &Keys,
+    own: &str,
+    patterns: (&[Spoken<'_>], &[Spoken<'_>]),
+    given: &str,
 ) -> Result<(), AllocError> {
-    for piece in pairs_in(pattern).split('|') {
-        if let Some((key, _)) = piece.split_once('=') {
-            let wanted = keys.get(key).unwrap_or("");
-            push_pair(alloc, text, key, wanted)?;
+    let (all, before) = patterns;
+    for piece in pairs_in(own).split('|') {
+        if let Some((key, _)) = piece.split_once('=')
+            && key != given
+            && narrowest(before, key).is_none()
+        {
+            push_pair(alloc, text, key, narrowest(all, key).unwrap_or(""))?;
         }
     }
     Ok(())
 }
 
-/// A channel that the pattern covers, where one is found: over `media` where the pattern is of every one. Over udp it has
-/// an endpoint, or destinations that are named by hand.
-pub(crate) fn example(
-    alloc: Global,
-    text: &str,
-    pattern: &Pattern,
-    media: Media,
-) -> Result<Option<Channel>, AllocError> {
-    let word = media.name();
-    let mut made = format!(in alloc; "aeron:{word}")?;
-    if let Pattern::Of(of, keys) = pattern {
-        if *of != media {
-            return Ok(None);
-        }
-        push_pairs(alloc, &mut made, text, keys)?;
+/// What a publication's channel lacks, so that it says where its datagrams go.
+fn missing(channel: &Channel) -> Option<(&'static str, &'static str)> {
+    if channel.media() != Media::Udp || channel.is_manual() {
+        return None;
     }
-    if media == Media::Udp
-        && !made.as_str().contains("endpoint=")
-        && !made.as_str().contains("control-mode=")
-    {
-        push_pair(alloc, &mut made, "endpoint", "127.0.0.1:40123")?;
+    let (endpoint, control) = (channel.endpoint().is_some(), channel.control().is_some());
+    if channel.is_dynamic() {
+        return if control {
+            None
+        } else {
+            Some(("control", "127.0.0.1:40300"))
+        };
+    }
+    if endpoint {
+        return None;
+    }
+    if control {
+        return Some(("control-mode", "dynamic"));
+    }
+    Some(("endpoint", "127.0.0.1:40123"))
+}
+
+/// Whether each of the patterns covers the channel.
+fn are_covering(patterns: &[Spoken<'_>], channel: &Channel) -> bool {
+    for spoken in patterns {
+        if !spoken.pattern.covers(channel) {
+            return false;
+        }
+    }
+    true
+}
+
+/// A channel that goes on from a beginning of its text, and that all of the patterns cover, where one is found. Over udp it has
+/// an endpoint, destinations that are named by hand, or an address at which receivers make themselves known.
+fn example_from(
+    alloc: Global,
+    mut made: String,
+    patterns: &[Spoken<'_>],
+    given: &str,
+) -> Result<Option<Channel>, AllocError> {
+    for at in 0..patterns.len() {
+        let own = patterns[at].text;
+        push_own(alloc, &mut made, own, (patterns, &patterns[..at]), given)?;
+    }
+    let Ok(first) = Channel::parse(made.as_str()) else {
+        return Ok(None);
+    };
+    if let Some((key, value)) = missing(&first) {
+        push_pair(alloc, &mut made, key, value)?;
     }
     match Channel::parse(made.as_str()) {
-        Ok(channel) if pattern.covers(&channel) => Ok(Some(channel)),
+        Ok(channel) if are_covering(patterns, &channel) => Ok(Some(channel)),
         _ => Ok(None),
     }
+}
+
+/// A channel over `media` that the pattern covers, where one is found.
+pub(crate) fn example(
+    alloc: Global,
+    own: Spoken<'_>,
+    media: Media,
+) -> Result<Option<Channel>, AllocError> {
+    if !own.is_over(media) {
+        return Ok(None);
+    }
+    let word = media.name();
+    example_from(alloc, format!(in alloc; "aeron:{word}")?, &[own], "")
+}
+
+/// A channel on which a publication learns its destinations, and which all of the patterns cover, where one is found.
+pub(crate) fn learning_example(
+    alloc: Global,
+    patterns: &[Spoken<'_>],
+) -> Result<Option<Channel>, AllocError> {
+    let made = format!(in alloc; "aeron:udp?control-mode=dynamic")?;
+    example_from(alloc, made, patterns, "control-mode")
 }

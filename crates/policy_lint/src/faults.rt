@@ -267,7 +267,12 @@ impl Found {
         match part.value("rule") {
             None => Ok(()),
             Some(Value::Array(items)) => self.rules(alloc, part, items, names),
-            Some(_) => self.wrong(alloc, part, "rule", Cause::Wanted("an array of tables")),
+            Some(_) => self.wrong(
+                alloc,
+                part,
+                "rule",
+                Cause::Wanted("an array of tables, with `[[rule]]` before each"),
+            ),
         }
     }
 }

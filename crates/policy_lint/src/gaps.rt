@@ -1,150 +1,149 @@
-use crate::examples::example;
+ghost use Rattle.std.specs.Prelude.{◌<◌, length};
+
+use crate::asking::{Asked, asker, stream_in};
+use crate::examples::{Spoken, example, learning_example, spoken_at};
 use crate::warning::Gap;
 use byte_strings::Text;
 use channel_uri::{Channel, Media};
-use policy_core::{Act, Policy, Principals, Request, Rule, Verdict};
+use policy_core::{Act, Verdict};
 use policy_tools::Source;
 use std::alloc::{AllocError, Global};
 
 /// Acts that serve only with another one.
-const NEEDED: [(Act, Act); 8] = [
+const NEEDED: [(Act, Act); 9] = [
     (Act::Publish, Act::Offer),
     (Act::PublishExclusive, Act::Offer),
     (Act::Offer, Act::Send),
     (Act::Destination, Act::Send),
+    (Act::Join, Act::Send),
     (Act::Subscribe, Act::Image),
     (Act::Subscribe, Act::Receive),
     (Act::Spy, Act::Image),
     (Act::Spy, Act::Receive),
 ];
 
-/// Whether the first act needs the second one on such a channel. Datagrams are sent over udp; those to destinations that
-/// are named by hand are asked about by the destinations' own channels.
-fn is_needed(needed: Act, act: Act, channel: &Channel) -> bool {
-    if act == Act::Spy || needed == Act::Send {
-        return channel.media() == Media::Udp && !(act == Act::Offer && channel.is_manual());
+/// Whether the act needs the other one on such a channel. Datagrams are sent over udp. What is sent to a destination
+/// that is named by hand is asked about by that destination's own channel; what is sent to one that is learnt, by the principal
+/// that joined, not by the publisher.
+fn is_needed(act: Act, channel: &Channel) -> bool {
+    let is_udp = channel.media() == Media::Udp;
+    match act {
+        Act::Spy | Act::Destination => is_udp,
+        Act::Offer => is_udp && !channel.is_manual() && !channel.is_dynamic(),
+        Act::Join => is_udp && channel.is_dynamic(),
+        _ => true,
     }
-    true
 }
 
-/// The number of somebody of whom no rule speaks by name.
-fn other(rules: &[Rule]) -> Option<u32> {
-    let mut most: u32 = 0;
-    for rule in rules {
-        if let Principals::One(number) = rule.principals {
-            most = most.max(number);
+/// An act that a rule grants, one that has to be granted with it, and why that is not.
+type Missing = (Act, Act, Verdict);
+
+/// The act that the rule at this place grants, and for which `act` is granted, or would be needed: that act itself, or the one
+/// for which it is missing.
+fn root_of(asked: Asked<'_>, at: usize, missing: &[Missing], act: Act) -> Option<Act> {
+    if asked.is_granted_by(at, act) {
+        return Some(act);
+    }
+    for (root, needed, _verdict) in missing {
+        if *needed == act {
+            return Some(*root);
         }
     }
-    most.checked_add(1)
+    None
 }
 
-/// Who may ask by a rule.
-fn asker(rules: &[Rule], rule: &Rule) -> Option<u32> {
-    match rule.principals {
-        Principals::One(number) => Some(number),
-        Principals::Any => other(rules),
-    }
+/// Whether the act is known to be missing.
+fn is_missing(missing: &[Missing], act: Act) -> bool {
+    missing.iter().any(|gap| gap.1 == act)
 }
 
-/// A stream that the rule speaks of.
-fn stream_of(rule: &Rule) -> i32 {
-    if rule.low == i32::MIN && rule.high >= 1 {
-        return 1;
-    }
-    rule.low
-}
-
-/// A request of each act on a channel and a stream.
-#[derive(Clone, Copy)]
-struct Asked<'a> {
-    policy: &'a Policy,
-    /// The place of the rule, counted from 0.
-    at: usize,
-    principal: u32,
-    channel: &'a Channel,
-    stream: i32,
-}
-
-impl Asked<'_> {
-    fn verdict(&self, act: Act) -> Verdict {
-        let request = Request {
-            principal: self.principal,
-            act,
-            channel: self.channel,
-            stream: self.stream,
-        };
-        self.policy.verdict(1, &request)
-    }
-
-    /// Whether the rule itself grants the act.
-    fn grants(&self, act: Act) -> bool {
-        let verdict = self.verdict(act);
-        match verdict.rule {
-            Some(number) => verdict.allow && number as usize == self.at.saturating_add(1),
-            None => false,
-        }
-    }
-
-    /// The first act that the rule grants while one that it needs is not granted.
-    fn gap(&self) -> Option<(Act, Act, Verdict)> {
-        for (act, needed) in NEEDED {
-            if is_needed(needed, act, self.channel) && self.grants(act) {
-                let verdict = self.verdict(needed);
-                if !verdict.allow {
-                    return Some((act, needed, verdict));
-                }
+/// All that is missing for what the rule at this place grants, each act once.
+fn missing_at(alloc: Global, asked: Asked<'_>, at: usize) -> Result<Vec<Missing>, AllocError> {
+    let mut missing = Vec::new(alloc);
+    for (act, needed) in NEEDED {
+        if is_needed(act, asked.channel)
+            && !is_missing(missing.as_slice(), needed)
+            && let Some(root) = root_of(asked, at, missing.as_slice(), act)
+        {
+            let verdict = asked.verdict(needed);
+            if !verdict.allow {
+                missing.push((root, needed, verdict))?;
             }
         }
-        None
+    }
+    Ok(missing)
+}
+
+/// Channels on which a rule is tried.
+#[derive(Clone, Copy)]
+enum Among {
+    Udp,
+    Ipc,
+    /// Those on which publications learn their destinations.
+    Learning,
+}
+
+/// A channel of these that the pattern covers, where one is found.
+fn tried(alloc: Global, own: Spoken<'_>, among: Among) -> Result<Option<Channel>, AllocError> {
+    match among {
+        Among::Udp => example(alloc, own, Media::Udp),
+        Among::Ipc => example(alloc, own, Media::Ipc),
+        Among::Learning => learning_example(alloc, &[own]),
     }
 }
 
-/// What a rule that grants something leaves out on the channels of a medium.
-fn gap_over(
+/// What a rule that grants something leaves out on a channel. `name` is what the text calls its principal.
+fn gaps_on(
     alloc: Global,
     source: &Source,
     at: usize,
     name: &str,
-    media: Media,
-) -> Result<Option<Gap>, AllocError> {
-    let Some(rule) = source.rules().get(at) else {
-        return Ok(None);
-    };
+    channel: &Channel,
+) -> Result<Vec<Gap>, AllocError>
+    requires { at < length source.now.policy.rules }
+{
+    let rule = &source.rules()[at];
+    let mut gaps = Vec::new(alloc);
     let Some(principal) = asker(source.rules(), rule) else {
-        return Ok(None);
-    };
-    let Some(channel) = example(alloc, source.text(at), &rule.channel, media)? else {
-        return Ok(None);
+        return Ok(gaps);
     };
     let asked = Asked {
         policy: source.policy(),
-        at,
         principal,
-        channel: &channel,
-        stream: stream_of(rule),
+        channel,
+        stream: stream_in(rule.low, rule.high),
     };
-    let Some((act, needed, verdict)) = asked.gap() else {
-        return Ok(None);
-    };
-    Ok(Some(Gap {
-        principal: Text::new(alloc, name)?,
-        act,
-        needed,
-        channel: channel.canonical(alloc)?,
-        stream: asked.stream,
-        verdict,
-    }))
+    for (act, needed, verdict) in missing_at(alloc, asked, at)? {
+        gaps.push(Gap {
+            principal: Text::new(alloc, name)?,
+            act,
+            needed,
+            channel: channel.canonical(alloc)?,
+            stream: asked.stream,
+            verdict,
+        })?;
+    }
+    Ok(gaps)
 }
 
-/// What a rule that grants something leaves out. `name` is what the text calls its principal.
-pub(crate) fn gap_of(
+/// What a rule that grants something leaves out, on the first of the channels tried on which it leaves out anything. `name` is
+/// what the text calls its principal.
+pub(crate) fn gaps_of(
     alloc: Global,
     source: &Source,
     at: usize,
     name: &str,
-) -> Result<Option<Gap>, AllocError> {
-    match gap_over(alloc, source, at, name, Media::Udp)? {
-        Some(gap) => Ok(Some(gap)),
-        None => gap_over(alloc, source, at, name, Media::Ipc),
+) -> Result<Vec<Gap>, AllocError>
+    requires { at < length source.now.policy.rules }
+{
+    let own = spoken_at(source, at);
+    for among in [Among::Udp, Among::Ipc, Among::Learning] {
+        if let Some(channel) = tried(alloc, own, among)? {
+            let gaps = gaps_on(alloc, source, at, name, &channel)?;
+            if !gaps.is_empty() {
+                return Ok(gaps);
+            }
+        }
     }
+    Ok(Vec::new(alloc))
 }

@@ -2,8 +2,9 @@ use crate::examples::end_of;
 use crate::nearest::nearest;
 use crate::warning::Doubt;
 use byte_strings::Text;
-use channel_uri::{Channel, Key, Media, UriError};
+use channel_uri::{Channel, Key, Keys, Media, UriError};
 use policy_core::Rule;
+use policy_tools::value_wider;
 use std::alloc::{AllocError, Global};
 
 /// A key of a rule's pattern, with the value that a channel has to have.
@@ -12,6 +13,8 @@ pub(crate) struct Wanted<'a> {
     pub media: Media,
     pub key: &'a str,
     pub value: &'a str,
+    /// Whether the pattern speaks of channels that lead to their `control`.
+    pub by_control: bool,
 }
 
 /// Whether the text ends with a digit.
@@ -32,16 +35,26 @@ fn is_cut(key: Key, front: &str) -> bool {
     }
 }
 
-/// Whether a channel that does the same may leave the key out, or write its value otherwise. An endpoint has one text, and
-/// over ipc no key has an effect on where a channel leads.
-fn is_evaded(media: Media, key: Option<Key>) -> bool {
-    match key {
-        Some(Key::Endpoint | Key::ControlMode) => media == Media::Ipc,
-        _ => true,
+/// Whether a pattern of these keys speaks of channels that lead to their `control`: those of publications that learn their
+/// destinations.
+pub(crate) fn is_by_control(keys: &Keys) -> bool {
+    match keys.get("control-mode") {
+        Some(mode) => value_wider(mode, "dynamic") && !value_wider(mode, "manual"),
+        None => keys.get("endpoint").is_none(),
     }
 }
 
 impl Wanted<'_> {
+    /// Whether a channel that does the same may leave the key out, or write its value otherwise. An address has one text, and
+    /// over ipc no key has an effect on where a channel leads.
+    fn is_evaded(&self) -> bool {
+        match Key::from_text(self.key) {
+            Some(Key::Endpoint | Key::ControlMode) => self.media == Media::Ipc,
+            Some(Key::Control) => self.media == Media::Ipc || !self.by_control,
+            _ => true,
+        }
+    }
+
     /// Why no channel has exactly this value.
     fn fault(&self, alloc: Global) -> Result<Option<UriError>, AllocError> {
         let (key, value) = (self.key, self.value);
@@ -103,7 +116,7 @@ impl Wanted<'_> {
 
     /// What is doubtful of a rule that denies by the key.
     pub fn denial(&self, alloc: Global, rule: &Rule) -> Result<Option<Doubt>, AllocError> {
-        if rule.allow || !is_evaded(self.media, Key::from_text(self.key)) {
+        if rule.allow || !self.is_evaded() {
             return Ok(None);
         }
         Ok(Some(Doubt::Evaded(Text::new(alloc, self.key)?)))

@@ -5,6 +5,7 @@
 #![tactic(auto)]
 
 mod acts;
+mod asking;
 mod examples;
 mod fault;
 mod faults;
@@ -15,6 +16,7 @@ mod nearest;
 mod pairs;
 mod places;
 mod report;
+mod unmet;
 mod warning;
 mod warnings;
 
@@ -22,4 +24,5 @@ pub use fault::{Cause, Fault};
 pub use hiding::{Hidden, hidden_in, hidden_rules_never_decide};
 pub use places::{Place, Places, place_after, places_in};
 pub use report::{Report, lint};
+pub use unmet::Unmet;
 pub use warning::{Doubt, Gap, Warning};

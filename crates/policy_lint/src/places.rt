@@ -154,6 +154,14 @@ fn array_in(head: &str) -> Option<&str> {
     Some(key_in(head.strip_prefix("[[")?.strip_suffix("]]")?))
 }
 
+/// The key of a header of one table.
+fn table_in(head: &str) -> Option<&str> {
+    if head.starts_with("[[") {
+        return None;
+    }
+    Some(key_in(head.strip_prefix("[")?.strip_suffix("]")?))
+}
+
 impl Places {
     fn new(alloc: Global) -> Places {
         Places {
@@ -178,6 +186,13 @@ impl Places {
             return Ok(());
         }
         self.of = None;
+        if let Some(key) = table_in(head) {
+            self.keys.push(KeyPlace {
+                rule: Some(0),
+                key: Text::new(alloc, key)?,
+                place,
+            })?;
+        }
         if array_in(head) == Some("rule") {
             self.rules.push(place)?;
             self.of = Some(self.rules.len());

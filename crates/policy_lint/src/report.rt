@@ -8,6 +8,7 @@ use crate::fault::Fault;
 use crate::faults::faults_of;
 use crate::hiding::{Hidden, hidden_in};
 use crate::places::{Place, Places, places_in};
+use crate::unmet::{Unmet, unmet_in};
 use crate::warning::Warning;
 use crate::warnings::warnings_of;
 use byte_strings::Text;
@@ -30,6 +31,8 @@ pub struct Report {
     pub faults: Vec<Fault>,
     /// The rules that never decide, in their order.
     pub hidden: Vec<Hidden>,
+    /// The rules that grant one end of what nobody may be the other end of, in their order.
+    pub unmet: Vec<Unmet>,
     /// The other warnings, in the order of their rules.
     pub warnings: Vec<Warning>,
     rules: Vec<Named>,
@@ -58,10 +61,12 @@ fn warned(alloc: Global, source: &Source, text: &str) -> Result<Report, AllocErr
     };
     let places = places_in(alloc, text)?;
     let rules = rules_of(alloc, source, &places)?;
+    let unmet = unmet_in(alloc, source, &places, &table)?;
     let warnings = warnings_of(alloc, source, places, &table)?;
     Ok(Report {
         faults: Vec::new(alloc),
         hidden: hidden_in(alloc, source)?,
+        unmet,
         warnings,
         rules,
     })
@@ -79,6 +84,7 @@ fn refused(
     Ok(Report {
         faults: faults_of(alloc, bytes, names, fault)?,
         hidden: Vec::new(alloc),
+        unmet: Vec::new(alloc),
         warnings: Vec::new(alloc),
         rules: Vec::new(alloc),
     })
@@ -119,14 +125,20 @@ impl Report {
 
     /// How many warnings there are.
     pub fn warnings_len(&self) -> usize {
-        self.hidden.len().saturating_add(self.warnings.len())
+        let own = self.warnings.len();
+        self.hidden
+            .len()
+            .saturating_add(self.unmet.len())
+            .saturating_add(own)
     }
 
     /// Whether there is no fault and, under `strict`, no warning.
     pub fn is_clean(&self, strict: bool) -> bool
         ensures { result ≡ is_clean strict self.now }
     {
-        self.faults.is_empty() && (!strict || self.hidden.is_empty() && self.warnings.is_empty())
+        self.faults.is_empty()
+            && (!strict
+                || self.hidden.is_empty() && self.unmet.is_empty() && self.warnings.is_empty())
     }
 
     /// Appends a rule's number and name.
@@ -152,6 +164,9 @@ impl Report {
     ) -> Result<(), AllocError> {
         let (at, place) = of;
         text.push_str(format!(in alloc; "{file}:{place}: warning: ")?.as_str())?;
+        if at >= self.rules.len() {
+            return Ok(());
+        }
         self.push_rule(alloc, text, at)?;
         text.push_str(": ")
     }
@@ -202,6 +217,27 @@ impl Report {
         Ok(())
     }
 
+    /// Appends the warning that nobody may be the other end of what a rule grants.
+    fn push_unmet(
+        &self,
+        alloc: Global,
+        text: &mut String,
+        file: &str,
+        at: usize,
+    ) -> Result<(), AllocError> {
+        for unmet in &self.unmet {
+            if unmet.at == at {
+                self.push_head(alloc, text, file, (at, unmet.place))?;
+                let channel = unmet.channel.canonical(alloc)?;
+                let stream = unmet.stream;
+                text.push_str(format!(in alloc;
+                    "{unmet}: on {channel}, stream {stream}\n"
+                )?.as_str())?;
+            }
+        }
+        Ok(())
+    }
+
     /// Appends the other warnings about a rule.
     fn push_warnings(
         &self,
@@ -235,8 +271,10 @@ impl Report {
         self.push_faults(alloc, &mut text, file)?;
         for at in 0..self.rules.len() {
             self.push_hidden(alloc, &mut text, file, at)?;
+            self.push_unmet(alloc, &mut text, file, at)?;
             self.push_warnings(alloc, &mut text, file, at)?;
         }
+        self.push_warnings(alloc, &mut text, file, self.rules.len())?;
         let faults = counted(alloc, self.faults_len(), "fault")?;
         let warnings = counted(alloc, self.warnings_len(), "warning")?;
         text.push_str(format!(in alloc; "{faults}, {warnings}\n")?.as_str())?;

@@ -39,16 +39,22 @@ pub enum Doubt {
     Evaded(Text),
     /// What is granted does not serve alone.
     Gap(Gap),
+    /// The rule at this place, counted from 0, has the same name.
+    SameName(usize),
+    /// The rule allows everybody everything.
+    AllowsAll,
+    /// There is no rule, and the default allows everything.
+    AllowsByDefault,
     /// The rule grants counters of this type, one of those under which the driver's own are listed.
     SystemType(i32),
     /// The rule is about seeing counters of this type, and the driver's own are asked about otherwise.
     SystemList(i32),
 }
 
-/// A doubt about a rule.
+/// A doubt about a rule, or about the document.
 #[derive(Drop)]
 pub struct Warning {
-    /// The place of the rule in its policy, counted from 0.
+    /// The place of the rule in its policy, counted from 0; of the document it is how many rules there are.
     pub at: usize,
     /// Where it stands in the text.
     pub place: Place,
@@ -116,6 +122,16 @@ impl fmt::Display for Doubt {
                  acts, streams or endpoint"
             ),
             Doubt::Gap(gap) => write!(f, "{gap}"),
+            Doubt::SameName(at) => {
+                let number = at.saturating_add(1);
+                write!(f, "rule {number} has the same name")
+            }
+            Doubt::AllowsAll => f.write_str(
+                "everybody may do everything: no later rule and no default decides",
+            ),
+            Doubt::AllowsByDefault => {
+                f.write_str("there is no rule, and the default allows everybody everything")
+            }
             Doubt::SystemType(number) => {
                 write_type(f, *number)?;
                 f.write_str(", and a client's counter of that type looks like one")

@@ -1,11 +1,13 @@
+ghost use Rattle.std.specs.Prelude.{◌<◌, length};
+
 use crate::acts::{Shape, has_every_act, has_no_request, shape_of, system_type, why_never};
-use crate::gaps::gap_of;
-use crate::keys::Wanted;
+use crate::gaps::gaps_of;
+use crate::keys::{Wanted, is_by_control};
 use crate::pairs::pairs_in;
 use crate::places::Places;
 use crate::warning::{Doubt, Warning};
 use channel_uri::{Keys, Media, Pattern};
-use policy_core::{Act, Rule};
+use policy_core::{Act, Principals, Rule};
 use policy_tools::Source;
 use std::alloc::{AllocError, Global};
 use toml::Table;
@@ -83,10 +85,16 @@ impl Warned {
         media: Media,
         keys: &Keys,
     ) -> Result<(), AllocError> {
+        let by_control = is_by_control(keys);
         for piece in pairs_in(looked.text).split('|') {
             if let Some((key, _)) = piece.split_once('=') {
-                let value = keys.get(key).unwrap_or("");
-                self.key(alloc, looked, Wanted { media, key, value })?;
+                let wanted = Wanted {
+                    media,
+                    key,
+                    value: keys.get(key).unwrap_or(""),
+                    by_control,
+                };
+                self.key(alloc, looked, wanted)?;
             }
         }
         Ok(())
@@ -117,21 +125,47 @@ impl Warned {
         source: &Source,
         looked: Looked<'_>,
         principal: &str,
-    ) -> Result<(), AllocError> {
+    ) -> Result<(), AllocError>
+        requires { looked.at < length source.now.policy.rules }
+    {
         self.acts(looked)?;
         if let Pattern::Of(media, keys) = &looked.rule.channel {
             self.keys(alloc, looked, *media, keys)?;
         }
         self.types(looked)?;
-        match gap_of(alloc, source, looked.at, principal)? {
-            Some(gap) => self.take(looked.at, "act", Doubt::Gap(gap)),
-            None => Ok(()),
+        for gap in gaps_of(alloc, source, looked.at, principal)? {
+            self.take(looked.at, "act", Doubt::Gap(gap))?;
         }
+        Ok(())
+    }
+
+    /// Looks for an earlier rule of the same name, and whether the rule allows everybody everything.
+    fn whole(&mut self, source: &Source, looked: Looked<'_>) -> Result<(), AllocError>
+        requires { looked.at < length source.now.policy.rules }
+    {
+        let mut earlier = source.rules().iter().take(looked.at);
+        let name = looked.rule.name.as_str();
+        if let Some(at) = earlier.position(|rule| rule.name.as_str() == name) {
+            self.take(looked.at, "name", Doubt::SameName(at))?;
+        }
+        if is_everything(looked.rule) {
+            self.take(looked.at, "allow", Doubt::AllowsAll)?;
+        }
+        Ok(())
     }
 }
 
+/// Whether the rule allows everybody every act on every channel and stream.
+fn is_everything(rule: &Rule) -> bool {
+    let is_of_all = match (rule.principals, &rule.channel) {
+        (Principals::Any, Pattern::Any) => true,
+        _ => false,
+    };
+    is_of_all && has_every_act(rule) && rule.low == i32::MIN && rule.high == i32::MAX && rule.allow
+}
+
 /// What the text calls the principal of a rule.
-fn principal_at(table: &Table, at: usize) -> Option<&str> {
+pub(crate) fn principal_at(table: &Table, at: usize) -> Option<&str> {
     let rules = table.get("rule")?.as_array()?;
     rules.get(at)?.as_table()?.get("principal")?.as_str()
 }
@@ -157,7 +191,17 @@ pub(crate) fn warnings_of(
             shape: shape_of(text, &rule.channel),
         };
         let principal = principal_at(table, at).unwrap_or("*");
+        warned.whole(source, looked)?;
         warned.rule(alloc, source, looked, principal)?;
+    }
+    if source.rules().is_empty() && source.policy().default_allows() {
+        let place = warned.places.of(0, "default");
+        let doubt = Doubt::AllowsByDefault;
+        warned.warnings.push(Warning {
+            at: 0,
+            place,
+            doubt,
+        })?;
     }
     Ok(warned.warnings)
 }

@@ -11,7 +11,7 @@ use Rattle.driver_core.specs.Settings.{default_settings}
 use Rattle.driver_core.specs.Soundness.{AreSettings}
 use Rattle.driver_core.proofs.SizeLemmas.{Holds, IsMtu, IsTermLength, mtu_sound, term_length_sound}
 use Rattle.script_lines.specs.declared.settings.Duration.{Duration as DurationKey}
-use Rattle.script_lines.specs.declared.settings.Duration.TheVariants.{ClientLiveness, ImageLiveness, Linger, ConnectionTimeout, ResendLinger, NakDelay, NakRepeat, SetupInterval, HeartbeatInterval, StatusInterval}
+use Rattle.script_lines.specs.declared.settings.Duration.TheVariants.{ClientLiveness, ImageLiveness, Linger, ConnectionTimeout, DestinationTimeout, ResendLinger, NakDelay, NakRepeat, SetupInterval, HeartbeatInterval, StatusInterval}
 use Rattle.script_lines.specs.declared.settings.Key.{Key}
 use Rattle.script_lines.specs.declared.settings.Key.TheVariants.{Duration, TermLength, Mtu, ArenaPages, FirstSession, InitialTerm, ReceiverId, SendAddress}
 use Rattle.script_lines.specs.Hex.{◌>>=◌}
@@ -97,6 +97,7 @@ duration_sound settings ClientLiveness duration sound = sound_like settings _ so
 duration_sound settings ImageLiveness duration sound = sound_like settings _ sound refl refl refl
 duration_sound settings Linger duration sound = sound_like settings _ sound refl refl refl
 duration_sound settings ConnectionTimeout duration sound = sound_like settings _ sound refl refl refl
+duration_sound settings DestinationTimeout duration sound = sound_like settings _ sound refl refl refl
 duration_sound settings ResendLinger duration sound = sound_like settings _ sound refl refl refl
 duration_sound settings NakDelay duration sound = sound_like settings _ sound refl refl refl
 duration_sound settings NakRepeat duration sound = sound_like settings _ sound refl refl refl

@@ -6,5 +6,6 @@ pub returns : goal.returns
 returns c = record {
   sound = search rules;
   hidden = c.in_ok-hidden_in.ensures;
+  unmet = c.in_ok-unmet.ensures;
   never = never_each _ _ c.in_ok-hidden_in.ensures;
 }

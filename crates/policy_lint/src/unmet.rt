@@ -1,0 +1,284 @@
+ghost use Rattle.channel_uri.specs.Keys.{value_at};
+ghost use Rattle.channel_uri.specs.Place.{is_text};
+ghost use Rattle.policy_core.specs.RuleList.{Rules};
+ghost use Rattle.policy_lint.specs.Nobody.{IsAlone, IsUnmet, may};
+ghost use Rattle.std.specs.List.{All};
+ghost use Rattle.std.specs.Prelude.{◌≡◌, ◌<◌, IfOk, IfSome, OnOk, codes, length, true};
+
+use crate::asking::{Asked, asker, nobody_may, stream_in};
+use crate::examples::{example, learning_example, spoken_at};
+use crate::places::{Place, Places};
+use crate::warnings::principal_at;
+use byte_strings::Text;
+use channel_uri::{Channel, Media};
+use policy_core::{Act, Policy, Rule};
+use policy_tools::Source;
+use std::alloc::{AllocError, Global};
+use std::fmt;
+use toml::Table;
+
+/// A rule that grants one end of a publication that learns its destinations, where the policy denies everybody the other end.
+#[derive(Drop)]
+pub struct Unmet {
+    /// The place of the rule in its policy, counted from 0.
+    pub at: usize,
+    /// Where its acts stand in the text.
+    pub place: Place,
+    /// Who asks, as the rule has it; for `*` it is one of whom no rule speaks by name.
+    pub name: Text,
+    /// The number of who asks.
+    pub principal: u32,
+    /// What is granted: `publish`, `publish-exclusive` or `join`.
+    pub act: Act,
+    /// On this channel.
+    pub channel: Channel,
+    pub stream: i32,
+}
+
+/// Whether whoever does the act there is alone: nobody may join the publication, or publish what is to be joined.
+fn is_alone(policy: &Policy, act: Act, channel: &Channel, stream: i32) -> bool
+    ensures { result ≡ true → IsAlone policy.now act channel.now stream }
+{
+    match act {
+        Act::Publish => nobody_may(policy, Act::Join, channel, stream),
+        Act::PublishExclusive => nobody_may(policy, Act::Join, channel, stream),
+        Act::Join => {
+            nobody_may(policy, Act::Publish, channel, stream)
+                && nobody_may(policy, Act::PublishExclusive, channel, stream)
+        }
+        _ => false,
+    }
+}
+
+/// Whether the rule grants an act of the other end.
+fn grants_other(rule: &Rule, act: Act) -> bool {
+    let has_other = match act {
+        Act::Join => rule.acts.hold(Act::Publish) || rule.acts.hold(Act::PublishExclusive),
+        _ => rule.acts.hold(Act::Join),
+    };
+    rule.allow && has_other
+}
+
+/// Whether the policy allows an act of the other end.
+fn may_other(asked: Asked<'_>, act: Act) -> bool {
+    match act {
+        Act::Join => asked.may(Act::Publish) || asked.may(Act::PublishExclusive),
+        _ => asked.may(Act::Join),
+    }
+}
+
+/// One end, as a rule grants it.
+#[derive(Clone, Copy)]
+struct End<'a> {
+    source: &'a Source,
+    /// The place of the rule, counted from 0.
+    at: usize,
+    act: Act,
+    /// Who asks.
+    principal: u32,
+}
+
+/// A stream of both rules.
+fn stream_of_both(one: &Rule, other: &Rule) -> Option<i32> {
+    let (low, high) = (one.low.max(other.low), one.high.min(other.high));
+    if low > high {
+        return None;
+    }
+    Some(stream_in(low, high))
+}
+
+impl End<'_> {
+    /// A channel of the rule on which a publication learns its destinations. A rule on publications has to speak of no other
+    /// ones: what else it grants needs nobody to join.
+    fn channel(&self, alloc: Global) -> Result<Option<Channel>, AllocError>
+        requires { self.now.at < length self.now.source.now.policy.rules }
+        ensures { IfOk result (λ found. IfSome found (λ channel. is_text (codes "dynamic") (value_at (codes "control-mode") channel.keys) ≡ true)) }
+    {
+        let own = spoken_at(self.source, self.at);
+        let found = match self.act {
+            Act::Join => learning_example(alloc, &[own])?,
+            _ => example(alloc, own, Media::Udp)?,
+        };
+        match found {
+            Some(channel) if channel.is_dynamic() => Ok(Some(channel)),
+            _ => Ok(None),
+        }
+    }
+
+    /// Whether the rule itself grants the act there.
+    fn is_granted(&self, channel: &Channel, stream: i32) -> bool
+        ensures { result ≡ true → may self.now.source.now.policy self.now.act channel.now stream self.now.principal ≡ true }
+    {
+        let asked = Asked {
+            policy: self.source.policy(),
+            principal: self.principal,
+            channel,
+            stream,
+        };
+        asked.is_granted_by(self.at, self.act)
+    }
+
+    /// Whether both ends come together by the rule and the one at `beside`, on a channel and a stream of both.
+    fn meets(&self, alloc: Global, beside: usize) -> Result<bool, AllocError>
+        requires own { self.now.at < length self.now.source.now.policy.rules }
+        requires other { beside < length self.now.source.now.policy.rules }
+    {
+        let rules = self.source.rules();
+        let (own, other) = (&rules[self.at], &rules[beside]);
+        if !grants_other(other, self.act) {
+            return Ok(false);
+        }
+        let (Some(stream), Some(principal)) = (stream_of_both(own, other), asker(rules, other))
+        else {
+            return Ok(false);
+        };
+        let (here, there) = (
+            spoken_at(self.source, self.at),
+            spoken_at(self.source, beside),
+        );
+        let Some(channel) = learning_example(alloc, &[here, there])? else {
+            return Ok(false);
+        };
+        let policy = self.source.policy();
+        let asked = Asked {
+            policy,
+            principal: self.principal,
+            channel: &channel,
+            stream,
+        };
+        let across = Asked {
+            policy,
+            principal,
+            channel: &channel,
+            stream,
+        };
+        Ok(asked.may(self.act) && may_other(across, self.act))
+    }
+
+    /// Whether both ends come together by the rule and some other one.
+    fn is_met(&self, alloc: Global) -> Result<bool, AllocError>
+        requires { self.now.at < length self.now.source.now.policy.rules }
+    {
+        for beside in 0..self.source.rules().len() {
+            if self.meets(alloc, beside)? {
+                return Ok(true);
+            }
+        }
+        Ok(false)
+    }
+
+    /// What is found of the end, on a channel and a stream of the rule: it is granted there, and whoever does it is alone.
+    /// `name` is what the text calls who asks, and `place` is where its acts stand.
+    fn unmet(&self, alloc: Global, name: &str, place: Place) -> Result<Option<Unmet>, AllocError>
+        requires { self.now.at < length self.now.source.now.policy.rules }
+        ensures { IfOk result (λ found. IfSome found (IsUnmet self.now.source.now.policy)) }
+    {
+        let rule = &self.source.rules()[self.at];
+        let stream = stream_in(rule.low, rule.high);
+        let Some(channel) = self.channel(alloc)? else {
+            return Ok(None);
+        };
+        if !self.is_granted(&channel, stream) {
+            return Ok(None);
+        }
+        if !is_alone(self.source.policy(), self.act, &channel, stream) {
+            return Ok(None);
+        }
+        if self.is_met(alloc)? {
+            return Ok(None);
+        }
+        Ok(Some(Unmet {
+            at: self.at,
+            place,
+            name: Text::new(alloc, name)?,
+            principal: self.principal,
+            act: self.act,
+            channel,
+            stream,
+        }))
+    }
+}
+
+/// What is found of a rule: of its first act that is granted so. `name` is what the text calls its principal.
+fn unmet_at(
+    alloc: Global,
+    source: &Source,
+    at: usize,
+    name: &str,
+    place: Place,
+) -> Result<Option<Unmet>, AllocError>
+    requires { at < length source.now.policy.rules }
+    ensures { IfOk result (λ found. IfSome found (IsUnmet source.now.policy)) }
+{
+    let rule = &source.rules()[at];
+    let Some(principal) = asker(source.rules(), rule) else {
+        return Ok(None);
+    };
+    for act in [Act::Publish, Act::PublishExclusive, Act::Join] {
+        if rule.allow && rule.acts.hold(act) {
+            let end = End {
+                source,
+                at,
+                act,
+                principal,
+            };
+            let found = end.unmet(alloc, name, place)?;
+            if found.is_some() {
+                return Ok(found);
+            }
+        }
+    }
+    Ok(None)
+}
+
+/// Takes what is found of a rule.
+fn put_unmet(
+    alloc: Global,
+    source: &Source,
+    at: usize,
+    name: &str,
+    place: Place,
+    found: &mut Vec<Unmet>,
+) -> Result<(), AllocError>
+    requires { at < length source.now.policy.rules }
+    ensures { All (IsUnmet source.now.policy) found.old.items → OnOk result (All (IsUnmet source.now.policy) found.new.items) }
+{
+    let Some(unmet) = unmet_at(alloc, source, at, name, place)? else {
+        return Ok(());
+    };
+    found.push(unmet)?;
+    Ok(())
+}
+
+/// What is found of the rules of a policy, which the table is the document of, in their order.
+pub(crate) fn unmet_in(
+    alloc: Global,
+    source: &Source,
+    places: &Places,
+    table: &Table,
+) -> Result<Vec<Unmet>, AllocError>
+    ensures { IfOk result (λ found. All (IsUnmet source.now.policy) found.items) }
+{
+    let mut found = Vec::new(alloc);
+    for at in 0..source.rules().len() {
+        let name = principal_at(table, at).unwrap_or("*");
+        let place = places.of(at.saturating_add(1), "act");
+        put_unmet(alloc, source, at, name, place, &mut found)?;
+    }
+    Ok(found)
+}
+
+impl fmt::Display for Unmet {
+    fn fmt<W: fmt::Write>(&self, f: &mut fmt::Formatter<W>) -> fmt::Result {
+        match self.name.as_str() {
+            "*" => f.write_str("a principal that no rule names")?,
+            name => f.write_str(name)?,
+        }
+        let act = self.act.name();
+        write!(f, " may `{act}` but nobody may ")?;
+        match self.act {
+            Act::Join => f.write_str("`publish` or `publish-exclusive`"),
+            _ => f.write_str("`join`"),
+        }
+    }
+}
