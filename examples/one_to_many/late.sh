@@ -1,2 +1,2 @@
 aeron_policyd subscribe --policy subscriber.toml --as p2 --control 127.0.0.1:40130 --session 7 \
-    --until-gone --setting image-liveness=3000000000 'aeron:udp?endpoint=127.0.0.1:40133' 2010
+    --until-gone --setting image-liveness=5000000000 'aeron:udp?endpoint=127.0.0.1:40133' 2010
