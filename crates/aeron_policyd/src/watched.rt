@@ -226,12 +226,12 @@ impl<W: Wire, C: Clock> Wire for Watched<W, C> {
         if self.is_unused(local) {
             return Ok(None);
         }
-        let read = self.wire.recv(local, buffer);
-        if let Ok(Some((length, from))) = read {
-            self.watch.note_read(&buffer[..length], from);
-        }
-        match read {
-            Ok(read) => Ok(read),
+        match self.wire.recv(local, buffer) {
+            Ok(Some((length, from))) => {
+                self.watch.note_read(&buffer[..length], from);
+                Ok(Some((length, from)))
+            }
+            Ok(None) => Ok(None),
             Err(_) => Err(self.fail()),
         }
     }
