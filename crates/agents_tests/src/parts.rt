@@ -40,23 +40,44 @@ const PEER: Peer = Peer {
 };
 
 // A registry before its first event, under a policy that allows all.
-fn opened(alloc: Global, settings: Settings) -> Result<Registry, AllocError>
+fn opened_with(alloc: Global, settings: Settings, peers: &[Peer]) -> Result<Registry, AllocError>
     requires { AreSettings settings }
     ensures { IfOk result (λ registry. IsSound registry) }
 {
     let policy = Policy::new(Vec::new(alloc), true)?;
-    let registry = Registry::new(alloc, settings, policy, &[PEER])?;
+    let registry = Registry::new(alloc, settings, policy, peers)?;
     Ok(registry)
 }
 
+// The same, with one principal that is bound to an address.
+fn opened(alloc: Global, settings: Settings) -> Result<Registry, AllocError>
+    requires { AreSettings settings }
+    ensures { IfOk result (λ registry. IsSound registry) }
+{
+    opened_with(alloc, settings, &[PEER])
+}
+
 // The registry, shown to three passes.
+#[tactic(auto, using(crate::proofs::PartLemmas::begins_sound))]
+fn shown<R: Wait>(rt: &R, alloc: Global, registry: Registry) -> Option<(Publisher, Vec<Pass>)>
+    requires { IsSound registry }
+    ensures { IfSome result (λ made. IsSound (registry_of made.0)) }
+{
+    match make(rt, alloc, registry, 3) {
+        Ok((publisher, passes)) => Some((publisher, passes)),
+        Err(_) => None,
+    }
+}
+
+// A registry, shown to three passes.
 fn published<R: Wait>(rt: &R, alloc: Global, settings: Settings) -> Option<(Publisher, Vec<Pass>)>
     requires { AreSettings settings }
     ensures { IfSome result (λ made. IsSound (registry_of made.0)) }
 {
-    let registry = opened(alloc, settings).ok()?;
-    let (publisher, passes) = make(rt, alloc, registry, 3).ok()?;
-    Some((publisher, passes))
+    match opened(alloc, settings) {
+        Ok(registry) => shown(rt, alloc, registry),
+        Err(_) => None,
+    }
 }
 
 impl Parts {
