@@ -28,6 +28,7 @@ fn decided(
     policy: &[u8],
     directory: &Directory,
     question: &Question<'_>,
+    moment: u64,
     why: bool,
 ) -> Result<Answer, AskFault> {
     let Question {
@@ -37,9 +38,13 @@ fn decided(
         stream,
     } = *question;
     if why {
-        explain(alloc, policy, directory, principal, act, channel, stream)
+        explain(
+            alloc, policy, directory, principal, act, channel, stream, moment,
+        )
     } else {
-        decide(alloc, policy, directory, principal, act, channel, stream)
+        decide(
+            alloc, policy, directory, principal, act, channel, stream, moment,
+        )
     }
 }
 
@@ -49,10 +54,11 @@ fn table(
     policy: &[u8],
     directory: &Directory,
     principal: Option<&str>,
+    moment: u64,
 ) -> Result<Answer, AskFault> {
     match principal {
-        Some(name) => table_of_one(alloc, policy, directory, name),
-        None => table_of_all(alloc, policy, directory),
+        Some(name) => table_of_one(alloc, policy, directory, name, moment),
+        None => table_of_all(alloc, policy, directory, moment),
     }
 }
 
@@ -62,9 +68,10 @@ fn tried<F: Disk>(
     policy: &[u8],
     directory: &Directory,
     path: &str,
+    moment: u64,
 ) -> Result<Answer, Fault> {
     let cases = file_bytes(files, path)?;
-    Ok(try_cases(files.alloc(), policy, directory, cases.as_slice())?)
+    Ok(try_cases(files.alloc(), policy, directory, cases.as_slice(), moment)?)
 }
 
 /// What would be decided otherwise under the policy in another file.
@@ -73,9 +80,10 @@ fn compared<F: Disk>(
     policy: &[u8],
     directory: &Directory,
     path: &str,
+    moment: u64,
 ) -> Result<Answer, Fault> {
     let new = file_bytes(files, path)?;
-    Ok(compare(files.alloc(), policy, new.as_slice(), directory)?)
+    Ok(compare(files.alloc(), policy, new.as_slice(), directory, moment)?)
 }
 
 /// What is answered to what is asked of a policy.
@@ -86,15 +94,16 @@ fn answered<F: Disk>(
     asking: &Asking<'_>,
 ) -> Result<Answer, Fault> {
     let alloc = files.alloc();
+    let moment = asking.at;
     Ok(match &asking.asked {
         Asked::Check => check(alloc, policy, directory)?,
         Asked::Show => show(alloc, policy, directory)?,
-        Asked::Decide(question) => decided(alloc, policy, directory, question, false)?,
-        Asked::Explain(question) => decided(alloc, policy, directory, question, true)?,
+        Asked::Decide(question) => decided(alloc, policy, directory, question, moment, false)?,
+        Asked::Explain(question) => decided(alloc, policy, directory, question, moment, true)?,
         Asked::Lint { strict } => find_faults(alloc, policy, directory, asking.policy, *strict)?,
-        Asked::Test(path) => tried(files, policy, directory, path)?,
-        Asked::Table { principal } => table(alloc, policy, directory, *principal)?,
-        Asked::Diff(path) => compared(files, policy, directory, path)?,
+        Asked::Test(path) => tried(files, policy, directory, path, moment)?,
+        Asked::Table { principal } => table(alloc, policy, directory, *principal, moment)?,
+        Asked::Diff(path) => compared(files, policy, directory, path, moment)?,
     })
 }
 

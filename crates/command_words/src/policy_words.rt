@@ -7,7 +7,7 @@ ghost use Rattle.std.specs.List.{AllByRecursion};
 ghost use Rattle.std.specs.Prelude.{◌≡◌, ◌∷◌, [], IfSome, Some, codes, is_some, true};
 
 use crate::command_line::with;
-use crate::numbers::signed_in;
+use crate::numbers::{number_in, signed_in};
 use clap::{Arg, ArgAction, ArgMatches, Command, value_parser};
 use std::alloc::{AllocError, Global};
 
@@ -213,6 +213,8 @@ pub struct Asking<'a> {
     pub policy: &'a str,
     /// The file of the names of principals, where one is given.
     pub names: Option<&'a str>,
+    /// The moment at which it is asked, in nanoseconds.
+    pub at: u64,
     pub asked: Asked<'a>,
 }
 
@@ -229,6 +231,15 @@ fn names_file<'a>(alloc: Global) -> Arg<'a> {
         .long("names")
         .value_name("FILE")
         .help("Names of principals, lines `principal NAME NUMBER`, in place of p1 to p63")
+}
+
+/// The option that names the moment at which a policy is asked.
+fn at<'a>(alloc: Global) -> Arg<'a> {
+    Arg::new(alloc, "at")
+        .long("at")
+        .value_name("MOMENT")
+        .value_parser(value_parser!(u64).range(0..=9223372036854775807))
+        .help("The moment at which it is asked, in nanoseconds; 0 if not given")
 }
 
 fn check<'a>(alloc: Global) -> Result<Command<'a>, AllocError> {
@@ -272,6 +283,7 @@ fn with_question<'a>(alloc: Global, command: Command<'a>) -> Result<Command<'a>,
         .arg(act(alloc))?
         .arg(channel(alloc))?
         .arg(stream(alloc))?
+        .arg(at(alloc))?
         .arg(names_file(alloc))
 }
 
@@ -306,6 +318,7 @@ fn test<'a>(alloc: Global) -> Result<Command<'a>, AllocError> {
         .after_help(TEST)
         .arg(policy_file(alloc))?
         .arg(cases)?
+        .arg(at(alloc))?
         .arg(names_file(alloc))
 }
 
@@ -332,6 +345,7 @@ fn table<'a>(alloc: Global) -> Result<Command<'a>, AllocError> {
         .after_help(TABLE)
         .arg(policy_file(alloc))?
         .arg(principal)?
+        .arg(at(alloc))?
         .arg(names_file(alloc))
 }
 
@@ -344,6 +358,7 @@ fn diff<'a>(alloc: Global) -> Result<Command<'a>, AllocError> {
         .after_help(DIFF)
         .arg(policy_file(alloc))?
         .arg(new)?
+        .arg(at(alloc))?
         .arg(names_file(alloc))
 }
 
@@ -439,6 +454,7 @@ pub(crate) fn asking_in<'m, 'a>(name: &str, of: &'m ArgMatches<'a>) -> Option<As
     Some(Asking {
         policy: of.get_str("POLICY")?,
         names: of.get_str("names"),
+        at: number_in(of, "at").unwrap_or(0),
         asked,
     })
 }

@@ -1,5 +1,6 @@
 pub mod ClassLemmas
 pub mod IndexLemmas
 pub mod LineLemmas
-pub mod SearchLemmas
+pub mod MomentLemmas
+mod SearchLemmas
 pub mod SetLemmas

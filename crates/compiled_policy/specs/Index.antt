@@ -1,4 +1,5 @@
-use Rattle.std.specs.Prelude.{◌≡◌, ℕ, List, length}
+use Rattle.std.specs.Prelude.{◌≡◌, ℕ, List, length, map}
+use Rattle.policy_core.specs.Moments.{as_of}
 use Rattle.policy_core.specs.declared.rule.Rule.{Rule}
 use Rattle.compiled_policy.specs.declared.rule_set.RuleSet.{RuleSet}
 use Rattle.compiled_policy.specs.Class.{is_in}
@@ -23,3 +24,8 @@ pub record IsIndex (rules : List Rule) (index : Tables) : Type 0 where
   pub classes : AreSetsOf rules is_in (length rules) index.classes
   pub groups : AreSetsOf rules is_of (length rules) index.groups
   pub intervals : AreSetsOf rules (is_on index.starts) (length rules) index.intervals
+
+-- the index of rules of which these are what they are at some moment
+abbrev pub IsIndexAt : List Rule → Tables → Type 0
+IsIndexAt standing index =
+    (rules : List Rule) × (moment : ℕ) × IsIndex rules index × (standing ≡ map (as_of moment) rules)

@@ -6,7 +6,7 @@ ghost use Rattle.std.specs.Prelude.{◌≡◌, ◌+◌, ◌*◌, ◌<◌, ◌≤
 
 use crate::bits::{lowest, without};
 use crate::rule_set::RuleSet;
-use policy_core::{Request, Rule};
+use policy_core::{Request, Standing};
 
 /// The sets of a request, whose common rules are looked at.
 #[derive(Clone, Copy)]
@@ -40,15 +40,15 @@ fn meet(sets: &Candidates<'_>, word: usize) -> bool
 }
 
 /// The place of the first rule that matches, of those from `from` on whose bit the word has.
-fn first_of(rules: &[Rule], request: &Request<'_>, word: u64, from: usize) -> Option<usize>
+fn first_of(policy: &Standing<'_>, request: &Request<'_>, word: u64, from: usize) -> Option<usize>
     requires few { from < 1024 }
-    requires inside { (bit : ℕ) → bit < 64 → bit_at word bit ≡ 1 → from + bit < length rules.now }
-    ensures { IsFirst rules.now (question_of request.now) word from result }
+    requires inside { (bit : ℕ) → bit < 64 → bit_at word bit ≡ 1 → from + bit < length policy.now.rules }
+    ensures { IsFirst policy.now.rules (question_of request.now) word from result }
 {
     let mut left = word;
     while left != 0 {
         let bit = lowest(left);
-        if rules[from + bit].matches(request) {
+        if policy.matches(from + bit, request) {
             return Some(from + bit);
         }
         left = without(left, bit);
@@ -72,18 +72,18 @@ fn next_block(sets: &Candidates<'_>, from: usize) -> usize
 
 /// The place of the first rule that matches, of the 256 of a block that the sets may have in common.
 fn first_within(
-    rules: &[Rule],
+    policy: &Standing<'_>,
     request: &Request<'_>,
     sets: &Candidates<'_>,
     block: usize,
 ) -> Option<usize>
-    requires few { length rules.now ≤ 1024 }
+    requires few { length policy.now.rules ≤ 1024 }
     requires block { block < 4 }
-    requires candidates { AreCandidates rules.now (question_of request.now) sets.now }
-    ensures { IsFirstWithin rules.now (question_of request.now) (256 * block) (256 * (block + 1)) result }
+    requires candidates { AreCandidates policy.now.rules (question_of request.now) sets.now }
+    ensures { IsFirstWithin policy.now.rules (question_of request.now) (256 * block) (256 * (block + 1)) result }
 {
     for word in 4 * block..4 * block + 4 {
-        match first_of(rules, request, common_word(sets, word), 64 * word) {
+        match first_of(policy, request, common_word(sets, word), 64 * word) {
             Some(index) => return Some(index),
             None => {}
         }
@@ -93,17 +93,17 @@ fn first_within(
 
 /// The place of the first rule that matches, of those that the sets have in common.
 pub(crate) fn first_match(
-    rules: &[Rule],
+    policy: &Standing<'_>,
     request: &Request<'_>,
     sets: &Candidates<'_>,
 ) -> Option<usize>
-    requires few { length rules.now ≤ 1024 }
-    requires candidates { AreCandidates rules.now (question_of request.now) sets.now }
-    ensures { IsDecider rules.now (question_of request.now) result }
+    requires few { length policy.now.rules ≤ 1024 }
+    requires candidates { AreCandidates policy.now.rules (question_of request.now) sets.now }
+    ensures { IsDecider policy.now.rules (question_of request.now) result }
 {
     let mut block = next_block(sets, 0);
     while block < 4 {
-        match first_within(rules, request, sets, block) {
+        match first_within(policy, request, sets, block) {
             Some(index) => return Some(index),
             None => block = next_block(sets, block + 1),
         }

@@ -1,7 +1,7 @@
 ghost use Rattle.compiled_policy.specs.Class.{is_in};
 ghost use Rattle.compiled_policy.specs.Decider.{IsDecider};
 ghost use Rattle.compiled_policy.specs.Group.{is_of};
-ghost use Rattle.compiled_policy.specs.Index.{IsIndex};
+ghost use Rattle.compiled_policy.specs.Index.{IsIndex, IsIndexAt};
 ghost use Rattle.compiled_policy.specs.Line.{AreStarts, Ascend, is_on};
 ghost use Rattle.compiled_policy.specs.RuleSet.{AddsWhere, AreEmpty, AreSetsOf};
 ghost use Rattle.policy_core.specs.Question.{question_of};
@@ -13,7 +13,7 @@ use crate::group::{GROUPS, group_of, groups_of};
 use crate::line::{INTERVALS, cut_by, end_of, on_line, place_of, start_of};
 use crate::room::replace;
 use crate::rule_set::{RuleSet, clear, insert_into};
-use policy_core::{Request, Rule};
+use policy_core::{Request, Rule, Standing};
 use std::alloc::{AllocError, Global};
 use std::marker::Model;
 
@@ -145,10 +145,14 @@ impl Index {
     }
 
     /// The place of the first rule that matches.
-    pub(crate) fn first_match(&self, rules: &[Rule], request: &Request<'_>) -> Option<usize>
-        requires few { length rules.now ≤ 1024 }
-        requires index { IsIndex rules.now self.now }
-        ensures { IsDecider rules.now (question_of request.now) result }
+    pub(crate) fn first_match(
+        &self,
+        policy: &Standing<'_>,
+        request: &Request<'_>,
+    ) -> Option<usize>
+        requires few { length policy.now.rules ≤ 1024 }
+        requires index { IsIndexAt policy.now.rules self.now }
+        ensures { IsDecider policy.now.rules (question_of request.now) result }
     {
         let interval = place_of(&self.starts, on_line(request.stream) + 1) - 1;
         let sets = Candidates {
@@ -156,6 +160,6 @@ impl Index {
             class: &self.classes[class_of(request)],
             interval: &self.intervals[interval],
         };
-        first_match(rules, request, &sets)
+        first_match(policy, request, &sets)
     }
 }

@@ -7,7 +7,7 @@ use crate::counter::Counter;
 use crate::fault::CounterFault;
 use byte_strings::{Items, ShortBytes, ShortText};
 use channel_uri::Channel;
-use policy_core::{Act, Policy, Request};
+use policy_core::{Act, Request, Standing};
 use rows::{Change, Rows, Test};
 use std::alloc::{AllocError, Global};
 use std::marker::Model;
@@ -79,7 +79,7 @@ impl Test<Counter> for OfAnother {
 
 /// Whether the policy shows the counter to the principal, by its type id.
 #[tactic(auto, unfolding(crate::specs::Counters::is_visible))]
-fn is_visible(policy: &Policy, principal: u32, counter: &Counter) -> bool
+fn is_visible(policy: &Standing<'_>, principal: u32, counter: &Counter) -> bool
     ensures { result ≡ is_visible policy.now principal counter.now }
 {
     let channel = Channel::counter();
@@ -233,7 +233,7 @@ impl Counters {
     pub fn visible(
         &self,
         alloc: Global,
-        policy: &Policy,
+        policy: &Standing<'_>,
         principal: u32,
     ) -> Result<Items<Counter>, AllocError>
         ensures { IfOk result (λ shown. shown ≡ visible_of self.now policy.now principal) }

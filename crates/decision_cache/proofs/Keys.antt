@@ -13,18 +13,19 @@ use Rattle.policy_core.specs.declared.verdict.Verdict.{Verdict}
 use Rattle.decision_cache.specs.declared.key.Key.{Key}
 use Rattle.decision_cache.specs.contracts.key.KeyPartialEq.TheImpl.{eq-value}
 
-key : ℕ → ℕ → ℕ → Act → Key
-key epoch subject principal act = record { epoch = epoch; subject = subject; principal = principal; act = act }
+key : ℕ → ℕ → ℕ → ℕ → Act → Key
+key epoch moment subject principal act = record { epoch = epoch; moment = moment; subject = subject; principal = principal; act = act }
 
 pub key_identical : (a b : Key) → eq-value.it a b ≡ true → a ≡ b
 unfolding key
 key_identical a b h =
     let e : a.epoch ≡ b.epoch = grind (arith, nat_tests, and_parts) in
+    let m : a.moment ≡ b.moment = grind (arith, nat_tests, and_parts) in
     let s : a.subject ≡ b.subject = grind (arith, nat_tests, and_parts) in
     let p : a.principal ≡ b.principal = grind (arith, nat_tests, and_parts) in
     let n : act_number a.act ≡ act_number b.act = grind (arith, nat_tests, and_parts) in
     let t : a.act ≡ b.act = act_identical a.act b.act n in
-    let whole : key a.epoch a.subject a.principal a.act ≡ b = rw (e, s, p, t) refl in
+    let whole : key a.epoch a.moment a.subject a.principal a.act ≡ b = rw (e, m, s, p, t) refl in
     whole
 
 -- a verdict that is found stands under this very key

@@ -1,5 +1,6 @@
 ghost use Rattle.decision_cache.specs.Entries.{AddsAtMost, IsAmong, IsSoundAt, IsSoundIn, key_of};
 ghost use Rattle.decision_cache.specs.declared.key.Key.{Key};
+ghost use Rattle.policy_core.specs.Moments.{at};
 ghost use Rattle.policy_core.specs.Question.{Question, question_of};
 ghost use Rattle.policy_core.specs.RuleList.{Rules};
 ghost use Rattle.policy_core.specs.Rules.{verdict_of};
@@ -60,7 +61,8 @@ impl Cache {
         }
     }
 
-    /// What the policy decides of `request`, which acts on the subject of this number: from the cache where it is there.
+    /// What the policy decides of `request` as it stands, which acts on the subject of this number: from the cache where it
+    /// is there. A verdict that was kept before a bound of a rule is not one of the policy as it stands after it.
     /// Else the verdict is left in the cache, if there is memory for it; the answer is the same where there is none. It is made in
     /// place, since most questions are those of the step before, and handing the verdict on would take longer than finding it.
     #[inline(always)]
@@ -70,15 +72,16 @@ impl Cache {
         subject: u64,
         request: &Request<'_>,
     ) -> Verdict
-        requires { IsSoundAt self.old (P.rules policy.now) (P.number policy.now) subject (question_of request.now) }
-        ensures verdict { result ≡ verdict_of (P.rules policy.now) (P.number policy.now) (question_of request.now) }
-        ensures entries { AddsAtMost self.old self.new (key_of (P.number policy.now) subject (question_of request.now)) result }
-        ensures keeps { (policies : List Rules) (question : Key → Question) → IsAmong policies (P.rules policy.now) (P.number policy.now)
-            → question (key_of (P.number policy.now) subject (question_of request.now)) ≡ question_of request.now
+        requires { IsSoundAt self.old (P.given policy.now) (P.number policy.now) (P.as_of policy.now) subject (question_of request.now) }
+        ensures verdict { result ≡ verdict_of (at (P.given policy.now) (P.as_of policy.now)) (P.number policy.now) (question_of request.now) }
+        ensures entries { AddsAtMost self.old self.new (key_of (P.number policy.now) (P.as_of policy.now) subject (question_of request.now)) result }
+        ensures keeps { (policies : List Rules) (question : Key → Question) → IsAmong policies (P.given policy.now) (P.number policy.now)
+            → question (key_of (P.number policy.now) (P.as_of policy.now) subject (question_of request.now)) ≡ question_of request.now
             → IsSoundIn policies question self.old → IsSoundIn policies question self.new }
     {
         let key = Key {
             epoch: policy.epoch(),
+            moment: policy.moment(),
             subject,
             principal: request.principal,
             act: request.act,

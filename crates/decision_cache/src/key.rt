@@ -12,6 +12,8 @@ use std::hash::{Hash, Hasher};
 pub struct Key {
     /// The number of the policy that decided, counted from 1.
     pub epoch: u64,
+    /// The moment as of which the policy stood.
+    pub moment: u64,
     /// The number of what is acted on.
     pub subject: u64,
     /// Who acts.
@@ -21,12 +23,13 @@ pub struct Key {
 }
 
 impl Hash for Key {
-    ghost hash_input = { λ key. fed.u64 key.epoch ++ (fed.u64 key.subject ++ (fed.u32 key.principal ++ fed.u8 (act_number key.act))) };
+    ghost hash_input = { λ key. fed.u64 key.epoch ++ (fed.u64 key.moment ++ (fed.u64 key.subject ++ (fed.u32 key.principal ++ fed.u8 (act_number key.act)))) };
 
     ghost respects_eq = { Prim.search (hashing, rules) };
 
     fn hash<H: Hasher>(&self, state: &mut H) {
         state.write_u64(self.epoch);
+        state.write_u64(self.moment);
         state.write_u64(self.subject);
         state.write_u32(self.principal);
         state.write_u8(self.act as u8);

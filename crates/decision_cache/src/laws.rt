@@ -12,7 +12,7 @@ pub fn cached_verdicts_stay_sound()
     ensures empty { (policies : List Rules) (question : Key → Question) → IsSoundIn policies question [] }
     ensures grown { (policies : List Rules) (policy : Rules) (question : Key → Question) (entries : List (Key × Verdict)) →
         IsSoundIn policies question entries → IsSoundIn (policies ++ policy ∷ []) question entries }
-    ensures at { (policies : List Rules) (question : Key → Question) (entries : List (Key × Verdict)) (policy : Rules) (epoch subject : ℕ) (asked : Question) →
-        IsSoundIn policies question entries → IsAmong policies policy epoch → question (key_of epoch subject asked) ≡ asked
-        → IsSoundAt entries policy epoch subject asked }
+    ensures at { (policies : List Rules) (question : Key → Question) (entries : List (Key × Verdict)) (policy : Rules) (epoch moment subject : ℕ) (asked : Question) →
+        IsSoundIn policies question entries → IsAmong policies policy epoch → question (key_of epoch moment subject asked) ≡ asked
+        → IsSoundAt entries policy epoch moment subject asked }
 {}

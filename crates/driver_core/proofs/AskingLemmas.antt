@@ -21,7 +21,7 @@ use Rattle.driver_core.specs.State.{State, at_moment, has_number}
 use Rattle.driver_core.specs.Subscribing.{has_room_for_subscription, subscribing_of, with_subscription}
 use Rattle.driver_core.specs.Told.{told_of}
 use Rattle.driver_core.specs.Unpublishing.{remove_publication, unpublished}
-use Rattle.driver_core.proofs.PairLemmas.{pairs_by, principal_heard}
+use Rattle.driver_core.proofs.PairLemmas.{principal_heard, prospects_by}
 use Rattle.channel_uri.specs.declared.address.Address.{Address}
 use Rattle.channel_uri.specs.declared.error.UriError.{UriError}
 use Rattle.channel_uri.specs.Channel.{Shape, denotes}
@@ -236,8 +236,8 @@ room_for_subscription : (s : State) (now handle client : ℕ) (channel : Shape) 
 unfolding has_room_for_subscription has_number is_within_pairs with_subscription heard at_moment touched
 room_for_subscription s now handle client channel stream =
     ap (λ (pairs : List Pair). has_number s && has_room_in s.streams && nat_le (length pairs) 4096)
-    (pairs_by (with_subscription (at_request s now handle) client channel stream) (with_subscription s client channel stream)
-    refl refl refl (principal_heard s.clients.rows handle (max s.moment now)))
+    (prospects_by (with_subscription (at_request s now handle) client channel stream) (with_subscription s client channel stream)
+    refl refl refl refl (principal_heard s.clients.rows handle (max s.moment now)))
 
 pub subscribing_same : (s : State) (now handle : ℕ) (client : Client) (channel : Shape) (stream : ℤ) →
     subscribing_of (at_request s now handle) client channel stream ≡ subscribing_of s client channel stream
@@ -259,8 +259,8 @@ room_for_publication s now handle client wanted adding =
     ap (λ (b : Bool). (has_number s && b) && is_within_pairs (with_publication (at_request s now handle) client wanted adding))
     (sole_same s now handle wanted adding)
     ∙ ap (λ (pairs : List Pair). (has_number s && has_room_for_sole s wanted adding) && nat_le (length pairs) 4096)
-    (pairs_by (with_publication (at_request s now handle) client wanted adding) (with_publication s client wanted adding)
-    refl refl refl (principal_heard s.clients.rows handle (max s.moment now)))
+    (prospects_by (with_publication (at_request s now handle) client wanted adding) (with_publication s client wanted adding)
+    refl refl refl refl (principal_heard s.clients.rows handle (max s.moment now)))
 
 place_same : (s : State) (now handle : ℕ) (wanted : Wanted) (adding : Adding) →
     has_place (at_request s now handle) wanted adding ≡ has_place s wanted adding

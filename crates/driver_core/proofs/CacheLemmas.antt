@@ -15,6 +15,7 @@ use Rattle.log_readers.specs.Numbering.{Rises, number_of as subscribed_as, regis
 use Rattle.log_readers.proofs.RisingLemmas.{all_above, all_below}
 use Rattle.policy_core.specs.declared.act.Act.TheVariants.{Offer}
 use Rattle.policy_core.specs.declared.verdict.Verdict.{Verdict}
+use Rattle.policy_core.specs.Moments.{at}
 use Rattle.policy_core.specs.Question.{Question}
 use Rattle.policy_core.specs.Rules.{verdict_of}
 use Rattle.stream_registry.specs.declared.row.Source.{Source}
@@ -28,12 +29,12 @@ was_there : (Was : Type 0) (last number : ℕ) → number ≤ last → Was ⊎ (
 was_there Was last number drawn from = ⊎_elim (λ was. was) (λ new. absurd (omega (arith, drawn, new))) from
 
 -- under the number of the policy in force it is the same policy
-same_policy : (s after : State) (epoch : ℕ) (verdict : Verdict) (question : Question) → Stays s after → epoch ≤ s.epoch →
-    epoch ≡ after.epoch → (epoch ≡ s.epoch → verdict ≡ verdict_of s.policy s.epoch question) →
-    verdict ≡ verdict_of after.policy after.epoch question
-same_policy s after epoch verdict question stays known now by =
+same_policy : (s after : State) (epoch moment : ℕ) (verdict : Verdict) (question : Question) → Stays s after → epoch ≤ s.epoch →
+    epoch ≡ after.epoch → (epoch ≡ s.epoch → verdict ≡ verdict_of (at s.given moment) s.epoch question) →
+    verdict ≡ verdict_of (at after.given moment) after.epoch question
+same_policy s after epoch moment verdict question stays known now by =
     ⊎_elim
-    (λ (same : (after.policy ≡ s.policy) × (after.epoch ≡ s.epoch)).
+    (λ (same : (after.given ≡ s.given) × (after.epoch ≡ s.epoch)).
     rw (same.0, same.1) (by (now ∙ same.1)))
     (λ newer. absurd (omega (arith, known, now, newer)))
     stays.policy
@@ -49,7 +50,7 @@ one_stays s after entry stays cached =
     was_there _ s.last_number row.number (omega (arith, drawn, number)) (stays.registrations row has) in
     record {
       epoch = ⊎_elim
-          (λ (same : (after.policy ≡ s.policy) × (after.epoch ≡ s.epoch)). let epoch = same.1 in omega (arith, known, epoch))
+          (λ (same : (after.given ≡ s.given) × (after.epoch ≡ s.epoch)). let epoch = same.1 in omega (arith, known, epoch))
           (λ newer. omega (arith, known, newer))
           stays.policy;
       subject = omega (arith, drawn, last);
@@ -61,16 +62,16 @@ one_stays s after entry stays cached =
           let below = cached.source row there number act in
           let was : WasLog s.streams.sources log =
           was_there _ s.last_number log.number (omega (arith, below, source)) (stays.logs log stands) in
-          same_policy s after entry.0.epoch entry.1 (offer_question entry.0.principal row log) stays known epoch
+          same_policy s after entry.0.epoch entry.0.moment entry.1 (offer_question entry.0.principal row log) stays known epoch
           (λ now.
           cached.offer row was.before there was.stood number (was.source_is ∙ source) now act
           ∙ ap (λ stream.
-          verdict_of s.policy s.epoch
+          verdict_of (at s.given entry.0.moment) s.epoch
           (record { principal = entry.0.principal; act = Offer; channel = row.channel; stream = stream })) was.stream_is);
       poll = λ row has number epoch act.
           let there : Contains s.streams.subscriptions row =
           was_there _ s.last_number row.number (omega (arith, drawn, number)) (stays.subscriptions row has) in
-          same_policy s after entry.0.epoch entry.1 (poll_question entry.0.principal row) stays known epoch
+          same_policy s after entry.0.epoch entry.0.moment entry.1 (poll_question entry.0.principal row) stays known epoch
           (λ now. cached.poll row there number now act);
     }
 
@@ -126,15 +127,15 @@ unique number_of low last (first ∷ rows) row other up has stands same =
 
 -- ---- a verdict that is decided
 
-pub offer_cached : (s : State) (principal : ℕ) (registration : Registration) (log : Source) →
+pub offer_cached : (s : State) (moment principal : ℕ) (registration : Registration) (log : Source) →
     Rises source_of 0 s.last_number s.streams.sources →
     Rises registered_as 0 s.last_number s.streams.registrations →
     Contains s.streams.registrations registration → Contains s.streams.sources log → log.number ≡ registration.source →
     IsCached s (
-      key_of s.epoch registration.number (offer_question principal registration log),
-      verdict_of s.policy s.epoch (offer_question principal registration log),
+      key_of s.epoch moment registration.number (offer_question principal registration log),
+      verdict_of (at s.given moment) s.epoch (offer_question principal registration log),
     )
-offer_cached s principal registration log sources registered has stands with =
+offer_cached s moment principal registration log sources registered has stands with =
     let last = s.last_number in
     let own : (row : Registration) → Contains s.streams.registrations row → row.number ≡ registration.number →
     registration ≡ row =
@@ -150,18 +151,18 @@ offer_cached s principal registration log sources registered has stands with =
           let is : registration ≡ row = own row there number in
           let from : log.number ≡ other.number = with ∙ ap (λ (r : Registration). r.source) is ∙ sym source in
           let same : log ≡ other = unique source_of 0 last s.streams.sources log other sources stands live from in
-          ap (λ (r : Registration). verdict_of s.policy s.epoch (offer_question principal r log)) is
-          ∙ ap (λ (l : Source). verdict_of s.policy s.epoch (offer_question principal row l)) same;
+          ap (λ (r : Registration). verdict_of (at s.given moment) s.epoch (offer_question principal r log)) is
+          ∙ ap (λ (l : Source). verdict_of (at s.given moment) s.epoch (offer_question principal row l)) same;
       poll = λ row there number epoch act. absurd (cc act);
     }
 
-pub poll_cached : (s : State) (principal : ℕ) (subscription : Subscription) →
+pub poll_cached : (s : State) (moment principal : ℕ) (subscription : Subscription) →
     Rises subscribed_as 0 s.last_number s.streams.subscriptions → Contains s.streams.subscriptions subscription →
     IsCached s (
-      key_of s.epoch subscription.number (poll_question principal subscription),
-      verdict_of s.policy s.epoch (poll_question principal subscription),
+      key_of s.epoch moment subscription.number (poll_question principal subscription),
+      verdict_of (at s.given moment) s.epoch (poll_question principal subscription),
     )
-poll_cached s principal subscription numbers has =
+poll_cached s moment principal subscription numbers has =
     let last = s.last_number in
     record {
       epoch = omega arith;
@@ -169,7 +170,7 @@ poll_cached s principal subscription numbers has =
       source = λ row there number act. absurd (cc act);
       offer = λ row other there live number source epoch act. absurd (cc act);
       poll = λ row there number epoch act.
-          ap (λ (r : Subscription). verdict_of s.policy s.epoch (poll_question principal r))
+          ap (λ (r : Subscription). verdict_of (at s.given moment) s.epoch (poll_question principal r))
           (unique subscribed_as 0 last s.streams.subscriptions subscription row numbers has there (sym number));
     }
 
@@ -210,17 +211,17 @@ found_log logs source log found =
 
 -- ---- what the policy in force is asked by the cache
 
-pub offer_sound : (s : State) (entries : List (Key × Verdict)) (principal : ℕ) (registration : Registration)
+pub offer_sound : (s : State) (entries : List (Key × Verdict)) (moment principal : ℕ) (registration : Registration)
     (log : Source) → AreCached s entries → Contains s.streams.registrations registration →
     Contains s.streams.sources log → log.number ≡ registration.source →
-    IsSoundAt entries s.policy s.epoch registration.number (offer_question principal registration log)
-offer_sound s entries principal registration log cached has stands with = λ verdict there.
-    (cached.each (key_of s.epoch registration.number (offer_question principal registration log), verdict) there).offer
+    IsSoundAt entries s.given s.epoch moment registration.number (offer_question principal registration log)
+offer_sound s entries moment principal registration log cached has stands with = λ verdict there.
+    (cached.each (key_of s.epoch moment registration.number (offer_question principal registration log), verdict) there).offer
     registration log has stands refl with refl refl
 
-pub poll_sound : (s : State) (entries : List (Key × Verdict)) (principal : ℕ) (subscription : Subscription) →
+pub poll_sound : (s : State) (entries : List (Key × Verdict)) (moment principal : ℕ) (subscription : Subscription) →
     AreCached s entries → Contains s.streams.subscriptions subscription →
-    IsSoundAt entries s.policy s.epoch subscription.number (poll_question principal subscription)
-poll_sound s entries principal subscription cached has = λ verdict there.
-    (cached.each (key_of s.epoch subscription.number (poll_question principal subscription), verdict) there).poll
+    IsSoundAt entries s.given s.epoch moment subscription.number (poll_question principal subscription)
+poll_sound s entries moment principal subscription cached has = λ verdict there.
+    (cached.each (key_of s.epoch moment subscription.number (poll_question principal subscription), verdict) there).poll
     subscription has refl refl refl

@@ -7,7 +7,7 @@ use Rattle.driver_core.specs.declared.outcome.Response.TheVariants.{Dropped, Ima
 use Rattle.driver_core.specs.declared.setup_fault.SetupFault.{SetupFault}
 use Rattle.driver_core.specs.declared.setup_fault.SetupFault.TheVariants.{BadSetup, Exists}
 use Rattle.driver_core.specs.Draft.{answered}
-use Rattle.driver_core.specs.Pairs.{is_within_pairs, pairs_of}
+use Rattle.driver_core.specs.Pairs.{is_within_pairs, pairs_of, prospects_of}
 use Rattle.driver_core.specs.Renewal.{available_for, available_from, decided_from, decided_on, outcome_by, outcome_kept, outcome_opening, reading}
 use Rattle.driver_core.specs.SettingUp.{allowed_for, fitting, image_made, new_image, place_of_image, room_for, set_by, set_up, set_up_by, setting_of, wanted_by, with_image}
 use Rattle.driver_core.specs.State.{State, at_moment, has_number}
@@ -32,7 +32,7 @@ use Rattle.stream_registry.specs.Pairs.{is_pair, pair_of}
 
 allowed_later : (s : State) (now : ℕ) (wanted : ImageWanted) (rows : List Subscription) →
     allowed_for (at_moment s now) wanted rows ≡ allowed_for s wanted rows
-unfolding room_for is_within_pairs with_image at_moment pairs_of has_number
+unfolding room_for is_within_pairs with_image at_moment prospects_of has_number
 allowed_later s now wanted [] = refl
 allowed_later s now wanted (first ∷ others) = refl
 

@@ -17,6 +17,7 @@ pub mod PublishLemmas
 pub mod RecallLemmas
 pub mod ReloadingLemmas
 pub mod RuleCases
+mod RuledLemmas
 pub mod SearchLemmas
 pub mod SettingLemmas
 pub mod SizeLemmas

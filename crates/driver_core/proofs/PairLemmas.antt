@@ -1,5 +1,5 @@
 -- Events that change no pair.
-use Rattle.std.proofs.Common.{◌≡◌, ℕ, ◌==◌, ◌&&◌, max, Bool, true, false, cond, List, [], ◌∷◌, ◌++◌, map, filter, not, Option, Some, Result, Ok, Err, if◌then◌else◌, refl, sym, subst, ap, ◌∙◌}
+use Rattle.std.proofs.Common.{◌≡◌, ℕ, ◌==◌, ◌&&◌, ◌||◌, max, Bool, true, false, cond, List, [], ◌∷◌, ◌++◌, map, filter, not, Option, Some, Result, Ok, Err, if◌then◌else◌, refl, sym, subst, ap, ◌∙◌}
 use Rattle.std.proofs.lemmas.Bool.{eq-eqb, or_left, or_right}
 use Rattle.std.proofs.lemmas.List.{append-nil, append_assoc}
 use Rattle.std.specs.List.{flat_map, list_any}
@@ -18,7 +18,7 @@ use Rattle.command_codec.specs.declared.destination.Destination.{Destination}
 use Rattle.driver_core.specs.Counting.{add_counter, counted, counter_decision, has_room_for_counter, set_counter, valued, remove_counter, uncounted, with_counter}
 use Rattle.driver_core.specs.Draft.{Draft, refused, replied, told}
 use Rattle.driver_core.specs.Leaving.{all_left}
-use Rattle.driver_core.specs.Pairs.{pairs_of, lacking, is_same_pair}
+use Rattle.driver_core.specs.Pairs.{pairs_of, lacking, is_same_pair, prospects_of}
 use Rattle.driver_core.specs.Refusing.{decisions_by, refused_by}
 use Rattle.driver_core.specs.Renewal.{renewed, images_told, images_decided, outcome_by, outcome_kept}
 use Rattle.driver_core.specs.State.{State, at_moment}
@@ -42,7 +42,7 @@ use Rattle.stream_registry.specs.declared.row.Source.{Source}
 use Rattle.stream_registry.specs.declared.row.Subscription.{Subscription}
 use Rattle.stream_registry.specs.Leaving.{has_registration, unregistered}
 use Rattle.stream_registry.specs.Lingering.{closed, closing_of, is_closing, place_of, stays_live}
-use Rattle.stream_registry.specs.Pairs.{fits, is_allowed, is_allowed_to, pair_of, pairs_at, pairs_of as pairs_on}
+use Rattle.stream_registry.specs.Pairs.{fits, is_allowed, is_allowed_to, pair_of, pairs_at, pairs_of as pairs_on, is_ever_allowed, prospects_of as prospects_on}
 use Rattle.stream_registry.specs.Streams.{Streams}
 
 -- ---- whom a client acts for, once it was heard of
@@ -92,6 +92,47 @@ pub pairs_by : (s t : State) → s.streams ≡ t.streams → s.policy ≡ t.poli
     ((n : ℕ) → principal_at s.clients.rows n ≡ principal_at t.clients.rows n) → pairs_of s ≡ pairs_of t
 pairs_by s t streams policy epoch principals =
     pairs_are s ∙ (λ i. pairs_with (λ n. principals n i) (policy i) (epoch i) (streams i)) ∙ sym (pairs_are t)
+
+-- and so are those that may yet be, by what the policy becomes too
+
+abbrev may_by_principals : (ℕ → Option ℕ) → Rules → List Rules → ℕ → Source → Subscription → Bool
+may_by_principals principals policy coming epoch log subscription =
+    fits log subscription
+    && (is_allowed_to policy epoch subscription (principals subscription.client)
+    || list_any (λ later. is_allowed_to later epoch subscription (principals subscription.client)) coming)
+
+abbrev prospects_with : (ℕ → Option ℕ) → Rules → List Rules → ℕ → Streams → List Pair
+prospects_with principals policy coming epoch streams =
+    flat_map (λ (log : Source).
+    map (pair_of log) (filter (may_by_principals principals policy coming epoch log) streams.subscriptions)) streams.sources
+
+prospects_are : (s : State) → prospects_of s ≡ prospects_with (principal_at s.clients.rows) s.policy s.prospects s.epoch s.streams
+unfolding prospects_of prospects_on is_ever_allowed is_allowed
+prospects_are s = refl
+
+pub prospects_by : (s t : State) → s.streams ≡ t.streams → s.policy ≡ t.policy → s.prospects ≡ t.prospects → s.epoch ≡ t.epoch →
+    ((n : ℕ) → principal_at s.clients.rows n ≡ principal_at t.clients.rows n) → prospects_of s ≡ prospects_of t
+prospects_by s t streams policy coming epoch principals =
+    prospects_are s ∙ (λ i. prospects_with (λ n. principals n i) (policy i) (coming i) (epoch i) (streams i)) ∙ sym (prospects_are t)
+
+-- where the policy becomes no other they are the pairs
+
+or_false : (b : Bool) → (b || false) ≡ b
+or_false true = refl
+or_false false = refl
+
+settled_on : (s : Streams) (clients : List Client) (policy : Rules) (epoch : ℕ) → prospects_on s clients policy [] epoch ≡ pairs_on s clients policy epoch
+unfolding prospects_on pairs_on is_ever_allowed
+settled_on s clients policy epoch = λ i.
+    flat_map (λ (log : Source).
+    map (pair_of log) (filter (λ (subscription : Subscription). fits log subscription && or_false (is_allowed clients policy epoch subscription) i) s.subscriptions))
+    s.sources
+
+pub settled_pairs : (s : State) → s.prospects ≡ [] → pairs_of s ≡ prospects_of s
+unfolding prospects_of pairs_of
+settled_pairs s none =
+    sym (ap (λ (coming : List Rules). prospects_on s.streams s.clients.rows s.policy coming s.epoch) none
+    ∙ settled_on s.streams s.clients.rows s.policy s.epoch)
 
 -- a command alone changes no pair
 pub pairs_heard : (s : State) (now handle : ℕ) → pairs_of (heard (at_moment s now) handle) ≡ pairs_of s

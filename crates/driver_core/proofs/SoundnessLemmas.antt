@@ -18,7 +18,7 @@ use Rattle.driver_core.specs.declared.settings.Settings.{Settings}
 use Rattle.driver_core.specs.Attaching.{attached}
 use Rattle.driver_core.specs.Closing.{keep_alive, close}
 use Rattle.driver_core.specs.Commands.{heard, at_request}
-use Rattle.driver_core.specs.Conduct.{conduct, drafted, state_after, state_of}
+use Rattle.driver_core.specs.Conduct.{conduct, drafted, state_after, state_of, coming_to, moment_told}
 use Rattle.driver_core.specs.Directing.{directed, recalled, with_destination, without_destination}
 use Rattle.driver_core.specs.declared.directing.Directed.{Directed}
 use Rattle.driver_core.specs.declared.directing.Target.{Target}
@@ -33,7 +33,7 @@ use Rattle.driver_core.specs.Renewal.{renewed}
 use Rattle.driver_core.specs.Requests.{RemovalRequest, SubscriptionRequest, wanted_by}
 use Rattle.driver_core.specs.SettingUp.{image_made, new_image, place_of_image, setting_of, wanted_by as image_wanted_by, with_image}
 use Rattle.driver_core.specs.Soundness.{AreSettings, AreSizes, BeginsSoundly, IsSound, MovesLogs, Opens, log_of}
-use Rattle.driver_core.specs.State.{State, at_moment, has_number, opened}
+use Rattle.driver_core.specs.State.{State, at_moment, has_number, opened, ruled}
 use Rattle.driver_core.specs.Subscribing.{has_room_for_subscription, subscribed, with_subscription}
 use Rattle.driver_core.specs.Terminating.{stopped_for_good, terminated}
 use Rattle.driver_core.specs.Ticking.{closed_past, late, tick, ticked}
@@ -706,19 +706,32 @@ dropping_moves s change opened sound after read logs =
     ∙ ap₂ (λ (front back : List Source). front ++ back)
     (sym (closed_left pairs change.outcome.closes s.last_number s.streams.sources sound.numbered)) read
 
+-- what the policy becomes at a moment leaves the logs
+pub ruled_sound : (s : State) (now : ℕ) → IsSound s → IsSound (ruled s now)
+unfolding ruled
+ruled_sound s now sound = record {
+  defaults = sound.defaults;
+  sizes = sound.sizes;
+  numbered = sound.numbered;
+  begins = sound.begins;
+  laid_out = sound.laid_out;
+  subscriptions = sound.subscriptions;
+}
+
 -- renewing the pairs moves no log
 pub moves_logs : (s : State) (event : Event) (inputs : Inputs) → IsSound s → MovesLogs s (conduct s event inputs)
-unfolding conduct renewed dropping
+unfolding conduct renewed dropping ruled
 moves_logs s event inputs sound =
-    let moves : Moves s (drafted s event inputs) = draft_moves s event inputs sound in
+    let before : State = coming_to s event in
+    let moves : Moves before (drafted before event inputs) = draft_moves before event inputs (ruled_sound s (moment_told event) sound) in
     record {
-      sound = unread_sound (drafted s event inputs).after moves.sound;
-      settings = unread_settings (drafted s event inputs).after ∙ moves.settings;
+      sound = unread_sound (drafted before event inputs).after moves.sound;
+      settings = unread_settings (drafted before event inputs).after ∙ moves.settings;
       opened = moves.opened;
       opens = moves.opens;
-      stays = fresh_left (is_closed (renewed s inputs (drafted s event inputs))) s.last_number s.streams.sources moves.opened
+      stays = fresh_left (is_closed (renewed s inputs (drafted before event inputs))) s.last_number s.streams.sources moves.opened
           sound.numbered moves.fresh;
-      logs = dropping_moves s (renewed s inputs (drafted s event inputs)) moves.opened sound moves.sound moves.read moves.logs;
+      logs = dropping_moves s (renewed s inputs (drafted before event inputs)) moves.opened sound moves.sound moves.read moves.logs;
     }
 
 -- what answers the event moves the logs, where there was memory for it

@@ -11,7 +11,7 @@ use Rattle.driver_core.specs.declared.refusal.Refusal.{Refusal}
 use Rattle.driver_core.specs.Attaching.{attached}
 use Rattle.driver_core.specs.Closing.{keep_alive, close}
 use Rattle.driver_core.specs.Commands.{heard, at_request}
-use Rattle.driver_core.specs.Conduct.{conduct, drafted, state_after}
+use Rattle.driver_core.specs.Conduct.{coming_to, conduct, drafted, moment_told, state_after}
 use Rattle.driver_core.specs.Directing.{directed, recalled, with_destination, without_destination}
 use Rattle.driver_core.specs.declared.directing.Directed.{Directed}
 use Rattle.driver_core.specs.declared.directing.Target.{Target}
@@ -24,7 +24,7 @@ use Rattle.driver_core.specs.Reloading.{in_force, reloaded}
 use Rattle.driver_core.specs.Renewal.{renewed}
 use Rattle.driver_core.specs.Requests.{RemovalRequest, SubscriptionRequest, wanted_by}
 use Rattle.driver_core.specs.SettingUp.{image_made, with_image}
-use Rattle.driver_core.specs.State.{State, at_moment}
+use Rattle.driver_core.specs.State.{State, at_moment, ruled}
 use Rattle.driver_core.specs.Subscribing.{subscribed, with_subscription}
 use Rattle.driver_core.specs.Terminating.{stopped_for_good, terminated}
 use Rattle.driver_core.specs.Ticking.{closed_past, late, tick, ticked}
@@ -254,16 +254,16 @@ closing_stays s client correlation = one_left_stays s client.number
 policy_both : (s between after : State) → IsSameOrNewer s between → IsSameOrNewer between after → IsSameOrNewer s after
 policy_both s between after first second =
     ⊎_elim
-    (λ (same : (after.policy ≡ between.policy) × (after.epoch ≡ between.epoch)).
+    (λ (same : (after.given ≡ between.given) × (after.epoch ≡ between.epoch)).
     ⊎_elim
-    (λ (still : (between.policy ≡ s.policy) × (between.epoch ≡ s.epoch)). inl (same.0 ∙ still.0, same.1 ∙ still.1))
+    (λ (still : (between.given ≡ s.given) × (between.epoch ≡ s.epoch)). inl (same.0 ∙ still.0, same.1 ∙ still.1))
     (λ newer.
     let epoch = same.1 in
     inr (omega (arith, epoch, newer)))
     first)
     (λ newer.
     ⊎_elim
-    (λ (still : (between.policy ≡ s.policy) × (between.epoch ≡ s.epoch)).
+    (λ (still : (between.given ≡ s.given) × (between.epoch ≡ s.epoch)).
     let epoch = still.1 in
     inr (omega (arith, epoch, newer)))
     (λ old. inr (omega (arith, old, newer)))
@@ -442,7 +442,20 @@ unread_stays s after stays = record {
   logs = λ log has. stays.logs log (left_was_there (is_kept _) after.streams.sources log has);
 }
 
+-- what the policy becomes at a moment leaves the lists, and the policy as its text has it
+ruled_stays : (s : State) (now : ℕ) (after : State) → Stays (ruled s now) after → Stays s after
+unfolding ruled
+ruled_stays s now after stays = record {
+  last = stays.last;
+  policy = stays.policy;
+  registrations = stays.registrations;
+  subscriptions = stays.subscriptions;
+  logs = stays.logs;
+}
+
 pub event_stays : (s : State) (event : Event) (inputs : Inputs) → Stays s (state_after s event inputs)
 unfolding conduct renewed dropping
 event_stays s event inputs =
-    unread_stays s (drafted s event inputs).after (draft_stays s event inputs)
+    let before : State = coming_to s event in
+    unread_stays s (drafted before event inputs).after
+    (ruled_stays s (moment_told event) (drafted before event inputs).after (draft_stays before event inputs))

@@ -4,4 +4,4 @@ use Rattle.driver_core.specs.State.{State}
 
 -- the policy is the one before under its number, or has a higher number
 abbrev pub IsSameOrNewer : State → State → Type 0
-IsSameOrNewer s after = ((after.policy ≡ s.policy) × (after.epoch ≡ s.epoch)) ⊎ (s.epoch < after.epoch)
+IsSameOrNewer s after = ((after.given ≡ s.given) × (after.epoch ≡ s.epoch)) ⊎ (s.epoch < after.epoch)

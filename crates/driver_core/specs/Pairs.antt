@@ -3,15 +3,19 @@ use Rattle.std.specs.Prelude.{Bool, not, ◌==◌, ◌&&◌, nat_le, length, Lis
 use Rattle.std.specs.List.{list_any}
 use Rattle.driver_core.specs.State.{State}
 use Rattle.stream_registry.specs.declared.pairs.Pair.{Pair}
-use Rattle.stream_registry.specs.Pairs.{pairs_of as pairs_on}
+use Rattle.stream_registry.specs.Pairs.{pairs_of as pairs_on, prospects_of as prospects_on}
 
 -- by source and then subscription
 unfoldable pub pairs_of : State → List Pair
 pairs_of s = pairs_on s.streams s.clients.rows s.policy s.epoch
 
--- there are at most 4,096 pairs
+-- these, and those that the policy allows at a later moment
+unfoldable pub prospects_of : State → List Pair
+prospects_of s = prospects_on s.streams s.clients.rows s.policy s.prospects s.epoch
+
+-- there are at most 4,096 of them, so that no moment brings more pairs than that
 unfoldable pub is_within_pairs : State → Bool
-is_within_pairs s = nat_le (length (pairs_of s)) 4096
+is_within_pairs s = nat_le (length (prospects_of s)) 4096
 
 abbrev pub is_same_pair : Pair → Pair → Bool
 is_same_pair pair other = pair.source == other.source && pair.subscription == other.subscription

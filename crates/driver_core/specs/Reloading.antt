@@ -5,11 +5,17 @@ use Rattle.driver_core.specs.declared.outcome.Response.TheVariants.{PolicyInForc
 use Rattle.driver_core.specs.Draft.{answered}
 use Rattle.driver_core.specs.Pairs.{is_within_pairs}
 use Rattle.driver_core.specs.State.{State}
+use Rattle.policy_core.specs.Moments.{at, coming}
 use Rattle.policy_core.specs.RuleList.{Rules}
 
--- under the next number; all else stays as it is
+-- under the next number, as it is at the moment; all else stays as it is
 unfoldable pub in_force : State → Rules → State
-in_force s policy = record s { policy = policy; epoch = s.epoch + 1 }
+in_force s policy = record s {
+  given = policy;
+  policy = at policy s.moment;
+  prospects = coming policy s.moment;
+  epoch = s.epoch + 1;
+}
 
 -- its number is the answer
 unfoldable pub reloaded : State → Rules → Draft

@@ -12,6 +12,7 @@ use crate::commands::outcome_of_done;
 use crate::event::Inputs;
 use crate::outcome::{Outcome, Response};
 use crate::registry::Registry;
+use crate::replies::Reply;
 use crate::told::Told;
 use byte_strings::Items;
 use client_registry::Client;
@@ -54,6 +55,19 @@ impl Registry {
     {
         let gone = self.pairs_of_client(alloc, asking.client.number)?;
         outcome_of_done(alloc, asking, gone)
+    }
+
+    /// What the command CLIENT_CLOSE of a client that is there reports.
+    #[tactic(auto, unfolding(crate::specs::Closing::close, crate::specs::Draft::replied, crate::specs::Draft::told))]
+    pub(crate) fn tell_close(
+        &self,
+        alloc: Global,
+        client: Client,
+        correlation: u64,
+    ) -> Result<Told, AllocError>
+        ensures { IfOk result (λ told. told ≡ told_of (close self.now client correlation)) }
+    {
+        Told::replied(alloc, client.number, Reply::OperationSuccess { correlation })
     }
 
     /// The command CLIENT_CLOSE of a client that is there.

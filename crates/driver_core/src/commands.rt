@@ -44,7 +44,7 @@ pub(crate) fn outcome_of_done(
 }
 
 /// The refusal of bytes that are no command.
-fn refusal_for(fault: CommandFault) -> Refusal
+pub(crate) fn refusal_for(fault: CommandFault) -> Refusal
     ensures { result ≡ refusal_for fault }
 {
     match fault {
@@ -56,7 +56,7 @@ fn refusal_for(fault: CommandFault) -> Refusal
 impl Registry {
     /// What the command of a client that is there reports where it changes no pair.
     #[tactic(auto, unfolding(crate::specs::Commands::requested))]
-    fn tell_quiet(
+    pub(crate) fn tell_quiet(
         &self,
         alloc: Global,
         client: Client,
@@ -237,7 +237,7 @@ impl Registry {
 
     /// The command of a client that is there.
     #[tactic(auto, unfolding(crate::specs::Commands::requested))]
-    fn do_requested(
+    pub(crate) fn do_requested(
         &mut self,
         client: Client,
         command: &Command,

@@ -1,3 +1,4 @@
+ghost use Rattle.driver_core.specs.Conduct.{moment_told};
 ghost use Rattle.std.specs.Prelude.{◌≡◌, [], IfOk};
 
 use crate::received::Received;
@@ -43,6 +44,19 @@ pub enum Event {
 }
 
 impl Event {
+    /// The moment that the event tells.
+    pub fn moment(&self) -> u64
+        ensures { result ≡ moment_told self.now }
+    {
+        match self {
+            Event::Attach { now, .. }
+            | Event::Command { now, .. }
+            | Event::Reload { now, .. }
+            | Event::Tick { now }
+            | Event::Setup { now, .. } => *now,
+        }
+    }
+
     /// Another event, the same as this one.
     pub fn copy(&self, alloc: Global) -> Result<Event, AllocError>
         ensures { IfOk result (λ copy. copy ≡ self.now) }

@@ -13,6 +13,7 @@
 #![tactic(auto)]
 
 mod asking;
+mod at_bound;
 mod attaching;
 mod cached;
 mod closing;

@@ -232,7 +232,7 @@ impl Registry {
         };
         let shown = self
             .counters
-            .visible(alloc, self.compiled.policy(), client.principal)?;
+            .visible(alloc, &self.compiled.policy(), client.principal)?;
         let mut rows = rows_of(alloc, shown.as_slice())?;
         let logs = self.streams.sources();
         put_sources(&mut rows, self, alloc, client.principal, logs)?;

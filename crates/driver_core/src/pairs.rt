@@ -1,5 +1,5 @@
 ghost use Rattle.driver_core.specs.Pairs.{pairs_of};
-ghost use Rattle.std.specs.Prelude.{◌≡◌, IfOk};
+ghost use Rattle.std.specs.Prelude.{◌≡◌, [], true, IfOk};
 
 use crate::registry::Registry;
 use byte_strings::Items;
@@ -10,6 +10,13 @@ use stream_registry::Pair;
 pub(crate) const PAIRS: usize = 4096;
 
 impl Registry {
+    /// Whether the policy in force stands for good as it does.
+    pub(crate) fn is_settled(&self) -> bool
+        ensures { result ≡ true → self.now.prospects ≡ [] }
+    {
+        self.compiled.is_settled()
+    }
+
     /// Which subscription reads which log, by source and then subscription.
     pub fn pairs(&self, alloc: Global) -> Result<Items<Pair>, AllocError>
         ensures { IfOk result (λ pairs. pairs ≡ pairs_of self.now) }

@@ -2,8 +2,9 @@ ghost use Rattle.driver_core.specs.Publishing.{add_publication, granting_of, has
 ghost use Rattle.channel_uri.specs.Channel.{denotes};
 ghost use Rattle.driver_core.specs.Commands.{at_asking};
 ghost use Rattle.driver_core.specs.Renewal.{outcome_by, outcome_opening};
-ghost use Rattle.driver_core.specs.Pairs.{pairs_of};
+ghost use Rattle.driver_core.specs.Pairs.{pairs_of, prospects_of};
 ghost use Rattle.driver_core.specs.Received.{channel_lent};
+ghost use Rattle.driver_core.specs.Told.{told_of};
 ghost use Rattle.std.specs.Prelude.{◌≡◌, ◌&&◌, true, Ok, Some, length, ℕ, IfOk, unwrap_or};
 ghost use Rattle.driver_core.specs.State.{has_number};
 ghost use Rattle.stream_registry.specs.Adding.{added, adding_of};
@@ -154,7 +155,7 @@ impl Registry {
 
     /// How many pairs there would be with the publication. It takes no memory.
     #[tactic(auto, unfolding(crate::specs::Pairs::pairs_of, crate::specs::Publishing::with_publication))]
-    fn pairs_with_publication(&self, client: u64, wanted: &Wanted, adding: Adding) -> usize
+    fn pairs_now_with_publication(&self, client: u64, wanted: &Wanted, adding: Adding) -> usize
         requires { has_number self.now ≡ true }
         ensures { result ≡ length (pairs_of (with_publication self.now client wanted.now adding)) }
     {
@@ -162,7 +163,7 @@ impl Registry {
         self.readers.pair_count_with_publication(
             &self.streams,
             &self.clients,
-            self.compiled.policy(),
+            &self.compiled.policy(),
             self.compiled.epoch(),
             self.next_number(),
             client,
@@ -170,6 +171,39 @@ impl Registry {
             place,
             adding,
         )
+    }
+
+    /// How many there would be with it, then or later. It takes no memory.
+    #[tactic(auto, unfolding(crate::specs::Pairs::prospects_of, crate::specs::Publishing::with_publication))]
+    fn pairs_ever_with_publication(&self, client: u64, wanted: &Wanted, adding: Adding) -> usize
+        requires { has_number self.now ≡ true }
+        ensures { result ≡ length (prospects_of (with_publication self.now client wanted.now adding)) }
+    {
+        let place = self.place_of_added(wanted, adding);
+        log_readers::prospect_count_with_publication(
+            &self.streams,
+            &self.clients,
+            self.compiled.given(),
+            self.compiled.as_of(),
+            self.compiled.epoch(),
+            self.next_number(),
+            client,
+            wanted,
+            place,
+            adding,
+        )
+    }
+
+    /// How many there would be with it, then or later. Where the policy stands for good, those that are kept are counted. It
+    /// takes no memory.
+    fn pairs_with_publication(&self, client: u64, wanted: &Wanted, adding: Adding) -> usize
+        requires { has_number self.now ≡ true }
+        ensures { result ≡ length (prospects_of (with_publication self.now client wanted.now adding)) }
+    {
+        if self.is_settled() {
+            return self.pairs_now_with_publication(client, wanted, adding);
+        }
+        self.pairs_ever_with_publication(client, wanted, adding)
     }
 
     /// Whether there are numbers for the publication and its destination, and room for its pairs. It takes no memory.
@@ -292,6 +326,85 @@ impl Registry {
         }
     }
 
+    /// What a publication that is granted reports, before what is reported of images.
+    #[tactic(auto, unfolding(crate::specs::Publishing::published, crate::specs::Draft::replied_opening, crate::specs::Draft::replied, crate::specs::Draft::told))]
+    fn tell_published(
+        &self,
+        alloc: Global,
+        client: Client,
+        correlation: u64,
+        wanted: &Wanted,
+        granted: Granted,
+    ) -> Result<Told, AllocError>
+        requires room { has_room_for_publication self.now client.number wanted.now granted.adding ≡ true }
+        requires decided { granted.decision ≡ publication_decision self.now client wanted.now }
+        ensures { IfOk result (λ told. told ≡ told_of (published self.now client correlation wanted.now granted.adding)) }
+    {
+        let number = self.next_number();
+        let reply = ready_for(wanted, correlation, number, session_of(granted.adding));
+        let mut told = Told::replied_on(alloc, granted.decision, client.number, reply)?;
+        match granted.adding {
+            Adding::Join { .. } => Ok(told),
+            Adding::Make { session } => {
+                let log = self.new_log(wanted, session);
+                told.opens = Some(LogPlace {
+                    source: log.number,
+                    place: log.place,
+                });
+                Ok(told)
+            }
+        }
+    }
+
+    /// What a publication on a channel that such a command takes reports, before what is reported of images.
+    #[tactic(auto, unfolding(crate::specs::Publishing::publish, crate::specs::Publishing::publish_under, crate::specs::Publishing::publishing_of, crate::specs::Draft::refused, crate::specs::Draft::replied, crate::specs::Draft::told))]
+    fn tell_publish(
+        &self,
+        alloc: Global,
+        client: Client,
+        correlation: u64,
+        wanted: &Wanted,
+    ) -> Result<Told, AllocError>
+        ensures { IfOk result (λ told. told ≡ told_of (publish self.now client correlation wanted.now)) }
+    {
+        match self.publishing(client, wanted) {
+            Ok(granted) => self.tell_published(alloc, client, correlation, wanted, granted),
+            Err(refused) => Told::refused(alloc, client.number, correlation, refused),
+        }
+    }
+
+    /// What the command ADD_PUBLICATION of a client that is there reports, or ADD_EXCLUSIVE_PUBLICATION, before what is
+    /// reported of images.
+    #[tactic(auto, unfolding(crate::specs::Publishing::add_publication, crate::specs::Draft::refused, crate::specs::Draft::replied, crate::specs::Draft::told))]
+    pub(crate) fn tell_add_publication(
+        &self,
+        alloc: Global,
+        client: Client,
+        correlation: u64,
+        fields: &AddPublication,
+        channel: Result<&Channel, UriError>,
+        exclusive: bool,
+    ) -> Result<Told, AllocError>
+        requires { channel_lent channel ≡ denotes fields.now.channel }
+        ensures { IfOk result (λ told. told ≡ told_of (add_publication self.now client correlation fields.now exclusive)) }
+    {
+        let invalid = Refused::plainly(Refusal::InvalidChannel);
+        match channel {
+            Ok(channel) => {
+                if !is_publishable(channel) {
+                    return Told::refused(alloc, client.number, correlation, invalid);
+                }
+                let wanted = Wanted {
+                    channel: channel.copy(),
+                    stream: fields.stream,
+                    exclusive,
+                };
+                self.tell_publish(alloc, client, correlation, &wanted)
+            }
+            Err(_) => Told::refused(alloc, client.number, correlation, invalid),
+        }
+    }
+
     /// The outcome of a publication on a channel that such a command takes.
     fn outcome_of_publish(
         &self,
@@ -351,7 +464,7 @@ impl Registry {
         self.readers.add_publication(
             &self.streams,
             &self.clients,
-            self.compiled.policy(),
+            &self.compiled.policy(),
             self.compiled.epoch(),
             number,
             client,

@@ -40,6 +40,7 @@ pub struct Registry {
 
 impl Model for Registry {
     ghost use Rattle.driver_core.specs.Kept.{IsTended};
+    ghost use Rattle.policy_core.specs.Moments.{at, coming};
     ghost use Rattle.driver_core.specs.State.{State};
 
     ghost Value = { State };
@@ -47,7 +48,9 @@ impl Model for Registry {
     ghost view = { λ registry. record {
       settings = registry.settings;
       peers = registry.peers.items;
-      policy = registry.compiled.policy;
+      given = registry.compiled.given;
+      policy = at registry.compiled.given registry.compiled.as_of;
+      prospects = coming registry.compiled.given registry.compiled.as_of;
       epoch = registry.compiled.epoch;
       moment = registry.moment;
       clients = registry.clients;
@@ -59,14 +62,15 @@ impl Model for Registry {
     } };
 
     ghost invariant = { λ registry.
-        IsTended registry.streams registry.clients.rows registry.compiled.policy registry.compiled.epoch registry.last_number registry.readers registry.all_read };
+        IsTended registry.streams registry.clients.rows (at registry.compiled.given registry.compiled.as_of) registry.compiled.epoch registry.last_number registry.readers registry.all_read };
 }
 
 impl Registry {
     ghost use Rattle.log_readers.specs.Numbering.{AreInOrder};
-    ghost use Rattle.driver_core.specs.State.{opened, has_number, at_moment};
-    ghost use Rattle.driver_core.specs.Conduct.{drafted, conduct, state_after, outcome_of};
+    ghost use Rattle.driver_core.specs.State.{opened, has_number, at_moment, ruled};
+    ghost use Rattle.driver_core.specs.Conduct.{coming_to, drafted, conduct, state_after, outcome_of};
     ghost use Rattle.driver_core.specs.Renewal.{outcome_by};
+    ghost use Rattle.policy_core.specs.Moments.{at, coming};
     ghost use Rattle.driver_core.specs.Soundness.{IsSound, MovesLogs};
 
     /// A registry with nobody in it, under a policy that has the number 1. The policy and the peers are taken over.
@@ -180,6 +184,42 @@ impl Registry {
         self.moment = self.moment.max(now);
     }
 
+    /// Whether the policy is at this moment what it is now, or at the moment already seen where that is later. It takes no
+    /// memory.
+    #[tactic(auto, unfolding(crate::specs::State::ruled))]
+    pub fn is_ruled_so(&self, now: u64) -> bool
+        ensures { result ≡ true → ruled self.now now ≡ self.now }
+    {
+        self.compiled.stands_so(self.moment.max(now))
+    }
+
+    /// The policy becomes what it is at this moment, or at the one already seen where that is later. Each subscription is
+    /// asked about again where it becomes another one.
+    #[tactic(auto, unfolding(crate::specs::State::ruled))]
+    pub(crate) fn rule(&mut self, now: u64)
+        ensures { self.new ≡ ruled self.old now }
+    {
+        if self.is_ruled_so(now) {
+            return;
+        }
+        self.rule_anew(self.moment.max(now));
+    }
+
+    /// The policy becomes what it is at this moment, and each subscription is asked about again.
+    #[inline(never)]
+    fn rule_anew(&mut self, moment: u64)
+        ensures { self.new ≡ record self.old { policy = at self.old.given moment; prospects = coming self.old.given moment } }
+    {
+        self.all_read = false;
+        self.compiled.stand(moment);
+        self.readers.ask_again(
+            &self.streams,
+            &self.clients,
+            &self.compiled.policy(),
+            self.compiled.epoch(),
+        );
+    }
+
     /// What the event's own rule makes of the registry. The rules of large events are calls of their own, so that a small event
     /// has no room cleared for them; so in [`Registry::told`].
     #[tactic(auto, unfolding(crate::specs::Conduct::drafted))]
@@ -215,7 +255,8 @@ impl Registry {
         }
     }
 
-    /// The event's outcome, but for the images that close because none reads them.
+    /// The event's outcome where the policy is at its moment what it is now, but for the images that close because none
+    /// reads them.
     #[tactic(auto, unfolding(crate::specs::Conduct::drafted))]
     fn told(&self, alloc: Global, event: &Event, inputs: &Inputs) -> Result<Outcome, AllocError>
         ensures { IfOk result (λ outcome. outcome ≡ outcome_by self.now inputs.now (drafted self.now event.now inputs.now)) }
@@ -227,7 +268,7 @@ impl Registry {
             Event::Command { now, client, bytes } => {
                 self.outcome_of_command(alloc, *now, *client, bytes, inputs)
             }
-            Event::Reload { policy, .. } => self.outcome_of_reload(alloc, policy, inputs),
+            Event::Reload { now, policy } => self.outcome_of_reload(alloc, *now, policy, inputs),
             Event::Tick { now } => self.outcome_of_tick(alloc, *now, inputs),
             Event::Setup {
                 now,
@@ -238,11 +279,26 @@ impl Registry {
         }
     }
 
+    /// The event's outcome, but for the images that close because none reads them.
+    fn told_then(
+        &self,
+        alloc: Global,
+        event: &Event,
+        inputs: &Inputs,
+    ) -> Result<Outcome, AllocError>
+        ensures { IfOk result (λ outcome. outcome ≡ outcome_by self.now inputs.now (drafted (coming_to self.now event.now) event.now inputs.now)) }
+    {
+        if self.is_ruled_so(event.moment()) {
+            return self.told(alloc, event, inputs);
+        }
+        self.told_at_bound(alloc, event, inputs)
+    }
+
     /// The event's outcome.
     fn outcome(&self, alloc: Global, event: &Event, inputs: &Inputs) -> Result<Outcome, AllocError>
         ensures { IfOk result (λ outcome. outcome ≡ outcome_of self.now event.now inputs.now) }
     {
-        let mut outcome = self.told(alloc, event, inputs)?;
+        let mut outcome = self.told_then(alloc, event, inputs)?;
         outcome.closes = self.closed(alloc, &outcome)?;
         Ok(outcome)
     }
@@ -251,6 +307,7 @@ impl Registry {
     fn conduct(&mut self, event: &Event, inputs: &Inputs)
         ensures { self.new ≡ state_after self.old event.now inputs.now }
     {
+        self.rule(event.moment());
         self.take(event, inputs);
         self.drop_unread();
     }

@@ -10,7 +10,7 @@ use crate::source_identity::SourceIdentity;
 use crate::told::Told;
 use byte_strings::Items;
 use log_readers::Turnover;
-use policy_core::{Act, Decision, Policy, Request};
+use policy_core::{Act, Decision, Request, Standing};
 use std::alloc::{AllocError, Global};
 use stream_registry::Pair;
 
@@ -126,7 +126,7 @@ fn tell_images(
 fn decide_on(
     decisions: &mut Items<Decision>,
     lists: &Registry,
-    policy: &Policy,
+    policy: &Standing<'_>,
     epoch: u64,
     pair: Pair,
 ) -> Result<(), AllocError>
@@ -159,7 +159,7 @@ fn decide_on(
 fn decide_on_all(
     decisions: &mut Items<Decision>,
     lists: &Registry,
-    policy: &Policy,
+    policy: &Standing<'_>,
     epoch: u64,
     pairs: &[Pair],
 ) -> Result<(), AllocError>
@@ -176,7 +176,7 @@ fn decide_on_all(
 fn decide_images(
     decisions: &mut Items<Decision>,
     lists: &Registry,
-    policy: &Policy,
+    policy: &Standing<'_>,
     epoch: u64,
     turnover: &Turnover,
 ) -> Result<(), AllocError>
@@ -201,7 +201,7 @@ fn append(messages: &mut Items<Message>, more: &[Message]) -> Result<(), AllocEr
 pub(crate) fn tell_turnover(
     told: &mut Told,
     lists: &Registry,
-    policy: &Policy,
+    policy: &Standing<'_>,
     epoch: u64,
     inputs: &Inputs,
     turnover: &Turnover,

@@ -1,10 +1,10 @@
 //! A remote publisher announces its stream.
 
 ghost use Rattle.driver_core.specs.SettingUp.{allowed_for, fitting, has_room_for_setup, new_image, place_of_image, room_for, set_up, setting_of, verdict_for, wanted_by, with_image};
-ghost use Rattle.driver_core.specs.Pairs.{pairs_of};
+ghost use Rattle.driver_core.specs.Pairs.{pairs_of, prospects_of};
 ghost use Rattle.driver_core.specs.Renewal.{outcome_by, outcome_opening};
 ghost use Rattle.driver_core.specs.State.{at_moment, has_number};
-ghost use Rattle.driver_core.specs.Told.{tells_answer};
+ghost use Rattle.driver_core.specs.Told.{tells_answer, told_of};
 ghost use Rattle.driver_core.specs.declared.outcome.Response.TheVariants.{Imaged};
 ghost use Rattle.frame_codec.specs.Join.{join_of};
 ghost use Rattle.log_readers.specs.Numbering.{AreInOrder};
@@ -68,7 +68,7 @@ impl Registry {
 
     /// How many pairs there would be with the image. It takes no memory.
     #[tactic(auto, unfolding(crate::specs::Pairs::pairs_of, crate::specs::SettingUp::with_image))]
-    fn pairs_with_image(&self, wanted: &ImageWanted) -> usize
+    fn pairs_now_with_image(&self, wanted: &ImageWanted) -> usize
         requires { has_number self.now ≡ true }
         ensures { result ≡ length (pairs_of (with_image self.now wanted.now)) }
     {
@@ -78,12 +78,45 @@ impl Registry {
         self.readers.pair_count_with_image(
             &self.streams,
             &self.clients,
-            self.compiled.policy(),
+            &self.compiled.policy(),
             self.compiled.epoch(),
             self.next_number(),
             wanted,
             place.unwrap_or(0),
         )
+    }
+
+    /// How many there would be with it, then or later. It takes no memory.
+    #[tactic(auto, unfolding(crate::specs::Pairs::prospects_of, crate::specs::SettingUp::with_image))]
+    fn pairs_ever_with_image(&self, wanted: &ImageWanted) -> usize
+        requires { has_number self.now ≡ true }
+        ensures { result ≡ length (prospects_of (with_image self.now wanted.now)) }
+    {
+        let place = self
+            .streams
+            .image_place_for(self.settings.arena_pages, wanted);
+        log_readers::prospect_count_with_image(
+            &self.streams,
+            &self.clients,
+            self.compiled.given(),
+            self.compiled.as_of(),
+            self.compiled.epoch(),
+            self.next_number(),
+            wanted,
+            place.unwrap_or(0),
+        )
+    }
+
+    /// How many there would be with it, then or later. Where the policy stands for good, those that are kept are counted. It
+    /// takes no memory.
+    fn pairs_with_image(&self, wanted: &ImageWanted) -> usize
+        requires { has_number self.now ≡ true }
+        ensures { result ≡ length (prospects_of (with_image self.now wanted.now)) }
+    {
+        if self.is_settled() {
+            return self.pairs_now_with_image(wanted);
+        }
+        self.pairs_ever_with_image(wanted)
     }
 
     /// Whether there is room for one image more, a number for it, and room for its pairs. It takes no memory.
@@ -182,6 +215,32 @@ impl Registry {
         Ok(renewal::come_alone(alloc, told, come))
     }
 
+    /// What a SETUP reports, before what is reported of images.
+    #[tactic(auto, unfolding(crate::specs::SettingUp::set_up, crate::specs::SettingUp::setting_of, crate::specs::Draft::answered))]
+    pub(crate) fn tell_setup(
+        &self,
+        alloc: Global,
+        local: &Address,
+        from: &Address,
+        setup: &Setup,
+    ) -> Told
+        ensures { result ≡ told_of (set_up self.now local.now from.now setup.now) }
+    {
+        let Some(join) = setup.join() else {
+            return Told::answered(alloc, Response::Dropped(SetupFault::BadSetup));
+        };
+        let wanted = wanted_by(local, from, setup, &join);
+        match self.setting(&wanted) {
+            Ok(place) => {
+                let source = self.next_number();
+                let mut told = Told::answered(alloc, Response::Imaged(source));
+                told.opens = Some(LogPlace { source, place });
+                told
+            }
+            Err(fault) => Told::answered(alloc, Response::Dropped(fault)),
+        }
+    }
+
     /// The outcome of a SETUP.
     #[inline(never)]
     pub(crate) fn outcome_of_setup(
@@ -221,7 +280,7 @@ impl Registry {
         self.readers.add_image(
             &self.streams,
             &self.clients,
-            self.compiled.policy(),
+            &self.compiled.policy(),
             self.compiled.epoch(),
             number,
             wanted,

@@ -4,10 +4,11 @@ ghost use Rattle.driver_core.specs.Commands.{at_asking};
 ghost use Rattle.driver_core.specs.Renewal.{outcome_by, outcome_coming};
 ghost use Rattle.stream_registry.specs.Wish.{row_of};
 ghost use Rattle.driver_core.specs.Received.{channel_lent};
+ghost use Rattle.driver_core.specs.Told.{told_of};
 ghost use Rattle.std.specs.Prelude.{◌≡◌, true, length, is_some, ℕ, IfOk};
 ghost use Rattle.client_registry.specs.Clients.{principal_at};
 ghost use Rattle.driver_core.specs.State.{has_number};
-ghost use Rattle.driver_core.specs.Pairs.{pairs_of};
+ghost use Rattle.driver_core.specs.Pairs.{pairs_of, prospects_of};
 
 use crate::asking::Asking;
 use crate::event::Inputs;
@@ -55,7 +56,7 @@ fn act_of(channel: &Channel) -> Act
 impl Registry {
     /// How many pairs there would be with the subscription. It takes no memory.
     #[tactic(auto, unfolding(crate::specs::Pairs::pairs_of, crate::specs::Subscribing::with_subscription))]
-    fn pairs_with_subscription(&self, client: u64, channel: &Channel, stream: i32) -> usize
+    fn pairs_now_with_subscription(&self, client: u64, channel: &Channel, stream: i32) -> usize
         requires { has_number self.now ≡ true }
         ensures { result ≡ length (pairs_of (with_subscription self.now client channel.now stream)) }
     {
@@ -68,10 +69,44 @@ impl Registry {
         self.readers.pair_count_with_subscription(
             &self.streams,
             &self.clients,
-            self.compiled.policy(),
+            &self.compiled.policy(),
             self.compiled.epoch(),
             &wish,
         )
+    }
+
+    /// How many there would be with it, then or later. It takes no memory.
+    #[tactic(auto, unfolding(crate::specs::Pairs::prospects_of, crate::specs::Subscribing::with_subscription))]
+    fn pairs_ever_with_subscription(&self, client: u64, channel: &Channel, stream: i32) -> usize
+        requires { has_number self.now ≡ true }
+        ensures { result ≡ length (prospects_of (with_subscription self.now client channel.now stream)) }
+    {
+        let wish = Wish {
+            number: self.next_number(),
+            client,
+            channel,
+            stream,
+        };
+        log_readers::prospect_count_with_subscription(
+            &self.streams,
+            &self.clients,
+            self.compiled.given(),
+            self.compiled.as_of(),
+            self.compiled.epoch(),
+            &wish,
+        )
+    }
+
+    /// How many there would be with it, then or later. Where the policy stands for good, those that are kept are counted. It
+    /// takes no memory.
+    fn pairs_with_subscription(&self, client: u64, channel: &Channel, stream: i32) -> usize
+        requires { has_number self.now ≡ true }
+        ensures { result ≡ length (prospects_of (with_subscription self.now client channel.now stream)) }
+    {
+        if self.is_settled() {
+            return self.pairs_now_with_subscription(client, channel, stream);
+        }
+        self.pairs_ever_with_subscription(client, channel, stream)
     }
 
     /// Whether there is a number for the subscription, and room for it and its pairs. It takes no memory.
@@ -131,7 +166,7 @@ impl Registry {
             alloc,
             &self.streams,
             &self.clients,
-            self.compiled.policy(),
+            &self.compiled.policy(),
             self.compiled.epoch(),
             wish,
         )?;
@@ -168,6 +203,73 @@ impl Registry {
         };
         let told = Told::replied_on(alloc, decision, asking.client.number, reply)?;
         self.outcome_of_coming(alloc, inputs, &wish, told)
+    }
+
+    /// What a subscription that is granted reports, before what is reported of images.
+    #[tactic(auto, unfolding(crate::specs::Subscribing::subscribed, crate::specs::Subscribing::with_subscription, crate::specs::Subscribing::has_room_for_subscription, crate::specs::Draft::replied, crate::specs::Draft::told))]
+    fn tell_subscribed(
+        &self,
+        alloc: Global,
+        client: Client,
+        correlation: u64,
+        channel: &Channel,
+        stream: i32,
+        decision: Decision,
+    ) -> Result<Told, AllocError>
+        requires room { has_room_for_subscription self.now client.number channel.now stream ≡ true }
+        requires decided { decision ≡ decision_of self.now client channel.now stream }
+        ensures { IfOk result (λ told. told ≡ told_of (subscribed self.now client correlation channel.now stream)) }
+    {
+        let reply = Reply::SubscriptionReady {
+            correlation,
+            registration: self.next_number(),
+        };
+        Told::replied_on(alloc, decision, client.number, reply)
+    }
+
+    /// What a subscription on a channel that such a command takes reports, before what is reported of images.
+    #[tactic(auto, unfolding(crate::specs::Subscribing::subscribe, crate::specs::Subscribing::subscribing_of, crate::specs::Draft::refused, crate::specs::Draft::replied, crate::specs::Draft::told))]
+    fn tell_subscribe(
+        &self,
+        alloc: Global,
+        client: Client,
+        correlation: u64,
+        channel: &Channel,
+        stream: i32,
+    ) -> Result<Told, AllocError>
+        ensures { IfOk result (λ told. told ≡ told_of (subscribe self.now client correlation channel.now stream)) }
+    {
+        match self.subscribing(client, channel, stream) {
+            Ok(decision) => {
+                self.tell_subscribed(alloc, client, correlation, channel, stream, decision)
+            }
+            Err(refused) => Told::refused(alloc, client.number, correlation, refused),
+        }
+    }
+
+    /// What the command ADD_SUBSCRIPTION of a client that is there reports, before what is reported of images.
+    #[tactic(auto, unfolding(crate::specs::Subscribing::add_subscription, crate::specs::Draft::refused, crate::specs::Draft::replied, crate::specs::Draft::told))]
+    pub(crate) fn tell_add_subscription(
+        &self,
+        alloc: Global,
+        client: Client,
+        correlation: u64,
+        fields: &AddSubscription,
+        channel: Result<&Channel, UriError>,
+    ) -> Result<Told, AllocError>
+        requires { channel_lent channel ≡ denotes fields.now.channel }
+        ensures { IfOk result (λ told. told ≡ told_of (add_subscription self.now client correlation fields.now)) }
+    {
+        let invalid = Refused::plainly(Refusal::InvalidChannel);
+        match channel {
+            Ok(channel) => {
+                if !is_subscribable(channel) {
+                    return Told::refused(alloc, client.number, correlation, invalid);
+                }
+                self.tell_subscribe(alloc, client, correlation, channel, fields.stream)
+            }
+            Err(_) => Told::refused(alloc, client.number, correlation, invalid),
+        }
     }
 
     /// The outcome of a subscription on a channel that such a command takes.
@@ -231,7 +333,7 @@ impl Registry {
         self.readers.add_subscription(
             &self.streams,
             &self.clients,
-            self.compiled.policy(),
+            &self.compiled.policy(),
             self.compiled.epoch(),
             &wish,
         );

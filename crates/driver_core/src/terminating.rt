@@ -1,6 +1,7 @@
 ghost use Rattle.driver_core.specs.Terminating.{stopped_for_good, terminate, terminated, terminating_of, termination_decision};
 ghost use Rattle.driver_core.specs.Commands.{at_asking};
 ghost use Rattle.driver_core.specs.Renewal.{outcome_by};
+ghost use Rattle.driver_core.specs.Told.{told_of};
 ghost use Rattle.driver_core.specs.declared.event.Inputs.{Inputs as InputsSpec};
 ghost use Rattle.std.specs.Prelude.{◌≡◌, ℕ, map, IfOk};
 ghost use Rattle.stream_registry.specs.Lingering.{place_of};
@@ -79,6 +80,40 @@ impl Registry {
         told.closes = places_of(alloc, self.streams.sources())?;
         let gone = self.pairs(alloc)?;
         renewal::go_alone(alloc, told, gone)
+    }
+
+    /// What the driver's end reports.
+    #[tactic(auto, unfolding(crate::specs::Terminating::terminated))]
+    fn tell_terminated(
+        &self,
+        alloc: Global,
+        client: Client,
+        correlation: u64,
+        decision: Decision,
+    ) -> Result<Told, AllocError>
+        requires { decision ≡ termination_decision self.now client }
+        ensures { IfOk result (λ told. told ≡ told_of (terminated self.now client correlation)) }
+    {
+        let reply = Reply::OperationSuccess { correlation };
+        let mut told = Told::replied_on(alloc, decision, client.number, reply)?;
+        told.closes = places_of(alloc, self.streams.sources())?;
+        Ok(told)
+    }
+
+    /// What the command TERMINATE_DRIVER of a client that is there reports.
+    #[tactic(auto, unfolding(crate::specs::Terminating::terminate, crate::specs::Terminating::terminating_of, crate::specs::Draft::refused, crate::specs::Draft::replied, crate::specs::Draft::told))]
+    pub(crate) fn tell_terminate(
+        &self,
+        alloc: Global,
+        client: Client,
+        correlation: u64,
+    ) -> Result<Told, AllocError>
+        ensures { IfOk result (λ told. told ≡ told_of (terminate self.now client correlation)) }
+    {
+        match self.terminating(client) {
+            Ok(decision) => self.tell_terminated(alloc, client, correlation, decision),
+            Err(refused) => Told::refused(alloc, client.number, correlation, refused),
+        }
     }
 
     /// The outcome of the command TERMINATE_DRIVER of a client that is there.

@@ -1,6 +1,7 @@
 ghost use Rattle.driver_core.specs.Commands.{at_asking};
 ghost use Rattle.driver_core.specs.Pairs.{pairs_of};
 ghost use Rattle.driver_core.specs.Renewal.{outcome_by};
+ghost use Rattle.driver_core.specs.Told.{told_of};
 ghost use Rattle.driver_core.specs.Unsubscribing.{remove_subscription, unsubscribed};
 ghost use Rattle.driver_core.specs.declared.event.Inputs.{Inputs as InputsSpec};
 ghost use Rattle.log_readers.specs.Numbering.{Rises, number_of};
@@ -16,6 +17,8 @@ use crate::outcome::Outcome;
 use crate::refusal::Refusal;
 use crate::refused::Refused;
 use crate::registry::Registry;
+use crate::replies::Reply;
+use crate::told::Told;
 use byte_strings::Items;
 use client_registry::Client;
 use command_codec::Removal;
@@ -65,6 +68,31 @@ impl Registry {
             None => {
                 let unknown = Refused::plainly(Refusal::UnknownSubscription);
                 self.outcome_of_refused(alloc, asking, unknown)
+            }
+        }
+    }
+
+    /// What the command REMOVE_SUBSCRIPTION of a client that is there reports.
+    #[tactic(auto, unfolding(crate::specs::Unsubscribing::remove_subscription, crate::specs::Unsubscribing::unsubscribed, crate::specs::Draft::refused, crate::specs::Draft::replied, crate::specs::Draft::told))]
+    pub(crate) fn tell_remove_subscription(
+        &self,
+        alloc: Global,
+        client: Client,
+        correlation: u64,
+        fields: Removal,
+    ) -> Result<Told, AllocError>
+        ensures { IfOk result (λ told. told ≡ told_of (remove_subscription self.now client correlation fields)) }
+    {
+        match self
+            .streams
+            .own_subscription(client.number, fields.registration)
+        {
+            Some(_) => {
+                Told::replied(alloc, client.number, Reply::OperationSuccess { correlation })
+            }
+            None => {
+                let unknown = Refused::plainly(Refusal::UnknownSubscription);
+                Told::refused(alloc, client.number, correlation, unknown)
             }
         }
     }

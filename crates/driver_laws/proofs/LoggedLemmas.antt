@@ -13,7 +13,7 @@ use Rattle.driver_core.specs.declared.settings.Settings.{Settings}
 use Rattle.driver_core.specs.Attaching.{attached}
 use Rattle.driver_core.specs.Closing.{close, keep_alive}
 use Rattle.driver_core.specs.Commands.{heard}
-use Rattle.driver_core.specs.Conduct.{conduct, drafted, state_after}
+use Rattle.driver_core.specs.Conduct.{coming_to, conduct, drafted, state_after}
 use Rattle.driver_core.specs.Counting.{counted, uncounted, valued, with_counter}
 use Rattle.driver_core.specs.Draft.{Draft, answered, refused, replied, replied_opening, told}
 use Rattle.driver_core.specs.Leaving.{all_left, left}
@@ -21,7 +21,7 @@ use Rattle.driver_core.specs.Publishing.{published, with_directed_publication, w
 use Rattle.driver_core.specs.Reloading.{in_force, reloaded}
 use Rattle.driver_core.specs.Renewal.{renewed}
 use Rattle.driver_core.specs.Requests.{wanted_by}
-use Rattle.driver_core.specs.State.{State, at_moment, opened}
+use Rattle.driver_core.specs.State.{State, at_moment, opened, ruled}
 use Rattle.driver_core.specs.Subscribing.{subscribed, with_subscription}
 use Rattle.driver_core.specs.Terminating.{stopped_for_good, terminated}
 use Rattle.driver_core.specs.Ticking.{closed_past, late, tick, ticked}
@@ -327,9 +327,9 @@ draft_logged s (Setup now local from setup) inputs logged =
 
 pub event_logged : (s : State) (event : Event) (inputs : Inputs) → HaveTheirLogs s.streams →
     HaveTheirLogs (state_after s event inputs).streams
-unfolding conduct renewed dropping
+unfolding conduct renewed dropping ruled
 event_logged s event inputs logged =
-    unread_logged (drafted s event inputs).after (draft_logged s event inputs logged)
+    unread_logged (drafted (coming_to s event) event inputs).after (draft_logged (coming_to s event) event inputs logged)
 
 -- ---- every registry
 

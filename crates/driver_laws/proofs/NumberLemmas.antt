@@ -11,7 +11,7 @@ use Rattle.driver_core.specs.declared.settings.Settings.{Settings}
 use Rattle.driver_core.specs.Attaching.{attached}
 use Rattle.driver_core.specs.Closing.{close, keep_alive}
 use Rattle.driver_core.specs.Commands.{heard, at_request}
-use Rattle.driver_core.specs.Conduct.{conduct, drafted, state_after}
+use Rattle.driver_core.specs.Conduct.{coming_to, conduct, drafted, state_after}
 use Rattle.driver_core.specs.Counting.{counted, uncounted, valued, with_counter}
 use Rattle.driver_core.specs.Draft.{Draft, answered, refused, replied, replied_opening, told}
 use Rattle.driver_core.specs.Leaving.{all_left, left}
@@ -19,7 +19,7 @@ use Rattle.driver_core.specs.Publishing.{published, with_directed_publication, w
 use Rattle.driver_core.specs.Reloading.{in_force, reloaded}
 use Rattle.driver_core.specs.Renewal.{renewed}
 use Rattle.driver_core.specs.Requests.{RemovalRequest, SubscriptionRequest, wanted_by}
-use Rattle.driver_core.specs.State.{State, at_moment, opened}
+use Rattle.driver_core.specs.State.{State, at_moment, opened, ruled}
 use Rattle.driver_core.specs.Subscribing.{subscribed, with_subscription}
 use Rattle.driver_core.specs.Terminating.{stopped_for_good, terminated}
 use Rattle.driver_core.specs.Ticking.{closed_past, late, tick, ticked}
@@ -499,9 +499,20 @@ unread_rises s after rising = record {
 }
 
 pub event_rises : (s : State) (event : Event) (inputs : Inputs) → AreRising s → Rising s (state_after s event inputs)
-unfolding conduct renewed dropping
+unfolding conduct renewed dropping ruled
 event_rises s event inputs rising =
-    unread_rises s (drafted s event inputs).after (draft_rises s event inputs rising)
+    let rises : Rising (coming_to s event) (drafted (coming_to s event) event inputs).after =
+    draft_rises (coming_to s event) event inputs (record {
+      clients = rising.clients;
+      sources = rising.sources;
+      registrations = rising.registrations;
+      subscriptions = rising.subscriptions;
+      counters = rising.counters;
+    }) in
+    unread_rises s (drafted (coming_to s event) event inputs).after (record {
+      rises = rises.rises;
+      draws = record { last = rises.draws.last; last_client = rises.draws.last_client; epoch = rises.draws.epoch };
+    })
 
 -- ---- every registry
 

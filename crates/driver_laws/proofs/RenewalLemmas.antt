@@ -8,7 +8,7 @@ use Rattle.driver_core.specs.declared.event.Event.{Event}
 use Rattle.driver_core.specs.declared.event.Inputs.{Inputs}
 use Rattle.driver_core.specs.declared.replies.Message.{Message}
 use Rattle.driver_core.specs.declared.replies.Reply.TheVariants.{AvailableImage, UnavailableImage}
-use Rattle.driver_core.specs.Conduct.{conduct, drafted}
+use Rattle.driver_core.specs.Conduct.{coming_to, conduct, drafted}
 use Rattle.driver_core.specs.Draft.{Draft}
 use Rattle.driver_core.specs.Pairs.{pairs_of}
 use Rattle.driver_core.specs.Renewal.{renewed, images_told, images_decided, gone_from, come_to, unavailable_for, unavailable_to, subscription_at, available_for, available_to, source_at}
@@ -20,9 +20,9 @@ use Rattle.stream_registry.specs.declared.row.Source.{Source}
 use Rattle.stream_registry.specs.declared.row.Subscription.{Subscription}
 use Rattle.driver_core.specs.declared.source_identity.SourceIdentity.{SourceIdentity}
 
--- an event is its draft, renewed
+-- an event is its draft by the policy as it is at its moment, renewed
 pub conduct_is : (s : State) (event : Event) (inputs : Inputs) →
-    conduct s event inputs ≡ dropping s (renewed s inputs (drafted s event inputs))
+    conduct s event inputs ≡ dropping s (renewed s inputs (drafted (coming_to s event) event inputs))
 unfolding conduct
 conduct_is s event inputs = refl
 

@@ -28,7 +28,7 @@ use crate::output::write_whole;
 use audit_ring::Audit;
 use byte_strings::{Bytes, Items, Text};
 use driver_core::{Address, Event, ListedCounter, Message, Outlet, Peer};
-use driver_world::{Actor, Answer, Fragment, FragmentCopies, Insert, Reading, Step, World};
+use driver_world::{Actor, Answer, Cause, Fragment, FragmentCopies, Insert, Reading, Step, World};
 use policy_text::{Names, PolicyFault};
 use script_lines::settings::Choices;
 use script_lines::statements::{LIMIT, Said, Statement, Statements};
@@ -129,22 +129,15 @@ fn text_of_replies(alloc: Global, messages: &[Message]) -> Result<String, AllocE
     Ok(text)
 }
 
-/// The text of a policy that is in force, and of the replies to it.
-#[tactic(auto, unfolding(crate::specs::Answers::line_text))]
-fn text_of_policy(alloc: Global, epoch: u64, replies: &[Message]) -> Result<String, AllocError>
-    ensures { IfOk result (λ text. string_bytes text ≡ policy_line epoch ++ flat_map message_text replies.now) }
+/// The text of a line, and of the replies that come with it.
+fn text_of_replied(
+    alloc: Global,
+    line: AnswerLine<'_>,
+    replies: &[Message],
+) -> Result<String, AllocError>
+    ensures { IfOk result (λ text. string_bytes text ≡ line_text line ++ flat_map message_text replies.now) }
 {
-    let mut text = text_of_line(alloc, AnswerLine::PolicyInForce(epoch))?;
-    push_messages(&mut text, alloc, replies)?;
-    Ok(text)
-}
-
-/// The text of an image that comes, and of the replies to it.
-#[tactic(auto, unfolding(crate::specs::Answers::line_text))]
-fn text_of_image(alloc: Global, source: u64, replies: &[Message]) -> Result<String, AllocError>
-    ensures { IfOk result (λ text. string_bytes text ≡ setup_line source ++ flat_map message_text replies.now) }
-{
-    let mut text = text_of_line(alloc, AnswerLine::Setup(source))?;
+    let mut text = text_of_line(alloc, line)?;
     push_messages(&mut text, alloc, replies)?;
     Ok(text)
 }
@@ -257,14 +250,24 @@ fn text_of(alloc: Global, answer: &Answer) -> Result<String, AllocError>
 {
     match answer {
         Answer::NoMemory => text_of_line(alloc, AnswerLine::NoMemory),
-        Answer::Attached(client) => text_of_line(alloc, AnswerLine::Attached(*client)),
-        Answer::Full => text_of_line(alloc, AnswerLine::Full),
-        Answer::Stopped => text_of_line(alloc, AnswerLine::Stopped),
-        Answer::PolicyInForce { epoch, replies } => {
-            text_of_policy(alloc, *epoch, replies.as_slice())
+        Answer::Attached(client, replies) => {
+            text_of_replied(alloc, AnswerLine::Attached(*client), replies.as_slice())
         }
-        Answer::PolicyFull => text_of_line(alloc, AnswerLine::PolicyFull),
-        Answer::Imaged { source, replies } => text_of_image(alloc, *source, replies.as_slice()),
+        Answer::Full(replies) => text_of_replied(alloc, AnswerLine::Full, replies.as_slice()),
+        Answer::Stopped(replies) => text_of_replied(alloc, AnswerLine::Stopped, replies.as_slice()),
+        Answer::PolicyInForce { epoch, replies } => {
+            text_of_replied(alloc, AnswerLine::PolicyInForce(*epoch), replies.as_slice())
+        }
+        Answer::PolicyFull(replies) => {
+            text_of_replied(alloc, AnswerLine::PolicyFull, replies.as_slice())
+        }
+        Answer::Imaged { source, replies } => {
+            text_of_replied(alloc, AnswerLine::Setup(*source), replies.as_slice())
+        }
+        Answer::Unimaged { why, replies } => {
+            let cause = Cause::SetUp(*why);
+            text_of_replied(alloc, AnswerLine::Dropped(cause), replies.as_slice())
+        }
         Answer::Received(words) => text_of_data(alloc, words.as_slice()),
         Answer::Heard => text_of_line(alloc, AnswerLine::Beat),
         Answer::Limited(position) => text_of_line(alloc, AnswerLine::Status(*position)),

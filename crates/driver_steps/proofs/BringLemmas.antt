@@ -4,6 +4,7 @@ use Rattle.std.specs.List.{All}
 use Rattle.std.specs.Prelude.{IfSome}
 use Rattle.std.proofs.lemmas.Bool.{eqb-true}
 use Rattle.std.proofs.lemmas.List.Elements.{All-cons, All-filter, All-head, All-nil, All-push, All-tail}
+use Rattle.driver_core.proofs.SoundnessLemmas.{ruled_sound}
 use Rattle.driver_core.specs.Directing.{directed, recalled, with_destination, without_destination}
 use Rattle.driver_core.specs.Draft.{Draft}
 use Rattle.driver_core.specs.declared.event.Event.{Event}
@@ -14,7 +15,7 @@ use Rattle.driver_core.specs.declared.refusal.Refusal.{Refusal}
 use Rattle.driver_core.specs.Attaching.{attached}
 use Rattle.driver_core.specs.Closing.{keep_alive, close}
 use Rattle.driver_core.specs.Commands.{heard, at_request}
-use Rattle.driver_core.specs.Conduct.{conduct, drafted}
+use Rattle.driver_core.specs.Conduct.{conduct, drafted, coming_to, moment_told}
 use Rattle.driver_core.specs.Counting.{counted, valued, uncounted}
 use Rattle.driver_core.specs.Draft.{answered, told, replied, replied_opening, refused}
 use Rattle.driver_core.specs.Publishing.{opening_of, published, with_directed_publication, with_publication}
@@ -23,7 +24,7 @@ use Rattle.driver_core.specs.Renewal.{renewed, source_at}
 use Rattle.driver_core.specs.Requests.{wanted_by}
 use Rattle.driver_core.specs.SettingUp.{image_made, wanted_by as image_wanted_by, with_image}
 use Rattle.driver_core.specs.Soundness.{Ascend, IsSound}
-use Rattle.driver_core.specs.State.{State, at_moment}
+use Rattle.driver_core.specs.State.{State, at_moment, ruled}
 use Rattle.driver_core.specs.Subscribing.{subscribed}
 use Rattle.driver_core.specs.Terminating.{terminated}
 use Rattle.driver_core.specs.Ticking.{closed_past, tick, ticked}
@@ -263,6 +264,6 @@ draft_brings s (Setup now local from setup) inputs sound =
 pub brings : (s : State) (event : Event) (inputs : Inputs) → IsSound s → Brings event (conduct s event inputs)
 unfolding conduct renewed dropping without_unread without_unread_in
 brings s event inputs sound =
-    let draft : Draft = drafted s event inputs in
+    let draft : Draft = drafted (coming_to s event) event inputs in
     kept_brings event (is_kept (pairs_on draft.after.streams draft.after.clients.rows draft.after.policy draft.after.epoch))
-    draft.after.streams.sources draft.opens (draft_brings s event inputs sound)
+    draft.after.streams.sources draft.opens (draft_brings (coming_to s event) event inputs (ruled_sound s (moment_told event) sound))

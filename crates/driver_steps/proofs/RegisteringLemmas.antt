@@ -3,6 +3,7 @@ use Rattle.std.proofs.Common.{◌≡◌, ℕ, ℤ, ◌+◌, ◌≤◌, Bool, tru
 use Rattle.std.specs.List.{All}
 use Rattle.std.proofs.lemmas.Bool.{and_parts}
 use Rattle.std.proofs.lemmas.List.Elements.{All-filter, All-map, All-nil, All-push, All-weaker}
+use Rattle.driver_core.proofs.SoundnessLemmas.{ruled_sound}
 use Rattle.driver_core.specs.Directing.{directed, recalled, with_destination, without_destination}
 use Rattle.driver_core.specs.Draft.{Draft}
 use Rattle.driver_core.specs.declared.event.Event.{Event}
@@ -13,7 +14,7 @@ use Rattle.driver_core.specs.declared.refusal.Refusal.{Refusal}
 use Rattle.driver_core.specs.Attaching.{attached}
 use Rattle.driver_core.specs.Closing.{keep_alive, close}
 use Rattle.driver_core.specs.Commands.{heard, at_request}
-use Rattle.driver_core.specs.Conduct.{conduct, drafted, state_after}
+use Rattle.driver_core.specs.Conduct.{conduct, drafted, state_after, coming_to, moment_told}
 use Rattle.driver_core.specs.Counting.{counted, with_counter, valued, uncounted}
 use Rattle.driver_core.specs.Draft.{answered, told, replied, replied_opening, refused}
 use Rattle.driver_core.specs.Leaving.{left, all_left}
@@ -23,7 +24,7 @@ use Rattle.driver_core.specs.Renewal.{renewed}
 use Rattle.driver_core.specs.Requests.{wanted_by}
 use Rattle.driver_core.specs.SettingUp.{image_made, wanted_by as image_wanted_by, with_image}
 use Rattle.driver_core.specs.Soundness.{Ascend, IsSound}
-use Rattle.driver_core.specs.State.{State, at_moment}
+use Rattle.driver_core.specs.State.{State, at_moment, ruled}
 use Rattle.driver_core.specs.Subscribing.{subscribed, with_subscription}
 use Rattle.driver_core.specs.Terminating.{stopped_for_good, terminated}
 use Rattle.driver_core.specs.Ticking.{closed_past, late, tick, ticked}
@@ -392,12 +393,16 @@ draft_registers s (Setup now local from setup) inputs sound registered =
     set_up_cases Registers before local from setup (λ fault. answer_registers before _ there)
     (λ join place is set. image_registers before local from setup join place there)
 
+ruled_registered : (s : State) (now : ℕ) → AreRegistered s → AreRegistered (ruled s now)
+unfolding ruled
+ruled_registered s now registered = registered
+
 -- renewing the pairs registers nobody, and only images go that none reads
 pub registered_after : (s : State) (event : Event) (inputs : Inputs) → IsSound s → AreRegistered s →
     AreRegistered (state_after s event inputs)
 unfolding conduct renewed dropping without_unread without_unread_in
 registered_after s event inputs sound registered =
-    let draft : Draft = drafted s event inputs in
+    let draft : Draft = drafted (coming_to s event) event inputs in
     kept_move draft.after.last_number
     (is_kept (pairs_on draft.after.streams draft.after.clients.rows draft.after.policy draft.after.epoch))
-    draft.after.streams.sources draft.after.streams.registrations (draft_registers s event inputs sound registered)
+    draft.after.streams.sources draft.after.streams.registrations (draft_registers (coming_to s event) event inputs (ruled_sound s (moment_told event) sound) (ruled_registered s (moment_told event) registered))

@@ -9,9 +9,8 @@ use Rattle.driver_core.specs.declared.outcome.Response.{Response}
 use Rattle.driver_core.specs.declared.outcome.Response.TheVariants as response
 use Rattle.driver_core.specs.declared.replies.Message.{Message}
 use Rattle.driver_steps.specs.declared.answer.Answer.{Answer}
-use Rattle.driver_steps.specs.declared.answer.Answer.TheVariants.{Attached, Full, Stopped, PolicyInForce, PolicyFull, Imaged, Dropped, Replies, Counters, Value, Denied, UnknownCounter, WrongClient}
+use Rattle.driver_steps.specs.declared.answer.Answer.TheVariants.{Attached, Full, Stopped, PolicyInForce, PolicyFull, Imaged, Unimaged, Replies, Counters, Value, Denied, UnknownCounter, WrongClient}
 use Rattle.driver_steps.specs.declared.answer.Offered.{Offered}
-use Rattle.driver_steps.specs.declared.cause.Cause.TheVariants.{SetUp}
 use Rattle.driver_steps.specs.declared.answer.Offered.TheVariants as offered
 use Rattle.term_log.specs.declared.offer.Offer.{Offer}
 use Rattle.term_log.specs.declared.offer.Offer.TheVariants as offer
@@ -19,13 +18,13 @@ use Rattle.term_log.specs.declared.offer.Offer.TheVariants as offer
 -- what an event is answered
 abbrev pub answered_by : Response → List Message → Answer
 answered_by response.Nothing replies = Replies replies
-answered_by (response.Attached number) replies = Attached number
-answered_by response.Full replies = Full
-answered_by response.Stopped replies = Stopped
+answered_by (response.Attached number) replies = Attached number replies
+answered_by response.Full replies = Full replies
+answered_by response.Stopped replies = Stopped replies
 answered_by (response.PolicyInForce epoch) replies = PolicyInForce epoch replies
-answered_by response.PolicyFull replies = PolicyFull
+answered_by response.PolicyFull replies = PolicyFull replies
 answered_by (response.Imaged number) replies = Imaged number replies
-answered_by (response.Dropped fault) replies = Dropped (SetUp fault)
+answered_by (response.Dropped why) replies = Unimaged why replies
 
 unfoldable pub answer_of : Outcome → Answer
 answer_of outcome = answered_by outcome.response outcome.replies

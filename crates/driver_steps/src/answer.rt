@@ -4,7 +4,9 @@ ghost use Rattle.std.specs.Prelude.{◌≡◌};
 use crate::cause::Cause;
 use any_log::FragmentCopies;
 use byte_strings::{Bytes, Items};
-use driver_core::{Address, Listed, ListedCounter, Message, Outcome, Outlet, Response, Shown};
+use driver_core::{
+    Address, Listed, ListedCounter, Message, Outcome, Outlet, Response, SetupFault, Shown,
+};
 use image_log::Insert;
 use policy_core::Verdict;
 use term_log::Offer;
@@ -35,12 +37,12 @@ pub enum Answer {
     /// neither gone nor denied, a datagram of data that came to its image, a NAK by which frames are sent again and a turn of
     /// the sender or the receiver in which something is due are answered so.
     NoMemory,
-    /// A client is attached, under this id.
-    Attached(u64),
+    /// A client is attached, under this id. The replies are those on images that the moment takes or brings, here and below.
+    Attached(u64, Items<Message>),
     /// A limit of the driver would be broken.
-    Full,
+    Full(Items<Message>),
     /// The driver was stopped, and no client comes to it any more.
-    Stopped,
+    Stopped(Items<Message>),
     /// The policy is in force, under this number.
     PolicyInForce {
         epoch: u64,
@@ -48,7 +50,14 @@ pub enum Answer {
         replies: Items<Message>,
     },
     /// A limit of the driver would be broken under the policy, which is not in force.
-    PolicyFull,
+    PolicyFull(Items<Message>),
+    /// A SETUP makes no image.
+    Unimaged {
+        /// Why.
+        why: SetupFault,
+        /// The replies that come with it, in their order.
+        replies: Items<Message>,
+    },
     /// An image comes.
     Imaged {
         /// Its source number.
@@ -121,19 +130,22 @@ impl Answer {
     {
         match outcome.response {
             Response::Nothing => Answer::Replies(outcome.replies),
-            Response::Attached(number) => Answer::Attached(number),
-            Response::Full => Answer::Full,
-            Response::Stopped => Answer::Stopped,
+            Response::Attached(number) => Answer::Attached(number, outcome.replies),
+            Response::Full => Answer::Full(outcome.replies),
+            Response::Stopped => Answer::Stopped(outcome.replies),
             Response::PolicyInForce(epoch) => Answer::PolicyInForce {
                 epoch,
                 replies: outcome.replies,
             },
-            Response::PolicyFull => Answer::PolicyFull,
+            Response::PolicyFull => Answer::PolicyFull(outcome.replies),
             Response::Imaged(source) => Answer::Imaged {
                 source,
                 replies: outcome.replies,
             },
-            Response::Dropped(fault) => Answer::Dropped(Cause::SetUp(fault)),
+            Response::Dropped(why) => Answer::Unimaged {
+                why,
+                replies: outcome.replies,
+            },
         }
     }
 

@@ -47,7 +47,7 @@ module _ {P S R : Type 0} (reads : P → S → Bool) (pair : P → S → R) (sub
       let new : length (after log) ≡ length (filter (reads log) (subs ++ sub ∷ [])) = length-map _ _ in
       omega (arith, parts, last, old, new)
 
-  one_more : (logs : List P) →
+  pub one_more : (logs : List P) →
       length (flat_map after logs) ≡ length (flat_map before logs) + length (filter (λ log. reads log sub) logs)
   one_more [] = refl
   one_more (log ∷ logs) =
@@ -59,7 +59,7 @@ module _ {P S R : Type 0} (reads : P → S → Bool) (pair : P → S → R) (sub
       omega (arith, new, old, read, one_reader log, one_more logs)
 
 -- a log that comes brings its own pairs
-log_more : {P R : Type 0} (at : P → List R) (log : P) (logs : List P) →
+pub log_more : {P R : Type 0} (at : P → List R) (log : P) (logs : List P) →
     length (flat_map at (logs ++ log ∷ [])) ≡ length (flat_map at logs) + length (at log)
 log_more at log logs =
     let last : length (flat_map at (log ∷ [])) ≡ length (at log) + 0 = length-append (at log) [] in

@@ -10,11 +10,11 @@ use Rattle.client_registry.specs.declared.client.Client.{Client}
 use Rattle.policy_core.specs.RuleList.{Rules}
 use Rattle.log_readers.proofs.ListLemmas.{none_pass}
 
-and_true : (b : Bool) → (b && true) ≡ b
+pub and_true : (b : Bool) → (b && true) ≡ b
 and_true true = refl
 and_true false = refl
 
-and_false : (b : Bool) → (b && false) ≡ false
+pub and_false : (b : Bool) → (b && false) ≡ false
 and_false true = refl
 and_false false = refl
 

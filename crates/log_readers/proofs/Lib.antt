@@ -10,6 +10,8 @@ pub mod ListLemmas
 pub mod NoteLemmas
 pub mod OrderLemmas
 pub mod PartLemmas
+pub mod ProspectFitting
+pub mod ProspectLemmas
 pub mod ReaderLemmas
 pub mod ReloadLemmas
 pub mod RisingLemmas

@@ -1,5 +1,6 @@
 pub mod Finding
 pub mod Numbering
+pub mod Prospects
 pub mod Readers
 pub mod Reloading
 pub mod Turnover

@@ -7,7 +7,7 @@ ghost use Rattle.stream_registry.specs.Wish.{row_of};
 
 use byte_strings::Items;
 use client_registry::Clients;
-use policy_core::Policy;
+use policy_core::Standing;
 use std::alloc::{AllocError, Global};
 use stream_registry::{Pair, Source, Streams, Subscription, Wish, fits, is_allowed, reads};
 
@@ -27,7 +27,7 @@ fn push_fitting(pairs: &mut Items<Pair>, logs: &[Source], wish: &Wish<'_>) -> Re
 }
 
 /// How many of the logs the subscription fits.
-fn fitting(logs: &[Source], wish: &Wish<'_>) -> usize
+pub(crate) fn fitting(logs: &[Source], wish: &Wish<'_>) -> usize
     ensures exact { result ≡ length (filter (λ log. fits log (row_of wish.now)) logs.now) }
     ensures few { result ≤ length logs.now }
 {
@@ -45,7 +45,7 @@ pub fn pairs_of_subscription(
     alloc: Global,
     streams: &Streams,
     clients: &Clients,
-    policy: &Policy,
+    policy: &Standing<'_>,
     epoch: u64,
     wish: &Wish<'_>,
 ) -> Result<Items<Pair>, AllocError>
@@ -63,7 +63,7 @@ pub fn pairs_of_subscription(
 pub(crate) fn logs_read(
     streams: &Streams,
     clients: &Clients,
-    policy: &Policy,
+    policy: &Standing<'_>,
     epoch: u64,
     wish: &Wish<'_>,
 ) -> usize
@@ -79,7 +79,7 @@ pub(crate) fn logs_read(
 /// How many of the subscriptions read the log.
 fn readers_among(
     clients: &Clients,
-    policy: &Policy,
+    policy: &Standing<'_>,
     epoch: u64,
     subscriptions: &[Subscription],
     log: &Source,
@@ -100,7 +100,7 @@ fn readers_among(
 pub(crate) fn readers_of(
     streams: &Streams,
     clients: &Clients,
-    policy: &Policy,
+    policy: &Standing<'_>,
     epoch: u64,
     log: &Source,
 ) -> usize

@@ -9,14 +9,14 @@ ghost use Rattle.stream_registry.specs.Pairs.{pairs_at, pairs_of};
 use crate::coming::{logs_read, readers_of};
 use crate::readers::Readers;
 use client_registry::Clients;
-use policy_core::Policy;
+use policy_core::Standing;
 use stream_registry::{Adding, Streams, Subscription, Wanted, Wish};
 
 /// How many pairs there are of these subscriptions: each is asked about once.
 fn pairs_among(
     streams: &Streams,
     clients: &Clients,
-    policy: &Policy,
+    policy: &Standing<'_>,
     epoch: u64,
     subscriptions: &[Subscription],
 ) -> usize
@@ -33,7 +33,7 @@ fn pairs_among(
 /// How many pairs there are under a policy, which goes by the number `epoch` and is asked once for each subscription. It
 /// takes no memory.
 #[tactic(auto, unfolding(stream_registry::specs::Pairs::pairs_of))]
-pub fn pair_count(streams: &Streams, clients: &Clients, policy: &Policy, epoch: u64) -> usize
+pub fn pair_count(streams: &Streams, clients: &Clients, policy: &Standing<'_>, epoch: u64) -> usize
     ensures { result ≡ length (pairs_of streams.now clients.now.rows policy.now epoch) }
 {
     pairs_among(streams, clients, policy, epoch, streams.subscriptions())
@@ -46,7 +46,7 @@ impl Readers {
         &self,
         streams: &Streams,
         clients: &Clients,
-        policy: &Policy,
+        policy: &Standing<'_>,
         epoch: u64,
         wish: &Wish<'_>,
     ) -> usize
@@ -62,7 +62,7 @@ impl Readers {
         &self,
         streams: &Streams,
         clients: &Clients,
-        policy: &Policy,
+        policy: &Standing<'_>,
         epoch: u64,
         number: u64,
         client: u64,

@@ -8,7 +8,7 @@ ghost use Rattle.stream_registry.specs.Pairs.{pairs_of};
 use crate::coming::readers_of;
 use crate::readers::Readers;
 use client_registry::Clients;
-use policy_core::Policy;
+use policy_core::Standing;
 use stream_registry::{ImageWanted, Streams};
 
 impl Readers {
@@ -18,7 +18,7 @@ impl Readers {
         &self,
         streams: &Streams,
         clients: &Clients,
-        policy: &Policy,
+        policy: &Standing<'_>,
         epoch: u64,
         number: u64,
         wanted: &ImageWanted,
@@ -37,7 +37,7 @@ impl Readers {
         &mut self,
         streams: &Streams,
         clients: &Clients,
-        policy: &Policy,
+        policy: &Standing<'_>,
         epoch: u64,
         number: u64,
         wanted: &ImageWanted,

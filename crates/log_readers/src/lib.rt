@@ -12,6 +12,7 @@ mod counting;
 mod finding;
 mod imaging;
 mod leaving;
+mod prospects;
 mod publishing;
 mod readers;
 mod reloading;
@@ -21,6 +22,10 @@ mod unread;
 
 pub use coming::pairs_of_subscription;
 pub use counting::pair_count;
+pub use prospects::{
+    prospect_count, prospect_count_with_image, prospect_count_with_publication,
+    prospect_count_with_subscription,
+};
 pub use readers::Readers;
-pub use reloading::Turnover;
+pub use reloading::{Turnover, turnover_between};
 pub use telling::is_of_any;

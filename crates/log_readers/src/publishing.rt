@@ -4,7 +4,7 @@ ghost use Rattle.stream_registry.specs.Adding.{added, adding_of};
 
 use crate::readers::Readers;
 use client_registry::Clients;
-use policy_core::Policy;
+use policy_core::Standing;
 use rows::Rows;
 use stream_registry::{Adding, Source, Streams, Subscription, Wanted, reads};
 
@@ -12,7 +12,7 @@ use stream_registry::{Adding, Source, Streams, Subscription, Wanted, reads};
 fn ask_at(
     numbers: &mut Rows<u64, 512>,
     clients: &Clients,
-    policy: &Policy,
+    policy: &Standing<'_>,
     epoch: u64,
     subscriptions: &[Subscription],
     log: &Source,
@@ -33,7 +33,7 @@ impl Readers {
     pub(crate) fn add_log(
         &mut self,
         clients: &Clients,
-        policy: &Policy,
+        policy: &Standing<'_>,
         epoch: u64,
         logs: usize,
         subscriptions: &[Subscription],
@@ -61,7 +61,7 @@ impl Readers {
         &mut self,
         streams: &Streams,
         clients: &Clients,
-        policy: &Policy,
+        policy: &Standing<'_>,
         epoch: u64,
         number: u64,
         client: u64,

@@ -8,7 +8,7 @@ ghost use Rattle.stream_registry.specs.Streams.{Streams as StreamLists};
 ghost use Rattle.stream_registry.specs.Wish.{row_of};
 
 use client_registry::Clients;
-use policy_core::Policy;
+use policy_core::Standing;
 use rows::{Rows, Test};
 use std::alloc::{AllocError, Global};
 use std::marker::Model;
@@ -189,7 +189,7 @@ impl Readers {
     pub(crate) fn note(
         &mut self,
         clients: &Clients,
-        policy: &Policy,
+        policy: &Standing<'_>,
         epoch: u64,
         logs: &[Source],
         wish: &Wish<'_>,
@@ -207,7 +207,7 @@ impl Readers {
     fn ask(
         &mut self,
         clients: &Clients,
-        policy: &Policy,
+        policy: &Standing<'_>,
         epoch: u64,
         logs: &[Source],
         subscriptions: &[Subscription],
@@ -225,7 +225,7 @@ impl Readers {
     /// The readers of all logs, from the beginning. The policy, which goes by the number `epoch`, is asked once for each
     /// subscription.
     #[tactic(auto, unfolding(crate::specs::Readers::all_readers))]
-    pub fn ask_again(&mut self, streams: &Streams, clients: &Clients, policy: &Policy, epoch: u64)
+    pub fn ask_again(&mut self, streams: &Streams, clients: &Clients, policy: &Standing<'_>, epoch: u64)
         ensures { self.new ≡ all_readers streams.now clients.now.rows policy.now epoch }
     {
         self.ask(

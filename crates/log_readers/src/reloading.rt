@@ -10,9 +10,10 @@ ghost use Rattle.stream_registry.specs.Pairs.{is_allowed, pairs_of};
 
 use crate::finding::is_among;
 use crate::readers::Readers;
+use crate::unread::is_lacked_by;
 use byte_strings::Items;
 use client_registry::Clients;
-use policy_core::Policy;
+use policy_core::Standing;
 use rows::Rows;
 use std::alloc::{AllocError, Global};
 use stream_registry::{Pair, Source, Streams, Subscription, fits, is_allowed};
@@ -28,7 +29,7 @@ pub struct Turnover {
 fn verdicts(
     alloc: Global,
     clients: &Clients,
-    policy: &Policy,
+    policy: &Standing<'_>,
     epoch: u64,
     subscriptions: &[Subscription],
 ) -> Result<Items<bool>, AllocError>
@@ -105,6 +106,36 @@ fn push_turned_over(
     Ok(())
 }
 
+/// Puts the pairs that the others lack after these.
+fn push_lacking(pairs: &mut Items<Pair>, from: &[Pair], others: &[Pair]) -> Result<(), AllocError>
+    ensures { OnOk result (pairs.new ≡ pairs.old ++ lacking from.now others.now) }
+{
+    for pair in from {
+        if is_lacked_by(others, *pair) {
+            pairs.push(*pair)?;
+        }
+    }
+    Ok(())
+}
+
+/// What goes and what comes where these pairs become those.
+pub fn turnover_between(
+    alloc: Global,
+    before: &[Pair],
+    after: &[Pair],
+) -> Result<Turnover, AllocError>
+    ensures gone { IfOk result (λ turnover. turnover.gone ≡ lacking before.now after.now) }
+    ensures come { IfOk result (λ turnover. turnover.come ≡ lacking after.now before.now) }
+{
+    let mut turnover = Turnover {
+        gone: Items::new(alloc),
+        come: Items::new(alloc),
+    };
+    push_lacking(&mut turnover.gone, before, after)?;
+    push_lacking(&mut turnover.come, after, before)?;
+    Ok(turnover)
+}
+
 impl Readers {
     /// What goes and what comes where each subscription is allowed or not.
     fn turned(
@@ -139,7 +170,7 @@ impl Readers {
         alloc: Global,
         streams: &Streams,
         clients: &Clients,
-        policy: &Policy,
+        policy: &Standing<'_>,
         epoch: u64,
     ) -> Result<Turnover, AllocError>
         requires { length self.now ≡ length streams.now.sources }

@@ -10,7 +10,7 @@ ghost use Rattle.stream_registry.specs.Wish.{row_of};
 
 use crate::readers::Readers;
 use client_registry::Clients;
-use policy_core::Policy;
+use policy_core::Standing;
 use rows::{Rows, Test};
 use stream_registry::{Source, Streams, Wish, fits};
 
@@ -66,7 +66,7 @@ impl Readers {
         &mut self,
         streams: &Streams,
         clients: &Clients,
-        policy: &Policy,
+        policy: &Standing<'_>,
         epoch: u64,
         wish: &Wish<'_>,
     )

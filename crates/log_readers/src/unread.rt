@@ -65,7 +65,7 @@ fn has_same(pairs: &[Pair], pair: Pair) -> bool
 }
 
 /// Whether these pairs lack that one.
-fn is_lacked_by(pairs: &[Pair], pair: Pair) -> bool
+pub(crate) fn is_lacked_by(pairs: &[Pair], pair: Pair) -> bool
     ensures { result ≡ is_lacked_by pairs.now pair }
 {
     !has_same(pairs, pair)

@@ -134,7 +134,7 @@ fn agrees(compiled: &Compiled, policy: &Policy, epoch: u64, asked: &Asked) -> Op
         stream: asked.3,
     };
     let verdict = compiled.verdict(&request);
-    Some((verdict == policy.verdict(epoch, &request)) & (verdict.rule == asked.4))
+    Some((verdict == policy.verdict(epoch, 0, &request)) & (verdict.rule == asked.4))
 }
 
 fn all_agree(compiled: &Compiled, policy: &Policy, epoch: u64) -> Option<bool> {

@@ -77,7 +77,11 @@ impl Desk {
             stream: i32::from(subject),
         };
         cached_verdicts_stay_sound();
-        let numbered = Numbered { policy, epoch };
+        let numbered = Numbered {
+            policy,
+            epoch,
+            moment: 0,
+        };
         Some(self.cache.verdict(&numbered, u64::from(subject), &request))
     }
 }

@@ -27,7 +27,7 @@ fn asked(alloc: Global, play: &Play) -> Result<Readers, AllocError>
     ensures { IfOk result (λ readers. length readers ≡ length play.now.sources) }
 {
     let mut readers = Readers::new(alloc)?;
-    readers.ask_again(&play.streams, &play.clients, &play.policy, 1);
+    readers.ask_again(&play.streams, &play.clients, &play.policy.at(0), 1);
     Ok(readers)
 }
 

@@ -15,6 +15,8 @@ fn rule(
     channel: &str,
     low: i32,
     high: i32,
+    from: None,
+    until: None,
     allow: bool,
 ) -> Result<Rule, UriError> {
     Ok(Rule {
@@ -60,7 +62,7 @@ fn answer(policy: &Policy, principal: u32, act: Act, channel: &Channel, stream: 
         channel,
         stream,
     };
-    policy.verdict(3, &request)
+    policy.verdict(3, 0, &request)
 }
 
 /// Denies principal 2 the streams 3 and 4 of shared memory.

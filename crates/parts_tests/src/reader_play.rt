@@ -63,6 +63,8 @@ fn image_rule() -> Result<Rule, UriError> {
         channel: Pattern::parse("*")?,
         low: i32::MIN,
         high: i32::MAX,
+        from: None,
+        until: None,
         allow: false,
     })
 }
@@ -139,7 +141,7 @@ impl Play {
 
     /// The readers are asked from the beginning.
     fn of(streams: Streams, clients: Clients, policy: Policy, mut readers: Readers) -> Play {
-        readers.ask_again(&streams, &clients, &policy, 1);
+        readers.ask_again(&streams, &clients, &policy.at(0), 1);
         Play {
             streams,
             clients,
@@ -160,7 +162,7 @@ impl Play {
             stream: 10,
         };
         self.readers
-            .add_subscription(&self.streams, &self.clients, &self.policy, 1, &wish);
+            .add_subscription(&self.streams, &self.clients, &self.policy.at(0), 1, &wish);
         self.streams.add_subscription(number, client, channel, 10);
         true
     }
@@ -222,7 +224,7 @@ impl Play {
 
     /// Whether there are so many readers, and as many pairs.
     pub(crate) fn reads(&self, total: usize) -> bool {
-        let pairs = log_readers::pair_count(&self.streams, &self.clients, &self.policy, 1);
+        let pairs = log_readers::pair_count(&self.streams, &self.clients, &self.policy.at(0), 1);
         (self.readers.total() == total) & (pairs == total)
     }
 
@@ -230,7 +232,7 @@ impl Play {
     pub(crate) fn leaves(&mut self, client: u64) {
         self.streams.client_left(client, 0);
         self.readers
-            .ask_again(&self.streams, &self.clients, &self.policy, 1);
+            .ask_again(&self.streams, &self.clients, &self.policy.at(0), 1);
     }
 
     /// The logs close that linger for too long.
@@ -320,7 +322,7 @@ impl Play {
     ) -> bool {
         match self
             .readers
-            .turnover_under(alloc, &self.streams, &self.clients, policy, 2)
+            .turnover_under(alloc, &self.streams, &self.clients, &policy.at(0), 2)
         {
             Ok(turnover) => {
                 let same = (turnover.gone.as_slice() == gone) & (turnover.come.as_slice() == come);

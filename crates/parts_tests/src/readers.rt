@@ -28,6 +28,8 @@ fn image_rule() -> Result<Rule, UriError> {
         channel: Pattern::parse("*")?,
         low: i32::MIN,
         high: i32::MAX,
+        from: None,
+        until: None,
         allow: false,
     })
 }

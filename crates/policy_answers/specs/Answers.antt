@@ -3,6 +3,7 @@ use Rattle.std.specs.Prelude.{◌≡◌, ◌==◌, ◌++◌, ◌∷◌, [], ℕ,
 use Rattle.std.specs.List.{list_all}
 use Rattle.policy_core.specs.Act.{act_named}
 use Rattle.policy_core.specs.Question.{Question}
+use Rattle.policy_core.specs.Moments.{at}
 use Rattle.policy_core.specs.RuleList.{Rules}
 use Rattle.policy_core.specs.Verdict.{verdict_text}
 use Rattle.policy_core.specs.declared.verdict.Verdict.{Verdict}
@@ -36,9 +37,9 @@ answerable (Ok verdict) = Ok verdict
 answerable (Err fault) = Err (faults.Decide fault)
 
 -- the verdict
-abbrev pub decide_answer : Known → List ℕ → List ℕ → List ℕ → List ℕ → ℤ → Result Answer AskFault
-decide_answer names bytes principal act channel stream =
-    answerable (decided names bytes principal act channel stream) >>= λ verdict. Ok (line (verdict_text verdict))
+abbrev pub decide_answer : Known → List ℕ → List ℕ → List ℕ → List ℕ → ℤ → ℕ → Result Answer AskFault
+decide_answer names bytes principal act channel stream moment =
+    answerable (decided names bytes principal act channel stream moment) >>= λ verdict. Ok (line (verdict_text verdict))
 
 -- ---- `explain`
 
@@ -65,18 +66,19 @@ table_well names bytes principal =
 -- ---- `test`
 
 -- of the policy that the file is, all is well exactly where each of some cases has the answer that it wants
-pub record IsTried (names : Known) (bytes : List ℕ) (answer : Answer) : Type 0 where
+pub record IsTried (names : Known) (bytes : List ℕ) (moment : ℕ) (answer : Answer) : Type 0 where
   pub policy : Rules
   pub is_policy : policy_in names bytes ≡ Ok policy
   pub cases : List Case
-  pub well : answer.is_well ≡ list_all (passes policy) cases
+  pub well : answer.is_well ≡ list_all (passes (at policy moment)) cases
 
 -- ---- `diff`
 
 -- both files are policies: all is well exactly where their difference has no row
-abbrev pub compare_well : Known → List ℕ → List ℕ → Result Bool AskFault
-compare_well names old new =
-    policy_of names old >>= λ before. policy_of names new >>= λ after. Ok (length (all_rows before after) == 0)
+abbrev pub compare_well : Known → List ℕ → List ℕ → ℕ → Result Bool AskFault
+compare_well names old new moment =
+    policy_of names old >>= λ before. policy_of names new >>= λ after.
+    Ok (length (all_rows (at before moment) (at after moment)) == 0)
 
 -- no request is allowed by the one policy and denied by the other
 abbrev pub DecideAlike : Rules → Rules → Type 0

@@ -20,19 +20,25 @@ pub fn show(alloc: Global, policy: &[u8], directory: &Directory) -> Result<Answe
     Ok(Answer::of(policy_tools::show(alloc, &source, directory)?))
 }
 
-/// Who may do what under the policy: the principals that a rule names, and at last all others.
+/// Who may do what under the policy at a moment: the principals that a rule names, and at last all others.
 ///
 /// # Errors
 /// The first fault of the policy.
-pub fn table_of_all(alloc: Global, policy: &[u8], directory: &Directory) -> Result<Answer, AskFault>
+pub fn table_of_all(
+    alloc: Global,
+    policy: &[u8],
+    directory: &Directory,
+    moment: u64,
+) -> Result<Answer, AskFault>
     ensures { Gives (λ answer. answer.is_well) result (list_well directory.now policy.now) }
 {
-    let source = Source::read(alloc, policy, directory.names())?;
+    let mut source = Source::read(alloc, policy, directory.names())?;
+    source.settle(moment);
     let blocks = table(alloc, source.policy())?;
     Ok(Answer::of(table_text(alloc, &source, blocks.as_slice(), directory)?))
 }
 
-/// What the principal of this name may do under the policy.
+/// What the principal of this name may do under the policy at a moment.
 ///
 /// # Errors
 /// The first fault of the policy, or that there is no such principal.
@@ -41,10 +47,12 @@ pub fn table_of_one(
     policy: &[u8],
     directory: &Directory,
     principal: &str,
+    moment: u64,
 ) -> Result<Answer, AskFault>
     ensures { Gives (λ answer. answer.is_well) result (table_well directory.now policy.now principal.now) }
 {
-    let source = Source::read(alloc, policy, directory.names())?;
+    let mut source = Source::read(alloc, policy, directory.names())?;
+    source.settle(moment);
     let number = directory
         .number_of(principal)
         .ok_or(AskFault::UnknownPrincipal)?;

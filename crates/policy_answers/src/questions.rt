@@ -37,11 +37,14 @@ pub fn decide(
     act: &str,
     channel: &str,
     stream: i32,
+    moment: u64,
 ) -> Result<Answer, AskFault>
-    ensures { Gives (λ answer. answer) result (decide_answer directory.now policy.now principal.now act.now channel.now stream) }
+    ensures { Gives (λ answer. answer) result (decide_answer directory.now policy.now principal.now act.now channel.now stream moment) }
 {
     let names = directory.names();
-    let verdict = policy_query::decide(alloc, policy, names, principal, act, channel, stream)?;
+    let verdict = policy_query::decide(
+        alloc, policy, names, principal, act, channel, stream, moment,
+    )?;
     Ok(Answer::of(format!(in alloc; "{verdict}\n")?))
 }
 
@@ -83,10 +86,12 @@ pub fn explain(
     act: &str,
     channel: &str,
     stream: i32,
+    moment: u64,
 ) -> Result<Answer, AskFault>
     ensures { Gives (λ answer. answer.is_well) result (explain_well directory.now policy.now principal.now act.now channel.now) }
 {
-    let source = Source::read(alloc, policy, directory.names())?;
+    let mut source = Source::read(alloc, policy, directory.names())?;
+    source.settle(moment);
     let principal = directory
         .number_of(principal)
         .ok_or(AskFault::Decide(DecideFault::UnknownPrincipal))?;

@@ -4,6 +4,7 @@ ghost use Rattle.policy_answers.specs.Answers.{DecideAlike, IsTried, compare_wel
 ghost use Rattle.policy_answers.specs.Fault.{Fails, Gives};
 ghost use Rattle.policy_answers.specs.declared.answer.Answer.{Answer};
 ghost use Rattle.policy_answers.specs.declared.fault.AskFault.TheVariants as faults;
+ghost use Rattle.policy_core.specs.Moments.{at};
 ghost use Rattle.policy_core.specs.RuleList.{Rules};
 ghost use Rattle.policy_query.specs.Deciding.{policy_in};
 ghost use Rattle.policy_text.specs.declared.fault.PolicyFault.{PolicyFault};
@@ -73,7 +74,7 @@ fn tried(alloc: Global, policy: &Policy, cases: &[Case]) -> Result<Answer, Alloc
     })
 }
 
-/// Asks the policy the questions of a file of cases. It is well where each case has the answer that it wants.
+/// Asks the policy, as it is at a moment, the questions of a file of cases. It is well where each case has the answer that it wants.
 ///
 /// # Errors
 /// The first fault of the policy, or of the cases.
@@ -82,16 +83,18 @@ pub fn try_cases(
     policy: &[u8],
     directory: &Directory,
     cases: &[u8],
+    moment: u64,
 ) -> Result<Answer, AskFault>
-    ensures well { IfOk result (λ answer. IsTried directory.now policy.now answer) }
+    ensures well { IfOk result (λ answer. IsTried directory.now policy.now moment answer) }
     ensures refused { (fault : PolicyFault) → policy_in directory.now policy.now ≡ Err fault → IfErr result (λ found. Fails {M = Answer} found (Err (faults.Policy fault))) }
 {
-    let source = Source::read(alloc, policy, directory.names())?;
+    let mut source = Source::read(alloc, policy, directory.names())?;
+    source.settle(moment);
     let cases = cases_in(alloc, cases, directory)?;
     Ok(tried(alloc, source.policy(), cases.as_slice())?)
 }
 
-/// What would be decided otherwise if the new policy took the old one's place. It is well where nothing would.
+/// What would be decided otherwise at a moment if the new policy took the old one's place. It is well where nothing would.
 ///
 /// # Errors
 /// The first fault of the old policy, or of the new one.
@@ -100,12 +103,15 @@ pub fn compare(
     old: &[u8],
     new: &[u8],
     directory: &Directory,
+    moment: u64,
 ) -> Result<Answer, AskFault>
-    ensures exact { Gives (λ answer. answer.is_well) result (compare_well directory.now old.now new.now) }
-    ensures alike { IfOk result (λ answer. answer.is_well ≡ true → (before : Rules) (after : Rules) → policy_in directory.now old.now ≡ Ok before → policy_in directory.now new.now ≡ Ok after → DecideAlike before after) }
+    ensures exact { Gives (λ answer. answer.is_well) result (compare_well directory.now old.now new.now moment) }
+    ensures alike { IfOk result (λ answer. answer.is_well ≡ true → (before : Rules) (after : Rules) → policy_in directory.now old.now ≡ Ok before → policy_in directory.now new.now ≡ Ok after → DecideAlike (at before moment) (at after moment)) }
 {
-    let old = Source::read(alloc, old, directory.names())?;
-    let new = Source::read(alloc, new, directory.names())?;
+    let mut old = Source::read(alloc, old, directory.names())?;
+    let mut new = Source::read(alloc, new, directory.names())?;
+    old.settle(moment);
+    new.settle(moment);
     let rows = differences(alloc, &old, &new)?;
     let text = diff_text(alloc, &old, &new, rows.as_slice(), directory)?;
     Ok(Answer {

@@ -1,5 +1,7 @@
 pub mod Act
 pub mod Acts
+pub mod MomentLaws
+pub mod Moments
 pub mod Question
 pub mod Rule
 pub mod RuleList

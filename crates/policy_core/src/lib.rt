@@ -15,7 +15,9 @@ mod verdict;
 pub use act::Act;
 pub use acts::Acts;
 pub use decision::Decision;
-pub use policy::{Policy, least_rule_decides};
+pub use policy::{
+    Policy, Standing, ever_is_now_or_later, least_rule_decides, policies_change_at_bounds,
+};
 pub use request::Request;
 pub use rule::{Principals, Rule};
 pub use verdict::Verdict;

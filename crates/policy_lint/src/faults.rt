@@ -18,6 +18,18 @@ const DOCUMENT: [&str; 3] = ["version", "default", "rule"];
 /// The keys of a rule.
 const RULE: [&str; 6] = ["name", "principal", "act", "channel", "stream", "allow"];
 
+/// The keys of a rule of version 2.
+const TIMED: [&str; 8] = [
+    "name",
+    "principal",
+    "act",
+    "channel",
+    "stream",
+    "from",
+    "until",
+    "allow",
+];
+
 /// The table of a rule, counted from 1; that of the document for 0.
 #[derive(Clone, Copy)]
 struct Part<'a> {
@@ -208,8 +220,51 @@ impl Found {
         self.wrong(alloc, part, "stream", wanted)
     }
 
-    fn rule(&mut self, alloc: Global, part: Part<'_>, names: &Names) -> Result<(), AllocError> {
-        self.keys(alloc, part, &RULE)?;
+    /// A bound of the moments at which a rule stands, if it has one.
+    fn bound(
+        &mut self,
+        alloc: Global,
+        part: Part<'_>,
+        key: &'static str,
+    ) -> Result<Option<i64>, AllocError> {
+        let Some(value) = part.value(key) else {
+            return Ok(None);
+        };
+        match value.as_integer() {
+            Some(bound) if 0 <= bound => Ok(Some(bound)),
+            _ => {
+                let wanted = Cause::Wanted("a moment in nanoseconds, 0 or more");
+                self.wrong(alloc, part, key, wanted)?;
+                Ok(None)
+            }
+        }
+    }
+
+    fn moments(&mut self, alloc: Global, part: Part<'_>) -> Result<(), AllocError> {
+        let from = self.bound(alloc, part, "from")?;
+        let until = self.bound(alloc, part, "until")?;
+        match (from, until) {
+            (Some(from), Some(until)) if from >= until => {
+                let wanted = Cause::Wanted("a moment after `from`");
+                self.wrong(alloc, part, "until", wanted)
+            }
+            _ => Ok(()),
+        }
+    }
+
+    fn rule(
+        &mut self,
+        alloc: Global,
+        part: Part<'_>,
+        names: &Names,
+        is_timed: bool,
+    ) -> Result<(), AllocError> {
+        if is_timed {
+            self.keys(alloc, part, &TIMED)?;
+            self.moments(alloc, part)?;
+        } else {
+            self.keys(alloc, part, &RULE)?;
+        }
         if !is_name(part.text("name").unwrap_or("")) {
             let wanted = Cause::Wanted("1 to 64 printable ASCII characters");
             self.wrong(alloc, part, "name", wanted)?;
@@ -230,6 +285,7 @@ impl Found {
         part: Part<'_>,
         items: &Array,
         names: &Names,
+        is_timed: bool,
     ) -> Result<(), AllocError> {
         if items.len() > 1024 {
             let cause = Cause::TooManyRules(items.len());
@@ -239,7 +295,7 @@ impl Found {
             match value.as_table() {
                 Some(table) => {
                     let number = at.saturating_add(1);
-                    self.rule(alloc, Part { number, table }, names)?
+                    self.rule(alloc, Part { number, table }, names, is_timed)?
                 }
                 None => {
                     let wanted = Cause::Wanted("a table for each rule");
@@ -252,9 +308,11 @@ impl Found {
 
     fn document(&mut self, alloc: Global, table: &Table, names: &Names) -> Result<(), AllocError> {
         let part = Part { number: 0, table };
+        let mut is_timed = false;
         match part.value("version") {
             Some(Value::Integer(1)) => {}
-            _ => self.wrong(alloc, part, "version", Cause::Wanted("1"))?,
+            Some(Value::Integer(2)) => is_timed = true,
+            _ => self.wrong(alloc, part, "version", Cause::Wanted("1 or 2"))?,
         }
         self.keys(alloc, part, &DOCUMENT)?;
         match part.text("default") {
@@ -266,7 +324,7 @@ impl Found {
         }
         match part.value("rule") {
             None => Ok(()),
-            Some(Value::Array(items)) => self.rules(alloc, part, items, names),
+            Some(Value::Array(items)) => self.rules(alloc, part, items, names, is_timed),
             Some(_) => self.wrong(
                 alloc,
                 part,

@@ -1,4 +1,5 @@
 ghost use Rattle.policy_core.specs.Act.{act_number};
+ghost use Rattle.policy_core.specs.Moments.{stands_at};
 ghost use Rattle.policy_core.specs.Rule.{speaks_of};
 ghost use Rattle.policy_core.specs.RuleList.{Rules};
 ghost use Rattle.policy_core.specs.declared.act.Act.{Act};
@@ -34,7 +35,25 @@ fn includes(wide: Principals, narrow: Principals) -> bool
     }
 }
 
-/// Whether the rule at `place` is found to be over the one at `at`: acts and streams apart, it matches what that one does.
+/// Whether the wide rule stands at each moment at which the narrow one does.
+fn outlasts(wide: &Rule, narrow: &Rule) -> bool
+    ensures { result ≡ true → (moment : ℕ) → stands_at narrow.now moment ≡ true → stands_at wide.now moment ≡ true }
+{
+    let begins = match (wide.from, narrow.from) {
+        (None, _) => true,
+        (Some(_), None) => false,
+        (Some(from), Some(other)) => from <= other,
+    };
+    let ends = match (wide.until, narrow.until) {
+        (None, _) => true,
+        (Some(_), None) => false,
+        (Some(until), Some(other)) => other <= until,
+    };
+    begins && ends
+}
+
+/// Whether the rule at `place` is found to be over the one at `at`: acts and streams apart, it stands whenever that one does
+/// and matches what that one matches.
 fn is_over(source: &Source, place: usize, at: usize) -> bool
     requires place_within { place < length source.now.policy.rules }
     requires at_within { at < length source.now.policy.rules }
@@ -43,6 +62,7 @@ fn is_over(source: &Source, place: usize, at: usize) -> bool
     let wide = &source.rules()[place];
     let narrow = &source.rules()[at];
     includes(wide.principals, narrow.principals)
+        && outlasts(wide, narrow)
         && is_wider(source.text(place), &wide.channel, &narrow.channel)
 }
 

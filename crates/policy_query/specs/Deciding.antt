@@ -6,6 +6,7 @@ use Rattle.channel_uri.specs.declared.error.UriError.{UriError}
 use Rattle.channel_uri.specs.Channel.{Shape, counter_shape, denotes}
 use Rattle.policy_core.specs.declared.verdict.Verdict.{Verdict}
 use Rattle.policy_core.specs.Act.{act_named}
+use Rattle.policy_core.specs.Moments.{at}
 use Rattle.policy_core.specs.RuleList.{Rules}
 use Rattle.policy_core.specs.Rules.{verdict_of}
 use Rattle.policy_text.specs.declared.fault.PolicyFault.{PolicyFault}
@@ -67,15 +68,15 @@ valid (Err error) = Err InvalidChannel
 unfoldable pub subject_of : List ℕ → Result Shape DecideFault
 subject_of word = if bytes_eq word (codes "aeron:counter") then Ok counter_shape else valid (denotes word)
 
--- the verdict of the policy in the file, as policy 1; or the first fault of the policy, the principal, the act and the
+-- the verdict of the policy in the file at that moment, as policy 1; or the first fault of the policy, the principal, the act and the
 -- channel
-unfoldable pub decided : Known → List ℕ → List ℕ → List ℕ → List ℕ → ℤ → Result Verdict DecideFault
-decided names bytes principal act channel stream =
+unfoldable pub decided : Known → List ℕ → List ℕ → List ℕ → List ℕ → ℤ → ℕ → Result Verdict DecideFault
+decided names bytes principal act channel stream moment =
     sound (policy_in names bytes) >>= λ policy.
     known UnknownPrincipal (number_of principal names) >>= λ number.
     known UnknownAct (act_named act) >>= λ named.
     subject_of channel >>= λ shape.
-    Ok (verdict_of policy 1 (record { principal = number; act = named; channel = shape; stream = stream }))
+    Ok (verdict_of (at policy moment) 1 (record { principal = number; act = named; channel = shape; stream = stream }))
 
 -- ---- the faults
 

@@ -142,8 +142,8 @@ pub fn check(alloc: Global, policy: &[u8], names: &Names) -> Result<Checked, Pol
     })
 }
 
-/// What the policy in a file, whose number is 1, decides of a question: may this principal do this on this channel and
-/// stream? The names are those of principals, in the policy and in the question. The channel is a channel's text, or
+/// What the policy in a file, whose number is 1, decides of a question at a moment: may this principal do this on this
+/// channel and stream? The names are those of principals, in the policy and in the question. The channel is a channel's text, or
 /// `aeron:counter`; a spy is decided like the channel that it reads.
 ///
 /// # Errors
@@ -157,8 +157,9 @@ pub fn decide(
     act: &str,
     channel: &str,
     stream: i32,
+    moment: u64,
 ) -> Result<Verdict, DecideFault>
-    ensures { Gives (λ verdict. verdict) result (decided names.now policy.now principal.now act.now channel.now stream) }
+    ensures { Gives (λ verdict. verdict) result (decided names.now policy.now principal.now act.now channel.now stream moment) }
 {
     let policy = sound_policy(alloc, policy, names)?;
     let principal = names
@@ -172,5 +173,5 @@ pub fn decide(
         channel: &channel,
         stream,
     };
-    Ok(policy.verdict(1, &request))
+    Ok(policy.verdict(1, moment, &request))
 }

@@ -8,20 +8,14 @@ use Rattle.toml.specs.Parse.{parse_document}
 use Rattle.policy_core.specs.declared.rule.Rule.{Rule}
 use Rattle.policy_core.specs.RuleList.{Rules}
 use Rattle.policy_text.specs.declared.fault.Field.TheVariants.{Unknown, Default, Rule as RuleField}
+use Rattle.policy_text.specs.declared.version.Version.{Version}
 use Rattle.policy_text.specs.declared.fault.PolicyFault.{PolicyFault}
 use Rattle.policy_text.specs.declared.fault.PolicyFault.TheVariants.{NotToml, BadVersion, BadField, TooManyRules}
 use Rattle.policy_text.specs.Fault.{◌>>=◌, needed}
 use Rattle.policy_text.specs.Fields.{rule_of}
 use Rattle.policy_text.specs.Members.{all_items, all_keys, integer_at, items_len, text_at}
 use Rattle.policy_text.specs.Names.{Known}
-
--- the version is the integer 1
-abbrev pub is_one : Option ℤ → Bool
-is_one None = false
-is_one (Some number) = int_eq number (pos 1)
-
-abbrev pub is_version_1 : Members → Bool
-is_version_1 table = is_one (integer_at (codes "version") table)
+use Rattle.policy_text.specs.Version.{version_of}
 
 -- the keys of a document
 abbrev pub is_document_key : List ℕ → Bool
@@ -39,41 +33,46 @@ abbrev pub default_of : Members → Result Bool PolicyFault
 default_of table = default_from (text_at (codes "default") table)
 
 -- the rule that a value is
-abbrev pub rule_at : Known → ℕ → Data → Result Rule PolicyFault
-rule_at names number value = needed (BadField 0 RuleField) (as_table value) >>= λ table. rule_of names number table
+abbrev pub rule_at : Known → Version → ℕ → Data → Result Rule PolicyFault
+rule_at names version number value =
+    needed (BadField 0 RuleField) (as_table value) >>= λ table. rule_of names version number table
 
 -- the rules of the items, counted from this number, or the first fault of the first bad one
-abbrev pub rules_from : Known → ℕ → Items → Result (List Rule) PolicyFault
-rules_from names number no_items = Ok []
-rules_from names number (item value items) =
-    rule_at names number value >>= λ rule. rules_from names (number + 1) items >>= λ rules. Ok (rule ∷ rules)
+abbrev pub rules_from : Known → Version → ℕ → Items → Result (List Rule) PolicyFault
+rules_from names version number no_items = Ok []
+rules_from names version number (item value items) =
+    rule_at names version number value >>= λ rule. rules_from names version (number + 1) items >>= λ rules. Ok (rule ∷ rules)
 
 -- the rules are an array of tables, at most 1,024
-abbrev pub listed_rules : Known → Items → Result (List Rule) PolicyFault
-listed_rules names items =
+abbrev pub listed_rules : Known → Version → Items → Result (List Rule) PolicyFault
+listed_rules names version items =
     if not (all_items (λ value. is_some (as_table value)) items) then Err (BadField 0 RuleField)
     else if nat_lt 1024 (items_len items) then Err TooManyRules
-    else rules_from names 1 items
+    else rules_from names version 1 items
 
-abbrev pub rules_at : Known → Option Data → Result (List Rule) PolicyFault
-rules_at names None = Ok []
-rules_at names (Some value) = needed (BadField 0 RuleField) (as_array value) >>= λ items. listed_rules names items
+abbrev pub rules_at : Known → Version → Option Data → Result (List Rule) PolicyFault
+rules_at names version None = Ok []
+rules_at names version (Some value) = needed (BadField 0 RuleField) (as_array value) >>= λ items. listed_rules names version items
 
-abbrev pub rules_of : Known → Members → Result (List Rule) PolicyFault
-rules_of names table = rules_at names (get_member (codes "rule") table)
+abbrev pub rules_of : Known → Version → Members → Result (List Rule) PolicyFault
+rules_of names version table = rules_at names version (get_member (codes "rule") table)
 
 -- the document has rules to keep; another one takes no memory
 abbrev pub has_rules : Members → Bool
 has_rules table = is_some (get_member (codes "rule") table)
 
+-- the policy that a document of that version is, or its first fault
+abbrev pub policy_by : Known → Members → Option Version → Result Rules PolicyFault
+policy_by names table None = Err BadVersion
+policy_by names table (Some version) =
+    if not (all_keys is_document_key table) then Err (BadField 0 Unknown)
+    else default_of table >>= λ default.
+    rules_of names version table >>= λ rules.
+    Ok (record { rules = rules; default_allows = default })
+
 -- the policy that a document is, or its first fault
 unfoldable pub policy_from : Known → Members → Result Rules PolicyFault
-policy_from names table =
-    if not (is_version_1 table) then Err BadVersion
-    else if not (all_keys is_document_key table) then Err (BadField 0 Unknown)
-    else default_of table >>= λ default.
-    rules_of names table >>= λ rules.
-    Ok (record { rules = rules; default_allows = default })
+policy_from names table = policy_by names table (version_of table)
 
 abbrev pub policy_at : Known → Option Members → Result Rules PolicyFault
 policy_at names None = Err NotToml

@@ -2,7 +2,7 @@
 use Rattle.std.specs.Prelude.{◌≡◌, ℕ, List, ◌++◌, Option, Some, None, Result, Ok, Err, codes}
 use Rattle.std.specs.Fmt.{decimal}
 use Rattle.policy_text.specs.declared.fault.Field.{Field}
-use Rattle.policy_text.specs.declared.fault.Field.TheVariants.{Unknown, Default, Rule, Name, Principal, Act, Channel, Stream, Allow}
+use Rattle.policy_text.specs.declared.fault.Field.TheVariants.{Unknown, Default, Rule, Name, Principal, Act, Channel, Stream, From, Until, Allow}
 use Rattle.policy_text.specs.declared.fault.PolicyFault.{PolicyFault}
 use Rattle.policy_text.specs.declared.fault.PolicyFault.TheVariants.{NotToml, BadVersion, BadField, TooManyRules, UnknownPrincipal, UnknownAct, BadRange, NoMemory}
 
@@ -16,6 +16,8 @@ field_name Principal = codes "principal"
 field_name Act = codes "act"
 field_name Channel = codes "channel"
 field_name Stream = codes "stream"
+field_name From = codes "from"
+field_name Until = codes "until"
 field_name Allow = codes "allow"
 
 -- the words for a fault

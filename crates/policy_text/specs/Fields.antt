@@ -1,6 +1,6 @@
 -- The fields of a rule, and the rule that a table of a policy's text is. A rule is looked at field by field, and its
 -- first fault is named.
-use Rattle.std.specs.Prelude.{ℕ, ℤ, pos, negsuc, Bool, not, ◌&&◌, ◌==◌, nat_le, int_le, List, [], ◌∷◌, length, Option, Some, None, Result, Ok, Err, is_some, codes, if◌then◌else◌}
+use Rattle.std.specs.Prelude.{ℕ, ℤ, pos, negsuc, Bool, true, not, ◌&&◌, ◌==◌, nat_le, int_le, int_lt, unsigned_abs, List, [], ◌∷◌, length, Option, Some, None, Result, Ok, Err, is_some, codes, if◌then◌else◌}
 use Rattle.std.specs.List.{list_all, list_any}
 use Rattle.std.specs.Str.{bytes_eq}
 use Rattle.toml.specs.Data.{Data, Items, no_items, item, Members, get_member, as_str, as_integer, as_array}
@@ -14,7 +14,10 @@ use Rattle.policy_core.specs.declared.rule.Principals.TheVariants.{Any, One}
 use Rattle.policy_core.specs.declared.rule.Rule.{Rule}
 use Rattle.policy_core.specs.Act.{act_named}
 use Rattle.policy_core.specs.Acts.{every_act_held, no_act_held, with_act}
-use Rattle.policy_text.specs.declared.fault.Field.TheVariants.{Unknown, Name, Principal, Act as ActField, Channel, Stream, Allow}
+use Rattle.policy_text.specs.declared.fault.Field.{Field}
+use Rattle.policy_text.specs.declared.version.Version.{Version}
+use Rattle.policy_text.specs.declared.version.Version.TheVariants.{One as Version1, Two as Version2}
+use Rattle.policy_text.specs.declared.fault.Field.TheVariants.{Unknown, Name, Principal, Act as ActField, Channel, Stream, From, Until, Allow}
 use Rattle.policy_text.specs.declared.fault.PolicyFault.{PolicyFault}
 use Rattle.policy_text.specs.declared.fault.PolicyFault.TheVariants.{BadField, UnknownPrincipal, UnknownAct, BadRange}
 use Rattle.policy_text.specs.Fault.{◌>>=◌, needed}
@@ -129,21 +132,64 @@ stream_of number table = stream_from number (get_member (codes "stream") table)
 abbrev pub allow_of : ℕ → Members → Result Bool PolicyFault
 allow_of number table = needed (BadField number Allow) (bool_at (codes "allow") table)
 
--- the keys of a rule
-abbrev pub is_rule_key : List ℕ → Bool
-is_rule_key key =
+-- ---- the moments at which it stands
+
+-- a bound of them: none where none is stated
+abbrev pub bound_from : ℕ → Field → Option Data → Result (Option ℤ) PolicyFault
+bound_from number field None = Ok None
+bound_from number field (Some value) = needed (BadField number field) (as_integer value) >>= λ bound. Ok (Some bound)
+
+abbrev pub bound_at : ℕ → Field → List ℕ → Members → Result (Option ℤ) PolicyFault
+bound_at number field key table = bound_from number field (get_member key table)
+
+-- a bound is a moment where it is not negative
+abbrev pub is_moment : Option ℤ → Bool
+is_moment None = true
+is_moment (Some bound) = int_le (pos 0) bound
+
+-- the first moment is below the end, where both are stated
+abbrev pub is_below : Option ℤ → Option ℤ → Bool
+is_below (Some from) (Some until) = int_lt from until
+is_below _ _ = true
+
+abbrev pub moment_of : Option ℤ → Option ℕ
+moment_of None = None
+moment_of (Some bound) = Some (unsigned_abs bound)
+
+abbrev pub span_of : ℕ → Option ℤ → Option ℤ → Result (Option ℕ × Option ℕ) PolicyFault
+span_of number from until =
+    if is_moment from && is_moment until && is_below from until then Ok (moment_of from, moment_of until)
+    else Err (BadRange number)
+
+-- the type of the first moment is looked at, that of the end, and then the range
+abbrev pub moments_of : ℕ → Members → Result (Option ℕ × Option ℕ) PolicyFault
+moments_of number table =
+    bound_at number From (codes "from") table >>= λ from.
+    bound_at number Until (codes "until") table >>= λ until.
+    span_of number from until
+
+-- ---- the rule
+
+-- the keys of a rule of that version
+abbrev pub is_rule_key : Version → List ℕ → Bool
+is_rule_key Version1 key =
     list_any (bytes_eq key)
     (codes "name" ∷ codes "principal" ∷ codes "act" ∷ codes "channel" ∷ codes "stream" ∷ codes "allow" ∷ [])
+is_rule_key Version2 key =
+    list_any (bytes_eq key)
+    (codes "name" ∷ codes "principal" ∷ codes "act" ∷ codes "channel" ∷ codes "stream" ∷ codes "from" ∷ codes "until"
+    ∷ codes "allow" ∷ [])
 
 -- the rule of this number, or its first fault
-unfoldable pub rule_of : Known → ℕ → Members → Result Rule PolicyFault
-rule_of names number table =
-    if not (all_keys is_rule_key table) then Err (BadField number Unknown)
+unfoldable pub rule_of : Known → Version → ℕ → Members → Result Rule PolicyFault
+rule_of names version number table =
+    if not (all_keys (is_rule_key version) table) then Err (BadField number Unknown)
     else name_of number table >>= λ name.
     principal_of names number table >>= λ principals.
     acts_of number table >>= λ acts.
     channel_of number table >>= λ channel.
     stream_of number table >>= λ range.
+    moments_of number table >>= λ span.
     allow_of number table >>= λ allow.
     Ok (record {
       name = name;
@@ -152,5 +198,7 @@ rule_of names number table =
       channel = channel;
       low = range.0;
       high = range.1;
+      from = span.0;
+      until = span.1;
       allow = allow;
     })

@@ -3,3 +3,4 @@ pub mod Fault
 pub mod Fields
 pub mod Members
 pub mod Names
+pub mod Version

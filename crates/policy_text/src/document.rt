@@ -1,4 +1,4 @@
-ghost use Rattle.policy_text.specs.Document.{is_version_1, default_of, rule_at, rules_from, listed_rules, rules_of, policy_from, policy_of, has_rules};
+ghost use Rattle.policy_text.specs.Document.{default_of, rule_at, rules_from, listed_rules, rules_of, policy_from, policy_of, has_rules};
 ghost use Rattle.policy_text.specs.Fault.{Equals, Gives};
 ghost use Rattle.std.specs.Prelude.{◌≡◌, ◌≤◌, IfOk, false, is_ok, length};
 ghost use Rattle.toml.specs.Errors.{IsBlank};
@@ -6,22 +6,13 @@ ghost use Rattle.toml.specs.View.{array_view, table_view, view};
 
 use crate::fault::{Field, PolicyFault};
 use crate::fields::rule_of;
-use crate::members::{all_known, all_tables, integer_at, len_of, member, text_at};
+use crate::members::{all_known, all_tables, len_of, member, text_at};
 use crate::names::Names;
+use crate::version::{Version, version_of};
 use policy_core::{Policy, Rule};
 use std::alloc::Global;
 use toml::value::Array;
 use toml::{Table, Value};
-
-/// Whether the document is of this language's version.
-fn is_version_1(table: &Table) -> bool
-    ensures { result ≡ is_version_1 (table_view table.now) }
-{
-    match integer_at(table, "version") {
-        Some(1) => true,
-        _ => false,
-    }
-}
 
 /// Whether what no rule speaks of is allowed.
 fn default_of(table: &Table) -> Result<bool, PolicyFault>
@@ -44,11 +35,16 @@ fn default_of(table: &Table) -> Result<bool, PolicyFault>
 }
 
 /// The rule of this number that a value is.
-fn rule_at(number: u32, value: &Value, names: &Names) -> Result<Rule, PolicyFault>
-    ensures { Equals (λ rule. rule) result (rule_at names.now number (view value.now)) }
+fn rule_at(
+    version: Version,
+    number: u32,
+    value: &Value,
+    names: &Names,
+) -> Result<Rule, PolicyFault>
+    ensures { Equals (λ rule. rule) result (rule_at names.now version number (view value.now)) }
 {
     match value.as_table() {
-        Some(table) => rule_of(number, table, names),
+        Some(table) => rule_of(version, number, table, names),
         None => Err(PolicyFault::BadField {
             rule: 0,
             field: Field::Rule,
@@ -57,23 +53,33 @@ fn rule_at(number: u32, value: &Value, names: &Names) -> Result<Rule, PolicyFaul
 }
 
 /// The rules of an array, counted from 1.
-fn rules_from(alloc: Global, items: &Array, names: &Names) -> Result<Vec<Rule>, PolicyFault>
+fn rules_from(
+    alloc: Global,
+    version: Version,
+    items: &Array,
+    names: &Names,
+) -> Result<Vec<Rule>, PolicyFault>
     requires { length items.now.items ≤ 1024 }
-    ensures exact { Gives (λ rules. rules.items) result (rules_from names.now 1 (array_view items.now)) }
+    ensures exact { Gives (λ rules. rules.items) result (rules_from names.now version 1 (array_view items.now)) }
     ensures few { IfOk result (λ rules. length rules.items ≤ 1024) }
 {
     let mut rules = Vec::new(alloc);
     let mut number = 1;
     for value in items {
-        rules.push(rule_at(number, value, names)?)?;
+        rules.push(rule_at(version, number, value, names)?)?;
         number += 1;
     }
     Ok(rules)
 }
 
 /// The rules of an array of tables that is not too long.
-fn listed_rules(alloc: Global, items: &Array, names: &Names) -> Result<Vec<Rule>, PolicyFault>
-    ensures exact { Gives (λ rules. rules.items) result (listed_rules names.now (array_view items.now)) }
+fn listed_rules(
+    alloc: Global,
+    version: Version,
+    items: &Array,
+    names: &Names,
+) -> Result<Vec<Rule>, PolicyFault>
+    ensures exact { Gives (λ rules. rules.items) result (listed_rules names.now version (array_view items.now)) }
     ensures few { IfOk result (λ rules. length rules.items ≤ 1024) }
 {
     if !all_tables(items) {
@@ -85,20 +91,25 @@ fn listed_rules(alloc: Global, items: &Array, names: &Names) -> Result<Vec<Rule>
     if len_of(items) > 1024 {
         return Err(PolicyFault::TooManyRules);
     }
-    rules_from(alloc, items, names)
+    rules_from(alloc, version, items, names)
 }
 
 /// The rules of a document; none where it has no array of them.
-fn rules_of(alloc: Global, table: &Table, names: &Names) -> Result<Vec<Rule>, PolicyFault>
-    ensures exact { Gives (λ rules. rules.items) result (rules_of names.now (table_view table.now)) }
-    ensures without_memory { has_rules (table_view table.now) ≡ false → Equals (λ rules. rules.items) result (rules_of names.now (table_view table.now)) }
+fn rules_of(
+    alloc: Global,
+    version: Version,
+    table: &Table,
+    names: &Names,
+) -> Result<Vec<Rule>, PolicyFault>
+    ensures exact { Gives (λ rules. rules.items) result (rules_of names.now version (table_view table.now)) }
+    ensures without_memory { has_rules (table_view table.now) ≡ false → Equals (λ rules. rules.items) result (rules_of names.now version (table_view table.now)) }
     ensures few { IfOk result (λ rules. length rules.items ≤ 1024) }
 {
     let Some(value) = member(table, "rule") else {
         return Ok(Vec::new(alloc));
     };
     match value.as_array() {
-        Some(items) => listed_rules(alloc, items, names),
+        Some(items) => listed_rules(alloc, version, items, names),
         None => Err(PolicyFault::BadField {
             rule: 0,
             field: Field::Rule,
@@ -112,9 +123,9 @@ fn policy_from(alloc: Global, table: &Table, names: &Names) -> Result<Policy, Po
     ensures exact { Gives (λ policy. policy) result (policy_from names.now (table_view table.now)) }
     ensures without_memory { has_rules (table_view table.now) ≡ false → is_ok (policy_from names.now (table_view table.now)) ≡ false → Equals (λ policy. policy) result (policy_from names.now (table_view table.now)) }
 {
-    if !is_version_1(table) {
+    let Some(version) = version_of(table) else {
         return Err(PolicyFault::BadVersion);
-    }
+    };
     if !all_known(table, &["version", "default", "rule"]) {
         return Err(PolicyFault::BadField {
             rule: 0,
@@ -122,7 +133,7 @@ fn policy_from(alloc: Global, table: &Table, names: &Names) -> Result<Policy, Po
         });
     }
     let default = default_of(table)?;
-    let rules = rules_of(alloc, table, names)?;
+    let rules = rules_of(alloc, version, table, names)?;
     Ok(Policy::new(rules, default)?)
 }
 
@@ -131,8 +142,9 @@ fn policy_from(alloc: Global, table: &Table, names: &Names) -> Result<Policy, Po
 /// # Errors
 /// The first fault of the text. Looked at are, in this order: whether it is TOML; the version; the keys of the document;
 /// the default; whether the rules are an array of tables; how many they are; and then the rules, one by one. Of a rule:
-/// its keys, name, principal, acts, pattern, range of stream ids and word. Of a principal, an act or a range its form is
-/// looked at first, and then whether it is known or sound; of a list of acts the form of each before any is asked for.
+/// its keys, name, principal, acts, pattern, range of stream ids, moments and word. Of a principal, an act or a range its
+/// form is looked at first, and then whether it is known or sound; of a list of acts the form of each before any is asked
+/// for, and of moments the form of both bounds. In version 1 no rule has bounds of moments: their keys are unknown.
 /// [`PolicyFault::NoMemory`] comes where memory is wanting before a fault is found.
 #[tactic(auto, unfolding(crate::specs::Document::policy_of))]
 pub fn read(alloc: Global, text: &str, names: &Names) -> Result<Policy, PolicyFault>

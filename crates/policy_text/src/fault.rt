@@ -25,6 +25,10 @@ pub enum Field {
     Channel,
     /// A rule's range of stream ids.
     Stream,
+    /// The first moment at which a rule stands.
+    From,
+    /// The moment from which on a rule stands no more.
+    Until,
     /// A rule's word.
     Allow,
 }
@@ -43,6 +47,8 @@ impl Field {
             Field::Act => "act",
             Field::Channel => "channel",
             Field::Stream => "stream",
+            Field::From => "from",
+            Field::Until => "until",
             Field::Allow => "allow",
         }
     }
@@ -53,7 +59,7 @@ impl Field {
 pub enum PolicyFault {
     /// The text is no TOML document.
     NotToml,
-    /// The document's version is missing, or is not the integer 1.
+    /// The document's version is missing, or is neither the integer 1 nor 2.
     BadVersion,
     /// This part is missing, or is not of its form; or there is a key without a meaning.
     BadField { rule: u32, field: Field },
@@ -63,7 +69,8 @@ pub enum PolicyFault {
     UnknownPrincipal { rule: u32 },
     /// The rule names an act that is none.
     UnknownAct { rule: u32 },
-    /// The rule's range has its low end above its high one, or an end outside 32 bits.
+    /// The rule's range of stream ids has its low end above its high one, or an end outside 32 bits. Or a bound of the
+    /// moments at which it stands is negative, or the first of them is not below their end.
     BadRange { rule: u32 },
     /// There is no memory for the policy.
     NoMemory,

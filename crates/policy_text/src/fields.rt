@@ -1,11 +1,13 @@
 ghost use Rattle.policy_text.specs.Fault.{Equals};
-ghost use Rattle.policy_text.specs.Fields.{is_printable, is_name, name_of, principal_of, act_at, listed_acts, acts_of, channel_of, two_integers, range_of, stream_of, allow_of, rule_of};
-ghost use Rattle.std.specs.Prelude.{◌≡◌, ◌≤◌, length, IfOk};
+ghost use Rattle.policy_text.specs.Fields.{is_printable, is_name, name_of, principal_of, act_at, listed_acts, acts_of, channel_of, two_integers, range_of, stream_of, bound_at, is_moment, is_below, moment_of, span_of, moments_of, is_rule_key, allow_of, rule_of};
+ghost use Rattle.policy_text.specs.Members.{all_keys};
+ghost use Rattle.std.specs.Prelude.{◌≡◌, ◌≤◌, length, true, IfOk};
 ghost use Rattle.toml.specs.View.{array_view, table_view, view};
 
 use crate::fault::{Field, PolicyFault};
 use crate::members::{all_known, all_texts, bool_at, len_of, member, text_at};
 use crate::names::Names;
+use crate::version::Version;
 use byte_strings::ShortText;
 use channel_uri::Pattern;
 use policy_core::{Act, Acts, Principals, Rule};
@@ -181,6 +183,105 @@ fn stream_of(number: u32, table: &Table) -> Result<(i32, i32), PolicyFault>
     }
 }
 
+/// The bound of a rule's moments at a key; none where the rule names none.
+fn bound_at(number: u32, field: Field, table: &Table, key: &str) -> Result<Option<i64>, PolicyFault>
+    ensures { Equals (λ bound. bound) result (bound_at number field key.now (table_view table.now)) }
+{
+    let Some(value) = member(table, key) else {
+        return Ok(None);
+    };
+    match value.as_integer() {
+        Some(bound) => Ok(Some(bound)),
+        None => Err(PolicyFault::BadField {
+            rule: number,
+            field,
+        }),
+    }
+}
+
+/// Whether a bound is a moment, if there is one.
+fn is_moment(bound: Option<i64>) -> bool
+    ensures { result ≡ is_moment bound }
+{
+    match bound {
+        Some(bound) => 0 <= bound,
+        None => true,
+    }
+}
+
+/// Whether a moment lies between the bounds.
+fn is_below(from: Option<i64>, until: Option<i64>) -> bool
+    ensures { result ≡ is_below from until }
+{
+    match (from, until) {
+        (Some(from), Some(until)) => from < until,
+        _ => true,
+    }
+}
+
+/// The moment that a bound is.
+fn moment_of(bound: Option<i64>) -> Option<u64>
+    requires { is_moment bound ≡ true }
+    ensures { result ≡ moment_of bound }
+{
+    match bound {
+        Some(bound) => Some(bound as u64),
+        None => None,
+    }
+}
+
+/// The bounds of a rule's moments, from the first one to before the other.
+fn span_of(
+    number: u32,
+    from: Option<i64>,
+    until: Option<i64>,
+) -> Result<(Option<u64>, Option<u64>), PolicyFault>
+    ensures { Equals (λ span. span) result (span_of number from until) }
+{
+    if is_moment(from) && is_moment(until) && is_below(from, until) {
+        return Ok((moment_of(from), moment_of(until)));
+    }
+    Err(PolicyFault::BadRange { rule: number })
+}
+
+/// The moments at which a rule stands: the first one, and the one from which on it stands no more; each where the rule
+/// names it.
+fn moments_of(
+    number: u32,
+    table: &Table,
+) -> Result<(Option<u64>, Option<u64>), PolicyFault>
+    ensures { Equals (λ span. span) result (moments_of number (table_view table.now)) }
+{
+    let from = bound_at(number, Field::From, table, "from")?;
+    let until = bound_at(number, Field::Until, table, "until")?;
+    span_of(number, from, until)
+}
+
+/// Whether each key of the table is one of a rule of that version.
+fn has_rule_keys(version: Version, table: &Table) -> bool
+    ensures { result ≡ all_keys (is_rule_key version) (table_view table.now) }
+{
+    match version {
+        Version::One => all_known(
+            table,
+            &["name", "principal", "act", "channel", "stream", "allow"],
+        ),
+        Version::Two => all_known(
+            table,
+            &[
+                "name",
+                "principal",
+                "act",
+                "channel",
+                "stream",
+                "from",
+                "until",
+                "allow",
+            ],
+        ),
+    }
+}
+
 /// Whether a rule allows.
 fn allow_of(number: u32, table: &Table) -> Result<bool, PolicyFault>
     ensures { Equals (λ allow. allow) result (allow_of number (table_view table.now)) }
@@ -196,13 +297,15 @@ fn allow_of(number: u32, table: &Table) -> Result<bool, PolicyFault>
 
 /// The rule of this number that a table is.
 #[tactic(auto, unfolding(crate::specs::Fields::rule_of))]
-pub(crate) fn rule_of(number: u32, table: &Table, names: &Names) -> Result<Rule, PolicyFault>
-    ensures { Equals (λ rule. rule) result (rule_of names.now number (table_view table.now)) }
+pub(crate) fn rule_of(
+    version: Version,
+    number: u32,
+    table: &Table,
+    names: &Names,
+) -> Result<Rule, PolicyFault>
+    ensures { Equals (λ rule. rule) result (rule_of names.now version number (table_view table.now)) }
 {
-    if !all_known(
-        table,
-        &["name", "principal", "act", "channel", "stream", "allow"],
-    ) {
+    if !has_rule_keys(version, table) {
         return Err(PolicyFault::BadField {
             rule: number,
             field: Field::Unknown,
@@ -213,6 +316,7 @@ pub(crate) fn rule_of(number: u32, table: &Table, names: &Names) -> Result<Rule,
     let acts = acts_of(number, table)?;
     let channel = channel_of(number, table)?;
     let (low, high) = stream_of(number, table)?;
+    let (from, until) = moments_of(number, table)?;
     let allow = allow_of(number, table)?;
     Ok(Rule {
         name: ShortText::new(name),
@@ -221,6 +325,8 @@ pub(crate) fn rule_of(number: u32, table: &Table, names: &Names) -> Result<Rule,
         channel,
         low,
         high,
+        from,
+        until,
         allow,
     })
 }

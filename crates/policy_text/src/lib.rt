@@ -9,7 +9,9 @@ mod fault;
 mod fields;
 mod members;
 mod names;
+mod version;
 
 pub use document::read;
 pub use fault::{Field, PolicyFault};
 pub use names::Names;
+pub use version::Version;

@@ -1,3 +1,4 @@
 pub mod ExplainingLemmas
+mod SettledLemmas
 pub mod SourceLemmas
 pub mod WiderLemmas

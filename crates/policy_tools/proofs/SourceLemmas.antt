@@ -10,14 +10,16 @@ use Rattle.policy_core.specs.declared.rule.Principals.{Principals}
 use Rattle.policy_core.specs.declared.rule.Rule.{Rule}
 use Rattle.policy_core.specs.RuleList.{Rules}
 use Rattle.policy_text.specs.declared.fault.PolicyFault.{PolicyFault}
-use Rattle.policy_text.specs.declared.fault.PolicyFault.TheVariants.{BadField, BadVersion, TooManyRules}
+use Rattle.policy_text.specs.declared.fault.PolicyFault.TheVariants.{BadField, TooManyRules}
 use Rattle.policy_text.specs.declared.fault.Field.TheVariants.{Unknown, Rule as RuleField}
 use Rattle.toml.specs.Parse.{parse_document}
 use Rattle.policy_query.specs.Deciding.{policy_in}
 use Rattle.std.specs.Str.{is_utf8}
-use Rattle.policy_text.specs.Document.{default_of, is_version_1, is_document_key, listed_rules, policy_at, policy_from, policy_of, rule_at, rules_at, rules_from, rules_of}
+use Rattle.policy_text.specs.Document.{default_of, is_document_key, listed_rules, policy_at, policy_by, policy_from, policy_of, rule_at, rules_at, rules_from, rules_of}
 use Rattle.policy_text.specs.Fault.{◌>>=◌, needed}
-use Rattle.policy_text.specs.Fields.{is_rule_key, acts_of, allow_of, channel_from, channel_of, name_of, pattern_from, principal_of, rule_of, stream_of}
+use Rattle.policy_text.specs.Version.{version_of}
+use Rattle.policy_text.specs.declared.version.Version.{Version}
+use Rattle.policy_text.specs.Fields.{is_rule_key, acts_of, allow_of, channel_from, channel_of, name_of, pattern_from, moments_of, principal_of, rule_of, stream_of}
 use Rattle.policy_text.specs.Members.{all_items, all_keys, items_len, text_at}
 use Rattle.policy_text.specs.Names.{Known}
 use Rattle.policy_tools.specs.Source.{AreTexts, text_in, texts_at, texts_from, texts_in, texts_of}
@@ -47,55 +49,56 @@ text_there number (Some text) pattern is = pattern_there number (pattern_of text
 
 -- of what is read one after the other
 rule_parts : (name : Result (List ℕ) PolicyFault) (principals : Result Principals PolicyFault) (acts : Result Acts PolicyFault) (channel : Result Pattern PolicyFault)
-    (range : Result (ℤ × ℤ) PolicyFault) (allow : Result Bool PolicyFault) (rule : Rule) →
-    (name >>= λ n. principals >>= λ p. acts >>= λ a. channel >>= λ c. range >>= λ r. allow >>= λ w.
-    Ok (record { name = n; principals = p; acts = a; channel = c; low = r.0; high = r.1; allow = w })) ≡ Ok rule → channel ≡ Ok rule.channel
-rule_parts (Err f) principals acts channel range allow rule is = absurd (cc)
-rule_parts (Ok n) (Err f) acts channel range allow rule is = absurd (cc)
-rule_parts (Ok n) (Ok p) (Err f) channel range allow rule is = absurd (cc)
-rule_parts (Ok n) (Ok p) (Ok a) (Err f) range allow rule is = absurd (cc)
-rule_parts (Ok n) (Ok p) (Ok a) (Ok c) (Err f) allow rule is = absurd (cc)
-rule_parts (Ok n) (Ok p) (Ok a) (Ok c) (Ok r) (Err f) rule is = absurd (cc)
-rule_parts (Ok n) (Ok p) (Ok a) (Ok c) (Ok r) (Ok w) rule is =
-    let same : record { name = n; principals = p; acts = a; channel = c; low = r.0; high = r.1; allow = w } ≡ rule = cc in
+    (range : Result (ℤ × ℤ) PolicyFault) (span : Result (Option ℕ × Option ℕ) PolicyFault) (allow : Result Bool PolicyFault) (rule : Rule) →
+    (name >>= λ n. principals >>= λ p. acts >>= λ a. channel >>= λ c. range >>= λ r. span >>= λ m. allow >>= λ w.
+    Ok (record { name = n; principals = p; acts = a; channel = c; low = r.0; high = r.1; from = m.0; until = m.1; allow = w })) ≡ Ok rule → channel ≡ Ok rule.channel
+rule_parts (Err f) principals acts channel range span allow rule is = absurd (cc)
+rule_parts (Ok n) (Err f) acts channel range span allow rule is = absurd (cc)
+rule_parts (Ok n) (Ok p) (Err f) channel range span allow rule is = absurd (cc)
+rule_parts (Ok n) (Ok p) (Ok a) (Err f) range span allow rule is = absurd (cc)
+rule_parts (Ok n) (Ok p) (Ok a) (Ok c) (Err f) span allow rule is = absurd (cc)
+rule_parts (Ok n) (Ok p) (Ok a) (Ok c) (Ok r) (Err f) allow rule is = absurd (cc)
+rule_parts (Ok n) (Ok p) (Ok a) (Ok c) (Ok r) (Ok m) (Err f) rule is = absurd (cc)
+rule_parts (Ok n) (Ok p) (Ok a) (Ok c) (Ok r) (Ok m) (Ok w) rule is =
+    let same : record { name = n; principals = p; acts = a; channel = c; low = r.0; high = r.1; from = m.0; until = m.1; allow = w } ≡ rule = cc in
     ap (λ (x : Rule). Ok x.channel) same
 
-channel_stands : (names : Known) (number : ℕ) (table : Members) (rule : Rule) → rule_of names number table ≡ Ok rule → channel_of number table ≡ Ok rule.channel
+channel_stands : (names : Known) (version : Version) (number : ℕ) (table : Members) (rule : Rule) → rule_of names version number table ≡ Ok rule → channel_of number table ≡ Ok rule.channel
 unfolding rule_of
-channel_stands names number table rule is =
-    rule_parts (name_of number table) (principal_of names number table) (acts_of number table) (channel_of number table) (stream_of number table) (allow_of number table) rule
-    (kept_on (not (all_keys is_rule_key table)) (BadField number Unknown) _ rule is)
+channel_stands names version number table rule is =
+    rule_parts (name_of number table) (principal_of names number table) (acts_of number table) (channel_of number table) (stream_of number table) (moments_of number table) (allow_of number table) rule
+    (kept_on (not (all_keys (is_rule_key version) table)) (BadField number Unknown) _ rule is)
 
-rule_text : (names : Known) (number : ℕ) (value : Data) (rule : Rule) → rule_at names number value ≡ Ok rule → pattern_of (text_in (as_table value)) ≡ Ok rule.channel
-rule_text names number value rule is =
-    let table = bound (needed (BadField 0 RuleField) (as_table value)) (λ t. rule_of names number t) rule is in
+rule_text : (names : Known) (version : Version) (number : ℕ) (value : Data) (rule : Rule) → rule_at names version number value ≡ Ok rule → pattern_of (text_in (as_table value)) ≡ Ok rule.channel
+rule_text names version number value rule is =
+    let table = bound (needed (BadField 0 RuleField) (as_table value)) (λ t. rule_of names version number t) rule is in
     let stands : as_table value ≡ Some table.0 = there (BadField 0 RuleField) (as_table value) table.0 table.1 in
     subst (λ (t : Option Members). pattern_of (text_in t) ≡ Ok rule.channel) (sym stands)
-    (text_there number (text_at (codes "channel") table.0) rule.channel (channel_stands names number table.0 rule table.2))
+    (text_there number (text_at (codes "channel") table.0) rule.channel (channel_stands names version number table.0 rule table.2))
 
 -- ---- all rules
 
-items_texts : (names : Known) (number : ℕ) (items : Items) (rules : List Rule) → rules_from names number items ≡ Ok rules → AreTexts (texts_of items) rules
-items_texts names number no_items rules is = let none : [] ≡ rules = cc in subst (λ (r : List Rule). AreTexts [] r) none refl
-items_texts names number (item value items) rules is =
-    let rule = bound (rule_at names number value) (λ r. rules_from names (number + 1) items >>= λ more. Ok (r ∷ more)) rules is in
-    let more = bound (rules_from names (number + 1) items) (λ more. Ok (rule.0 ∷ more)) rules rule.2 in
+items_texts : (names : Known) (version : Version) (number : ℕ) (items : Items) (rules : List Rule) → rules_from names version number items ≡ Ok rules → AreTexts (texts_of items) rules
+items_texts names version number no_items rules is = let none : [] ≡ rules = cc in subst (λ (r : List Rule). AreTexts [] r) none refl
+items_texts names version number (item value items) rules is =
+    let rule = bound (rule_at names version number value) (λ r. rules_from names version (number + 1) items >>= λ more. Ok (r ∷ more)) rules is in
+    let more = bound (rules_from names version (number + 1) items) (λ more. Ok (rule.0 ∷ more)) rules rule.2 in
     let whole : rule.0 ∷ more.0 ≡ rules = let e = more.2 in cc in
     subst (λ (r : List Rule). AreTexts (text_in (as_table value) ∷ texts_of items) r) whole
-    (rw (rule_text names number value rule.0 rule.1, items_texts names (number + 1) items more.0 more.1) refl)
+    (rw (rule_text names version number value rule.0 rule.1, items_texts names version (number + 1) items more.0 more.1) refl)
 
-listed : (names : Known) (items : Items) (rules : List Rule) → listed_rules names items ≡ Ok rules → rules_from names 1 items ≡ Ok rules
-listed names items rules is =
-    kept_on (nat_lt 1024 (items_len items)) TooManyRules (rules_from names 1 items) rules
+listed : (names : Known) (version : Version) (items : Items) (rules : List Rule) → listed_rules names version items ≡ Ok rules → rules_from names version 1 items ≡ Ok rules
+listed names version items rules is =
+    kept_on (nat_lt 1024 (items_len items)) TooManyRules (rules_from names version 1 items) rules
     (kept_on (not (all_items (λ value. is_some (as_table value)) items)) (BadField 0 RuleField) _ rules is)
 
-at_texts : (names : Known) (value : Option Data) (rules : List Rule) → rules_at names value ≡ Ok rules → AreTexts (texts_at value) rules
-at_texts names None rules is = let none : [] ≡ rules = cc in subst (λ (r : List Rule). AreTexts [] r) none refl
-at_texts names (Some value) rules is =
-    let items = bound (needed (BadField 0 RuleField) (as_array value)) (λ items. listed_rules names items) rules is in
+at_texts : (names : Known) (version : Version) (value : Option Data) (rules : List Rule) → rules_at names version value ≡ Ok rules → AreTexts (texts_at value) rules
+at_texts names version None rules is = let none : [] ≡ rules = cc in subst (λ (r : List Rule). AreTexts [] r) none refl
+at_texts names version (Some value) rules is =
+    let items = bound (needed (BadField 0 RuleField) (as_array value)) (λ items. listed_rules names version items) rules is in
     let stands : as_array value ≡ Some items.0 = there (BadField 0 RuleField) (as_array value) items.0 items.1 in
     subst (λ (o : Option Items). AreTexts (texts_from o) rules) (sym stands)
-    (items_texts names 1 items.0 rules (listed names items.0 rules items.2))
+    (items_texts names version 1 items.0 rules (listed names version items.0 rules items.2))
 
 policy_parts : (default : Result Bool PolicyFault) (rules : Result (List Rule) PolicyFault) (policy : Rules) →
     (default >>= λ d. rules >>= λ r. Ok (record { rules = r; default_allows = d })) ≡ Ok policy → rules ≡ Ok policy.rules
@@ -105,12 +108,16 @@ policy_parts (Ok d) (Ok r) policy is =
     let same : record { rules = r; default_allows = d } ≡ policy = cc in
     ap (λ (p : Rules). Ok p.rules) same
 
+document_by : (names : Known) (table : Members) (version : Option Version) (policy : Rules) → policy_by names table version ≡ Ok policy → AreTexts (texts_in table) policy.rules
+document_by names table None policy is = absurd (cc)
+document_by names table (Some version) policy is =
+    at_texts names version (get_member (codes "rule") table) policy.rules
+    (policy_parts (default_of table) (rules_of names version table) policy
+    (kept_on (not (all_keys is_document_key table)) (BadField 0 Unknown) _ policy is))
+
 document_texts : (names : Known) (table : Members) (policy : Rules) → policy_from names table ≡ Ok policy → AreTexts (texts_in table) policy.rules
 unfolding policy_from
-document_texts names table policy is =
-    at_texts names (get_member (codes "rule") table) policy.rules
-    (policy_parts (default_of table) (rules_of names table) policy
-    (kept_on (not (all_keys is_document_key table)) (BadField 0 Unknown) _ policy (kept_on (not (is_version_1 table)) BadVersion _ policy is)))
+document_texts names table policy is = document_by names table (version_of table) policy is
 
 pub read_texts : (names : Known) (text : List ℕ) (table : Members) (policy : Rules) → policy_of names text ≡ Ok policy → parse_document text ≡ Some table →
     AreTexts (texts_in table) policy.rules

@@ -84,7 +84,7 @@ impl Case {
             channel: &self.channel,
             stream: self.stream,
         };
-        policy.verdict(1, &request)
+        policy.settled_verdict(1, &request)
     }
 
     /// Whether that verdict is the one that the case wants.

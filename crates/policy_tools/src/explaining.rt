@@ -102,7 +102,7 @@ pub fn explain(
 {
     let misses = misses_of(alloc, policy.rules(), request)?;
     Ok(Explanation {
-        verdict: policy.verdict(1, request),
+        verdict: policy.settled_verdict(1, request),
         misses,
     })
 }

@@ -6,7 +6,7 @@ use crate::explaining::{ChannelMiss, Explanation, Miss, channel_miss};
 use crate::source::Source;
 use crate::words::plain;
 use channel_uri::Channel;
-use policy_core::Rule;
+use policy_core::{Act, Rule};
 use std::alloc::{AllocError, Global};
 
 /// What of a channel the pattern of a rule doesn't cover.
@@ -23,6 +23,16 @@ fn push_channel(
         }
         None => text.push_str("channel"),
     }
+}
+
+/// Whether the rule stands at the moment to which its policy is settled: it speaks of some act then.
+fn stands(rule: &Rule) -> bool {
+    for act in &Act::EVERY {
+        if rule.acts.hold(*act) {
+            return true;
+        }
+    }
+    false
 }
 
 /// A line for a rule that doesn't match.
@@ -42,7 +52,7 @@ fn push_miss(
     write!(text, "rule {number}, {name}: the ")?;
     match miss {
         Miss::Principal => text.push_str("principal")?,
-        Miss::Act => text.push_str("act")?,
+        Miss::Act => text.push_str(if stands(rule) { "act" } else { "moment" })?,
         Miss::Channel => push_channel(
             alloc,
             text,

@@ -7,7 +7,7 @@ ghost use Rattle.std.specs.Prelude.{◌≡◌, ◌<◌, ◌∷◌, [], IfOk, len
 use crate::columns::{Line, in_columns};
 use crate::directory::Directory;
 use crate::source::Source;
-use crate::words::{acts_text, plain, principals_text, streams_text, word_of};
+use crate::words::{acts_text, moments_text, plain, principals_text, streams_text, word_of};
 use byte_strings::Text;
 use policy_core::Rule;
 use std::alloc::{AllocError, Global};
@@ -29,6 +29,7 @@ fn rule_line(
     rule: &Rule,
     pattern: &str,
     directory: &Directory,
+    is_timed: bool,
 ) -> Result<Line, AllocError>
     ensures { IfOk result (λ line. take 2 line.cells.items ≡ decimal number ∷ rule.now.name ∷ []) }
 {
@@ -38,8 +39,21 @@ fn rule_line(
     line.cells.push(acts_text(alloc, rule.acts)?)?;
     line.cells.push(plain(alloc, pattern)?)?;
     line.cells.push(streams_text(alloc, rule.low, rule.high)?)?;
+    if is_timed {
+        line.cells.push(moments_text(alloc, rule.from, rule.until)?)?;
+    }
     line.cells.push(Text::new(alloc, word_of(rule.allow))?)?;
     Ok(line)
+}
+
+/// Whether one of the rules has bounds of the moments at which it stands.
+fn are_timed(rules: &[Rule]) -> bool {
+    for rule in rules {
+        if rule.from.is_some() || rule.until.is_some() {
+            return true;
+        }
+    }
+    false
 }
 
 /// The lines of the rules, each rule once, in their order.
@@ -51,15 +65,23 @@ fn rule_lines(
     ensures { IfOk result (λ lines. heads lines.items ≡ numbered 1 source.now.policy.rules) }
 {
     let rules = source.rules();
+    let is_timed = are_timed(rules);
     let mut lines = Vec::new(alloc);
     for at in 0..rules.len() {
-        lines.push(rule_line(alloc, at + 1, &rules[at], source.text(at), directory)?)?;
+        lines.push(rule_line(
+            alloc,
+            at + 1,
+            &rules[at],
+            source.text(at),
+            directory,
+            is_timed,
+        )?)?;
     }
     Ok(lines)
 }
 
 /// The policy as a text: a line for each rule with its number, name, principal, acts, pattern, streams and word; then the
-/// default.
+/// default. Where a rule has bounds of the moments at which it stands, each line has them after the streams.
 pub fn show(alloc: Global, source: &Source, directory: &Directory) -> Result<String, AllocError> {
     let lines = rule_lines(alloc, source, directory)?;
     let mut text = in_columns(alloc, lines.as_slice())?;

@@ -1,4 +1,5 @@
 ghost use Rattle.channel_uri.specs.Pattern.{pattern_of};
+ghost use Rattle.policy_core.specs.Moments.{at};
 ghost use Rattle.policy_core.specs.RuleList.{Rules};
 ghost use Rattle.policy_query.specs.Deciding.{policy_in};
 ghost use Rattle.policy_text.specs.Fault.{Gives};
@@ -110,6 +111,13 @@ impl Source {
         };
         let texts = texts_read(alloc, text)?;
         Ok(Source { policy, texts })
+    }
+
+    /// The policy becomes what it is at this moment, for good: rules that do not stand then speak of nothing.
+    pub fn settle(&mut self, moment: u64)
+        ensures { self.new.policy ≡ at self.old.policy moment }
+    {
+        self.policy.settle(moment);
     }
 
     /// The policy.

@@ -73,6 +73,21 @@ pub fn streams_text(alloc: Global, low: i32, high: i32) -> Result<Text, AllocErr
     Ok(Text::from(text))
 }
 
+/// The moments from `from` to before `until`, as `1000..2000`, `1000..` or `..2000`; `always` where there is no bound.
+pub fn moments_text(
+    alloc: Global,
+    from: Option<u64>,
+    until: Option<u64>,
+) -> Result<Text, AllocError> {
+    let text = match (from, until) {
+        (Some(from), Some(until)) => format!(in alloc; "{from}..{until}")?,
+        (Some(from), None) => format!(in alloc; "{from}..")?,
+        (None, Some(until)) => format!(in alloc; "..{until}")?,
+        (None, None) => format!(in alloc; "always")?,
+    };
+    Ok(Text::from(text))
+}
+
 /// The word of a rule.
 pub fn word_of(allow: bool) -> &'static str {
     if allow { "allow" } else { "deny" }

@@ -36,16 +36,16 @@ kept_later P kept earlier later more p =
 newer_both : (s between after : State) → IsSameOrNewer s between → IsSameOrNewer between after → IsSameOrNewer s after
 newer_both s between after first second =
     ⊎_elim
-    (λ (same : (after.policy ≡ between.policy) × (after.epoch ≡ between.epoch)).
+    (λ (same : (after.given ≡ between.given) × (after.epoch ≡ between.epoch)).
     ⊎_elim
-    (λ (still : (between.policy ≡ s.policy) × (between.epoch ≡ s.epoch)). inl (same.0 ∙ still.0, same.1 ∙ still.1))
+    (λ (still : (between.given ≡ s.given) × (between.epoch ≡ s.epoch)). inl (same.0 ∙ still.0, same.1 ∙ still.1))
     (λ newer.
     let epoch = same.1 in
     inr (omega (arith, epoch, newer)))
     first)
     (λ newer.
     ⊎_elim
-    (λ (still : (between.policy ≡ s.policy) × (between.epoch ≡ s.epoch)).
+    (λ (still : (between.given ≡ s.given) × (between.epoch ≡ s.epoch)).
     let epoch = still.1 in
     inr (omega (arith, epoch, newer)))
     (λ before. inr (omega (arith, before, newer)))

@@ -1,6 +1,6 @@
 -- Which subscription reads which log: a function of the lists and the policy alone. Own rules.
-use Rattle.std.specs.Prelude.{ℕ, Bool, false, not, ◌==◌, ◌&&◌, List, map, filter, Option, Some, None, if◌then◌else◌}
-use Rattle.std.specs.List.{flat_map}
+use Rattle.std.specs.Prelude.{ℕ, Bool, false, not, ◌==◌, ◌&&◌, ◌||◌, List, map, filter, Option, Some, None, if◌then◌else◌}
+use Rattle.std.specs.List.{flat_map, list_any}
 use Rattle.std.specs.Ordering.{int_eq}
 use Rattle.stream_registry.specs.declared.pairs.Pair.{Pair}
 use Rattle.stream_registry.specs.declared.row.Source.{Source}
@@ -76,3 +76,23 @@ pairs_of s clients policy epoch = flat_map (pairs_at clients policy epoch s.subs
 -- the pair is of that log and that subscription, by their numbers
 abbrev pub is_of : ℕ → ℕ → Pair → Bool
 is_of source subscription pair = pair.source == source && pair.subscription == subscription
+
+-- ---- pairs that may yet be
+
+-- it is allowed by the policy or by one of these, which come later
+unfoldable pub is_ever_allowed : List Client → Rules → List Rules → ℕ → Subscription → Bool
+is_ever_allowed clients policy coming epoch subscription =
+    is_allowed clients policy epoch subscription
+    || list_any (λ later. is_allowed clients later epoch subscription) coming
+
+abbrev pub is_prospect : List Client → Rules → List Rules → ℕ → Source → Subscription → Bool
+is_prospect clients policy coming epoch log subscription =
+    fits log subscription && is_ever_allowed clients policy coming epoch subscription
+
+abbrev pub prospects_at : List Client → Rules → List Rules → ℕ → List Subscription → Source → List Pair
+prospects_at clients policy coming epoch subscriptions log =
+    map (pair_of log) (filter (is_prospect clients policy coming epoch log) subscriptions)
+
+-- the pairs that there are, and those that the policy allows later, by source and then subscription
+unfoldable pub prospects_of : Streams → List Client → Rules → List Rules → ℕ → List Pair
+prospects_of s clients policy coming epoch = flat_map (prospects_at clients policy coming epoch s.subscriptions) s.sources

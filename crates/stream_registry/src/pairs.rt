@@ -1,6 +1,7 @@
-ghost use Rattle.stream_registry.specs.Pairs.{fits, is_allowed, is_pair, reaches, reaches_published};
+ghost use Rattle.stream_registry.specs.Pairs.{fits, is_allowed, is_ever_allowed, is_pair, reaches, reaches_published};
 ghost use Rattle.stream_registry.specs.Sessions.{agrees_with};
 ghost use Rattle.stream_registry.specs.Wish.{row_of};
+ghost use Rattle.policy_core.specs.Moments.{at, coming};
 ghost use Rattle.channel_uri.specs.Parameters.{stated_session_of};
 ghost use Rattle.std.specs.Prelude.{◌≡◌, ◌&&◌};
 
@@ -10,7 +11,7 @@ use crate::sessions::agrees_with;
 use crate::wish::Wish;
 use channel_uri::Channel;
 use client_registry::Clients;
-use policy_core::{Act, Policy, Request};
+use policy_core::{Act, Policy, Request, Standing};
 
 /// A log and a subscription that reads it.
 #[derive(Clone, Copy, Debug, PartialEq, Eq)]
@@ -62,9 +63,9 @@ pub fn fits(log: &Source, wish: &Wish<'_>) -> bool
     log.stream == wish.stream && is_met_by(log, wish.channel)
 }
 
-/// Whether the policy, which goes by the number `epoch`, lets the client have messages on its subscription.
+/// Whether the policy, as it stands and by the number `epoch`, lets the client have messages on its subscription.
 #[tactic(auto, unfolding(crate::specs::Pairs::is_allowed))]
-pub fn is_allowed(clients: &Clients, policy: &Policy, epoch: u64, wish: &Wish<'_>) -> bool
+pub fn is_allowed(clients: &Clients, policy: &Standing<'_>, epoch: u64, wish: &Wish<'_>) -> bool
     ensures { result ≡ is_allowed clients.now.rows policy.now epoch (row_of wish.now) }
 {
     let Some(principal) = clients.principal_of(wish.client) else {
@@ -81,8 +82,32 @@ pub fn is_allowed(clients: &Clients, policy: &Policy, epoch: u64, wish: &Wish<'_
 
 /// Whether the subscription reads the log, or would if it were there: they fit, and the policy, which goes by the number
 /// `epoch`, allows the act `image` to the subscription's client. It takes no memory.
-pub fn reads(clients: &Clients, policy: &Policy, epoch: u64, log: &Source, wish: &Wish<'_>) -> bool
+pub fn reads(clients: &Clients, policy: &Standing<'_>, epoch: u64, log: &Source, wish: &Wish<'_>) -> bool
     ensures { result ≡ is_pair clients.now.rows policy.now epoch log.now (row_of wish.now) }
 {
     fits(log, wish) && is_allowed(clients, policy, epoch, wish)
+}
+
+/// Whether the policy, by the number `epoch`, lets the client have messages on its subscription at this moment or at a later
+/// one. It takes no memory.
+#[tactic(auto, using(crate::proofs::ProspectLemmas::ever_is, crate::proofs::ProspectLemmas::never_is))]
+pub fn is_ever_allowed(
+    clients: &Clients,
+    policy: &Policy,
+    moment: u64,
+    epoch: u64,
+    wish: &Wish<'_>,
+) -> bool
+    ensures { result ≡ is_ever_allowed clients.now.rows (at policy.now moment) (coming policy.now moment) epoch (row_of wish.now) }
+{
+    let Some(principal) = clients.principal_of(wish.client) else {
+        return false;
+    };
+    let request = Request {
+        principal,
+        act: Act::Image,
+        channel: wish.channel,
+        stream: wish.stream,
+    };
+    policy.ever(moment, &request)
 }

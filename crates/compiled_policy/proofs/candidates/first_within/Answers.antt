@@ -6,7 +6,7 @@ use Rattle.compiled_policy.proofs.candidates.first_within.Goals as goal
 
 pub returns-in-Some : goal.returns-in-Some
 returns-in-Some c =
-    let rules = c.args.rules.now in
+    let rules = c.args.policy.now.rules in
     let question = question_of c.args.request.now in
     let word = c.loop-word.word in
     let found = c.in-Some.ensures in
@@ -15,7 +15,7 @@ returns-in-Some c =
 
 pub loop-word-preserved : goal.loop-word-preserved
 loop-word-preserved c =
-    let rules = c.args.rules.now in
+    let rules = c.args.policy.now.rules in
     let question = question_of c.args.request.now in
     let word = c.loop-word.word in
     let none = subst (λ (w : ℕ). IsFirst rules question w (64 * word) None) c.common_word.ensures c.in-None.ensures in

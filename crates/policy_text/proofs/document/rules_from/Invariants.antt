@@ -8,8 +8,8 @@ use Rattle.policy_text.proofs.document.rules_from.Given as goal
 abbrev pub invariant-loop-value : goal.invariant-loop-value
 invariant-loop-value l = record {
   so_far :
-      after_rules l.rules.items (rules_from l.names l.number (items_view (drop l.value-index l.items.items)))
-      ≡ rules_from l.names 1 (items_view l.items.items);
+      after_rules l.rules.items (rules_from l.names l.version l.number (items_view (drop l.value-index l.items.items)))
+      ≡ rules_from l.names l.version 1 (items_view l.items.items);
   number_is : l.number ≡ l.value-index + 1;
   count : length l.rules.items ≡ l.value-index;
 }

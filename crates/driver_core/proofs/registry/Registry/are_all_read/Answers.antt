@@ -1,3 +1,4 @@
+use Rattle.compiled_policy.specs.Numbered.{standing}
 use Rattle.std.proofs.Common.{List, map, sym, ap, ◌∙◌}
 use Rattle.driver_core.specs.Pairs.{pairs_of}
 use Rattle.log_readers.specs.Numbering.{source_of}
@@ -14,12 +15,12 @@ returns-then-self c =
 
 pub are_all_read-requires : goal.are_all_read-requires
 are_all_read-requires c =
-    kept_length c.self.inside.streams c.self.inside.clients.rows c.self.inside.compiled.policy c.self.inside.compiled.epoch c.self.inside.last_number
+    kept_length c.self.inside.streams c.self.inside.clients.rows (standing c.self.inside.compiled) c.self.inside.compiled.epoch c.self.inside.last_number
     c.self.inside.readers c.self.invariant.kept
 
 pub returns-else-self : goal.returns-else-self
 unfolding pairs_of
 returns-else-self c =
     rw (← c.self.view_is)
-    (c.are_all_read.ensures c.self.inside.clients.rows c.self.inside.compiled.policy c.self.inside.compiled.epoch 0 c.self.inside.last_number
+    (c.are_all_read.ensures c.self.inside.clients.rows (standing c.self.inside.compiled) c.self.inside.compiled.epoch 0 c.self.inside.last_number
     c.self.invariant.kept.order.sources c.self.invariant.kept.exact)

@@ -1,3 +1,4 @@
+use Rattle.compiled_policy.specs.Numbered.{standing}
 use Rattle.std.proofs.Common.{◌≡◌, rules}
 use Rattle.client_registry.specs.Clients.{admitted}
 use Rattle.driver_core.proofs.KeptLemmas.{tended_admitted}
@@ -10,7 +11,7 @@ invariant_of-self c =
       | in-Ok w ↦
           let is : c.admit.new.self ≡ admitted c.self.inside.clients c.args.principal c.self.inside.moment = search rules in
           rw is
-          (tended_admitted c.self.inside.streams c.self.inside.clients c.self.inside.compiled.policy c.self.inside.compiled.epoch c.self.inside.last_number c.self.inside.readers c.self.inside.all_read
+          (tended_admitted c.self.inside.streams c.self.inside.clients (standing c.self.inside.compiled) c.self.inside.compiled.epoch c.self.inside.last_number c.self.inside.readers c.self.inside.all_read
           c.args.principal c.self.inside.moment c.self.invariant)
       | in-Err w ↦
           let is : c.admit.new.self ≡ c.self.inside.clients = search rules in

@@ -1,3 +1,4 @@
+use Rattle.compiled_policy.specs.Numbered.{standing}
 use Rattle.std.proofs.Common.{◌≡◌, true, rules, sym, ap, ◌∙◌}
 use Rattle.std.specs.List.{Contains}
 use Rattle.stream_registry.specs.declared.row.Subscription.{Subscription}
@@ -10,7 +11,7 @@ use Rattle.driver_core.proofs.registry.Registry.do_remove_subscription.Goals as 
 
 pub remove_row-requires : goal.remove_row-requires
 remove_row-requires c =
-    kept_length c.self.inside.streams c.self.inside.clients.rows c.self.inside.compiled.policy c.self.inside.compiled.epoch c.self.inside.last_number
+    kept_length c.self.inside.streams c.self.inside.clients.rows (standing c.self.inside.compiled) c.self.inside.compiled.epoch c.self.inside.last_number
     c.self.inside.readers c.self.invariant.kept
 
 pub invariant_of-self : goal.invariant_of-self
@@ -24,11 +25,11 @@ invariant_of-self c =
     let rows : c.remove_subscription.new.self ≡ unsubscribed c.self.inside.streams c.args.client.number c.args.fields.registration = search rules in
     let after : c.remove_row.new.self
     ≡ all_readers (unsubscribed c.self.inside.streams c.args.client.number c.args.fields.registration) c.self.inside.clients.rows
-    c.self.inside.compiled.policy c.self.inside.compiled.epoch =
+    (standing c.self.inside.compiled) c.self.inside.compiled.epoch =
     rw same at
-    (c.remove_row.ensures c.self.inside.clients.rows c.self.inside.compiled.policy c.self.inside.compiled.epoch c.args.client.number 0
+    (c.remove_row.ensures c.self.inside.clients.rows (standing c.self.inside.compiled) c.self.inside.compiled.epoch c.args.client.number 0
     c.self.inside.last_number c.self.invariant.kept.order.numbers there known c.self.invariant.kept.exact)
     in
     rw rows
-    (unknown (kept_unsubscribed c.self.inside.streams c.self.inside.clients.rows c.self.inside.compiled.policy c.self.inside.compiled.epoch c.self.inside.last_number
+    (unknown (kept_unsubscribed c.self.inside.streams c.self.inside.clients.rows (standing c.self.inside.compiled) c.self.inside.compiled.epoch c.self.inside.last_number
     c.args.client.number c.args.fields.registration c.self.inside.readers c.remove_row.new.self c.self.invariant.kept after))

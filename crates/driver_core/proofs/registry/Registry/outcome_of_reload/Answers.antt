@@ -4,12 +4,10 @@ use Rattle.driver_core.proofs.registry.Registry.outcome_of_reload.Goals as goal
 
 pub returns-then-not-has_room_for_policy : goal.returns-then-not-has_room_for_policy
 returns-then-not-has_room_for_policy c =
-    λ now.
-    rw (reload_refused c.args.self.now now c.args.inputs.now c.args.policy.now
+    rw (reload_refused c.args.self.now c.args.now c.args.inputs.now c.args.policy.now
     (sym c.has_room_for_policy.ensures ∙ c.if-not-has_room_for_policy.true)) (search rules)
 
 pub returns : goal.returns
 returns c =
-    λ now.
-    rw (reload_granted c.args.self.now now c.args.policy.now
-    (sym c.has_room_for_policy.ensures ∙ c.if-not-has_room_for_policy.false)) (c.outcome_of_reloaded.ensures now)
+    rw (reload_granted c.args.self.now c.args.now c.args.policy.now
+    (sym c.has_room_for_policy.ensures ∙ c.if-not-has_room_for_policy.false)) (c.outcome_of_reloaded.ensures)

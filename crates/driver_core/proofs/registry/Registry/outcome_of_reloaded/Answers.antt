@@ -3,4 +3,4 @@ use Rattle.driver_core.proofs.ReloadingLemmas.{reloaded_outcome}
 use Rattle.driver_core.proofs.registry.Registry.outcome_of_reloaded.Goals as goal
 
 pub returns : goal.returns
-returns c = λ now. rw (reloaded_outcome c.args.self.now now c.args.inputs.now c.args.policy.now) (search rules)
+returns c = rw (reloaded_outcome c.args.self.now c.args.now c.args.inputs.now c.args.policy.now) (search rules)

@@ -1,3 +1,4 @@
+use Rattle.compiled_policy.specs.Numbered.{standing}
 use Rattle.std.proofs.Common.{◌≡◌, sym, subst, ap}
 use Rattle.std.specs.List.{Contains}
 use Rattle.stream_registry.specs.declared.row.Subscription.{Subscription}
@@ -9,7 +10,7 @@ use Rattle.driver_core.proofs.registry.Registry.pairs_with.Goals as goal
 
 pub pairs_of_row-requires : goal.pairs_of_row-requires
 pairs_of_row-requires c =
-    kept_length c.self.inside.streams c.self.inside.clients.rows c.self.inside.compiled.policy c.self.inside.compiled.epoch c.self.inside.last_number
+    kept_length c.self.inside.streams c.self.inside.clients.rows (standing c.self.inside.compiled) c.self.inside.compiled.epoch c.self.inside.last_number
     c.self.inside.readers c.self.invariant.kept
 
 pub returns-clause-exact : goal.returns-clause-exact
@@ -20,7 +21,7 @@ returns-clause-exact c =
     let same : c.wish.result.number ≡ c.args.row.now.number = ap (λ (row : Subscription). row.number) c.wish.ensures in
     rw (← c.self.view_is)
     (rw same at
-    (c.pairs_of_row.ensures c.self.inside.clients.rows c.self.inside.compiled.policy c.self.inside.compiled.epoch 0 c.self.inside.last_number
+    (c.pairs_of_row.ensures c.self.inside.clients.rows (standing c.self.inside.compiled) c.self.inside.compiled.epoch 0 c.self.inside.last_number
     c.self.invariant.kept.order.numbers there c.self.invariant.kept.exact))
 
 pub returns-clause-order : goal.returns-clause-order
