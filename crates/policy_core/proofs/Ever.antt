@@ -15,7 +15,7 @@ allows_at policy question moment = (verdict_of (at policy moment) 0 question).al
 any_after : Rules → Question → ℕ → List ℕ → Bool
 any_after policy question moment all = is_allowed_by_any question (map (at policy) (filter (nat_lt moment) all))
 
-abbrev Has : ℕ → List ℕ → Type 0
+abbrev pub Has : ℕ → List ℕ → Type 0
 Has bound [] = true ≡ false
 Has bound (other ∷ more) = (bound ≡ other) ⊎ Has bound more
 
@@ -135,7 +135,7 @@ ever_now : (policy : Rules) (question : Question) (moment : ℕ) → allows_at p
 unfolding ever coming any_after allows_at
 ever_now policy question moment allowed = subst (λ (b : Bool). (b || any_after policy question moment (bounds policy.rules)) ≡ true) (sym allowed) refl
 
-least_is_in : (policy : Rules) (moment bound : ℕ) → steady_until policy moment ≡ Some bound → Has bound (bounds policy.rules) × (moment < bound)
+pub least_is_in : (policy : Rules) (moment bound : ℕ) → steady_until policy moment ≡ Some bound → Has bound (bounds policy.rules) × (moment < bound)
 unfolding steady_until
 least_is_in policy moment bound h = ⊎_elim
     (λ e. absurd (true≢false (sym (ap is_some e))))

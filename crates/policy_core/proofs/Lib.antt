@@ -1,5 +1,6 @@
 pub mod AtMoment
 mod AtPlace
 pub mod Bounds
-mod Ever
+pub mod Ever
 pub mod FirstMatch
+pub mod LeastBound

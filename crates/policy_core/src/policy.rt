@@ -1,4 +1,4 @@
-ghost use Rattle.policy_core.specs.MomentLaws.{IsEverAllowed, is_before};
+ghost use Rattle.policy_core.specs.MomentLaws.{IsBoundOf, IsEverAllowed, IsLeastAfter, is_before};
 ghost use Rattle.policy_core.specs.Question.{Question, question_of};
 ghost use Rattle.policy_core.specs.Moments.{as_of, at, bound_of, bounds, coming, ever, is_allowed_by_any, least_of, stands_at, steady_until};
 ghost use Rattle.policy_core.specs.Rule.{matches};
@@ -99,18 +99,13 @@ fn word_at(rules: &[Rule], place: usize) -> bool
     rules[place].allow
 }
 
-/// What rules with a default decide of `request` at this moment, under the number `epoch`.
-fn verdict_in(
-    rules: &[Rule],
-    default: bool,
-    moment: u64,
-    epoch: u64,
-    request: &Request<'_>,
-) -> Verdict
-    requires { length rules.now ≤ 1024 }
-    ensures { result ≡ verdict_at (record { rules = rules.now; default_allows = default }) epoch (position (λ rule. stands_at rule moment && matches rule (question_of request.now)) rules.now) }
+/// The word of the rule that was found at this place, or the default, under the number `epoch`.
+fn verdict_by(rules: &[Rule], default: bool, found: Option<usize>, epoch: u64) -> Verdict
+    requires few { length rules.now ≤ 1024 }
+    requires within { (index : ℕ) → found ≡ Some index → index < length rules.now }
+    ensures { result ≡ verdict_at (record { rules = rules.now; default_allows = default }) epoch found }
 {
-    match first_standing(rules, moment, request) {
+    match found {
         Some(index) => Verdict {
             allow: rules[index].allow,
             rule: Some(index as u32 + 1),
@@ -122,6 +117,20 @@ fn verdict_in(
             epoch,
         },
     }
+}
+
+/// What rules with a default decide of `request` at this moment, under the number `epoch`.
+fn verdict_in(
+    rules: &[Rule],
+    default: bool,
+    moment: u64,
+    epoch: u64,
+    request: &Request<'_>,
+) -> Verdict
+    requires { length rules.now ≤ 1024 }
+    ensures { result ≡ verdict_at (record { rules = rules.now; default_allows = default }) epoch (position (λ rule. stands_at rule moment && matches rule (question_of request.now)) rules.now) }
+{
+    verdict_by(rules, default, first_standing(rules, moment, request), epoch)
 }
 
 /// The least bound of these rules after the moment.
@@ -303,18 +312,8 @@ impl Policy {
     pub fn settled_verdict(&self, epoch: u64, request: &Request<'_>) -> Verdict
         ensures { result ≡ verdict_of self.now epoch (question_of request.now) }
     {
-        match first_match(self.rules.as_slice(), request) {
-            Some(index) => Verdict {
-                allow: self.rules.as_slice()[index].allow,
-                rule: Some(index as u32 + 1),
-                epoch,
-            },
-            None => Verdict {
-                allow: self.default,
-                rule: None,
-                epoch,
-            },
-        }
+        let rules = self.rules.as_slice();
+        verdict_by(rules, self.default, first_match(rules, request), epoch)
     }
 
     /// Becomes equal to another policy. It takes no memory.
@@ -352,6 +351,12 @@ pub fn policies_change_at_bounds()
     ensures same { (policy : Rules) (moment later : ℕ) → moment ≤ later → is_before later (steady_until policy moment) ≡ true → at policy later ≡ at policy moment }
     ensures coming { (policy : Rules) (moment later : ℕ) → moment ≤ later → is_before later (steady_until policy moment) ≡ true → coming policy later ≡ coming policy moment }
     ensures settled { (policy : Rules) (moment : ℕ) → steady_until policy moment ≡ None → coming policy moment ≡ [] }
+{}
+
+/// A policy is steady until the least bound of a rule after the moment, and for ever where no bound comes after it.
+pub fn steady_until_is_the_least_bound()
+    ensures least { (policy : Rules) (moment bound : ℕ) → steady_until policy moment ≡ Some bound → IsLeastAfter policy moment bound }
+    ensures none { (policy : Rules) (moment : ℕ) → steady_until policy moment ≡ None → (bound : ℕ) → IsBoundOf policy bound → bound ≤ moment }
 {}
 
 /// What is ever allowed from a moment on is what is allowed at that moment or at a later one.
