@@ -150,3 +150,45 @@ def case_a_socket_that_was_left_behind(room):
     room.serve()
     with Peer(room.at("p1")) as one:
         one.enter()
+
+
+def case_a_door_that_is_named_by_its_path(room):
+    os.mkdir(room.path + "/of_p1", 0o750)
+    path = room.path + "/of_p1/bus"
+    room.serve("--mode", "640", doors=("p1=" + path, "p2"))
+    found = os.stat(path)
+    same("its mode", (True, 0o640), (stat.S_ISSOCK(found.st_mode), stat.S_IMODE(found.st_mode)))
+    with aeron_policyd.connect(path) as one, aeron_policyd.connect(room.at("p2")) as two:
+        same("who they are", (1, 2), (one.principal, two.principal))
+        reads = two.subscription("aeron:ipc", 10)
+        one.publication("aeron:ipc", 10).offer(b"by the path", wait=1.0)
+        same("what is read", [b"by the path"], [message.data for message in reads.poll(wait=1.0)])
+    same("a socket of p1 in the folder", False, os.path.exists(room.at("p1")))
+    aeron_policyd.stop(room.at("operator"))
+    same("status of the driver", 0, room.ended(room.driver, 5))
+    same("what is left", (False, True), (os.path.exists(path), os.path.isdir(room.path + "/of_p1")))
+
+
+def case_doors_by_the_names_of_principals(room):
+    names = room.path + "/names"
+    with open(names, "w", encoding="ascii") as file:
+        file.write("principal gateway 1\nprincipal desk 2\n")
+    policy = """version = 1
+default = "deny"
+
+[[rule]]
+name = "the gateway publishes"
+principal = "gateway"
+act = ["publish", "offer"]
+channel = "*"
+allow = true
+"""
+    room.serve("--names", names, policy=policy, doors=("gateway", "desk"))
+    with aeron_policyd.connect(room.at("gateway")) as one, aeron_policyd.connect(room.at("desk")) as two:
+        same("who they are", (1, 2), (one.principal, two.principal))
+        one.publication("aeron:ipc", 10)
+        try:
+            two.publication("aeron:ipc", 10)
+            need(False, "the desk publishes")
+        except aeron_policyd.Denied as denied:
+            same("the denial", "denied by default in policy 1", denied.text)

@@ -67,8 +67,8 @@ def case_ten_thousand_connections_one_after_another(room):
             for number in range(count):
                 with Peer(room.at("p1")) as peer:
                     peer.enter()
-                    if number % 100 == 0:
-                        peer.registered(publish, 20 + number % 7)
+                    if number % 50 == 0:
+                        peer.registered(subscribe, 20 + number % 7)
                 if number % 500 == 0:
                     same("an offer beside them", TAKEN, stays.ask(offer(publication, b"x"))[0][0])
                     same("a poll beside them", [FRAGMENT, DONE], [kind for kind, _ in stays.ask(poll(subscription, source))])
@@ -77,10 +77,10 @@ def case_ten_thousand_connections_one_after_another(room):
             return count
 
         begun = time.monotonic()
-        connect(1000, begun + 60)
+        connect(1000, begun + 40)
         until("one client", lambda: len(room.clients()) == 1)
         memory, files, tasks = kilobytes(driver.pid), descriptors(driver.pid), threads(driver.pid)
-        done = connect(9000, begun + 80)
+        done = connect(9000, begun + 50)
         until("one client", lambda: len(room.clients()) == 1)
         until("no descriptor more", lambda: descriptors(driver.pid) <= files)
         until("no thread more", lambda: threads(driver.pid) <= tasks)

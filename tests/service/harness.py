@@ -20,7 +20,7 @@ sys.path.insert(0, os.path.join(TOP, "clients", "python"))
 LONGEST = 100
 
 # The files that have cases, in their order.
-FILES = ("cases_talk", "cases_python", "cases_c", "cases_records", "cases_ends", "cases_many", "cases_doors")
+FILES = ("cases_talk", "cases_python", "cases_c", "cases_records", "cases_ends", "cases_bounds", "cases_many", "cases_doors")
 
 ALLOW = 'version = 1\ndefault = "allow"\n'
 DENY = 'version = 1\ndefault = "deny"\n'

@@ -69,7 +69,7 @@ class Conflict(Refused):
 
 
 class Bound(Refused):
-    """The principal has as many publications, subscriptions or counters as it may."""
+    """The principal's clients have as many publications, pages for their logs, subscriptions or counters as they may."""
 
 
 class Ended(ServiceError):
@@ -103,6 +103,9 @@ _KINDS: dict[int, type[Refused]] = {
     1003: Full,
     1005: Conflict,
     1011: Bound,
+    1012: Bound,
+    1013: Bound,
+    1014: Bound,
 }
 
 SKIPPED = -6
