@@ -15,7 +15,7 @@
 enum { COMMAND = 1, OFFER = 2, POLL = 3, MAIL = 4, LIST = 5, VALUE = 6 };
 enum { WELCOME = 0x101, REPLY, TAKEN, REFUSED, FRAGMENT, DONE, ROW, VALUE_IS, BYE };
 
-enum { VERSION = 1, HEAD = 8, OFFER_HEAD = 24, POLL_SIZE = 32, COMMAND_HEAD = 28 };
+enum { VERSION = 1, HEAD = 8, OFFER_HEAD = 24, POLL_SIZE = 32, MAIL_SIZE = 12, COMMAND_HEAD = 28 };
 
 /* How long a record is at most, without its length. */
 #define LONGEST 16777280u
@@ -368,7 +368,7 @@ static int read_mail(struct apd_driver *driver)
 /* Takes the replies that are there, or waits for one. How many there were. */
 static int take_mail(struct apd_driver *driver, uint32_t wait_ms)
 {
-    unsigned char request[HEAD + 4];
+    unsigned char request[MAIL_SIZE];
     put_mail(request, wait_ms);
     int status = send_bytes(driver, request, sizeof request);
     return status == APD_OK ? read_mail(driver) : status;
@@ -733,22 +733,26 @@ static struct apd_image *image_at(const struct round *round, size_t place)
 
 static int send_polls(struct apd_driver *driver, const struct round *round)
 {
-    unsigned char requests[AT_ONCE][POLL_SIZE], mail[HEAD + 4];
+    unsigned char requests[AT_ONCE * POLL_SIZE + MAIL_SIZE];
     size_t count = round->subscription->count;
     for (size_t first = 0; first < count; first += AT_ONCE) {
         size_t some = count - first < AT_ONCE ? count - first : AT_ONCE;
-        for (size_t i = 0; i < some; i++) {
-            put_head(requests[i], POLL, POLL_SIZE - HEAD);
-            put32(requests[i] + 8, round->limit);
-            put32(requests[i] + 12, round->wait_ms);
-            put64(requests[i] + 16, round->subscription->registration);
-            put64(requests[i] + 24, image_at(round, first + i)->source);
+        unsigned char *at = requests;
+        for (size_t i = 0; i < some; i++, at += POLL_SIZE) {
+            put_head(at, POLL, POLL_SIZE - HEAD);
+            put32(at + 8, round->limit);
+            put32(at + 12, round->wait_ms);
+            put64(at + 16, round->subscription->registration);
+            put64(at + 24, image_at(round, first + i)->source);
         }
-        int status = send_bytes(driver, requests, some * POLL_SIZE);
+        if (first + some == count) {
+            put_mail(at, 0);
+            at += MAIL_SIZE;
+        }
+        int status = send_bytes(driver, requests, (size_t)(at - requests));
         if (status != APD_OK) return status;
     }
-    put_mail(mail, 0);
-    return send_bytes(driver, mail, sizeof mail);
+    return APD_OK;
 }
 
 /* A poll was refused. */
