@@ -399,7 +399,7 @@ static int set_timeout(struct apd_driver *driver, uint32_t timeout_ms)
 {
     struct timeval limit;
     /* a request may wait in the driver for a second */
-    limit.tv_sec = (time_t)(timeout_ms / 1000 + (timeout_ms != 0));
+    limit.tv_sec = (time_t)(timeout_ms / 1000) + (timeout_ms != 0);
     limit.tv_usec = (suseconds_t)(timeout_ms % 1000 * 1000);
     if (setsockopt(driver->fd, SOL_SOCKET, SO_RCVTIMEO, &limit, sizeof limit) != 0) return -1;
     return setsockopt(driver->fd, SOL_SOCKET, SO_SNDTIMEO, &limit, sizeof limit);

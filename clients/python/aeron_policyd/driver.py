@@ -59,13 +59,14 @@ class Row(NamedTuple):
     label: str
 
 
-def connect(path: Union[str, "os.PathLike[str]"], *, timeout: float = 30.0) -> Driver:
+def connect(path: Union[str, "os.PathLike[str]"], *, timeout: Optional[float] = 30.0) -> Driver:
     """Connects to a driver by a socket, and acts for the principal of that socket.
 
     The `OSError` of the system tells that this user may not connect (`PermissionError`) or that nobody serves there
     (`FileNotFoundError`, `ConnectionRefusedError`). `Ended` with the code 1003 tells that all places are taken.
 
-    `timeout` is how long the driver may take for an answer, beyond the wait of a request, before the connection is given up.
+    `timeout` is how long the driver may take for an answer, beyond the wait of a request, before the connection is given up;
+    `None` is without end.
     """
     return Driver(path, timeout)
 
@@ -78,7 +79,7 @@ class Driver:
     liveness: float  #: for how many seconds the client may send nothing
     lost: int  #: how many replies found no room in the driver so far; see `Driver.take_mail`
 
-    def __init__(self, path: Union[str, "os.PathLike[str]"], timeout: float = 30.0) -> None:
+    def __init__(self, path: Union[str, "os.PathLike[str]"], timeout: Optional[float] = 30.0) -> None:
         self._wire = Wire(path, timeout)
         try:
             kind, body = self._wire.receive()
@@ -143,7 +144,11 @@ class Driver:
         try:
             while self._answers[correlation] is None:
                 left = end - time.monotonic()
-                self.take_mail(max(left, 0.0))
+                try:
+                    self.take_mail(max(left, 0.0))
+                except Refused:
+                    # mail can be asked for again
+                    time.sleep(max(min(left, 0.01), 0.0))
                 if left <= 0 and self._answers[correlation] is None:
                     raise NoReply("no reply within %g s" % wait)
         finally:
@@ -224,8 +229,9 @@ class Driver:
 
     def value(self, number: int) -> int:
         """The value of the counter, publication or image of that number. It raises `Denied` and other refusals."""
-        ((kind, body),) = self._ask(records.value(number))
-        if kind != records.VALUE_IS or len(body) != 8:
+        answer = self._ask(records.value(number))
+        kind, body = answer[0]
+        if len(answer) != 1 or kind != records.VALUE_IS or len(body) != 8:
             raise self._give_up("no value")
         return int(records.SIGNED.unpack(body)[0])
 
