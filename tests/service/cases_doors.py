@@ -178,7 +178,7 @@ default = "deny"
 
 [[rule]]
 name = "the gateway publishes"
-principal = "gateway"
+principal = "p1"
 act = ["publish", "offer"]
 channel = "*"
 allow = true
