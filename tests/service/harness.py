@@ -80,7 +80,7 @@ class Room:
         out, err = ("%s/%d.%s" % (self.path, self.names, kind) for kind in ("out", "err"))
         more.setdefault("stdin", subprocess.DEVNULL)
         with open(out, "wb") as out_file, open(err, "wb") as err_file:
-            process = subprocess.Popen(words, stdout=out_file, stderr=err_file, **more)
+            process = subprocess.Popen(words, stdout=out_file, stderr=err_file, start_new_session=True, **more)
         process.out, process.err = out, err
         self.processes.append(process)
         return process
@@ -112,7 +112,8 @@ class Room:
         """Ends what still runs, and takes the folder away."""
         for process in reversed(self.processes):
             if process.poll() is None:
-                process.kill()
+                # with what it started itself
+                os.killpg(process.pid, signal.SIGKILL)
             process.wait()
         shutil.rmtree(self.path, ignore_errors=True)
 
