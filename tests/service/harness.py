@@ -64,7 +64,9 @@ class Room:
     def __init__(self, program):
         self.program = program
         self.top = TOP
-        self.path = tempfile.mkdtemp(prefix="aeron_policyd-service.")
+        # the path of a socket is short
+        above = tempfile.gettempdir()
+        self.path = tempfile.mkdtemp(prefix="aeron_policyd-service.", dir=above if len(above) < 40 else "/tmp")
         self.folder = self.path + "/s"
         self.policy_path = self.path + "/policy.toml"
         self.processes = []
