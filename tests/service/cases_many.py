@@ -1,8 +1,9 @@
 """Many clients: at once, and one after another."""
 
+import sys
 import time
 
-from harness import descriptors, kilobytes, need, same, threads, until
+from harness import HERE, descriptors, kilobytes, need, same, threads, until
 from raw import BYE, DONE, FRAGMENT, TAKEN, Peer, code_of, mail, offer, poll, publish, subscribe, words_of
 
 
@@ -96,3 +97,60 @@ def case_ten_thousand_connections_one_after_another(room):
         need(grown < 2000, "memory grew by", grown, "KB")
         if done < 9000:
             room.leave_out("%d of 10,000 connections, since the machine is slow" % (9000 - done))
+
+
+FLOOD = """
+import sys
+sys.path.insert(0, sys.argv[2])
+from raw import Peer, command
+
+def connections():
+    while True:
+        try:
+            with Peer(sys.argv[1]) as peer:
+                peer.receive()
+        except OSError:
+            pass
+
+def commands():
+    peer = Peer(sys.argv[1]).enter()
+    while True:
+        peer.send(b"".join(command(6, peer.client, 0) for _ in range(200)))
+        for _ in range(200):
+            peer.answer()
+
+globals()[sys.argv[3]]()
+"""
+
+
+def flooded(room, what):
+    """How long another owner and the operator are kept waiting at most, while four processes send that without end."""
+    floods = [room.start(sys.executable, "-c", FLOOD, room.at("p1"), HERE, what) for _ in range(4)]
+    time.sleep(0.5)
+    longest = 0
+    for number in range(6):
+        begun = time.monotonic()
+        with Peer(room.at("p2")) as two:
+            two.enter()
+            two.registered(subscribe, 100 + number)
+        need(len(room.clients()) <= 5, "clients", room.clients())
+        longest = max(longest, time.monotonic() - begun)
+    for flood in floods:
+        need(flood.poll() is None, "the flood ended")
+        flood.kill()
+        flood.wait()
+    return longest
+
+
+def case_connections_of_one_owner_keep_nobody_out(room):
+    room.serve("--each", "4")
+    longest = flooded(room, "connections")
+    need(longest < 5, "p2 waited for", longest)
+    until("no client", lambda: room.clients() == [])
+
+
+def case_commands_of_one_owner_keep_nobody_out(room):
+    room.serve("--each", "4")
+    longest = flooded(room, "commands")
+    need(longest < 5, "p2 waited for", longest)
+    until("no client", lambda: room.clients() == [])

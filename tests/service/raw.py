@@ -144,8 +144,15 @@ class Peer:
     def commanded(self, make, *words, **more):
         """Gives a command, and waits for the reply of its correlation id: the reply."""
         self.correlation += 1
-        self.ask(make(self.client, self.correlation, *words, **more))
         end = time.monotonic() + 10
+        while True:
+            ((kind, body),) = self.ask(make(self.client, self.correlation, *words, **more))
+            if kind == DONE:
+                break
+            if code_of(body) != 1008 or time.monotonic() > end:
+                raise Over("refused: %d %s" % (code_of(body), words_of(body)))
+            # the driver's queue is full
+            time.sleep(0.002)
         while time.monotonic() < end:
             found = None
             for reply in self.replies(200):
