@@ -39,15 +39,6 @@ def build(room, compiler, source, *options):
     return program
 
 
-def case_the_example_in_c(room):
-    room.serve(policy="examples/serving/policy.toml")
-    wanted = "the desk reads: bid 99\nthe desk reads: ask 101\nthe desk may not publish: denied by default in policy 1\n"
-    for compiler in compilers():
-        for level in ("-O0", "-O2"):
-            program = build(room, compiler, SOURCE + "/example.c", level)
-            same("%s %s" % (compiler, level), (0, wanted, ""), room.run(program, room.folder))
-
-
 def sanitized(room, compiler, source):
     """The same with checks of each access, where the compiler has them; else without."""
     with open(room.path + "/empty.c", "w", encoding="ascii") as file:
@@ -58,6 +49,21 @@ def sanitized(room, compiler, source):
         return build(room, compiler, source, *checks)
     room.leave_out("%s has no address and undefined behaviour checks here" % compiler)
     return build(room, compiler, source)
+
+
+EXAMPLE = "the desk reads: bid 99\nthe desk reads: ask 101\nthe desk may not publish: denied by default in policy 1\n"
+
+
+def case_the_example_in_c(room):
+    room.serve(policy="examples/serving/policy.toml")
+    for compiler in compilers():
+        program = build(room, compiler, SOURCE + "/example.c", "-O2")
+        same(compiler, (0, EXAMPLE, ""), room.run(program, room.folder))
+    program = sanitized(room, compilers()[0], SOURCE + "/example.c")
+    same("with checks", (0, EXAMPLE, ""), room.run(program, room.folder))
+    status, out, err = room.run(program, room.path)
+    same("where nobody serves", (1, ""), (status, out))
+    need("No such file" in err, err)
 
 
 def case_each_function_in_c(room):
@@ -73,6 +79,10 @@ def case_each_function_in_c_under_valgrind(room):
     program = build(room, compilers()[0], TOP + "/tests/service/check.c", "-g", "-O1")
     words = ("valgrind", "-q", "--error-exitcode=9", "--leak-check=full", "--errors-for-leak-kinds=all", program)
     same("check", (0, "all holds\n", ""), room.run(*words, room.folder, "500", seconds=90))
+    example = build(room, compilers()[0], SOURCE + "/example.c", "-g")
+    status, _, err = room.run(*words[:-1], example, room.folder, seconds=60)
+    # this policy allows more, but not the desk to publish
+    same("the example", (0, ""), (status, err))
 
 
 def case_a_server_that_forges_in_c(room):
