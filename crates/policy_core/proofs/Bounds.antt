@@ -1,15 +1,12 @@
 -- What bounds of rules come to: between two of them nothing changes.
-use Rattle.std.proofs.Common.{◌≡◌, ℕ, ◌<◌, ◌≤◌, Bool, true, false, cond, ◌&&◌, ◌||◌, ◌⊎◌, List, [], ◌∷◌, ◌++◌, Option, Some, None, refl, ap, ap₂, sym, ◌∙◌, subst, map, filter, nat_lt, nat_le, true≢false, ⊎_elim, arith, is_some}
+use Rattle.std.proofs.Common.{◌≡◌, ℕ, ◌<◌, ◌≤◌, Bool, true, false, cond, ◌&&◌, List, [], ◌∷◌, ◌++◌, Option, Some, None, refl, ap, ap₂, sym, ◌∙◌, subst, map, filter, nat_lt, nat_le, true≢false, ⊎_elim, arith, is_some}
 use Rattle.std.proofs.lemmas.Bool.{cases_Bool, and_parts}
 use Rattle.std.proofs.lemmas.Bool.Decides.{nat_tests}
-use Rattle.std.specs.List.{flat_map}
 use Rattle.policy_core.specs.declared.rule.Rule.{Rule}
 use Rattle.policy_core.specs.Acts.{no_act_held}
-use Rattle.policy_core.specs.Moments.{as_of, at, bound_of, bounds, bounds_of, coming, ever, has_begun, is_allowed_by_any, is_not_over, least_of, sooner, stands_at, steady_until}
+use Rattle.policy_core.specs.Moments.{as_of, at, bound_of, bounds, bounds_of, coming, has_begun, is_not_over, least_of, sooner, steady_until}
 use Rattle.policy_core.specs.MomentLaws.{is_before}
-use Rattle.policy_core.specs.Question.{Question}
 use Rattle.policy_core.specs.RuleList.{Rules}
-use Rattle.policy_core.specs.Rules.{verdict_of}
 
 
 

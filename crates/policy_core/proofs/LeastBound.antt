@@ -1,9 +1,9 @@
 -- The bound until which a policy is steady is the least one after the moment.
-use Rattle.std.proofs.Common.{◌≡◌, ℕ, zero, suc, ◌<◌, ◌≤◌, ◌⊎◌, Bool, true, false, List, [], ◌∷◌, ◌++◌, Option, Some, None, refl, ap, sym, ◌∙◌, subst, nat_lt, true≢false, ⊎_elim, arith, inl, inr, is_some, slice_get}
+use Rattle.std.proofs.Common.{◌≡◌, ℕ, zero, suc, ◌<◌, ◌≤◌, ◌⊎◌, true, List, [], ◌∷◌, ◌++◌, Option, Some, None, refl, ap, sym, subst, nat_lt, true≢false, ⊎_elim, arith, inl, inr, is_some, slice_get}
 use Rattle.std.proofs.lemmas.Bool.{cases_Bool}
 use Rattle.std.proofs.lemmas.Bool.Decides.{nat_tests}
 use Rattle.policy_core.specs.declared.rule.Rule.{Rule}
-use Rattle.policy_core.specs.Moments.{bound_of, bounds, bounds_of, least_of, steady_until}
+use Rattle.policy_core.specs.Moments.{bound_of, bounds, bounds_of, steady_until}
 use Rattle.policy_core.specs.MomentLaws.{IsBoundOf, IsLeastAfter, is_before}
 use Rattle.policy_core.specs.RuleList.{Rules}
 use Rattle.policy_core.proofs.Bounds.{AreAhead, all_ahead}
