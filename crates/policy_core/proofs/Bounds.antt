@@ -8,9 +8,6 @@ use Rattle.policy_core.specs.Moments.{as_of, at, bound_of, bounds, bounds_of, co
 use Rattle.policy_core.specs.MomentLaws.{is_before}
 use Rattle.policy_core.specs.RuleList.{Rules}
 
-
-
-
 -- the bound is not passed between the two moments
 abbrev IsAhead : ℕ → ℕ → ℕ → Type 0
 IsAhead moment later bound = moment < bound → later < bound
@@ -32,12 +29,14 @@ sooner_ahead moment later (Some found) bound = ⊎_elim
     let at' : later < bound = grind (arith, nat_tests, h') in
     (grind (arith, nat_tests, before, at'), λ after. at'))
     (λ no h. let h' : nat_lt later found ≡ true = rw no at h in
-    let before : later < found = grind (arith, nat_tests, h') in
-    (h', λ after.
-    ⊎_elim
-    (λ under. absurd (let yes : (nat_lt moment bound && nat_lt bound found) ≡ true = grind (arith, nat_tests) in true≢false (sym yes ∙ no)))
-    (λ over. let over' : found ≤ bound = grind (arith, nat_tests, over) in omega (arith, before, over'))
-    (cases_Bool (nat_lt bound found))))
+    let before : later < found = grind (arith, nat_tests, h') in (
+      h',
+      λ after.
+          ⊎_elim
+          (λ under. absurd (let yes : (nat_lt moment bound && nat_lt bound found) ≡ true = grind (arith, nat_tests) in true≢false (sym yes ∙ no)))
+          (λ over. let over' : found ≤ bound = grind (arith, nat_tests, over) in omega (arith, before, over'))
+          (cases_Bool (nat_lt bound found)),
+    ))
     (cases_Bool (nat_lt moment bound && nat_lt bound found))
 
 pub all_ahead : (moment later : ℕ) (found : Option ℕ) (bounds : List ℕ) → is_before later (least_of moment found bounds) ≡ true

@@ -53,10 +53,15 @@ in_bounds (first ∷ rules) bound (suc place) rule there is =
 pub of_a_rule : (rules : List Rule) (bound : ℕ) → Has bound (bounds rules) → IsBoundIn rules bound
 of_a_rule [] bound h = absurd (true≢false h)
 of_a_rule (first ∷ rules) bound h = ⊎_elim
-    (λ here. (zero, first, refl, ⊎_elim
-    (λ begins. inl (one_has bound first.from begins))
-    (λ ends. inr (one_has bound first.until ends))
-    (parts_of bound (bound_of first.from) (bound_of first.until) here)))
+    (λ here. (
+      zero,
+      first,
+      refl,
+      ⊎_elim
+          (λ begins. inl (one_has bound first.from begins))
+          (λ ends. inr (one_has bound first.until ends))
+          (parts_of bound (bound_of first.from) (bound_of first.until) here),
+    ))
     (λ rest. let found = of_a_rule rules bound rest in (suc found.0, found.1, found.2, found.3))
     (parts_of bound (bounds_of first) (bounds rules) h)
 
