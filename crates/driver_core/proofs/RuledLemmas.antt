@@ -2,7 +2,6 @@
 use Rattle.std.proofs.Common.{◌≡◌, ℕ, ℤ, ◌+◌, List, [], ◌∷◌, ◌++◌, Some, max, sym, ap, ◌∙◌}
 use Rattle.driver_core.specs.Conduct.{coming_to, moment_told}
 use Rattle.driver_core.specs.Draft.{Draft, replied, replied_opening, told}
-use Rattle.driver_core.specs.Pairs.{lacking, pairs_of}
 use Rattle.driver_core.specs.Publishing.{new_log, opening_of, publication_decision, published, ready_for}
 use Rattle.driver_core.specs.Renewal.{come_to, gone_from, images_decided, images_told, outcome_by, renewed}
 use Rattle.driver_core.specs.State.{State, ruled}
@@ -13,7 +12,6 @@ use Rattle.driver_core.specs.declared.outcome.Outcome.{Outcome}
 use Rattle.driver_core.specs.declared.told.Told.{Told}
 use Rattle.client_registry.specs.declared.client.Client.{Client}
 use Rattle.policy_core.specs.Moments.{at, coming}
-use Rattle.policy_core.specs.RuleList.{Rules}
 use Rattle.stream_registry.specs.declared.pairs.Pair.{Pair}
 use Rattle.stream_registry.specs.declared.wanted.Adding.{Adding}
 use Rattle.stream_registry.specs.declared.wanted.Adding.TheVariants.{Join, Make}
