@@ -44,7 +44,7 @@ fn would_be_read(play: &Play, wanted: &Wanted, count: usize) -> bool {
     let counted = play.readers.pair_count_with_publication(
         &play.streams,
         &play.clients,
-        &play.policy,
+        &play.policy.at(0),
         1,
         9,
         1,
