@@ -89,7 +89,11 @@ fn push_pairs(
 }
 
 /// All pairs: each log is looked at.
-fn all_pairs(play: &Play, clients: &Clients, policy: &Standing<'_>) -> Result<Items<Pair>, AllocError> {
+fn all_pairs(
+    play: &Play,
+    clients: &Clients,
+    policy: &Standing<'_>,
+) -> Result<Items<Pair>, AllocError> {
     let mut pairs = Items::new(play.alloc);
     for log in play.streams.sources() {
         push_pairs(&mut pairs, &play.streams, clients, policy, log)?;
