@@ -13,10 +13,9 @@ use crate::subscribing::Subscribing;
 use crate::watched::{Notes, Watched};
 use channel_uri::Address;
 use driver_core::{Peer, Settings};
-use media_driver::{AttachFault, Driver, DriverNaming, MachineClock, Parts};
+use media_driver::{AttachFault, Driver, DriverNaming, MachineClock, Parts, StartFault};
 use media_wire::Udp;
 use policy_core::Policy;
-use std::alloc::AllocError;
 use std::marker::Brand;
 use std::sync::Arc;
 
@@ -103,15 +102,18 @@ fn watched<R: Machine>(
     rt: R,
     unused: Option<Address>,
     silence: u64,
-) -> Result<(Watched<Udp<R>, MachineClock<R>>, Arc<Notes>), AllocError> {
+) -> Result<(Watched<Udp<R>, MachineClock<R>>, Arc<Notes>), Fault> {
     let wire = Udp::new(rt.alloc(), rt, SOCKETS)?;
     let notes = match Arc::new(rt.alloc(), Notes::new()) {
         Ok(notes) => notes,
-        Err(_) => return Err(AllocError),
+        Err(_) => return Err(Fault::NO_MEMORY),
     };
     let theirs = Arc::try_clone(&notes)?;
     let reports = Reports::new(rt.alloc(), silence)?;
-    let clock = MachineClock::new(rt);
+    let clock = match MachineClock::start(rt) {
+        Ok(clock) => clock,
+        Err(fault) => return Err(Fault::Start(StartFault::Clock(fault))),
+    };
     let watched = Watched::new(wire, theirs, clock, reports, unused);
     Ok((watched, notes))
 }
@@ -127,13 +129,12 @@ fn started<N: DriverNaming + Send + Sync + 'static, R: Machine, F: Disk>(
 {
     let (wire, notes) = match watched(rt, work.unused, work.silence) {
         Ok(made) => made,
-        Err(_) => {
+        Err(fault) => {
             parts.end(&rt);
-            return Err(Fault::NO_MEMORY);
+            return Err(fault);
         }
     };
-    let clock = MachineClock::new(rt);
-    let started: Result<OwnDriver<N, R>, _> = Driver::start(rt, rt.alloc(), parts, wire, clock);
+    let started: Result<OwnDriver<N, R>, _> = Driver::start(rt, rt.alloc(), parts, wire);
     match started {
         Ok(driver) => attached(rt, files, driver, notes, work),
         Err(fault) => Err(Fault::Start(fault)),

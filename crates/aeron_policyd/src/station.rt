@@ -5,7 +5,7 @@ use crate::fault::Fault;
 use crate::files::file_bytes;
 use crate::machine::{Disk, Machine};
 use crate::watched::Notes;
-use media_driver::{Client, ClientReply, Clock, Driver, DriverNaming, MachineClock, ReloadFault};
+use media_driver::{Client, ClientReply, Driver, DriverNaming, MachineClock, ReloadFault};
 use message_lines::Losses;
 use std::sync::Arc;
 use std::time::Duration;
@@ -47,7 +47,7 @@ pub(crate) struct Chores {
     pub(crate) liveness: u64,
 }
 
-/// When which of these is due next, in nanoseconds of the machine's clock.
+/// When which of these is due next, in nanoseconds since 1970.
 #[derive(Clone, Copy)]
 struct Due {
     keepalive: u64,
@@ -91,7 +91,7 @@ impl<N: DriverNaming + Send + Sync + 'static, R: Machine, F: Disk> Station<N, R,
         notes: Arc<Notes>,
         chores: Chores,
     ) -> Station<N, R, F> {
-        let now = MachineClock::new(rt).now();
+        let now = driver.now();
         let reload = now.saturating_add(chores.reload_every.unwrap_or(u64::MAX));
         Station {
             rt,
@@ -122,9 +122,9 @@ impl<N: DriverNaming + Send + Sync + 'static, R: Machine, F: Disk> Station<N, R,
         (driver, client)
     }
 
-    /// The machine's clock, in nanoseconds.
+    /// The moment by the driver's clock, in nanoseconds since 1970.
     pub(crate) fn now(&self) -> u64 {
-        MachineClock::new(self.rt).now()
+        self.driver.now()
     }
 
     /// What was lost so far, with so many NAKs.
