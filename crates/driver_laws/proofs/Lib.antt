@@ -57,6 +57,7 @@ pub mod SettingUpLemmas
 pub mod StayingLemmas
 pub mod SubscribingLemmas
 pub mod SubscribingOnlyLemmas
+pub mod TurningLemmas
 pub mod UniqueImageLemmas
 pub mod UniquePublicationLemmas
 pub mod WellLemmas
