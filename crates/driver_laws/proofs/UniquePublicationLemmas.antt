@@ -15,6 +15,7 @@ use Rattle.driver_core.specs.Conduct.{coming_to, state_after, state_of}
 use Rattle.driver_core.specs.PublicationRequests.{is_sent_as}
 use Rattle.driver_core.specs.Publishing.{published}
 use Rattle.driver_core.specs.Requests.{wanted_by}
+use Rattle.driver_core.specs.Looking.{IsAtItsMoment}
 use Rattle.driver_core.specs.State.{State, opened, ruled}
 use Rattle.driver_laws.specs.ClosingLaws.{IsSameLog}
 use Rattle.driver_laws.specs.NumberLaws.{AreRising}
@@ -49,6 +50,7 @@ use Rattle.driver_laws.proofs.DroppingLemmas.{is_any, none_found}
 use Rattle.driver_laws.proofs.LimitLemmas.{IsWithin, event_within, opened_within}
 use Rattle.driver_laws.proofs.NumberLemmas.{event_rises, opened_rises}
 use Rattle.driver_laws.proofs.OwnerLemmas.{opened_owned, stay_owned}
+use Rattle.driver_core.proofs.MomentLemmas.{event_timely, opened_timely}
 use Rattle.driver_laws.proofs.PublishingOnlyLemmas.{published_only}
 use Rattle.driver_laws.proofs.RisingLemmas.{rises_unique}
 
@@ -305,6 +307,7 @@ few_logs s within =
 
 record Holds (settings : Settings) (s : State) : Type 0 where
   rises : AreRising s
+  timely : IsAtItsMoment s
   owned : HaveTheirClients s
   within : IsWithin s
   counted : IsCounted settings s
@@ -317,8 +320,9 @@ stays_unique settings s event inputs holds =
     let rises : AreRising after' = (event_rises s event inputs holds.rises).rises in
     record {
       rises = rises;
+      timely = event_timely s event inputs;
       owned = stay_owned s event inputs holds.owned;
-      within = event_within s event inputs holds.owned holds.within;
+      within = event_within s event inputs holds.timely holds.owned holds.within;
       counted = event_counted settings s event inputs holds.counted;
       unique = are_unique after' (λ log other has stands both.
           rises_unique (λ (p : Source). p.number) 0 after'.last_number after'.streams.sources log other rises.sources has stands
@@ -336,6 +340,7 @@ opened_holds : (settings : Settings) (policy : Rules) (peers : List Peer) → Fi
 unfolding opened
 opened_holds settings policy peers fits = record {
   rises = opened_rises settings policy peers;
+  timely = opened_timely settings policy peers;
   owned = opened_owned settings policy peers;
   within = opened_within settings policy peers;
   counted = (fits, refl);
