@@ -26,8 +26,12 @@ fn serve<N: DriverNaming + Send + Sync + 'static, R: Machine, W: Wire + Drop + S
 ) -> Result<u64, &'static str>
     requires { AreNamed N.home N.client_ledger N.client_parts N.slot_ledger N.slot_parts N.book parts }
 {
-    let started: Result<Driver<N, R, MachineClock<R>>, _> =
-        Driver::start(rt, rt.alloc(), parts, wire);
+    let started: Result<Driver<N, R, MachineClock<R>>, _> = Driver::start(
+        rt,
+        rt.alloc(),
+        parts,
+        wire,
+    );
     let Ok(mut driver) = started else {
         return Err("no driver");
     };

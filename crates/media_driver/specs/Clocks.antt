@@ -25,5 +25,5 @@ Fails _ wall machine faults.PastEnd = (reading : ℕ) × wall machine reading ×
 -- what the clock shows: a moment by some reading of the steady clock; where that is not read, the moment at which it began
 abbrev pub Shows : {C : Type 0} → (C → Type 0) → (C → ℕ → Type 0) → MachineClock C → ℕ → Type 0
 Shows unread steady clock moment =
-  ((reading : ℕ) × steady clock.machine reading × (moment ≡ moment_at clock.wall (as_nanos clock.began) reading))
+    ((reading : ℕ) × steady clock.machine reading × (moment ≡ moment_at clock.wall (as_nanos clock.began) reading))
     ⊎ (unread clock.machine × (moment ≡ clock.wall))

@@ -31,7 +31,8 @@ pub use client::Client;
 pub use clock::{MachineClock, MachineTime};
 pub use driver::Driver;
 pub use faults::{
-    AttachFault, ClockFault, LookFault, MakeFault, OfferFault, PollFault, PushFault, ReloadFault, StartFault,
+    AttachFault, ClockFault, LookFault, MakeFault, OfferFault, PollFault, PushFault, ReloadFault,
+    StartFault,
 };
 pub use media_agents::{ClientReply, Clock, DriverNaming, ElicitFault, Elicitation, Gate, Mail};
 pub use parts::Parts;
