@@ -28,7 +28,7 @@ use crate::output::write_whole;
 use audit_ring::Audit;
 use byte_strings::{Bytes, Items, Text};
 use driver_core::{Address, Event, ListedCounter, Message, Outlet, Peer};
-use driver_world::{Actor, Answer, Cause, Fragment, FragmentCopies, Insert, Reading, Step, World};
+use driver_world::{Actor, Answer, Fragment, FragmentCopies, Insert, Reading, Step, World};
 use policy_text::{Names, PolicyFault};
 use script_lines::settings::Choices;
 use script_lines::statements::{LIMIT, Said, Statement, Statements};
@@ -250,7 +250,7 @@ fn text_of(alloc: Global, answer: &Answer) -> Result<String, AllocError>
 {
     match answer {
         Answer::NoMemory => text_of_line(alloc, AnswerLine::NoMemory),
-        Answer::Attached(client, replies) => {
+        Answer::Attached { client, replies } => {
             text_of_replied(alloc, AnswerLine::Attached(*client), replies.as_slice())
         }
         Answer::Full(replies) => text_of_replied(alloc, AnswerLine::Full, replies.as_slice()),
@@ -265,8 +265,7 @@ fn text_of(alloc: Global, answer: &Answer) -> Result<String, AllocError>
             text_of_replied(alloc, AnswerLine::Setup(*source), replies.as_slice())
         }
         Answer::Unimaged { why, replies } => {
-            let cause = Cause::SetUp(*why);
-            text_of_replied(alloc, AnswerLine::Dropped(cause), replies.as_slice())
+            text_of_replied(alloc, AnswerLine::Unimaged(*why), replies.as_slice())
         }
         Answer::Received(words) => text_of_data(alloc, words.as_slice()),
         Answer::Heard => text_of_line(alloc, AnswerLine::Beat),
