@@ -13,9 +13,10 @@ use crate::subscribing::Subscribing;
 use crate::watched::{Notes, Watched};
 use channel_uri::Address;
 use driver_core::{Peer, Settings};
-use media_driver::{AttachFault, Driver, DriverNaming, MachineClock, Parts, StartFault};
+use media_driver::{AttachFault, Driver, DriverNaming, Parts};
 use media_wire::Udp;
 use policy_core::Policy;
+use std::alloc::AllocError;
 use std::marker::Brand;
 use std::sync::Arc;
 
@@ -102,19 +103,15 @@ fn watched<R: Machine>(
     rt: R,
     unused: Option<Address>,
     silence: u64,
-) -> Result<(Watched<Udp<R>, MachineClock<R>>, Arc<Notes>), Fault> {
+) -> Result<(Watched<Udp<R>, R>, Arc<Notes>), AllocError> {
     let wire = Udp::new(rt.alloc(), rt, SOCKETS)?;
     let notes = match Arc::new(rt.alloc(), Notes::new()) {
         Ok(notes) => notes,
-        Err(_) => return Err(Fault::NO_MEMORY),
+        Err(_) => return Err(AllocError),
     };
     let theirs = Arc::try_clone(&notes)?;
     let reports = Reports::new(rt.alloc(), silence)?;
-    let clock = match MachineClock::start(rt) {
-        Ok(clock) => clock,
-        Err(fault) => return Err(Fault::Start(StartFault::Clock(fault))),
-    };
-    let watched = Watched::new(wire, theirs, clock, reports, unused);
+    let watched = Watched::new(wire, theirs, rt, reports, unused);
     Ok((watched, notes))
 }
 
@@ -129,9 +126,9 @@ fn started<N: DriverNaming + Send + Sync + 'static, R: Machine, F: Disk>(
 {
     let (wire, notes) = match watched(rt, work.unused, work.silence) {
         Ok(made) => made,
-        Err(fault) => {
+        Err(_) => {
             parts.end(&rt);
-            return Err(fault);
+            return Err(Fault::NO_MEMORY);
         }
     };
     let started: Result<OwnDriver<N, R>, _> = Driver::start(rt, rt.alloc(), parts, wire);

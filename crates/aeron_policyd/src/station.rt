@@ -3,7 +3,7 @@
 
 use crate::fault::Fault;
 use crate::files::file_bytes;
-use crate::machine::{Disk, Machine};
+use crate::machine::{Disk, Machine, ticks};
 use crate::watched::Notes;
 use media_driver::{Client, ClientReply, Driver, DriverNaming, MachineClock, ReloadFault};
 use message_lines::Losses;
@@ -47,7 +47,7 @@ pub(crate) struct Chores {
     pub(crate) liveness: u64,
 }
 
-/// When which of these is due next, in nanoseconds since 1970.
+/// When which of these is due next, in nanoseconds of the machine's steady clock.
 #[derive(Clone, Copy)]
 struct Due {
     keepalive: u64,
@@ -91,7 +91,7 @@ impl<N: DriverNaming + Send + Sync + 'static, R: Machine, F: Disk> Station<N, R,
         notes: Arc<Notes>,
         chores: Chores,
     ) -> Station<N, R, F> {
-        let now = driver.now();
+        let now = ticks(&rt);
         let reload = now.saturating_add(chores.reload_every.unwrap_or(u64::MAX));
         Station {
             rt,
@@ -122,9 +122,9 @@ impl<N: DriverNaming + Send + Sync + 'static, R: Machine, F: Disk> Station<N, R,
         (driver, client)
     }
 
-    /// The moment by the driver's clock, in nanoseconds since 1970.
+    /// What the machine's steady clock stands at, in nanoseconds.
     pub(crate) fn now(&self) -> u64 {
-        self.driver.now()
+        ticks(&self.rt)
     }
 
     /// What was lost so far, with so many NAKs.
