@@ -44,8 +44,8 @@ fn bounded<
     let word = bound.word();
     let text = format!(in alloc;
         "version = 2\ndefault = \"deny\"\n\n\
-         [[rule]]\nprincipal = \"*\"\nact = [\"publish\", \"offer\", \"subscribe\", \"receive\"]\nchannel = \"*\"\nallow = true\n\n\
-         [[rule]]\nprincipal = \"*\"\nact = \"image\"\nchannel = \"*\"\n{word} = {at}\nallow = true\n"
+         [[rule]]\nname = \"all but images\"\nprincipal = \"*\"\nact = [\"publish\", \"offer\", \"subscribe\", \"receive\"]\nchannel = \"*\"\nallow = true\n\n\
+         [[rule]]\nname = \"images for a time\"\nprincipal = \"*\"\nact = \"image\"\nchannel = \"*\"\n{word} = {at}\nallow = true\n"
     );
     let Ok(text) = text else {
         return Err("no memory");
