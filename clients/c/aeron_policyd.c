@@ -23,6 +23,9 @@ enum { VERSION = 1, HEAD = 8, OFFER_HEAD = 24, POLL_SIZE = 32, MAIL_SIZE = 12, C
 /* How long the driver waits at once where a client waits for messages and for mail, in milliseconds. */
 #define GLANCE 50u
 
+/* Of how many parts a command is at most. */
+enum { PARTS = 5 };
+
 /* How many offers stand in one call of the system, and how many offers or bytes are sent before their answers are read. */
 enum { AT_ONCE = 64, AHEAD = 256, AHEAD_BYTES = 262144 };
 
@@ -113,6 +116,13 @@ static int failed(struct apd_driver *driver, int error)
 {
     if (error == EAGAIN || error == EWOULDBLOCK) return over(driver, APD_ENDED, 0, "the driver does not answer");
     return over(driver, APD_SYSTEM, error, strerror(error));
+}
+
+/* Whether what was refused may be granted later. */
+static int may_pass(int32_t code)
+{
+    return code == APD_CODE_NO_SUBSCRIBER || code == APD_CODE_BACK_PRESSURE || code == -3 || code == APD_CODE_NO_LOOK ||
+           code == APD_CODE_QUEUE_FULL;
 }
 
 /* ---- records come */
@@ -399,7 +409,7 @@ static int set_timeout(struct apd_driver *driver, uint32_t timeout_ms)
 {
     struct timeval limit;
     /* a request may wait in the driver for a second */
-    limit.tv_sec = (time_t)(timeout_ms / 1000 + (timeout_ms != 0));
+    limit.tv_sec = (time_t)(timeout_ms / 1000) + (timeout_ms != 0);
     limit.tv_usec = (suseconds_t)(timeout_ms % 1000 * 1000);
     if (setsockopt(driver->fd, SOL_SOCKET, SO_RCVTIMEO, &limit, sizeof limit) != 0) return -1;
     return setsockopt(driver->fd, SOL_SOCKET, SO_SNDTIMEO, &limit, sizeof limit);
@@ -449,10 +459,9 @@ static int read_done(struct apd_driver *driver)
     return answer.kind == DONE ? APD_OK : protocol(driver, "no answer to a command");
 }
 
-/* Waits for the reply to the last command. */
-static int wait_for_reply(struct apd_driver *driver, uint32_t wait_ms)
+/* Waits for the reply to the last command, until `end`. */
+static int wait_for_reply(struct apd_driver *driver, uint64_t end)
 {
-    uint64_t end = now_ms() + wait_ms;
     for (;;) {
         uint32_t left = left_ms(end, 1000);
         int status = take_mail(driver, left);
@@ -461,7 +470,21 @@ static int wait_for_reply(struct apd_driver *driver, uint32_t wait_ms)
     }
 }
 
-/* Gives a command whose fields are `count` parts, the first of them for its head, and waits for its reply. */
+/* Sends a COMMAND of so many parts, again for as long as the driver's queue is full. */
+static int hand_on(struct apd_driver *driver, const struct iovec *parts, size_t count, uint64_t end)
+{
+    struct iovec sent[PARTS];
+    for (;;) {
+        memcpy(sent, parts, count * sizeof *parts);
+        int status = send_parts(driver, sent, count);
+        if (status == APD_OK) status = read_done(driver);
+        if (status != APD_REFUSED || !may_pass(driver->code) || now_ms() >= end) return status;
+        status = take_mail(driver, 2);
+        if (status < 0 && driver->ended) return status;
+    }
+}
+
+/* Gives a command whose fields are `count` parts, PARTS at most, the first of them for its head, and waits for its reply. */
 static int command(struct apd_driver *driver, uint32_t type, struct iovec *parts, size_t count, uint32_t wait_ms)
 {
     unsigned char head[COMMAND_HEAD];
@@ -478,9 +501,9 @@ static int command(struct apd_driver *driver, uint32_t type, struct iovec *parts
     put64(head + 12, driver->client);
     put64(head + 20, driver->correlation);
     parts[0] = part_of(head, sizeof head);
-    int status = send_parts(driver, parts, count);
-    if (status == APD_OK) status = read_done(driver);
-    return status == APD_OK ? wait_for_reply(driver, wait_ms) : status;
+    uint64_t end = now_ms() + wait_ms;
+    int status = hand_on(driver, parts, count, end);
+    return status == APD_OK ? wait_for_reply(driver, end) : status;
 }
 
 /* A command whose field is a registration. */
@@ -645,13 +668,6 @@ static int offer_some(struct apd_driver *driver, uint64_t registration, const st
         for (int i = 0; i < more; i++) bytes += messages[sent++].size;
     }
     return read_offers(driver, sent, taken, position);
-}
-
-/* Whether what was refused may be granted later. */
-static int may_pass(int32_t code)
-{
-    return code == APD_CODE_NO_SUBSCRIBER || code == APD_CODE_BACK_PRESSURE || code == -3 || code == APD_CODE_NO_LOOK ||
-           code == APD_CODE_QUEUE_FULL;
 }
 
 int apd_offer_all(struct apd_driver *driver, uint64_t registration, const struct apd_message *messages, size_t count,

@@ -179,7 +179,7 @@ def case_a_server_that_forges_in_python(room):
     ends = {}
     for _ in range(200):
         try:
-            with aeron_policyd.connect(room.path + "/forged.sock", timeout=0.3) as driver:
+            with aeron_policyd.connect(room.path + "/forged.sock", timeout=0.0) as driver:
                 reads = driver.subscription("aeron:ipc", 10, wait=0.03)
                 for _ in range(5):
                     reads.poll(wait=0.002)

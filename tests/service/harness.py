@@ -43,7 +43,7 @@ def need(holds, *words):
 def same(what, wanted, got):
     """Ends the case where the two differ."""
     if wanted != got:
-        raise Failed("%s: wanted %r, got %r" % (what, wanted, got))
+        raise Failed("%s: wanted %.300r, got %.300r" % (what, wanted, got))
 
 
 def until(what, holds, seconds=10.0):

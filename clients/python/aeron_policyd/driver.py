@@ -18,6 +18,9 @@ _Self = TypeVar("_Self", bound="_Kept")
 # How long one wait in the driver is at most where the client waits for two things at once, in seconds.
 _GLANCE = 0.05
 
+# How long it is until a request that was refused for want of room is sent again, in seconds.
+_PAUSE = 0.002
+
 # How many offers, and how many bytes of them, are sent before their answers are read.
 _AHEAD = 256
 _AHEAD_BYTES = 1 << 18
@@ -59,13 +62,14 @@ class Row(NamedTuple):
     label: str
 
 
-def connect(path: Union[str, "os.PathLike[str]"], *, timeout: float = 30.0) -> Driver:
+def connect(path: Union[str, "os.PathLike[str]"], *, timeout: Optional[float] = 30.0) -> Driver:
     """Connects to a driver by a socket, and acts for the principal of that socket.
 
     The `OSError` of the system tells that this user may not connect (`PermissionError`) or that nobody serves there
     (`FileNotFoundError`, `ConnectionRefusedError`). `Ended` with the code 1003 tells that all places are taken.
 
-    `timeout` is how long the driver may take for an answer, beyond the wait of a request, before the connection is given up.
+    `timeout` is how long the driver may take for an answer, beyond the wait of a request, before the connection is given up;
+    `None` is without end.
     """
     return Driver(path, timeout)
 
@@ -78,7 +82,7 @@ class Driver:
     liveness: float  #: for how many seconds the client may send nothing
     lost: int  #: how many replies found no room in the driver so far; see `Driver.take_mail`
 
-    def __init__(self, path: Union[str, "os.PathLike[str]"], timeout: float = 30.0) -> None:
+    def __init__(self, path: Union[str, "os.PathLike[str]"], timeout: Optional[float] = 30.0) -> None:
         self._wire = Wire(path, timeout)
         try:
             kind, body = self._wire.receive()
@@ -136,22 +140,43 @@ class Driver:
 
     def _command(self, type_id: int, fields: bytes, wait: float) -> commands.Granted:
         """Gives a command, and waits for its reply."""
-        correlation = self._correlation = self._correlation + 1
-        self._ask(records.command(commands.head(type_id, self.client, correlation) + fields))
-        self._answers[correlation] = None
         end = time.monotonic() + wait
+        correlation = self._correlation = self._correlation + 1
+        self._hand_on(records.command(commands.head(type_id, self.client, correlation) + fields), end)
+        self._answers[correlation] = None
         try:
-            while self._answers[correlation] is None:
-                left = end - time.monotonic()
-                self.take_mail(max(left, 0.0))
-                if left <= 0 and self._answers[correlation] is None:
-                    raise NoReply("no reply within %g s" % wait)
+            answer = self._reply_to(correlation, end)
         finally:
-            answer = self._answers.pop(correlation)
+            del self._answers[correlation]
+        if answer is None:
+            raise NoReply("no reply within %g s" % wait)
         if isinstance(answer, commands.Rejected):
             raise refusal(answer.code, answer.text)
-        assert answer is not None
         return answer
+
+    def _hand_on(self, request: bytes, end: float) -> None:
+        """Gives a COMMAND, again for as long as the driver's queue is full."""
+        while True:
+            try:
+                self._ask(request)
+                return
+            except Refused as refused:
+                if not refused.may_pass or time.monotonic() >= end:
+                    raise
+            time.sleep(_PAUSE)
+
+    def _reply_to(self, correlation: int, end: float) -> Union[commands.Granted, commands.Rejected, None]:
+        """Takes mail until the command of that id is answered: what by, or `None` where the time is over."""
+        while True:
+            left = max(end - time.monotonic(), 0.0)
+            try:
+                self.take_mail(left)
+            except Refused:
+                # mail can be asked for again
+                time.sleep(_PAUSE)
+            answer = self._answers[correlation]
+            if answer is not None or left == 0.0:
+                return answer
 
     def take_mail(self, wait: float = 0.0) -> int:
         """Takes the replies that the driver has for this client, or waits for one. How many there were.
@@ -224,8 +249,9 @@ class Driver:
 
     def value(self, number: int) -> int:
         """The value of the counter, publication or image of that number. It raises `Denied` and other refusals."""
-        ((kind, body),) = self._ask(records.value(number))
-        if kind != records.VALUE_IS or len(body) != 8:
+        answer = self._ask(records.value(number))
+        kind, body = answer[0]
+        if len(answer) != 1 or kind != records.VALUE_IS or len(body) != 8:
             raise self._give_up("no value")
         return int(records.SIGNED.unpack(body)[0])
 

@@ -15,14 +15,15 @@ _CHUNK = 1 << 18
 class Wire:
     """A connection that carries records. After any failure it is closed, and each further call raises `Ended`."""
 
-    def __init__(self, path: Union[str, "os.PathLike[str]"], timeout: float) -> None:
+    def __init__(self, path: Union[str, "os.PathLike[str]"], timeout: Optional[float]) -> None:
         """Opens the socket. It raises the `OSError` of the system where that can't be done."""
         self._input = bytearray()
         self._at = 0
         self._end: Optional[Ended] = None
         self._socket = socket.socket(socket.AF_UNIX, socket.SOCK_STREAM)
         try:
-            self._socket.settimeout(timeout)
+            # a request may wait in the driver for a second
+            self._socket.settimeout(None if timeout is None else timeout + 1.0)
             self._socket.connect(os.fspath(path))
         except BaseException:
             self._socket.close()
