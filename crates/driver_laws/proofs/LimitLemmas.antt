@@ -434,9 +434,10 @@ all_within =
     after_any (λ s. IsAtItsMoment s × (HaveTheirClients s × IsWithin s))
     (λ settings policy peers.
     (opened_timely settings policy peers, (opened_owned settings policy peers, opened_within settings policy peers)))
-    (λ s event inputs all.
-    (event_timely s event inputs,
-    (stay_owned s event inputs all.1.0, event_within s event inputs all.0 all.1.0 all.1.1)))
+    (λ s event inputs all. (
+      event_timely s event inputs,
+      (stay_owned s event inputs all.1.0, event_within s event inputs all.0 all.1.0 all.1.1),
+    ))
 
 pub limits_kept : LimitsAreKept
 limits_kept settings policy peers events =
