@@ -31,5 +31,5 @@ BEGIN {
     opens_with_moments("deny"); rule_for_a_time("image", "*", 3000, "", "true"); closes()
     want("policy 5")
     image_comes(1, 2, 1, 1, 10, 0, ipc)
-    say("tick 18446744073709551615")
+    say("tick 4000")
 }
