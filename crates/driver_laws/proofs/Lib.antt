@@ -47,6 +47,7 @@ pub mod PublishingLemmas
 pub mod PublishingOnlyLemmas
 pub mod ReadWidthLemmas
 pub mod RefusalLemmas
+pub mod RefusedLemmas
 pub mod ReloadLemmas
 pub mod RemovalLemmas
 pub mod RemovedExactlyLemmas

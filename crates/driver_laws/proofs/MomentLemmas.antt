@@ -1,5 +1,5 @@
 -- What moments take and give, and what they never do.
-use Rattle.std.proofs.Common.{◌≡◌, ℕ, ◌≤◌, ◌==◌, ◌&&◌, max, not, Bool, true, false, List, Some, length, refl, sym, subst, ap, ◌∙◌, ⊎_elim, arith}
+use Rattle.std.proofs.Common.{◌≡◌, ℕ, ◌≤◌, ◌==◌, max, not, Bool, true, false, Some, length, refl, sym, subst, ap, ◌∙◌, ⊎_elim, arith}
 use Rattle.std.specs.List.{Contains, list_any}
 use Rattle.std.proofs.Math.Nat.{le-max_left}
 use Rattle.std.proofs.lemmas.Bool.{and_parts, cases_Bool, eq-eqb, eqb-true, not-true}
@@ -8,7 +8,7 @@ use Rattle.driver_core.specs.declared.event.Event.{Event}
 use Rattle.driver_core.specs.declared.event.Event.TheVariants.{Tick}
 use Rattle.driver_core.specs.declared.event.Inputs.{Inputs}
 use Rattle.driver_core.specs.declared.outcome.Response.TheVariants.{Nothing}
-use Rattle.driver_core.specs.Conduct.{coming_to, conduct, drafted, moment_told, outcome_of, state_after, state_of}
+use Rattle.driver_core.specs.Conduct.{coming_to, conduct, drafted, moment_told, outcome_of, state_after}
 use Rattle.driver_core.specs.Looking.{IsAtItsMoment}
 use Rattle.driver_core.specs.Pairs.{is_lacked_by, is_same_pair, lacking, pairs_of, prospects_of}
 use Rattle.driver_core.specs.Renewal.{renewed}
@@ -17,13 +17,11 @@ use Rattle.driver_core.specs.Ticking.{tick, ticked}
 use Rattle.driver_core.specs.Unread.{dropping}
 use Rattle.driver_core.specs.Verdicts.{verdict_on}
 use Rattle.driver_laws.specs.ImageLaws.{IsOfReader, IsReadBy}
-use Rattle.driver_laws.specs.MomentLaws.{AreTaken, IsNeverFull, IsTaken, MomentsTakeAndGiveExactly, PoliciesStandAtTheirMoment, RefusesImage, RegistriesStayBetweenBounds, StaysBetweenBounds, TakesAndGives, TicksAreNeverFull}
+use Rattle.driver_laws.specs.MomentLaws.{AreTaken, IsNeverFull, MomentsTakeAndGiveExactly, PoliciesStandAtTheirMoment, RefusesImage, RegistriesStayBetweenBounds, StaysBetweenBounds, TakesAndGives, TicksAreNeverFull}
 use Rattle.driver_laws.specs.NumberLaws.{AreRising}
 use Rattle.driver_laws.specs.OwnerLaws.{HaveTheirClients}
 use Rattle.driver_laws.specs.Turning.{TurnsTo}
 use Rattle.client_registry.specs.Clients.{principal_at}
-use Rattle.policy_core.specs.MomentLaws.{is_before}
-use Rattle.policy_core.specs.Moments.{at, coming, steady_until}
 use Rattle.policy_core.proofs.Bounds.{steady, steady_coming}
 use Rattle.stream_registry.specs.declared.pairs.Pair.{Pair}
 use Rattle.stream_registry.specs.declared.row.Source.{Source}

@@ -31,7 +31,7 @@ use Rattle.driver_core.specs.Unsubscribing.{unsubscribed}
 use Rattle.driver_core.specs.Pairs.{pairs_of}
 use Rattle.driver_core.specs.SettingUp.{image_made}
 use Rattle.driver_core.specs.Unread.{dropping, is_closed, without_unread}
-use Rattle.driver_laws.specs.RefusalLaws.{GrantsNothing, IsNoGrant, IsRefusal, Refuses, TakesWhatTheMomentTakes, only_moments}
+use Rattle.driver_laws.specs.RefusalLaws.{GrantsNothing, GrantsNothingItself, IsNoGrant, IsRefusal, TakesWhatTheMomentTakes, only_moments}
 use Rattle.client_registry.specs.declared.client.Client.{Client}
 use Rattle.command_codec.specs.declared.add_counter.AddCounter.{AddCounter}
 use Rattle.command_codec.specs.declared.set_counter.SetCounter.{SetCounter}
@@ -347,7 +347,7 @@ refusals_leave s event inputs nothing =
 
 -- ---- what the moment takes
 
-refuses_nothing : (after : State) (draft : Draft) → Refuses draft → MakesNothing after draft
+refuses_nothing : (after : State) (draft : Draft) → GrantsNothingItself draft → MakesNothing after draft
 refuses_nothing after draft refuses = record {
   response = refuses.response;
   stays = λ log has. rw refuses.closes refl;
@@ -376,7 +376,7 @@ moments_pairs s (Reload now policy) = refl
 moments_pairs s (Tick now) = refl
 moments_pairs s (Setup now local from setup) = refl
 
-takes_by_moment : (s at : State) (event : Event) (inputs : Inputs) (draft : Draft) → Refuses draft →
+takes_by_moment : (s at : State) (event : Event) (inputs : Inputs) (draft : Draft) → GrantsNothingItself draft →
     draft.after ≡ only_moments at event → at ≡ coming_to s event →
     TakesWhatTheMomentTakes s event inputs draft (dropping s (renewed s inputs draft))
 unfolding dropping renewed
@@ -398,7 +398,7 @@ takes_by_moment s at event inputs draft refuses same is =
       opens = refuses.opens;
     }
 
-pub refusals_take : (s : State) (event : Event) (inputs : Inputs) → Refuses (drafted (coming_to s event) event inputs) →
+pub refusals_take : (s : State) (event : Event) (inputs : Inputs) → GrantsNothingItself (drafted (coming_to s event) event inputs) →
     TakesWhatTheMomentTakes s event inputs (drafted (coming_to s event) event inputs) (conduct s event inputs)
 unfolding conduct
 refusals_take s event inputs refuses =

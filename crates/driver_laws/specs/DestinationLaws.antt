@@ -1,5 +1,5 @@
 -- Over every list of events: destinations are named as the policy in force says, each of a live publication.
-use Rattle.std.specs.Prelude.{◌≡◌, ℕ, ◌+◌, ◌<◌, ◌≤◌, ℤ, true, false, List, [], ◌∷◌, Contains, length, Some, ◌⊎◌}
+use Rattle.std.specs.Prelude.{◌≡◌, ℕ, ◌+◌, ◌<◌, ◌≤◌, ℤ, true, false, List, ◌∷◌, Contains, length, Some, ◌⊎◌}
 use Rattle.driver_core.specs.Change.{Change}
 use Rattle.driver_core.specs.declared.event.Event.{Event}
 use Rattle.driver_core.specs.declared.event.Event.TheVariants.{Command}

@@ -1,5 +1,5 @@
 -- Over every list of events: what is refused changes no more than moments.
-use Rattle.std.specs.Prelude.{◌≡◌, max, [], ◌++◌, None, if◌then◌else◌}
+use Rattle.std.specs.Prelude.{◌≡◌, max, List, [], ◌∷◌, ◌++◌, None, ◌⊎◌, if◌then◌else◌}
 use Rattle.std.specs.List.{AllByRecursion}
 use Rattle.driver_core.specs.Change.{Change}
 use Rattle.driver_core.specs.declared.event.Event.{Event}
@@ -58,8 +58,29 @@ RefusalsChangeNoMoreThanMoments =
 
 -- ---- what the moment takes
 
--- the event's own rule grants nothing, and no log opens or closes by it
-pub record Refuses (draft : Draft) : Type 0 where
+-- the event is answered that it is refused
+abbrev pub IsRefusedBy : Response → Type 0
+IsRefusedBy response.Full = Unit {0}
+IsRefusedBy response.Stopped = Unit {0}
+IsRefusedBy response.PolicyFull = Unit {0}
+IsRefusedBy (response.Dropped why) = Unit {0}
+IsRefusedBy answer = ⊥
+
+abbrev pub IsError : Reply → Type 0
+IsError (Error correlation refusal) = Unit {0}
+IsError reply = ⊥
+
+-- or the first of its replies says so
+abbrev pub BeginsWithError : List Message → Type 0
+BeginsWithError [] = ⊥
+BeginsWithError (message ∷ messages) = IsError message.reply
+
+abbrev pub IsRefused : Outcome → Type 0
+IsRefused outcome = IsRefusedBy outcome.response ⊎ BeginsWithError outcome.replies
+
+-- the event's own rule grants nothing, and no log opens or closes by it, as where it is refused, or only moves time: a keepalive, or
+-- a tick at which nobody is late and nothing closes
+pub record GrantsNothingItself (draft : Draft) : Type 0 where
   pub response : IsNoGrant draft.response
   pub replies : AllByRecursion (λ (message : Message). IsRefusal message.reply) draft.replies
   pub later : draft.later ≡ []
@@ -82,7 +103,14 @@ pub record TakesWhatTheMomentTakes (s : State) (event : Event) (inputs : Inputs)
       ++ images_decided (only_moments (coming_to s event) event) change.outcome.gone change.outcome.come
   pub opens : change.outcome.opens ≡ None
 
+pub record TakesByMomentAlone (s : State) (event : Event) (inputs : Inputs) (draft : Draft) : Type 0 where
+  pub refused :
+      IsRefused (outcome_of s event inputs) → TakesWhatTheMomentTakes s event inputs draft (conduct s event inputs)
+  pub moved :
+      GrantsNothingItself draft → TakesWhatTheMomentTakes s event inputs draft (conduct s event inputs)
+
 abbrev pub RefusedEventsTakeOnlyWhatTheMomentTakes : Type 0
 RefusedEventsTakeOnlyWhatTheMomentTakes =
-    AfterAnyEvents (λ s. (event : Event) (inputs : Inputs) → Refuses (drafted (coming_to s event) event inputs) →
-    TakesWhatTheMomentTakes s event inputs (drafted (coming_to s event) event inputs) (conduct s event inputs))
+    AfterAnyEvents (λ s.
+    (event : Event) (inputs : Inputs) →
+    TakesByMomentAlone s event inputs (drafted (coming_to s event) event inputs))

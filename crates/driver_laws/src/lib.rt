@@ -287,8 +287,9 @@ pub fn refusals_change_no_more_than_moments()
     ensures { RefusalsChangeNoMoreThanMoments }
 {}
 
-/// Where the event's own rule grants nothing, and opens and closes no log, the pairs go and come that the moment takes and brings,
-/// whatever the event is, and the images close that none reads then; beside the event's own answer only these are reported.
+/// An event that is answered that it is refused, or whose first reply says so, takes and brings the pairs that the moment does, and
+/// the images close that none reads then; beside the event's own answer only these are reported. So it is where an event only moves
+/// time.
 pub fn refused_events_take_only_what_the_moment_takes()
     ensures { RefusedEventsTakeOnlyWhatTheMomentTakes }
 {}
