@@ -5,7 +5,9 @@ use crate::fault::Fault;
 use crate::files::file_bytes;
 use crate::machine::{Disk, Machine, ticks};
 use crate::watched::Notes;
-use media_driver::{Client, ClientReply, Driver, DriverNaming, MachineClock, ReloadFault};
+use media_driver::{
+    Client, ClientReply, Driver, DriverNaming, MachineClock, PushFault, ReloadFault,
+};
 use message_lines::Losses;
 use std::sync::Arc;
 use std::time::Duration;
@@ -146,8 +148,12 @@ impl<N: DriverNaming + Send + Sync + 'static, R: Machine, F: Disk> Station<N, R,
     /// The client says that it is there, four times within the time that it may be silent.
     fn keep_alive(&mut self, now: u64) -> Result<(), Fault> {
         if now >= self.due.keepalive {
-            self.due.keepalive = now.saturating_add(self.chores.liveness / 4);
-            self.client.keepalive(&self.rt)?;
+            match self.client.keepalive(&self.rt) {
+                // it is tried again at the next turn
+                Err(PushFault::QueueFull) => return Ok(()),
+                Err(fault) => return Err(Fault::from(fault)),
+                Ok(_) => self.due.keepalive = now.saturating_add(self.chores.liveness / 4),
+            }
         }
         Ok(())
     }
