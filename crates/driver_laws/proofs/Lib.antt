@@ -13,6 +13,7 @@ pub mod DenialTextLemmas
 pub mod DestinationLemmas
 pub mod DestinationOnlyLemmas
 pub mod DroppingLemmas
+pub mod EverLemmas
 pub mod EveryLemmas
 pub mod FrameLemmas
 pub mod GoingLemmas
@@ -29,6 +30,7 @@ pub mod LeftLemmas
 pub mod LimitLemmas
 pub mod ListingLemmas
 pub mod LoggedLemmas
+pub mod MomentLemmas
 pub mod NamedLemmas
 pub mod NewLogLemmas
 pub mod NewNumberLemmas
@@ -57,6 +59,7 @@ pub mod SettingUpLemmas
 pub mod StayingLemmas
 pub mod SubscribingLemmas
 pub mod SubscribingOnlyLemmas
+pub mod TurningLemmas
 pub mod UniqueImageLemmas
 pub mod UniquePublicationLemmas
 pub mod WellLemmas

@@ -17,6 +17,7 @@ pub mod LearningLaws
 pub mod LeavingLaws
 pub mod LimitLaws
 pub mod ListingLaws
+pub mod MomentLaws
 pub mod NewLogLaws
 pub mod NumberLaws
 pub mod OlderLaws
@@ -29,6 +30,7 @@ pub mod SettingLaws
 pub mod SoundnessLaws
 pub mod StepActs
 pub mod SubscribingLaws
+pub mod Turning
 pub mod UniqueImageLaws
 pub mod UniquePublicationLaws
 pub mod WidthLaws

@@ -8,14 +8,14 @@ ghost use Rattle.log_slots.specs.Counting.{taken_by};
 ghost use Rattle.media_driver.specs.Clients.{Looks};
 ghost use Rattle.media_driver.specs.Steps.{Counts, IsOffer, IsStep, offer_answer};
 ghost use Rattle.published_registry.specs.Histories.{IsContinuedBy, registry_of};
-ghost use Rattle.std.specs.Prelude.{◌≡◌, ◌+◌, ◌≤◌, ◌⊎◌, IfErr, IfNone, IfSome, Err, None};
+ghost use Rattle.std.specs.Prelude.{◌≡◌, ◌+◌, ◌≤◌, ◌⊎◌, IfErr, IfNone, IfSome, IsSome, Err, None};
 
 use crate::client::Client;
 use crate::faults::OfferFault;
 use decision_cache::Cache;
 use driver_core::View;
 use driver_steps::{Answer, Offered, Told};
-use log_slots::{Late, OfClients, Slot, Totals};
+use log_slots::{AtEnd, Late, OfClients, Slot, Totals};
 use media_agents::{Clock, DriverNaming, LogAt};
 use published_registry::{Pass, caches_stay_right_of_later_looks};
 use std::sync::ledger::Share;
@@ -53,14 +53,14 @@ fn offer_once<N: DriverNaming, R: Wait>(
     client: u64,
     registration: u64,
     message: &[u8],
-) -> (Pass, Option<Told>)
+) -> (Pass, Option<Told>, Option<AtEnd<N>>)
     requires part { mine.old.parts ≡ 1 }
     requires right { AreCached (registry_of pass) cache.old }
     ensures known { IsContinuedBy pass result.0 }
     ensures part { mine.new.parts ≡ 1 }
     ensures right { AreCached (registry_of result.0) cache.new }
-    ensures counted { IfSome result.1 (λ told. (mine.new.amount ≡ mine.old.amount + taken_by told.answer) ⊎ (mine.new.amount ≡ mine.old.amount)) }
-    ensures none { IfNone result.1 (mine.new.amount ≡ mine.old.amount) }
+    ensures counted { IfSome result.1 (λ told. (mine.new.amount ≡ mine.old.amount + taken_by told.answer) ⊎ ((mine.new.amount ≡ mine.old.amount) × IsSome result.2)) }
+    ensures none { IfNone result.1 ((mine.new.amount ≡ mine.old.amount) × (result.2 ≡ None)) }
     ensures step { IfSome result.1 (λ told. IsStep N.home (offer_move (registry_of result.0) now client registration message.now) (OfferedAs Closed) told.answer) }
 {
     caches_stay_right_of_later_looks();
@@ -68,7 +68,11 @@ fn offer_once<N: DriverNaming, R: Wait>(
     slot.holds();
     match pass.enter() {
         Ok(look) => {
-            let mut late = Late { rt, totals, end: 0 };
+            let mut late = Late {
+                rt,
+                totals,
+                end: None,
+            };
             let told = slot.offer(
                 &mut late,
                 mine,
@@ -79,9 +83,9 @@ fn offer_once<N: DriverNaming, R: Wait>(
                 registration,
                 message,
             );
-            (look.leave(), Some(told))
+            (look.leave(), Some(told), late.end)
         }
-        Err(pass) => (pass, None),
+        Err(pass) => (pass, None, None),
     }
 }
 
@@ -142,8 +146,8 @@ impl<N: DriverNaming, C: Clock> Client<N, C> {
     ) -> Result<u64, OfferFault>
         ensures known { IsContinuedBy self.old.known self.new.known }
         ensures moment { self.old.moment ≤ self.new.moment }
-        ensures same { self.new ≡ record self.old { known = self.new.known; moment = self.new.moment; counted = self.new.counted } }
-        ensures counted { Counts result self.old.counted self.new.counted }
+        ensures same { self.new ≡ record self.old { known = self.new.known; moment = self.new.moment; counted = self.new.counted; ended = self.new.ended } }
+        ensures counted { Counts result self.old self.new }
         ensures step { IsOffer N.home (registry_of self.new.known) self.new.moment self.old.number registration message.now result }
     {
         caches_stay_right_of_later_looks();
@@ -160,7 +164,7 @@ impl<N: DriverNaming, C: Clock> Client<N, C> {
         let Some(pass) = self.pass.take() else {
             unreachable!()
         };
-        let (pass, told) = offer_once(
+        let (pass, told, end) = offer_once(
             rt,
             slot,
             &self.totals,
@@ -177,6 +181,10 @@ impl<N: DriverNaming, C: Clock> Client<N, C> {
             return Err(OfferFault::NoLook);
         };
         self.moment = now;
-        position_of(&told)
+        let position = position_of(&told)?;
+        if end.is_some() {
+            self.ended = end;
+        }
+        Ok(position)
     }
 }

@@ -3,9 +3,9 @@ ghost use Rattle.moment_words.specs.Date.{IsDateOf};
 ghost use Rattle.std.specs.Prelude.{◌≡◌, IfOk, pos};
 
 use byte_strings::Text;
+use jiff::Timestamp;
 use jiff::civil::DateTime;
 use jiff::tz::Offset;
-use jiff::Timestamp;
 use std::alloc::{AllocError, Global};
 
 /// What a clock in UTC shows so many nanoseconds after 1970 began.

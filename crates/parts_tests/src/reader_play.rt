@@ -181,7 +181,7 @@ impl Play {
         let counted = self.readers.pair_count_with_image(
             &self.streams,
             &self.clients,
-            &self.policy,
+            &self.policy.at(0),
             1,
             number,
             wanted,
@@ -190,7 +190,7 @@ impl Play {
         self.readers.add_image(
             &self.streams,
             &self.clients,
-            &self.policy,
+            &self.policy.at(0),
             1,
             number,
             wanted,
@@ -209,7 +209,7 @@ impl Play {
         self.readers.add_publication(
             &self.streams,
             &self.clients,
-            &self.policy,
+            &self.policy.at(0),
             1,
             number,
             client,
