@@ -126,10 +126,10 @@ def case_a_path_of_two_hundred_bytes(room):
         aeron_policyd.connect(folder + "/p1.sock")
     except OSError as error:
         need("too long" in str(error), error)
-    # the longest path that there may be: a socket is made in .new, and moved to its place
-    folder = room.path + "/" + "g" * (102 - len("/operator.sock") - len(room.path) - 1)
+    # the longest path that there may be
+    folder = room.path + "/" + "g" * (107 - len("/operator.sock") - len(room.path) - 1)
     room.serve(doors=("p1",), folder=folder)
-    same("how long the path is", 102, len(folder + "/operator.sock"))
+    same("how long the path is", 107, len(folder + "/operator.sock"))
     same("its clients", [], aeron_policyd.clients(folder + "/operator.sock"))
 
 

@@ -65,6 +65,8 @@ class Peer:
         self.correlation = 0
         # replies that came with those that were waited for
         self.others = []
+        # BYE, once it was read
+        self.last = []
 
     def __enter__(self):
         return self
@@ -122,6 +124,7 @@ class Peer:
                 raise Over("the driver closed the connection")
             records.append(got)
             if got[0] == BYE:
+                self.last = [got]
                 raise Over("told %d %s" % (code_of(got[1]), words_of(got[1])))
             if got[0] in LAST:
                 return records
