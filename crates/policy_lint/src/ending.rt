@@ -37,12 +37,7 @@ impl Ends {
 }
 
 /// Takes the rule, whose place is `at`, where its end is looked for.
-fn put_ended(
-    rule: &Rule,
-    at: usize,
-    ends: Ends,
-    found: &mut Vec<Ended>,
-) -> Result<(), AllocError>
+fn put_ended(rule: &Rule, at: usize, ends: Ends, found: &mut Vec<Ended>) -> Result<(), AllocError>
     ensures exact { OnOk result (found.new.items ≡ found.old.items ++ ended_by at (is_among ends) rule.now.until) }
     ensures ends { (rules : List Rule) → slice_get rules at ≡ Some rule.now → All (IsEnd rules (is_among ends)) found.old.items → OnOk result (All (IsEnd rules (is_among ends)) found.new.items) }
 {
@@ -57,11 +52,7 @@ fn put_ended(
 }
 
 /// The rules whose end is looked for, in their order.
-pub(crate) fn ended_in(
-    alloc: Global,
-    rules: &[Rule],
-    ends: Ends,
-) -> Result<Vec<Ended>, AllocError>
+pub(crate) fn ended_in(alloc: Global, rules: &[Rule], ends: Ends) -> Result<Vec<Ended>, AllocError>
     ensures exact { IfOk result (λ found. found.items ≡ ended_from 0 (is_among ends) rules.now) }
     ensures ends { IfOk result (λ found. All (IsEnd rules.now (is_among ends)) found.items) }
 {

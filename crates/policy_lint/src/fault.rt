@@ -52,7 +52,10 @@ impl fmt::Display for Cause {
             }
             Cause::LaterKey => f.write_str("no such key in version 1; is `version = 2` meant?"),
             Cause::Date(moment) => {
-                write!(f, "wanted nanoseconds since 1970; of that date they are {moment}")
+                write!(
+                    f,
+                    "wanted nanoseconds since 1970; of that date they are {moment}"
+                )
             }
             Cause::Wanted(wanted) => write!(f, "wanted {wanted}"),
             Cause::UnknownPrincipal => f.write_str("no such principal"),

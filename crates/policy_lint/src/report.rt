@@ -370,8 +370,20 @@ impl Report {
         self.push_faults(alloc, &mut text, file)?;
         for at in 0..self.rules.len() {
             self.push_hidden(alloc, &mut text, file, at)?;
-            self.push_ended(alloc, &mut text, file, at, (self.over.as_slice(), "is over since"))?;
-            self.push_ended(alloc, &mut text, file, at, (self.ending.as_slice(), "ends at"))?;
+            self.push_ended(
+                alloc,
+                &mut text,
+                file,
+                at,
+                (self.over.as_slice(), "is over since"),
+            )?;
+            self.push_ended(
+                alloc,
+                &mut text,
+                file,
+                at,
+                (self.ending.as_slice(), "ends at"),
+            )?;
             self.push_unmet(alloc, &mut text, file, at)?;
             self.push_warnings(alloc, &mut text, file, at)?;
         }

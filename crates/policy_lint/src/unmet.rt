@@ -191,7 +191,13 @@ impl End<'_> {
         if !self.is_granted(&channel, stream) {
             return Ok(None);
         }
-        if !is_alone(self.source.policy(), self.moment, self.act, &channel, stream) {
+        if !is_alone(
+            self.source.policy(),
+            self.moment,
+            self.act,
+            &channel,
+            stream,
+        ) {
             return Ok(None);
         }
         if self.is_met(alloc)? {
