@@ -82,4 +82,4 @@ CountsOne old new = (new.counted ≡ old.counted + 1) ⊎ ((new.counted ≡ old.
 -- a message that was taken counts once more, unless no more are counted; nothing else counts
 abbrev pub Counts : {T E : Type 0} → Result T E → Attached → Attached → Type 0
 Counts (Ok position) old new = CountsOne old new
-Counts (Err fault) old new = (new.counted ≡ old.counted) × (new.ended ≡ old.ended)
+Counts (Err fault) old new = new.counted ≡ old.counted

@@ -41,7 +41,8 @@ fn log_at(registry: &driver_core::Registry, client: u64, registration: u64) -> O
     Some(LogAt::of(row))
 }
 
-/// One hold of a log's lock, with one look within it; the lock of the totals comes last.
+/// One hold of a log's lock, with one look within it; the lock of the totals comes last. Where they are at their greatest
+/// value and the message is not counted, `ended` has that from then on.
 fn offer_once<N: DriverNaming, R: Wait>(
     rt: &R,
     slot: &Mutex<Slot<N>>,
@@ -49,18 +50,19 @@ fn offer_once<N: DriverNaming, R: Wait>(
     pass: Pass,
     cache: &mut Cache,
     mine: &mut Share<OfClients<N>>,
+    ended: &mut Option<AtEnd<N>>,
     now: u64,
     client: u64,
     registration: u64,
     message: &[u8],
-) -> (Pass, Option<Told>, Option<AtEnd<N>>)
+) -> (Pass, Option<Told>)
     requires part { mine.old.parts ≡ 1 }
     requires right { AreCached (registry_of pass) cache.old }
     ensures known { IsContinuedBy pass result.0 }
     ensures part { mine.new.parts ≡ 1 }
     ensures right { AreCached (registry_of result.0) cache.new }
-    ensures counted { IfSome result.1 (λ told. (mine.new.amount ≡ mine.old.amount + taken_by told.answer) ⊎ ((mine.new.amount ≡ mine.old.amount) × IsSome result.2)) }
-    ensures none { IfNone result.1 ((mine.new.amount ≡ mine.old.amount) × (result.2 ≡ None)) }
+    ensures counted { IfSome result.1 (λ told. (mine.new.amount ≡ mine.old.amount + taken_by told.answer) ⊎ ((mine.new.amount ≡ mine.old.amount) × IsSome ended.new)) }
+    ensures none { IfNone result.1 (mine.new.amount ≡ mine.old.amount) }
     ensures step { IfSome result.1 (λ told. IsStep N.home (offer_move (registry_of result.0) now client registration message.now) (OfferedAs Closed) told.answer) }
 {
     caches_stay_right_of_later_looks();
@@ -71,7 +73,7 @@ fn offer_once<N: DriverNaming, R: Wait>(
             let mut late = Late {
                 rt,
                 totals,
-                end: None,
+                end: ended.take(),
             };
             let told = slot.offer(
                 &mut late,
@@ -83,9 +85,10 @@ fn offer_once<N: DriverNaming, R: Wait>(
                 registration,
                 message,
             );
-            (look.leave(), Some(told), late.end)
+            *ended = late.end;
+            (look.leave(), Some(told))
         }
-        Err(pass) => (pass, None, None),
+        Err(pass) => (pass, None),
     }
 }
 
@@ -164,13 +167,14 @@ impl<N: DriverNaming, C: Clock> Client<N, C> {
         let Some(pass) = self.pass.take() else {
             unreachable!()
         };
-        let (pass, told, end) = offer_once(
+        let (pass, told) = offer_once(
             rt,
             slot,
             &self.totals,
             pass,
             &mut self.cache,
             &mut self.share,
+            &mut self.ended,
             now,
             self.number,
             registration,
@@ -181,10 +185,6 @@ impl<N: DriverNaming, C: Clock> Client<N, C> {
             return Err(OfferFault::NoLook);
         };
         self.moment = now;
-        let position = position_of(&told)?;
-        if end.is_some() {
-            self.ended = end;
-        }
-        Ok(position)
+        position_of(&told)
     }
 }
