@@ -66,6 +66,21 @@ abbrev pub Commands : Attached → Attached → Body → Result ℕ PushFault �
 Commands old new body (Ok correlation) = Pushes old new body correlation
 Commands old new body (Err fault) = (new ≡ old) × MayRefuse old.queue fault
 
+-- bytes are pushed as a command over the client's handle, at a moment not before its last one; nothing else changes
+pub record Hands (old new : Attached) (bytes : List ℕ) : Type 0 where
+  pub later : old.moment ≤ new.moment
+  pub new_is :
+      new
+      ≡ record old {
+        moment = new.moment;
+        queue = record old.queue { sent = old.queue.sent ++ Command new.moment old.number bytes ∷ [] };
+      }
+
+-- they are; or they are refused, and nothing changes
+abbrev pub HandsOn : {T : Type 0} → Attached → Attached → List ℕ → Result T PushFault → Type 0
+HandsOn old new bytes (Ok _) = Hands old new bytes
+HandsOn old new bytes (Err fault) = (new ≡ old) × MayRefuse old.queue fault
+
 -- ---- a look
 
 -- the client knows as much of the history as before, or more, and nothing else changes
