@@ -1,6 +1,6 @@
 -- What a request is answered. Own rules.
-use Rattle.std.specs.Prelude.{◌≡◌, ◌≢◌, ℕ, ℤ, ◌+◌, ◌%◌, ◌^◌, ◌⊎◌, List, [], ◌∷◌, ◌++◌, All, Option, Some, None, Result, Ok, Err, OnOk}
-use Rattle.driver_service.specs.Calls.{Call, Calls, CallsOnly, Stay, Command, Offer, Poll, Mail, Look, Value}
+use Rattle.std.specs.Prelude.{◌≡◌, ◌≢◌, ℕ, ℤ, ◌+◌, ◌%◌, ◌^◌, ◌⊎◌, List, [], ◌∷◌, ◌++◌, All, true, Some, None, Result, Ok, Err, IfOk, OnOk}
+use Rattle.driver_service.specs.Calls.{Call, Does, Run, Stay, Command, Offer, Poll, Mail, Look, Value}
 use Rattle.driver_service.specs.Requests.{IsCommand, IsLook, IsMail, IsOffer, IsPoll, IsValue, fragments}
 use Rattle.driver_service.specs.Reasons.{refusal_code, refusal_text}
 use Rattle.driver_service.specs.declared.reason.Reason.{Reason}
@@ -40,17 +40,17 @@ call_bytes (Mail written result) = written
 call_bytes (Look written result) = written ++ done_bytes result
 call_bytes (Value number result) = value_bytes result
 
--- calls of one kind were made, of which this was the last
-pub record EndsIn {S : Type 0} (made : S → List Call → Type 0) (own : Call → Type 0) (old new : S) (last : Call) : Type 0 where
+-- calls of one kind were does, of which this was the last
+pub record EndsIn {S : Type 0} (does : Does S) (own : Call → Type 0) (old new : S) (last : Call) : Type 0 where
   pub tries : List Call
   pub each : All own tries
   pub last_is : own last
-  pub made_more : (calls : List Call) → made old calls → made new (calls ++ (tries ++ last ∷ []))
+  pub run : Run does old (tries ++ last ∷ []) new
 
 -- and the last one is what is answered, unless memory ran out
-pub record Answers {S E : Type 0} (made : S → List Call → Type 0) (own : Call → Type 0) (old new : S) (out after : List ℕ) (told : Result Unit E) : Type 0 where
+pub record Answers {S E : Type 0} (does : Does S) (own : Call → Type 0) (old new : S) (out after : List ℕ) (told : Result Unit E) : Type 0 where
   pub last : Call
-  pub ends : EndsIn made own old new last
+  pub ends : EndsIn does own old new last
   pub answered : OnOk told (after ≡ out ++ call_bytes last)
 
 -- one more refusal, by 2^32
@@ -73,39 +73,84 @@ offered_bytes (Ok position) = answer_bytes (answers.Taken position) []
 offered_bytes (Err refusal) = refused_bytes refusal
 
 -- Any other is tried until it is taken or its wait is over, and the last try is what is answered.
-pub record Tries {S E : Type 0} (made : S → List Call → Type 0) (registration : ℕ) (message : List ℕ) (old new : S) (refusals later : ℕ) (out after : List ℕ) (told : Result Unit E) : Type 0 where
+pub record Tries {S E : Type 0} (does : Does S) (registration : ℕ) (message : List ℕ) (old new : S) (refusals later : ℕ) (out after : List ℕ) (told : Result Unit E) : Type 0 where
   pub gave : Result ℕ Refusal
-  pub ends : EndsIn made (IsOffer registration message) old new (Offer registration message gave)
+  pub ends : EndsIn does (IsOffer registration message) old new (Offer registration message gave)
   pub counted : later ≡ refusals_after refusals gave
   pub answered : OnOk told (after ≡ out ++ offered_bytes gave)
 
-abbrev pub Offers : {S E : Type 0} → (S → List Call → Type 0) → ℕ → List ℕ → ℕ → ℕ → ℕ → S → S → List ℕ → List ℕ → Result Unit E → Type 0
-Offers made registration message seen refusals later old new out after told =
+abbrev pub Offers : {S E : Type 0} → Does S → ℕ → List ℕ → ℕ → ℕ → ℕ → S → S → List ℕ → List ℕ → Result Unit E → Type 0
+Offers does registration message seen refusals later old new out after told =
     ((seen ≢ refusals) × Skips old new refusals later out after told)
-    ⊎ ((seen ≡ refusals) × Tries made registration message old new refusals later out after told)
+    ⊎ ((seen ≡ refusals) × Tries does registration message old new refusals later out after told)
 
 -- nothing is done, and the request is refused
 pub record Refuses {S E : Type 0} (old new : S) (reason : Reason) (out after : List ℕ) (told : Result Unit E) : Type 0 where
   pub same : new ≡ old
   pub answered : OnOk told (after ≡ out ++ refused_bytes (Because reason))
 
--- What a request is answered, and by which calls: by its kind. (Of replies it is said which calls give them.)
-abbrev pub IsAnswer : {S E : Type 0} → (S → List Call → Type 0) → Request → List ℕ → ℕ → ℕ → S → S → List ℕ → List ℕ → Result Unit E → Type 0
-IsAnswer made requests.Command tail refusals later old new out after told = Answers made (IsCommand tail) old new out after told
-IsAnswer made (requests.Offer seen wait registration) tail refusals later old new out after told = Offers made registration tail seen refusals later old new out after told
-IsAnswer made (requests.Poll limit wait subscription source) tail refusals later old new out after told = Answers made (IsPoll subscription source (fragments limit)) old new out after told
-IsAnswer made (requests.Mail wait) tail refusals later old new out after told = CallsOnly made IsMail old new
-IsAnswer made requests.List tail refusals later old new out after told = Answers made IsLook old new out after told
-IsAnswer made (requests.Value number) tail refusals later old new out after told = Answers made (IsValue number) old new out after told
-IsAnswer made requests.Stop tail refusals later old new out after told = Refuses old new reasons.NotOperator out after told
-IsAnswer made requests.Reload tail refusals later old new out after told = Refuses old new reasons.NotOperator out after told
-IsAnswer made requests.Status tail refusals later old new out after told = Refuses old new reasons.NotOperator out after told
+-- what a call for mail wrote, and how many replies it gave
+abbrev pub mail_written : Call → List ℕ
+mail_written (Mail written result) = written
+mail_written call = []
+
+abbrev pub mail_given : Call → ℕ
+mail_given (Mail written (Ok true)) = 1
+mail_given call = 0
+
+-- and such calls together
+abbrev pub all_written : List Call → List ℕ
+all_written [] = []
+all_written (call ∷ calls) = mail_written call ++ all_written calls
+
+abbrev pub all_given : List Call → ℕ
+all_given [] = 0
+all_given (call ∷ calls) = mail_given call + all_given calls
+
+-- so many replies were taken, and what was written of them stands at the end
+pub record TakesMail {S : Type 0} (does : Does S) (old new : S) (out after : List ℕ) (count : ℕ) : Type 0 where
+  pub calls : List Call
+  pub each : All IsMail calls
+  pub run : Run does old calls new
+  pub written : after ≡ out ++ all_written calls
+  pub counted : all_given calls ≡ count
+
+-- and so many were counted, or why there are no more is said
+pub record GivesMail {S : Type 0} (does : Does S) (old new : S) (out after : List ℕ) (gave : Result ℕ Refusal) : Type 0 where
+  pub count : ℕ
+  pub taken : TakesMail does old new out after count
+  pub gave_is : IfOk gave (λ n. n ≡ count)
+
+-- replies are answered by their records, and by the one that closes them
+pub record AnswersMail {S E : Type 0} (does : Does S) (old new : S) (out after : List ℕ) (told : Result Unit E) : Type 0 where
+  pub gave : Result ℕ Refusal
+  pub between : List ℕ
+  pub gives : GivesMail does old new out between gave
+  pub answered : OnOk told (after ≡ between ++ done_bytes gave)
+
+-- What a request is answered, and by which calls: by its kind.
+abbrev pub IsAnswer : {S E : Type 0} → Does S → Request → List ℕ → ℕ → ℕ → S → S → List ℕ → List ℕ → Result Unit E → Type 0
+IsAnswer does requests.Command tail refusals later old new out after told = Answers does (IsCommand tail) old new out after told
+IsAnswer does (requests.Offer seen wait registration) tail refusals later old new out after told = Offers does registration tail seen refusals later old new out after told
+IsAnswer does (requests.Poll limit wait subscription source) tail refusals later old new out after told = Answers does (IsPoll subscription source (fragments limit)) old new out after told
+IsAnswer does (requests.Mail wait) tail refusals later old new out after told = AnswersMail does old new out after told
+IsAnswer does requests.List tail refusals later old new out after told = Answers does IsLook old new out after told
+IsAnswer does (requests.Value number) tail refusals later old new out after told = Answers does (IsValue number) old new out after told
+IsAnswer does requests.Stop tail refusals later old new out after told = Refuses old new reasons.NotOperator out after told
+IsAnswer does requests.Reload tail refusals later old new out after told = Refuses old new reasons.NotOperator out after told
+IsAnswer does requests.Status tail refusals later old new out after told = Refuses old new reasons.NotOperator out after told
+
+-- only an offer changes how many refusals there are
+abbrev pub KeepsRefusals : Request → ℕ → ℕ → Type 0
+KeepsRefusals (requests.Offer seen wait registration) refusals later = Unit {0}
+KeepsRefusals _ refusals later = later ≡ refusals
 
 -- the client is heard of, and then the request is answered
-pub record IsAnswered {S E : Type 0} (made : S → List Call → Type 0) (request : Request) (tail : List ℕ) (refusals later : ℕ) (old new : S) (out after : List ℕ) (told : Result Unit E) : Type 0 where
+pub record IsAnswered {S E : Type 0} (does : Does S) (request : Request) (tail : List ℕ) (refusals later : ℕ) (old new : S) (out after : List ℕ) (told : Result Unit E) : Type 0 where
   pub heard : S
-  pub stays : Calls made old heard Stay
-  pub answer : IsAnswer made request tail refusals later heard new out after told
+  pub stays : does old Stay heard
+  pub kept : KeepsRefusals request refusals later
+  pub answer : IsAnswer does request tail refusals later heard new out after told
 
 -- why a record is refused that is no request
 abbrev pub fault_reason : RecordFault → Reason
@@ -114,6 +159,6 @@ fault_reason faults.Malformed = reasons.MalformedRequest
 fault_reason faults.TooLong = reasons.TooLong
 
 -- bytes that came as a record are answered as the request that they are; any others are refused, and nothing is done
-abbrev pub AnswersRecord : {S E : Type 0} → (S → List Call → Type 0) → Result (Request × List ℕ) RecordFault → ℕ → ℕ → S → S → List ℕ → List ℕ → Result Unit E → Type 0
-AnswersRecord made (Ok x) refusals later old new out after told = IsAnswered made x.0 x.1 refusals later old new out after told
-AnswersRecord made (Err fault) refusals later old new out after told = Refuses old new (fault_reason fault) out after told
+abbrev pub AnswersRecord : {S E : Type 0} → Does S → Result (Request × List ℕ) RecordFault → ℕ → ℕ → S → S → List ℕ → List ℕ → Result Unit E → Type 0
+AnswersRecord does (Ok x) refusals later old new out after told = IsAnswered does x.0 x.1 refusals later old new out after told
+AnswersRecord does (Err fault) refusals later old new out after told = (later ≡ refusals) × Refuses old new (fault_reason fault) out after told

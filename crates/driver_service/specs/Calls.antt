@@ -1,5 +1,5 @@
 -- What a connection does for its client: calls of that client, each with what it was answered. Own rules.
-use Rattle.std.specs.Prelude.{◌≡◌, ℕ, ℤ, ◌+◌, List, [], ◌∷◌, ◌++◌, All, Bool, true, false, Option, Some, None, Result, Ok, Err}
+use Rattle.std.specs.Prelude.{◌≡◌, ℕ, ℤ, List, [], ◌∷◌, ◌++◌, All, Bool, Option, Some, None, Result, Ok, Err}
 use Rattle.driver_service.specs.declared.reason.Refusal.{Refusal}
 
 pub data Call : Type 0 where
@@ -11,7 +11,7 @@ pub data Call : Type 0 where
   Offer : ℕ → List ℕ → Result ℕ Refusal → Call
   -- by this subscription, that log, so many fragments; what was written of them
   Poll : ℕ → ℕ → ℕ → List ℕ → Result ℕ Refusal → Call
-  -- what was written of a reply
+  -- what was written of a reply, and whether there was one
   Mail : List ℕ → Result Bool Refusal → Call
   -- what was written of the counters
   Look : List ℕ → Result ℕ Refusal → Call
@@ -29,12 +29,17 @@ pub record Writes (old new : List ℕ) (P : List ℕ → Type 0) : Type 0 where
   pub appended : new ≡ old ++ bytes
   pub holds : P bytes
 
--- one more call was made
-abbrev pub Calls : {S : Type 0} → (S → List Call → Type 0) → S → S → Call → Type 0
-Calls made old new call = (calls : List Call) → made old calls → made new (calls ++ call ∷ [])
+-- what a call makes of a client: the client before it, the call, and the client after it
+abbrev pub Does : Type 0 → Type 1
+Does S = S → Call → S → Type 0
+
+-- these calls, one after another
+abbrev pub Run : {S : Type 0} → Does S → S → List Call → S → Type 0
+Run does old [] new = new ≡ old
+Run {S} does old (call ∷ calls) new = (next : S) × does old call next × Run does next calls new
 
 -- calls were made, and each of them is of these
-pub record CallsOnly {S : Type 0} (made : S → List Call → Type 0) (own : Call → Type 0) (old new : S) : Type 0 where
-  pub more : List Call
-  pub each : All own more
-  pub made_more : (calls : List Call) → made old calls → made new (calls ++ more)
+pub record CallsOnly {S : Type 0} (does : Does S) (own : Call → Type 0) (old new : S) : Type 0 where
+  pub calls : List Call
+  pub each : All own calls
+  pub run : Run does old calls new

@@ -23,6 +23,12 @@ reason_code reasons.NoLook = pos 1007
 reason_code reasons.QueueFull = pos 1008
 reason_code reasons.NotOperator = pos 1009
 reason_code reasons.Stopped = pos 1010
+reason_code reasons.PublicationBound = pos 1011
+reason_code reasons.PageBound = pos 1012
+reason_code reasons.SubscriptionBound = pos 1013
+reason_code reasons.CounterBound = pos 1014
+reason_code reasons.UsedCorrelation = pos 1015
+reason_code reasons.Unread = pos 1016
 
 unfoldable pub reason_text : Reason → List ℕ
 reason_text reasons.NotConnected = codes "no subscriber"
@@ -42,6 +48,12 @@ reason_text reasons.NoLook = codes "no look"
 reason_text reasons.QueueFull = codes "queue full"
 reason_text reasons.NotOperator = codes "only for operators"
 reason_text reasons.Stopped = codes "stopped"
+reason_text reasons.PublicationBound = codes "bound on publications"
+reason_text reasons.PageBound = codes "bound on pages"
+reason_text reasons.SubscriptionBound = codes "bound on subscriptions"
+reason_text reasons.CounterBound = codes "bound on counters"
+reason_text reasons.UsedCorrelation = codes "correlation id was used"
+reason_text reasons.Unread = codes "polls nothing"
 
 unfoldable pub refusal_code : Refusal → ℤ
 refusal_code (Denied text) = pos 1001

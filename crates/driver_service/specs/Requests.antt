@@ -1,6 +1,6 @@
 -- Which calls a request makes. Own rules.
-use Rattle.std.specs.Prelude.{◌≡◌, ℕ, ◌⊎◌, List, Option, Result, Ok, Err, min}
-use Rattle.driver_service.specs.Calls.{Call, CallsOnly, Stay, Command, Offer, Poll, Mail, Look, Value}
+use Rattle.std.specs.Prelude.{◌≡◌, ℕ, ◌⊎◌, List, Result, Ok, Err, min}
+use Rattle.driver_service.specs.Calls.{Call, CallsOnly, Does, Stay, Command, Offer, Poll, Mail, Look, Value}
 use Rattle.service_records.specs.declared.fault.RecordFault.{RecordFault}
 use Rattle.service_records.specs.declared.request.Request.{Request}
 use Rattle.service_records.specs.declared.request.Request.TheVariants as requests
@@ -56,5 +56,5 @@ IsOwn (Ok x) call = IsAllowed x.0 x.1 call
 IsOwn (Err fault) call = ⊥
 
 -- what bytes do that came as a record, whatever they are
-abbrev pub DoesRecord : {S : Type 0} → (S → List Call → Type 0) → List ℕ → S → S → Type 0
-DoesRecord made bytes old new = CallsOnly made (IsOwn (request_of bytes)) old new
+abbrev pub DoesRecord : {S : Type 0} → Does S → List ℕ → S → S → Type 0
+DoesRecord does bytes old new = CallsOnly does (IsOwn (request_of bytes)) old new

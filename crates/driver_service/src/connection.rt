@@ -1,14 +1,14 @@
 //! What a request does, and what it is answered.
 
 ghost use Rattle.driver_service.specs.Calls.{Call, CallsOnly};
-ghost use Rattle.driver_service.specs.Requests.{DoesRecord, IsAllowed, IsCommand, IsLook, IsMail, IsOffer, IsPoll, IsValue, fragments};
-ghost use Rattle.driver_service.specs.Answering.{Answers, AnswersRecord, EndsIn, IsAnswered, Offers, done_bytes, fault_reason, refused_bytes, value_bytes};
+ghost use Rattle.driver_service.specs.Requests.{DoesRecord, IsAllowed, IsCommand, IsLook, IsOffer, IsPoll, IsValue, fragments};
+ghost use Rattle.driver_service.specs.Answering.{Answers, AnswersRecord, EndsIn, GivesMail, IsAnswered, Offers, done_bytes, fault_reason, refused_bytes, value_bytes};
 ghost use Rattle.driver_service.specs.Calls.{Offer, Poll, Writes};
 ghost use Rattle.service_records.specs.Request.{request_of};
 ghost use Rattle.std.specs.Prelude.{◌≡◌, ◌++◌, List, OnOk};
 
 use crate::reason::{Reason, Refusal};
-use crate::seat::Seat;
+use crate::seat::{Pauses, Seat};
 use crate::waiting::Waiting;
 use service_records::{Answer, RecordFault, Request};
 use std::alloc::AllocError;
@@ -68,6 +68,19 @@ fn reason_of(fault: RecordFault) -> Reason
     }
 }
 
+/// Whether the same offer would be answered so again.
+fn is_final(told: &Result<u64, Refusal>) -> bool {
+    match told {
+        Ok(_) => true,
+        Err(refusal) => !refusal.may_pass(),
+    }
+}
+
+/// Whether it is to be made again at once.
+fn is_at_once(told: &Result<u64, Refusal>) -> bool {
+    matches!(told, Err(Refusal::Because(Reason::AdminAction)))
+}
+
 /// A poll gives so many fragments at most.
 fn few(limit: u32) -> u32
     ensures { result ≡ fragments limit }
@@ -88,32 +101,31 @@ impl<S: Seat> Connection<S> {
         seat
     }
 
-    /// Whether the driver let the client go.
-    pub fn is_gone(&self) -> bool {
-        self.seat.is_gone()
+    /// Why the client is gone, where it is.
+    pub fn gone(&self) -> Option<Reason> {
+        self.seat.gone()
     }
 
     /// A message is offered, again until it is taken or the wait is over.
-    fn offered<R: Clock + Wait>(
+    fn offered<R: Clock + Wait, P: Pauses>(
         &mut self,
         rt: &R,
+        pauses: &mut P,
         registration: u64,
         message: &[u8],
         wait: u32,
     ) -> Result<u64, Refusal>
-        ensures ends { EndsIn S.made (IsOffer registration message.now) self.old.seat self.new.seat (Offer registration message.now result) }
+        ensures ends { EndsIn S.does (IsOffer registration message.now) self.old.seat self.new.seat (Offer registration message.now result) }
         ensures refusals { self.new.refusals ≡ self.old.refusals }
     {
         let mut waiting = Waiting::new(wait);
         for _ in rt.forever() {
-            match self.seat.offer(registration, message) {
-                Ok(position) => return Ok(position),
-                Err(Refusal::Because(Reason::AdminAction)) => {}
-                Err(refusal) => {
-                    if !refusal.may_pass() || waiting.is_over(rt) {
-                        return Err(refusal);
-                    }
-                }
+            let told = self.seat.offer(registration, message);
+            if is_final(&told) {
+                return told;
+            }
+            if !is_at_once(&told) && waiting.is_over(rt, pauses) {
+                return told;
             }
         }
         unreachable!()
@@ -122,21 +134,22 @@ impl<S: Seat> Connection<S> {
     /// An offer is answered. One that was sent before the client saw the last refusal is skipped, so that no message overtakes
     /// another.
     #[tactic(auto, using(crate::proofs::CallLemmas::no_calls))]
-    fn offer<R: Clock + Wait>(
+    fn offer<R: Clock + Wait, P: Pauses>(
         &mut self,
         rt: &R,
+        pauses: &mut P,
         registration: u64,
         message: &[u8],
         seen: u32,
         wait: u32,
         out: &mut Vec<u8>,
     ) -> Result<(), AllocError>
-        ensures { Offers S.made registration message.now seen self.old.refusals self.new.refusals self.old.seat self.new.seat out.old.items out.new.items result }
+        ensures { Offers S.does registration message.now seen self.old.refusals self.new.refusals self.old.seat self.new.seat out.old.items out.new.items result }
     {
         if seen != self.refusals {
             return refuse(&Refusal::Because(Reason::Skipped), out);
         }
-        match self.offered(rt, registration, message, wait) {
+        match self.offered(rt, pauses, registration, message, wait) {
             Ok(position) => Answer::Taken { position }.put(&[], out),
             Err(refusal) => {
                 self.refusals = self.refusals.wrapping_add(1);
@@ -146,16 +159,17 @@ impl<S: Seat> Connection<S> {
     }
 
     /// A log is polled, again until something came or the wait is over.
-    fn poll<R: Clock + Wait>(
+    fn poll<R: Clock + Wait, P: Pauses>(
         &mut self,
         rt: &R,
+        pauses: &mut P,
         subscription: u64,
         source: u64,
         limit: u32,
         wait: u32,
         out: &mut Vec<u8>,
     ) -> Result<u32, Refusal>
-        ensures ends { Writes out.old.items out.new.items (λ bytes. EndsIn S.made (IsPoll subscription source (fragments limit)) self.old.seat self.new.seat (Poll subscription source (fragments limit) bytes result)) }
+        ensures ends { Writes out.old.items out.new.items (λ bytes. EndsIn S.does (IsPoll subscription source (fragments limit)) self.old.seat self.new.seat (Poll subscription source (fragments limit) bytes result)) }
         ensures refusals { self.new.refusals ≡ self.old.refusals }
     {
         let limit = few(limit);
@@ -164,7 +178,7 @@ impl<S: Seat> Connection<S> {
             let polled = self.seat.poll(subscription, source, limit, out);
             match polled {
                 Ok(0) => {
-                    if waiting.is_over(rt) {
+                    if waiting.is_over(rt, pauses) {
                         return Ok(0);
                     }
                 }
@@ -175,47 +189,55 @@ impl<S: Seat> Connection<S> {
     }
 
     /// A poll is answered.
-    fn answer_poll<R: Clock + Wait>(
+    fn answer_poll<R: Clock + Wait, P: Pauses>(
         &mut self,
         rt: &R,
+        pauses: &mut P,
         subscription: u64,
         source: u64,
         limit: u32,
         wait: u32,
         out: &mut Vec<u8>,
     ) -> Result<(), AllocError>
-        ensures { Answers S.made (IsPoll subscription source (fragments limit)) self.old.seat self.new.seat out.old.items out.new.items result }
+        ensures answers { Answers S.does (IsPoll subscription source (fragments limit)) self.old.seat self.new.seat out.old.items out.new.items result }
+        ensures refusals { self.new.refusals ≡ self.old.refusals }
     {
-        let polled = self.poll(rt, subscription, source, limit, wait, out);
+        let polled = self.poll(rt, pauses, subscription, source, limit, wait, out);
         done(&polled, out)
     }
 
     /// The replies that are there.
     fn replies(&mut self, out: &mut Vec<u8>) -> Result<u32, Refusal>
-        ensures { CallsOnly S.made IsMail self.old.seat self.new.seat }
+        ensures gives { GivesMail S.does self.old.seat self.new.seat out.old.items out.new.items result }
+        ensures refusals { self.new.refusals ≡ self.old.refusals }
     {
         for count in 0..REPLIES {
-            if !self.seat.mail(out)? {
-                return Ok(count);
+            match self.seat.mail(out) {
+                Ok(true) => {}
+                Ok(false) => return Ok(count),
+                Err(refusal) => return Err(refusal),
             }
         }
         Ok(REPLIES)
     }
 
     /// The replies are taken, again until there are any or the wait is over.
-    fn mail<R: Clock + Wait>(
+    fn mail<R: Clock + Wait, P: Pauses>(
         &mut self,
         rt: &R,
+        pauses: &mut P,
         wait: u32,
         out: &mut Vec<u8>,
     ) -> Result<u32, Refusal>
-        ensures { CallsOnly S.made IsMail self.old.seat self.new.seat }
+        ensures gives { GivesMail S.does self.old.seat self.new.seat out.old.items out.new.items result }
+        ensures refusals { self.new.refusals ≡ self.old.refusals }
     {
         let mut waiting = Waiting::new(wait);
         for _ in rt.forever() {
-            match self.replies(out) {
+            let replied = self.replies(out);
+            match replied {
                 Ok(0) => {
-                    if waiting.is_over(rt) {
+                    if waiting.is_over(rt, pauses) {
                         return Ok(0);
                     }
                 }
@@ -226,21 +248,24 @@ impl<S: Seat> Connection<S> {
     }
 
     fn list(&mut self, out: &mut Vec<u8>) -> Result<(), AllocError>
-        ensures { Answers S.made IsLook self.old.seat self.new.seat out.old.items out.new.items result }
+        ensures answers { Answers S.does IsLook self.old.seat self.new.seat out.old.items out.new.items result }
+        ensures refusals { self.new.refusals ≡ self.old.refusals }
     {
         let listed = self.seat.list(out);
         done(&listed, out)
     }
 
     fn value(&mut self, number: u64, out: &mut Vec<u8>) -> Result<(), AllocError>
-        ensures { Answers S.made (IsValue number) self.old.seat self.new.seat out.old.items out.new.items result }
+        ensures answers { Answers S.does (IsValue number) self.old.seat self.new.seat out.old.items out.new.items result }
+        ensures refusals { self.new.refusals ≡ self.old.refusals }
     {
         let given = self.seat.value(number);
         tell_value(&given, out)
     }
 
     fn command(&mut self, bytes: &[u8], out: &mut Vec<u8>) -> Result<(), AllocError>
-        ensures { Answers S.made (IsCommand bytes.now) self.old.seat self.new.seat out.old.items out.new.items result }
+        ensures answers { Answers S.does (IsCommand bytes.now) self.old.seat self.new.seat out.old.items out.new.items result }
+        ensures refusals { self.new.refusals ≡ self.old.refusals }
     {
         match self.seat.command(bytes) {
             Ok(()) => done(&Ok(0), out),
@@ -250,15 +275,16 @@ impl<S: Seat> Connection<S> {
 
     /// What a request does: one call of the client, or the same one again while it waits. The answer stands at the end of
     /// `out`: records of what came, and one that closes it.
-    pub fn answer<R: Clock + Wait>(
+    pub fn answer<R: Clock + Wait, P: Pauses>(
         &mut self,
         rt: &R,
+        pauses: &mut P,
         request: Request,
         tail: &[u8],
         out: &mut Vec<u8>,
     ) -> Result<(), AllocError>
-        ensures calls { CallsOnly S.made (IsAllowed request tail.now) self.old.seat self.new.seat }
-        ensures answered { IsAnswered S.made request tail.now self.old.refusals self.new.refusals self.old.seat self.new.seat out.old.items out.new.items result }
+        ensures calls { CallsOnly S.does (IsAllowed request tail.now) self.old.seat self.new.seat }
+        ensures answered { IsAnswered S.does request tail.now self.old.refusals self.new.refusals self.old.seat self.new.seat out.old.items out.new.items result }
     {
         self.seat.stay();
         match request {
@@ -267,15 +293,15 @@ impl<S: Seat> Connection<S> {
                 seen,
                 wait,
                 registration,
-            } => self.offer(rt, registration, tail, seen, wait, out),
+            } => self.offer(rt, pauses, registration, tail, seen, wait, out),
             Request::Poll {
                 limit,
                 wait,
                 subscription,
                 source,
-            } => self.answer_poll(rt, subscription, source, limit, wait, out),
+            } => self.answer_poll(rt, pauses, subscription, source, limit, wait, out),
             Request::Mail { wait } => {
-                let taken = self.mail(rt, wait, out);
+                let taken = self.mail(rt, pauses, wait, out);
                 done(&taken, out)
             }
             Request::List => self.list(out),
@@ -288,17 +314,18 @@ impl<S: Seat> Connection<S> {
 
     /// What a record does: that of the request that it is, or nothing.
     #[tactic(auto, using(crate::proofs::CallLemmas::no_calls))]
-    pub fn answer_record<R: Clock + Wait>(
+    pub fn answer_record<R: Clock + Wait, P: Pauses>(
         &mut self,
         rt: &R,
+        pauses: &mut P,
         bytes: &[u8],
         out: &mut Vec<u8>,
     ) -> Result<(), AllocError>
-        ensures calls { DoesRecord S.made bytes.now self.old.seat self.new.seat }
-        ensures answered { AnswersRecord S.made (request_of bytes.now) self.old.refusals self.new.refusals self.old.seat self.new.seat out.old.items out.new.items result }
+        ensures calls { DoesRecord S.does bytes.now self.old.seat self.new.seat }
+        ensures answered { AnswersRecord S.does (request_of bytes.now) self.old.refusals self.new.refusals self.old.seat self.new.seat out.old.items out.new.items result }
     {
         match Request::read(bytes) {
-            Ok((request, tail)) => self.answer(rt, request, tail, out),
+            Ok((request, tail)) => self.answer(rt, pauses, request, tail, out),
             Err(fault) => refuse(&Refusal::Because(reason_of(fault)), out),
         }
     }

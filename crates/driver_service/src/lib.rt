@@ -12,5 +12,5 @@ mod waiting;
 
 pub use connection::Connection;
 pub use reason::{Reason, Refusal};
-pub use seat::Seat;
+pub use seat::{Pauses, Seat};
 pub use talking::{Ended, Greeting, dismiss, talk};

@@ -37,6 +37,16 @@ pub enum Reason {
     NotOperator,
     /// The driver stops.
     Stopped,
+    /// The principal's clients have as many publications as they may.
+    PublicationBound,
+    /// The logs of these have as many pages.
+    PageBound,
+    SubscriptionBound,
+    CounterBound,
+    /// A command with that correlation id, or a greater one, was there before.
+    UsedCorrelation,
+    /// The client has a stream to read, and did not read for too long.
+    Unread,
 }
 
 impl Reason {
@@ -63,6 +73,12 @@ impl Reason {
             Reason::QueueFull => 1008,
             Reason::NotOperator => 1009,
             Reason::Stopped => 1010,
+            Reason::PublicationBound => 1011,
+            Reason::PageBound => 1012,
+            Reason::SubscriptionBound => 1013,
+            Reason::CounterBound => 1014,
+            Reason::UsedCorrelation => 1015,
+            Reason::Unread => 1016,
         }
     }
 
@@ -89,6 +105,12 @@ impl Reason {
             Reason::QueueFull => "queue full",
             Reason::NotOperator => "only for operators",
             Reason::Stopped => "stopped",
+            Reason::PublicationBound => "bound on publications",
+            Reason::PageBound => "bound on pages",
+            Reason::SubscriptionBound => "bound on subscriptions",
+            Reason::CounterBound => "bound on counters",
+            Reason::UsedCorrelation => "correlation id was used",
+            Reason::Unread => "polls nothing",
         }
     }
 

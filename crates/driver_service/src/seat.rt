@@ -1,27 +1,27 @@
 //! A client, as a connection uses it.
 
-ghost use Rattle.driver_service.specs.Calls.{Call, Calls, Command, Look, Mail as Mailed, Offer, Poll, Stay, Value, Writes, refusal_of};
-ghost use Rattle.std.specs.Prelude.{◌≡◌, [], List, Ok};
+ghost use Rattle.driver_service.specs.Calls.{Call, Command, Look, Mail as Mailed, Offer, Poll, Stay, Value, Writes, refusal_of};
+ghost use Rattle.std.specs.Prelude.{◌≡◌, [], Ok};
 
-use crate::reason::Refusal;
+use crate::reason::{Reason, Refusal};
 
 /// A client of a driver, as a connection uses it. Each call is one call of that client, and of no other. What is answered by
 /// several records is written at the end of `out`.
 pub trait Seat {
-    /// These are all calls of the client so far, as far as is known: each with what it was answered.
-    ghost made: { Self → List Call → Type 0 };
+    /// What a call makes of the client, by what it was answered.
+    ghost does: { Self → Call → Self → Type 0 };
 
     /// The client is heard of. It says so to the driver often enough.
     fn stay(&mut self)
-        ensures { Calls made self.old self.new Stay };
+        ensures { does self.old Stay self.new };
 
     /// The bytes go to the driver as a command over this client's handle, whatever they are.
     fn command(&mut self, bytes: &[u8]) -> Result<(), Refusal>
-        ensures { Calls made self.old self.new (Command bytes.now (refusal_of result)) };
+        ensures { does self.old (Command bytes.now (refusal_of result)) self.new };
 
     /// A message is offered. The position after it.
     fn offer(&mut self, registration: u64, message: &[u8]) -> Result<u64, Refusal>
-        ensures { Calls made self.old self.new (Offer registration message.now result) };
+        ensures { does self.old (Offer registration message.now result) self.new };
 
     /// A log is polled: a FRAGMENT for each fragment. How many there are; of none nothing is written.
     fn poll(
@@ -31,20 +31,30 @@ pub trait Seat {
         limit: u32,
         out: &mut Vec<u8>,
     ) -> Result<u32, Refusal>
-        ensures { Writes out.old.items out.new.items (λ bytes. Calls made self.old self.new (Poll subscription source limit bytes result) × (result ≡ Ok 0 → bytes ≡ [])) };
+        ensures { Writes out.old.items out.new.items (λ bytes. does self.old (Poll subscription source limit bytes result) self.new × (result ≡ Ok 0 → bytes ≡ [])) };
 
     /// The next reply is taken: one REPLY. Whether there was one.
     fn mail(&mut self, out: &mut Vec<u8>) -> Result<bool, Refusal>
-        ensures { Writes out.old.items out.new.items (λ bytes. Calls made self.old self.new (Mailed bytes result)) };
+        ensures { Writes out.old.items out.new.items (λ bytes. does self.old (Mailed bytes result) self.new) };
 
     /// The counters that the client may see: a ROW for each. How many there are.
     fn list(&mut self, out: &mut Vec<u8>) -> Result<u32, Refusal>
-        ensures { Writes out.old.items out.new.items (λ bytes. Calls made self.old self.new (Look bytes result)) };
+        ensures { Writes out.old.items out.new.items (λ bytes. does self.old (Look bytes result) self.new) };
 
     /// The value of a counter.
     fn value(&mut self, number: u64) -> Result<i64, Refusal>
-        ensures { Calls made self.old self.new (Value number result) };
+        ensures { does self.old (Value number result) self.new };
 
-    /// Whether the driver let the client go.
-    fn is_gone(&self) -> bool;
+    /// Why the client is gone, where it is.
+    fn gone(&self) -> Option<Reason>;
+}
+
+/// What a connection does while a request waits.
+pub trait Pauses {
+    /// Lets others go on for a while: until something may have come, and for `left` nanoseconds at most. `turn` counts the
+    /// pauses of this wait. Whether to wait on: not where the other end of the connection is gone.
+    fn pause(&mut self, turn: u32, left: u64) -> bool;
+
+    /// Whether the driver stops.
+    fn is_stopping(&self) -> bool;
 }

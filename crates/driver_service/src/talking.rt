@@ -2,7 +2,7 @@
 
 use crate::connection::Connection;
 use crate::reason::Reason;
-use crate::seat::Seat;
+use crate::seat::{Pauses, Seat};
 use service_records::{Answer, first_record};
 use std::alloc::{AllocError, Global};
 use std::io::{ErrorKind, Read, Write};
@@ -18,14 +18,16 @@ const FULL: usize = 65_536;
 /// Why a connection ended.
 #[derive(Clone, Copy, Debug, PartialEq, Eq)]
 pub enum Ended {
-    /// Its other end closed it, or is not there any more.
+    /// Its other end closed it, is not there any more, or took nothing for too long.
     Closed,
-    /// Nothing was heard or taken for too long.
+    /// Nothing was heard for too long.
     Silent,
     /// A record was longer than records may be.
     TooLong,
-    /// The driver let the client go.
-    Gone,
+    /// The client is gone, for that reason.
+    Gone(Reason),
+    /// The driver stops.
+    Stopped,
     NoMemory,
 }
 
@@ -77,7 +79,6 @@ impl Buffers {
         self.out.clear();
         match written {
             Ok(()) => Ok(()),
-            Err(error) if error.kind() == ErrorKind::WouldBlock => Err(Ended::Silent),
             Err(_) => Err(Ended::Closed),
         }
     }
@@ -100,9 +101,10 @@ impl Buffers {
     }
 
     /// Answers the first record that is there. Whether there was one.
-    fn answer_first<R: Clock + Wait, S: Seat>(
+    fn answer_first<R: Clock + Wait, P: Pauses, S: Seat>(
         &mut self,
         rt: &R,
+        pauses: &mut P,
         connection: &mut Connection<S>,
     ) -> Result<bool, Ended> {
         let left = self.input.get(self.at..).unwrap_or(&[]);
@@ -112,7 +114,7 @@ impl Buffers {
             Ok(Some(cut)) => {
                 let rest = cut.rest.len();
                 if connection
-                    .answer_record(rt, cut.record, &mut self.out)
+                    .answer_record(rt, pauses, cut.record, &mut self.out)
                     .is_err()
                 {
                     return Err(Ended::NoMemory);
@@ -125,34 +127,40 @@ impl Buffers {
 }
 
 /// Answers all records that are there.
-fn answer_all<R: Clock + Wait, S: Seat, T: Write>(
+fn answer_all<R: Clock + Wait, P: Pauses, S: Seat, T: Write>(
     rt: &R,
     stream: &mut T,
+    pauses: &mut P,
     connection: &mut Connection<S>,
     buffers: &mut Buffers,
 ) -> Result<(), Ended> {
     for _ in rt.forever() {
-        if !buffers.answer_first(rt, connection)? {
+        if !buffers.answer_first(rt, pauses, connection)? {
             buffers.settle();
             return buffers.flush(stream);
         }
         if buffers.out.len() >= FULL {
             buffers.flush(stream)?;
         }
-        if connection.is_gone() {
-            buffers.flush(stream)?;
-            return Err(Ended::Gone);
+        if let Some(reason) = connection.gone() {
+            return Err(Ended::Gone(reason));
+        }
+        if pauses.is_stopping() {
+            return Err(Ended::Stopped);
         }
     }
     unreachable!()
 }
 
-/// The reason that an end has for the one at the other end.
-fn reason_of(ended: Ended) -> Reason {
+/// What the one at the other end is told of an end, where anything is.
+fn reason_of(ended: Ended) -> Option<Reason> {
     match ended {
-        Ended::Closed | Ended::Silent | Ended::Gone => Reason::WrongClient,
-        Ended::TooLong => Reason::TooLong,
-        Ended::NoMemory => Reason::NoMemory,
+        Ended::Closed => None,
+        Ended::Silent => Some(Reason::WrongClient),
+        Ended::Gone(reason) => Some(reason),
+        Ended::Stopped => Some(Reason::Stopped),
+        Ended::TooLong => Some(Reason::TooLong),
+        Ended::NoMemory => Some(Reason::NoMemory),
     }
 }
 
@@ -182,28 +190,35 @@ fn greet(buffers: &mut Buffers, greeting: Greeting) -> Result<(), AllocError> {
 }
 
 /// Answers the records of a stream until it ends.
-fn talk_on<R: Clock + Wait, S: Seat, T: Read + Write>(
+fn talk_on<R: Clock + Wait, P: Pauses, S: Seat, T: Read + Write>(
     rt: &R,
     stream: &mut T,
+    pauses: &mut P,
     connection: &mut Connection<S>,
     buffers: &mut Buffers,
 ) -> Ended {
     for _ in rt.forever() {
-        if let Err(ended) = answer_all(rt, stream, connection, buffers) {
+        if let Err(ended) = answer_all(rt, stream, pauses, connection, buffers) {
             return ended;
         }
         if let Err(ended) = buffers.read(stream) {
-            return ended;
+            return if pauses.is_stopping() {
+                Ended::Stopped
+            } else {
+                ended
+            };
         }
     }
     unreachable!()
 }
 
-/// Greets, and answers the records of a stream until it ends. Where the connection ends it, it says why.
-pub fn talk<R: Clock + Wait, S: Seat, T: Read + Write>(
+/// Greets, and answers the records of a stream until it ends. Where the connection ends it, it says why, after all that was
+/// answered.
+pub fn talk<R: Clock + Wait, P: Pauses, S: Seat, T: Read + Write>(
     rt: &R,
     alloc: Global,
     stream: &mut T,
+    pauses: &mut P,
     connection: &mut Connection<S>,
     greeting: Greeting,
 ) -> Ended {
@@ -213,9 +228,11 @@ pub fn talk<R: Clock + Wait, S: Seat, T: Read + Write>(
     if greet(&mut buffers, greeting).is_err() {
         return Ended::NoMemory;
     }
-    let ended = talk_on(rt, stream, connection, &mut buffers);
-    if ended != Ended::Closed {
-        dismiss(alloc, stream, reason_of(ended));
+    let ended = talk_on(rt, stream, pauses, connection, &mut buffers);
+    if let Some(reason) = reason_of(ended) {
+        if buffers.flush(stream).is_ok() {
+            dismiss(alloc, stream, reason);
+        }
     }
     ended
 }

@@ -1,19 +1,7 @@
 //! What waits for something that the driver does.
 
-use std::thread;
-use std::time::{Clock, Duration};
-
-/// How often a wait yields to other threads before it sleeps.
-const YIELDS: u32 = 200;
-
-/// How often it sleeps shortly then.
-const NAPS: u32 = 2_000;
-
-/// How long it sleeps shortly, in microseconds.
-const NAP: u64 = 50;
-
-/// How long it sleeps in the end, in microseconds.
-const SLEEP: u64 = 1_000;
+use crate::seat::Pauses;
+use std::time::Clock;
 
 /// How long a request may wait at most, in nanoseconds.
 const LONGEST: u64 = 1_000_000_000;
@@ -47,25 +35,18 @@ impl Waiting {
         }
     }
 
-    /// Whether it is over. If not, other threads run for a while.
-    pub(crate) fn is_over<R: Clock>(&mut self, rt: &R) -> bool {
+    /// Whether it is over. If not, others went on for a while.
+    pub(crate) fn is_over<R: Clock, P: Pauses>(&mut self, rt: &R, pauses: &mut P) -> bool {
         if self.wait == 0 {
             return true;
         }
         let at = now(rt);
         let end = self.end.unwrap_or(at.saturating_add(self.wait));
         self.end = Some(end);
-        if at >= end {
-            return true;
+        if at < end && pauses.pause(self.paused, end - at) {
+            self.paused = self.paused.saturating_add(1);
+            return false;
         }
-        if self.paused < YIELDS {
-            thread::yield_now();
-        } else if self.paused < YIELDS + NAPS {
-            thread::sleep(rt, Duration::from_micros(NAP));
-        } else {
-            thread::sleep(rt, Duration::from_micros(SLEEP));
-        }
-        self.paused = self.paused.saturating_add(1);
-        false
+        true
     }
 }

@@ -1,4 +1,4 @@
-use Rattle.std.proofs.Common.{◌≡◌, ◌∙◌, ◌++◌, List, ℕ, OnOk, ap, append_assoc, refl}
+use Rattle.std.proofs.Common.{◌≡◌, ◌∙◌, ◌++◌, List, ℕ, ap, append_assoc, refl}
 use Rattle.driver_service.specs.Answering.{done_bytes}
 use Rattle.driver_service.specs.Calls.{Look}
 use Rattle.driver_service.specs.Requests.{IsLook}
@@ -11,7 +11,10 @@ returns g c =
     let last = Look w.bytes c.list-listed.result in
     let told = done_bytes c.list-listed.result in
     record {
-      last = last;
-      ends = ends_alone g.S.Seat.made IsLook c.args.self.now.seat c.list-listed.new.self last w.holds (record {});
-      answered = on_ok c.done.result (c.done.new.out.items ≡ c.list-listed.new.out.items ++ told) (c.done.new.out.items ≡ c.args.out.now.items ++ (w.bytes ++ told)) (λ e. e ∙ (ap (λ (b : List ℕ). b ++ told) w.appended ∙ append_assoc c.args.out.now.items w.bytes told)) c.done.ensures;
+      answers = record {
+        last = last;
+        ends = ends_alone g.S.Seat.does IsLook c.args.self.now.seat c.list-listed.new.self last w.holds (record {});
+        answered = on_ok c.done.result (c.done.new.out.items ≡ c.list-listed.new.out.items ++ told) (c.done.new.out.items ≡ c.args.out.now.items ++ (w.bytes ++ told)) (λ e. e ∙ (ap (λ (b : List ℕ). b ++ told) w.appended ∙ append_assoc c.args.out.now.items w.bytes told)) c.done.ensures;
+      };
+      refusals = refl;
     }

@@ -1,12 +1,26 @@
-use Rattle.driver_service.specs.Requests.{IsMail}
-use Rattle.driver_service.proofs.CallLemmas.{then_calls}
+use Rattle.std.proofs.Common.{rules, ◌≡◌, Ok, refl}
+use Rattle.driver_service.proofs.CallLemmas.{then_gives, then_none}
 use Rattle.driver_service.proofs.connection.Connection.mail.Goals as goal
 
 pub returns-then-is_over : goal.returns-then-is_over
-returns-then-is_over g c = then_calls g.S.Seat.made IsMail c.args.self.now.seat c.loop.self.seat c.replies.new.self.seat c.loop.invariant.2 c.replies.ensures
+returns-then-is_over g c =
+    let none : c.replies-replied.result ≡ Ok 0 = search rules in
+    record {
+      gives = record {
+        count = 0;
+        taken = then_none g.S.Seat.does c.args.self.now.seat c.loop.self.seat c.replies-replied.new.self.seat c.args.out.now.items c.loop.out.items c.replies-replied.new.out.items c.replies-replied.result none c.loop.invariant.2 c.replies-replied.ensures.gives;
+        gave_is = refl;
+      };
+      refusals = search;
+    }
 
 pub loop-preserved : goal.loop-preserved
-loop-preserved g c = (record {}, record {}, then_calls g.S.Seat.made IsMail c.args.self.now.seat c.loop.self.seat c.replies.new.self.seat c.loop.invariant.2 c.replies.ensures)
+loop-preserved g c =
+    let none : c.replies-replied.result ≡ Ok 0 = search rules in
+    (record {}, record {}, then_none g.S.Seat.does c.args.self.now.seat c.loop.self.seat c.replies-replied.new.self.seat c.args.out.now.items c.loop.out.items c.replies-replied.new.out.items c.replies-replied.result none c.loop.invariant.2 c.replies-replied.ensures.gives, search)
 
 pub returns-in_default : goal.returns-in_default
-returns-in_default g c = then_calls g.S.Seat.made IsMail c.args.self.now.seat c.loop.self.seat c.replies.new.self.seat c.loop.invariant.2 c.replies.ensures
+returns-in_default g c = record {
+  gives = then_gives g.S.Seat.does c.args.self.now.seat c.loop.self.seat c.replies-replied.new.self.seat c.args.out.now.items c.loop.out.items c.replies-replied.new.out.items c.replies-replied.result c.loop.invariant.2 c.replies-replied.ensures.gives;
+  refusals = search;
+}

@@ -8,7 +8,10 @@ pub returns : goal.returns
 returns g c =
     let last = Value c.args.number c.value-given.result in
     record {
-      last = last;
-      ends = ends_alone g.S.Seat.made (IsValue c.args.number) c.args.self.now.seat c.value-given.new.self last c.value-given.ensures refl;
-      answered = c.tell_value.ensures;
+      answers = record {
+        last = last;
+        ends = ends_alone g.S.Seat.does (IsValue c.args.number) c.args.self.now.seat c.value-given.new.self last c.value-given.ensures refl;
+        answered = c.tell_value.ensures;
+      };
+      refusals = refl;
     }
