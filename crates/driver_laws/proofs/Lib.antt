@@ -2,6 +2,7 @@ pub mod ActLemmas
 pub mod ApartLemmas
 pub mod AttachingLemmas
 pub mod BlankLemmas
+pub mod CachedLemmas
 pub mod ClientComingLemmas
 pub mod ClosedLogLemmas
 pub mod ClosingLemmas

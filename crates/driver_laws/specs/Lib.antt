@@ -1,6 +1,7 @@
 pub mod ActLaws
 pub mod Acts
 pub mod AttachingLaws
+pub mod CacheLaws
 pub mod ClosingLaws
 pub mod CounterLaws
 pub mod DatagramLaws

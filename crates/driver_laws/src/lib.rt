@@ -10,6 +10,7 @@ pub mod headline;
 pub mod worlds;
 
 ghost use Rattle.driver_laws.specs.AttachingLaws.{ClientsComeExactly, ClientsComeOnly};
+ghost use Rattle.driver_laws.specs.CacheLaws.{CachedVerdictsAreRightUntilTheNextBound};
 ghost use Rattle.driver_laws.specs.ClosingLaws.{ClosedLogsWereThere, LogsCloseExactly, LogsCloseOnly};
 ghost use Rattle.driver_laws.specs.CounterLaws.{CountersAreRemovedExactly, CountersAreRemovedOnly, CountersAreSetExactly, CountersAreSetOnly};
 ghost use Rattle.driver_laws.specs.DecisionLaws.{DecisionsAreByThePolicyInForce};
@@ -304,6 +305,12 @@ pub fn policies_stand_at_their_moment()
 /// no moment takes or brings a pair.
 pub fn registries_stay_between_bounds()
     ensures { RegistriesStayBetweenBounds }
+{}
+
+/// A verdict on an offer or a poll that a cache keeps is the policy's from the moment at which it was stored up to the next bound of a
+/// rule after that, and not at it, as long as the policy is in force; what events come does not matter.
+pub fn cached_verdicts_are_right_until_the_next_bound()
+    ensures { CachedVerdictsAreRightUntilTheNextBound }
 {}
 
 /// A moment takes exactly the pairs that the policy allowed at the moment before and refuses at it, and brings exactly those that it
