@@ -1,10 +1,11 @@
 """What the clients of one principal may have together, and clients that read nothing."""
 
+import re
 import struct
 import time
 
 import aeron_policyd
-from harness import ALLOW, need, same, until
+from harness import need, same, until
 from raw import (
     BYE,
     DONE,
@@ -158,3 +159,18 @@ def case_one_that_reads_nothing_is_let_go(room):
         two.publication("aeron:ipc", 30).offer(b"late", wait=1.0)
         same("what comes then", [b"late"], [message.data for message in reads.poll(wait=1.0)])
         same("nothing again", [], reads.poll(wait=1.5))
+
+
+def case_operators_see_what_clients_have(room):
+    room.serve()
+    with Peer(room.at("p1")) as one, Peer(room.at("p2")) as two:
+        one.enter(), two.enter()
+        one.registered(publish, 10), one.registered(publish, 11), one.registered(count)
+        two.registered(subscribe, 10)
+        lines = sorted(re.sub(" for [0-9]+ s", "", line) for line in room.clients())
+        wanted = [(one.client, 1, 2, 0, 1), (two.client, 2, 0, 1, 0)]
+        words = "client %d of p%d: %d publications, %d subscriptions, %d counters"
+        same("the lines", sorted(words % line for line in wanted), lines)
+        status, out, _ = room.call("clients", "--driver", room.at("operator"))
+        same("what the program prints", (0, 2), (status, len(out.splitlines())))
+    until("no client", lambda: room.clients() == [])

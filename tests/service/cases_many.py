@@ -57,23 +57,27 @@ def case_no_principal_takes_the_places_of_another(room):
 
 def case_ten_thousand_connections_one_after_another(room):
     """Neither memory nor descriptors nor threads grow, and a client that stays is served all the while."""
-    driver = room.serve()
+    driver = room.serve("--each", "32")
     with Peer(room.at("p2")) as stays:
         stays.enter()
         subscription, publication = stays.registered(subscribe), stays.registered(publish)
         source = stays.image()
 
         def connect(count, upto):
-            for number in range(count):
-                with Peer(room.at("p1")) as peer:
+            """So many connections, the next ones on their way while the last ones end; how many there were until then."""
+            for number in range(0, count, 5):
+                peers = [Peer(room.at("p1")) for _ in range(5)]
+                for peer in peers:
                     peer.enter()
-                    if number % 50 == 0:
-                        peer.registered(subscribe, 20 + number % 7)
-                if number % 500 == 0:
+                if number % 50 == 0:
+                    peers[0].registered(subscribe, 20 + number % 7)
+                for peer in peers:
+                    peer.close()
+                if number % 20 == 0:
                     same("an offer beside them", TAKEN, stays.ask(offer(publication, b"x"))[0][0])
                     same("a poll beside them", [FRAGMENT, DONE], [kind for kind, _ in stays.ask(poll(subscription, source))])
                 if time.monotonic() > upto:
-                    return number + 1
+                    return number + 5
             return count
 
         begun = time.monotonic()

@@ -166,6 +166,21 @@ def case_a_reload_cuts_a_reader_off(room):
         same("what is read", [b"after"], [body[12:] for kind, body in answer if kind == FRAGMENT])
 
 
+def case_a_policy_that_changes_on_disk(room):
+    driver = room.serve("--reload-every", "1")
+    with Peer(room.at("p1")) as one, Peer(room.at("p2")) as two:
+        one.enter(), two.enter()
+        subscription, _ = two.registered(subscribe), one.registered(publish)
+        source = two.image()
+        room.policy(WITHOUT)
+        gone = struct.pack("<IQQi", 0x0F05, source, subscription, 10)
+        until("ON_UNAVAILABLE_IMAGE", lambda: gone in two.replies(100), 5)
+        until("the line", lambda: "policy 2 in force" in said(driver.err).splitlines(), 5)
+        room.policy("version = 9\n")
+        until("the fault", lambda: "policy refused: bad version" in said(driver.err).splitlines(), 5)
+        same("a subscription after it", "denied by default in policy 2", two.commanded(subscribe, 12)[20:].decode())
+
+
 def case_no_message_overtakes_a_refused_one(room):
     """Offers are sent ahead, past what the slowest reader allows; then again from the refused one on."""
     room.serve()

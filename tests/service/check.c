@@ -136,6 +136,50 @@ static void messages(struct apd_driver *one, struct apd_driver *two, uint64_t co
     NEED(apd_remove_subscription(two, &subscription, 5000) == APD_REFUSED && two->code == 2);
 }
 
+static void on_large(void *context, const struct apd_fragment *fragment)
+{
+    struct apd_joiner *joiner = context;
+    const void *message;
+    size_t size;
+    int joined = apd_join(joiner, fragment, &message, &size);
+    NEED(joined >= 0 && fragment->size <= 65504 - 32);
+    if (joined == 0) return;
+    NEED(size == 131072);
+    for (size_t i = 0; i < size; i++) NEED(((const unsigned char *)message)[i] == (unsigned char)(i * 7));
+    joiner->begun = 2;
+}
+
+/* The longest fragments fit the least buffer. */
+static void large(struct apd_driver *one, struct apd_driver *two)
+{
+    static unsigned char data[131072], room[131072];
+    struct apd_image images[2];
+    struct apd_subscription subscription;
+    struct apd_joiner joiner;
+    uint64_t publication = 0, position = 0;
+    for (size_t i = 0; i < sizeof data; i++) data[i] = (unsigned char)(i * 7);
+    apd_joiner_init(&joiner, room, sizeof room);
+    NEED(apd_add_subscription(two, "aeron:ipc", 50, 5000, images, 2, &subscription) == APD_OK);
+    NEED(apd_add_publication(one, "aeron:ipc?mtu=65504|term-length=1m", 50, 5000, &publication) == APD_OK);
+    NEED(apd_offer(one, publication, data, sizeof data, 1000, &position) == APD_OK && position > sizeof data);
+    for (int tries = 0; joiner.begun != 2 && tries < 50; tries++)
+        NEED(apd_poll(two, &subscription, 10, 200, on_large, &joiner) >= 0);
+    NEED(joiner.begun == 2);
+    /* one that finds no room is left out, and the next one comes */
+    joiner.size = sizeof room - 1;
+    joiner.begun = 0;
+    struct apd_fragment parts[3] = {{1, 1, APD_BEGIN, data, 65472}, {1, 2, 0, data, 65472}, {1, 3, APD_END, data, 128}};
+    const void *message;
+    size_t size;
+    NEED(apd_join(&joiner, &parts[0], &message, &size) == 0 && apd_join(&joiner, &parts[1], &message, &size) == 0);
+    NEED(apd_join(&joiner, &parts[2], &message, &size) == APD_TOO_LARGE);
+    NEED(apd_join(&joiner, &parts[1], &message, &size) == 0 && apd_join(&joiner, &parts[2], &message, &size) == 0);
+    NEED(apd_join(&joiner, &parts[0], &message, &size) == 0 && apd_join(&joiner, &parts[2], &message, &size) == 1);
+    NEED(size == 65600 && memcmp(message, data, 65472) == 0);
+    NEED(apd_remove_publication(one, publication, 5000) == APD_OK);
+    NEED(apd_remove_subscription(two, &subscription, 5000) == APD_OK);
+}
+
 static void count_one(void *context, const struct apd_fragment *fragment)
 {
     uint64_t *counts = context;
@@ -226,6 +270,7 @@ int main(int count, char **words)
     faults(words[1], &two);
     counters(&one);
     sources(&one, &two);
+    large(&one, &two);
     messages(&one, &two, (uint64_t)atoi(words[2]));
     destinations(&one);
     apd_close(&one);

@@ -64,7 +64,9 @@ class Room:
     def __init__(self, program):
         self.program = program
         self.top = TOP
-        self.path = tempfile.mkdtemp(prefix="aeron_policyd-service.")
+        # the path of a socket is short
+        above = tempfile.gettempdir()
+        self.path = tempfile.mkdtemp(prefix="aeron_policyd-service.", dir=above if len(above) < 40 else "/tmp")
         self.folder = self.path + "/s"
         self.policy_path = self.path + "/policy.toml"
         self.processes = []
@@ -80,7 +82,7 @@ class Room:
         out, err = ("%s/%d.%s" % (self.path, self.names, kind) for kind in ("out", "err"))
         more.setdefault("stdin", subprocess.DEVNULL)
         with open(out, "wb") as out_file, open(err, "wb") as err_file:
-            process = subprocess.Popen(words, stdout=out_file, stderr=err_file, **more)
+            process = subprocess.Popen(words, stdout=out_file, stderr=err_file, start_new_session=True, **more)
         process.out, process.err = out, err
         self.processes.append(process)
         return process
@@ -112,7 +114,8 @@ class Room:
         """Ends what still runs, and takes the folder away."""
         for process in reversed(self.processes):
             if process.poll() is None:
-                process.kill()
+                # with what it started itself
+                os.killpg(process.pid, signal.SIGKILL)
             process.wait()
         shutil.rmtree(self.path, ignore_errors=True)
 
