@@ -2,7 +2,7 @@
 
 ghost use Rattle.moment_words.specs.Moment.{moment_or};
 ghost use Rattle.moment_words.specs.Period.{period_of};
-ghost use Rattle.std.specs.Prelude.{◌≡◌, IfErr, IfOk, None, Ok, Some, option_copied};
+ghost use Rattle.std.specs.Prelude.{◌≡◌, IfErr, IfOk, List, None, Ok, Some, false, is_ok, option_copied, ℕ};
 
 use crate::fault::Fault;
 use command_words::{Asked, Asking};
@@ -54,7 +54,8 @@ pub(crate) fn usual_moment<C: Clock>(clock: &C, asking: &Asking<'_>) -> Result<u
 
 /// The moment that the word of `--at` names, or the usual one where there is no such word.
 pub(crate) fn at_of<'a>(at: Option<&'a str>, usual: u64) -> Result<u64, BadWord<'a>>
-    ensures { IfOk result (λ moment. moment_or (option_copied at.entry) usual ≡ Ok moment) }
+    ensures found { IfOk result (λ moment. moment_or (option_copied at.entry) usual ≡ Ok moment) }
+    ensures refused { IfErr result (λ word. is_ok (moment_or (option_copied at.entry) usual) ≡ false) }
 {
     match moment_or(at, usual) {
         Ok(moment) => Ok(moment),
@@ -63,7 +64,11 @@ pub(crate) fn at_of<'a>(at: Option<&'a str>, usual: u64) -> Result<u64, BadWord<
 }
 
 /// The period that the word of `--soon` says, where there is such a word.
-pub(crate) fn soon_of<'a>(soon: Option<&'a str>) -> Result<Option<u64>, BadWord<'a>> {
+pub(crate) fn soon_of<'a>(soon: Option<&'a str>) -> Result<Option<u64>, BadWord<'a>>
+    ensures none { option_copied soon.entry ≡ None → IfOk result (λ period. period ≡ None) }
+    ensures found { (word : List ℕ) → option_copied soon.entry ≡ Some word → IfOk result (λ period. period ≡ period_of word) }
+    ensures refused { IfErr result (λ bad. (word : List ℕ) → option_copied soon.entry ≡ Some word → period_of word ≡ None) }
+{
     let Some(word) = soon else {
         return Ok(None);
     };
