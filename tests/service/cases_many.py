@@ -15,6 +15,9 @@ def told(path):
 
 def case_sixty_four_clients_and_one_more(room):
     driver = room.serve("--each", "64")
+    # once a client came and went, all that the driver opens for itself is open
+    told(room.at("p1"))
+    until("no client", lambda: room.clients() == [])
     before = descriptors(driver.pid)
     peers = [Peer(room.at("p%d" % (1 + number % 2))).enter() for number in range(64)]
     need(len({peer.client for peer in peers}) == 64, "two clients of one id")
