@@ -1,7 +1,8 @@
 -- A rule stands at no moment from its end on.
-use Rattle.std.proofs.Common.{◌≡◌, ◌≤◌, ◌&&◌, ◌∙◌, ◌++◌, ◌∷◌, ◌+◌, ◌<◌, [], ℕ, Bool, append_assoc, drop, drop_more, get_or, length, true, false, List, Option, Some, None, ap, refl, sym, arith, slice_get, subst}
+use Rattle.std.proofs.Common.{◌≡◌, ◌≤◌, ◌&&◌, ◌∙◌, ◌++◌, ◌∷◌, ◌+◌, ◌<◌, [], ℕ, Bool, append_assoc, drop, get_or, length, true, false, List, Option, Some, None, ap, refl, sym, arith, slice_get, subst}
 use Rattle.std.specs.List.{All}
 use Rattle.std.proofs.lemmas.Bool.Decides.{nat_tests}
+use Rattle.std.proofs.lemmas.List.{drop_more}
 use Rattle.std.proofs.lemmas.List.Elements.{All-push, All-weaker}
 use Rattle.std.specs.Prelude.{nat_le, nat_lt}
 use Rattle.policy_core.specs.declared.rule.Rule.{Rule}
